@@ -1,0 +1,10 @@
+pub mod Pack
+pub mod Seats
+pub mod Deal
+pub mod Hands
+pub mod Devices
+pub mod Memory
+pub mod FromHands
+pub mod PackLaws
+pub mod HandLaws
+pub mod SameDeal

@@ -1,0 +1,53 @@
+-- What a source and a sink over memory are to a contract, and what each call does to them.
+use Rattle.std.specs.Prelude.{◌≡◌, ◌≢◌, ℕ, ◌+◌, ◌-◌, ◌^◌, ◌<◌, List, ◌++◌, length, take, drop, min, max, Option, None, Some, Result, Ok, Err, ◌⊎◌}
+use Rattle.cards.specs.declared.devices.DeviceFault.{DeviceFault}
+
+-- A source: the bytes that are left, the greatest piece of a call, how many calls come before the one that fails
+-- (`None` where none does), and how many have failed.
+pub record Supply : Type 0 where
+  pub left : List ℕ
+  pub greatest_piece : ℕ
+  pub calls_before_failure : Option ℕ
+  pub failed : ℕ
+
+-- A sink: the bytes that it holds, how many it can hold, the greatest piece of a call, and how many calls have failed.
+pub record Store : Type 0 where
+  pub bytes : List ℕ
+  pub room : ℕ
+  pub greatest_piece : ℕ
+  pub failed : ℕ
+
+-- a count of failed calls after one more of them: it stops at its greatest value
+abbrev pub one_more : ℕ → ℕ
+one_more n = min (n + 1) (2 ^ 64 - 1)
+
+-- how many calls come before the one that fails, after a call that did not fail
+abbrev pub one_call_less : Option ℕ → Option ℕ
+one_call_less None = None
+one_call_less (Some calls) = Some (calls - 1)
+
+-- the greatest piece of a call is at least 1
+abbrev pub piece_of : ℕ → ℕ
+piece_of greatest_piece = max greatest_piece 1
+
+-- A read into this much room: the set call fails and no other; each other call hands out as much as is there, has room
+-- and is no more than the greatest piece.
+abbrev pub ReadsSupply : Supply → Supply → ℕ → Result ℕ DeviceFault → Type 0
+ReadsSupply old new room (Ok n) =
+    (old.calls_before_failure ≢ Some 0) ×
+    (n ≡ min (min (length old.left) room) (piece_of old.greatest_piece)) ×
+    (new ≡ record old { left = drop n old.left; calls_before_failure = one_call_less old.calls_before_failure })
+ReadsSupply old new room (Err fault) =
+    (old.calls_before_failure ≡ Some 0) ×
+    (new ≡ record old { calls_before_failure = None; failed = one_more old.failed })
+
+-- A write of a piece: it fails where the piece has a byte and no room is left, and nowhere else; each other call takes
+-- as much of the piece as there is room for and is no more than the greatest piece.
+abbrev pub WritesStore : Store → Store → List ℕ → Result ℕ DeviceFault → Type 0
+WritesStore old new piece (Ok n) =
+    ((length piece ≡ 0) ⊎ (length old.bytes < old.room)) ×
+    (n ≡ min (min (length piece) (old.room - length old.bytes)) (piece_of old.greatest_piece)) ×
+    (new ≡ record old { bytes = old.bytes ++ take n piece })
+WritesStore old new piece (Err fault) =
+    (0 < length piece) × (old.room ≡ length old.bytes) ×
+    (new ≡ record old { failed = one_more old.failed })

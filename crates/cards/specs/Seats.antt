@@ -1,0 +1,57 @@
+-- The seats clockwise from North, and the sides (Laws 1, 41A and 44B).
+use Rattle.std.specs.Prelude.{ℕ, Bool, true, false, List, codes}
+use Rattle.cards.specs.declared.seats.Seat.{Seat}
+use Rattle.cards.specs.declared.seats.Seat.TheVariants.{North, East, South, West}
+use Rattle.cards.specs.declared.seats.Side.{Side}
+use Rattle.cards.specs.declared.seats.Side.TheVariants.{NorthSouth, EastWest}
+
+-- the seat at the left, which plays next
+abbrev pub next_of : Seat → Seat
+next_of North = East
+next_of East = South
+next_of South = West
+next_of West = North
+
+-- the place of a seat, clockwise from North
+abbrev pub seat_number : Seat → ℕ
+seat_number North = 0
+seat_number East = 1
+seat_number South = 2
+seat_number West = 3
+
+-- North and South are partners, and so are East and West
+abbrev pub side_of : Seat → Side
+side_of North = NorthSouth
+side_of East = EastWest
+side_of South = NorthSouth
+side_of West = EastWest
+
+-- the opponents of a side
+abbrev pub other_side : Side → Side
+other_side NorthSouth = EastWest
+other_side EastWest = NorthSouth
+
+-- whether two seats are the same
+abbrev pub is_same_seat : Seat → Seat → Bool
+is_same_seat North North = true
+is_same_seat East East = true
+is_same_seat South South = true
+is_same_seat West West = true
+is_same_seat _ _ = false
+
+-- whether two sides are the same
+abbrev pub is_same_side : Side → Side → Bool
+is_same_side NorthSouth NorthSouth = true
+is_same_side EastWest EastWest = true
+is_same_side _ _ = false
+
+-- the letters that are printed
+abbrev pub seat_letter : Seat → List ℕ
+seat_letter North = codes "N"
+seat_letter East = codes "E"
+seat_letter South = codes "S"
+seat_letter West = codes "W"
+
+abbrev pub side_letters : Side → List ℕ
+side_letters NorthSouth = codes "NS"
+side_letters EastWest = codes "EW"

@@ -1,0 +1,24 @@
+//! The pack, the seats of the table and the layout of a deal: what every other crate speaks of.
+//!
+//! A layout is four disjoint sets of equally many cards, 1 to 13 a seat (Law 1 of the Laws of Duplicate
+//! Bridge 2017, and endings of it). Contracts see it as the list of who holds each card of the pack, and
+//! know nothing of how it is stored. The crate also has the two traits by which bytes come in and go out,
+//! each with a count of its failed calls, and their forms over memory.
+#![tactic(auto)]
+
+mod devices;
+mod layouts;
+mod memory;
+mod pack;
+mod seats;
+mod suits;
+
+pub use devices::{DeviceFault, Sink, Source, write_all};
+pub use layouts::{Layout, LayoutFault};
+pub use memory::{Buffer, Bytes};
+pub use pack::{Card, Rank};
+pub use seats::{Seat, Side};
+pub use suits::{Suit, Trump};
+
+#[cfg(test)]
+mod tests;

@@ -1,0 +1,158 @@
+//! A source and a sink over memory, for tests and for callers that hold their bytes.
+
+ghost use Rattle.std.specs.Prelude.{◌≡◌, ◌≤◌, IfOk, OnErr, None, Some, [], length};
+ghost use Rattle.cards.specs.Devices.{FailureIsCounted, ReadsWhereTold, StaysWhereTold, Takes};
+ghost use Rattle.cards.specs.Memory.{Supply, Store, ReadsSupply, WritesStore};
+
+use crate::devices::{DeviceFault, Sink, Source};
+use std::alloc::{AllocError, Global};
+use std::marker::Model;
+
+/// The bytes of a slice, handed out in pieces of at most a set size. One set call can fail.
+#[derive(Debug, Drop)]
+pub struct Bytes<'a> {
+    rest: &'a [u8],
+    greatest_piece: usize,
+    calls_before_failure: Option<u64>,
+    failures: u64,
+}
+
+impl<'a> Model for Bytes<'a> {
+    ghost Value = { Supply };
+
+    ghost view = { λ bytes. record { left = bytes.rest.now; greatest_piece = bytes.greatest_piece; calls_before_failure = bytes.calls_before_failure; failed = bytes.failures } };
+}
+
+impl<'a> Bytes<'a> {
+    /// A source of these bytes, in pieces of at most `greatest_piece` (of 1 where that is 0). It never fails.
+    pub fn new(bytes: &'a [u8], greatest_piece: usize) -> Bytes<'a>
+        ensures supply { result ≡ record { left = bytes.entry.now; greatest_piece = greatest_piece; calls_before_failure = None; failed = 0 } }
+        ensures bytes { ⟦<Bytes<'a> as Source>⟧.left result ≡ Some bytes.entry.now }
+        ensures failures { ⟦<Bytes<'a> as Source>⟧.read_failures result ≡ 0 }
+    {
+        Bytes {
+            rest: bytes,
+            greatest_piece,
+            calls_before_failure: None,
+            failures: 0,
+        }
+    }
+
+    /// The same, but the call after `calls` calls fails, and no other.
+    pub fn failing_after(bytes: &'a [u8], greatest_piece: usize, calls: u64) -> Bytes<'a>
+        ensures supply { result ≡ record { left = bytes.entry.now; greatest_piece = greatest_piece; calls_before_failure = Some calls; failed = 0 } }
+        ensures bytes { ⟦<Bytes<'a> as Source>⟧.left result ≡ Some bytes.entry.now }
+        ensures failures { ⟦<Bytes<'a> as Source>⟧.read_failures result ≡ 0 }
+    {
+        Bytes {
+            rest: bytes,
+            greatest_piece,
+            calls_before_failure: Some(calls),
+            failures: 0,
+        }
+    }
+}
+
+impl Source for Bytes<'_> {
+    ghost left = { λ bytes. Some bytes.left };
+
+    ghost read_failures = { λ bytes. bytes.failed };
+
+    fn read(&mut self, buffer: &mut [u8]) -> Result<usize, DeviceFault>
+        ensures supply { ReadsSupply self.old self.new (length buffer.old) result }
+        ensures ok { IfOk result (ReadsWhereTold (Some self.old.left) (Some self.new.left) buffer.old buffer.new) }
+        ensures fault { OnErr result (FailureIsCounted self.old.failed self.new.failed) }
+        ensures stays { OnErr result (StaysWhereTold (Some self.old.left) (Some self.new.left)) }
+        ensures grows { self.old.failed ≤ self.new.failed }
+    {
+        match self.calls_before_failure {
+            Some(0) => {
+                self.calls_before_failure = None;
+                self.failures = self.failures.saturating_add(1);
+                return Err(DeviceFault);
+            }
+            Some(calls) => self.calls_before_failure = Some(calls - 1),
+            None => {}
+        }
+        let count = self
+            .rest
+            .len()
+            .min(buffer.len())
+            .min(self.greatest_piece.max(1));
+        let (piece, rest) = self.rest.split_at(count);
+        buffer[..count].copy_from_slice(piece);
+        self.rest = rest;
+        Ok(count)
+    }
+}
+
+/// A sink that keeps its bytes in memory, of which the room is made at the start. It takes pieces of at most a
+/// set size, and fails once its room is full.
+#[derive(Debug, Drop)]
+pub struct Buffer {
+    bytes: Vec<u8>,
+    room: usize,
+    greatest_piece: usize,
+    failures: u64,
+}
+
+impl Model for Buffer {
+    ghost use Rattle.std.specs.Prelude.{◌≤◌, vec_len, vec_capacity};
+    ghost use Rattle.cards.specs.Memory.{Store};
+
+    ghost Value = { Store };
+
+    ghost view = { λ buffer. record { bytes = buffer.bytes.items; room = buffer.room; greatest_piece = buffer.greatest_piece; failed = buffer.failures } };
+
+    ghost invariant = { λ buffer. (vec_len buffer.bytes ≤ buffer.room) × (buffer.room ≤ vec_capacity buffer.bytes) };
+}
+
+impl Buffer {
+    /// An empty sink with room for this many bytes, in pieces of at most `greatest_piece` (of 1 where that is 0).
+    pub fn new(alloc: Global, room: usize, greatest_piece: usize) -> Result<Buffer, AllocError>
+        ensures store { IfOk result (λ buffer. buffer ≡ record { bytes = []; room = room; greatest_piece = greatest_piece; failed = 0 }) }
+        ensures empty { IfOk result (λ buffer. ⟦<Buffer as Sink>⟧.held buffer ≡ Some []) }
+        ensures failures { IfOk result (λ buffer. ⟦<Buffer as Sink>⟧.write_failures buffer ≡ 0) }
+    {
+        Ok(Buffer {
+            bytes: Vec::with_capacity(alloc, room)?,
+            room,
+            greatest_piece,
+            failures: 0,
+        })
+    }
+
+    /// The bytes that were taken so far.
+    pub fn bytes(&self) -> &[u8]
+        ensures { ⟦<Buffer as Sink>⟧.held self.now ≡ Some result.now }
+    {
+        self.bytes.as_slice()
+    }
+}
+
+impl Sink for Buffer {
+    ghost held = { λ buffer. Some buffer.bytes };
+
+    ghost write_failures = { λ buffer. buffer.failed };
+
+    fn write(&mut self, piece: &[u8]) -> Result<usize, DeviceFault>
+        ensures store { WritesStore self.old self.new piece.now result }
+        ensures ok { IfOk result (Takes (Some self.old.bytes) (Some self.new.bytes) piece.now) }
+        ensures fault { OnErr result (FailureIsCounted self.old.failed self.new.failed) }
+        ensures stays { OnErr result (StaysWhereTold (Some self.old.bytes) (Some self.new.bytes)) }
+        ensures grows { self.old.failed ≤ self.new.failed }
+    {
+        let count = piece
+            .len()
+            .min(self.room - self.bytes.len())
+            .min(self.greatest_piece.max(1));
+        if count == 0 && !piece.is_empty() {
+            self.failures = self.failures.saturating_add(1);
+            return Err(DeviceFault);
+        }
+        if self.bytes.extend_from_slice(&piece[..count]).is_err() {
+            unreachable!();
+        }
+        Ok(count)
+    }
+}

@@ -1,0 +1,99 @@
+//! The seats of the table and the two sides.
+
+ghost use Rattle.std.specs.Prelude.{◌≡◌, ◌<◌, Some};
+ghost use Rattle.cards.specs.Seats.{next_of, seat_number, side_of, other_side, seat_letter, side_letters};
+
+use std::fmt;
+
+/// A seat, in clockwise order from North.
+#[derive(Clone, Copy, Debug, Default, PartialEq, Eq, PartialOrd, Ord, Hash)]
+pub enum Seat {
+    #[default]
+    North,
+    East,
+    South,
+    West,
+}
+
+/// A side of two partners who sit opposite each other.
+#[derive(Clone, Copy, Debug, PartialEq, Eq, PartialOrd, Ord, Hash)]
+pub enum Side {
+    NorthSouth,
+    EastWest,
+}
+
+impl Seat {
+    /// The four seats clockwise, North first.
+    pub const ALL: [Seat; 4] = [Seat::North, Seat::East, Seat::South, Seat::West];
+
+    /// The place of the seat in [`Seat::ALL`], from 0.
+    pub fn number(self) -> usize
+        ensures place { result ≡ seat_number self }
+        ensures below { result < 4 }
+    {
+        match self {
+            Seat::North => 0,
+            Seat::East => 1,
+            Seat::South => 2,
+            Seat::West => 3,
+        }
+    }
+
+    /// The seat at the left: play goes clockwise (Law 44B), and the seat at declarer's left leads (Law 41A).
+    pub fn next(self) -> Seat
+        ensures { result ≡ next_of self }
+    {
+        match self {
+            Seat::North => Seat::East,
+            Seat::East => Seat::South,
+            Seat::South => Seat::West,
+            Seat::West => Seat::North,
+        }
+    }
+
+    /// The side that the seat plays for.
+    pub fn side(self) -> Side
+        ensures { result ≡ side_of self }
+    {
+        match self {
+            Seat::North | Seat::South => Side::NorthSouth,
+            Seat::East | Seat::West => Side::EastWest,
+        }
+    }
+}
+
+impl fmt::Display for Seat {
+    ghost output = { λ seat. Some (seat_letter seat) };
+
+    fn fmt<W: fmt::Write>(&self, f: &mut fmt::Formatter<W>) -> fmt::Result {
+        f.write_str(match self {
+            Seat::North => "N",
+            Seat::East => "E",
+            Seat::South => "S",
+            Seat::West => "W",
+        })
+    }
+}
+
+impl Side {
+    /// The opponents of the side.
+    pub fn other(self) -> Side
+        ensures { result ≡ other_side self }
+    {
+        match self {
+            Side::NorthSouth => Side::EastWest,
+            Side::EastWest => Side::NorthSouth,
+        }
+    }
+}
+
+impl fmt::Display for Side {
+    ghost output = { λ side. Some (side_letters side) };
+
+    fn fmt<W: fmt::Write>(&self, f: &mut fmt::Formatter<W>) -> fmt::Result {
+        f.write_str(match self {
+            Side::NorthSouth => "NS",
+            Side::EastWest => "EW",
+        })
+    }
+}
