@@ -1,0 +1,33 @@
+//! Why a card cannot be played.
+
+ghost use Rattle.std.specs.Prelude.{◌≡◌};
+ghost use Rattle.play_rules.specs.Faults.{fault_number};
+
+use thiserror::Error;
+
+/// Why a card cannot be played: `Over` where it applies, else the first of the others.
+#[derive(Clone, Copy, Debug, PartialEq, Eq, Hash, Error)]
+pub enum PlayFault {
+    /// The seat to play does not hold the card, or no longer.
+    #[error("the card is not in the hand of the player")]
+    NotHeld,
+    /// The player holds a card of the suit led, and this card is of another (Law 44C).
+    #[error("the suit led must be followed")]
+    MustFollow,
+    /// All the cards were played.
+    #[error("the play is over")]
+    Over,
+}
+
+impl PlayFault {
+    /// The number of the fault.
+    pub fn number(self) -> u8
+        ensures { result ≡ fault_number self }
+    {
+        match self {
+            PlayFault::NotHeld => 1,
+            PlayFault::MustFollow => 2,
+            PlayFault::Over => 3,
+        }
+    }
+}

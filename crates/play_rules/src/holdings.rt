@@ -1,0 +1,118 @@
+//! Who holds what is left, and which of it may be played.
+
+ghost use Rattle.std.specs.Prelude.{◌≡◌, ◌<◌, ◌≤◌, length, Some, MatchBool};
+ghost use Rattle.cards.specs.Deal.{holder_of, count_of};
+ghost use Rattle.play_rules.specs.Position.{listed_place};
+ghost use Rattle.play_rules.specs.Holdings.{HoldsSuit, IsSuitToFollow, IsOf, MayBePlayed, Revokes, AreListedTo};
+
+use arrayvec::ArrayVec;
+use cards::{Card, Layout, Rank, Seat, Suit};
+
+/// Who holds each card of the layout, by the card's number.
+pub(crate) fn holders(layout: &Layout) -> [Option<Seat>; 52]
+    ensures { result ≡ layout.now }
+{
+    let mut holders = [None; 52];
+    let _size = layout.len();
+    for number in 0..52 {
+        holders[number] = layout.owner(Card::at(number));
+    }
+    holders
+}
+
+/// Whether the card is one of the player's cards that are left.
+pub(crate) fn is_held(left: &[Option<Seat>; 52], player: Seat, card: Card) -> bool
+    ensures { MatchBool result (holder_of left.now card ≡ Some player) (holder_of left.now card ≡ Some player → ⊥) }
+{
+    match left[card.number()] {
+        Some(holder) => holder.number() == player.number(),
+        None => false,
+    }
+}
+
+/// Whether the player has a card of the suit left.
+fn has_suit(left: &[Option<Seat>; 52], player: Seat, suit: Suit) -> bool
+    ensures { MatchBool result (HoldsSuit left.now player suit) (HoldsSuit left.now player suit → ⊥) }
+{
+    for number in 0..13 {
+        if is_held(
+            left,
+            player,
+            Card {
+                suit,
+                rank: Rank::at(number),
+            },
+        ) {
+            return true;
+        }
+    }
+    false
+}
+
+/// The suit led, if the player has a card of it left.
+fn suit_to_follow(left: &[Option<Seat>; 52], player: Seat, trick: &[Card]) -> Option<Suit>
+    ensures { IsSuitToFollow left.now player trick.now result }
+{
+    match trick {
+        [first, ..] if has_suit(left, player, first.suit) => Some(first.suit),
+        _ => None,
+    }
+}
+
+/// Whether the card is of the suit, if there is one.
+fn is_of(suit: Option<Suit>, card: Card) -> bool
+    ensures { MatchBool result (IsOf suit card) (IsOf suit card → ⊥) }
+{
+    match suit {
+        Some(suit) => card.suit.number() == suit.number(),
+        None => true,
+    }
+}
+
+/// Whether the player would fail to follow suit with the card.
+pub(crate) fn revokes(left: &[Option<Seat>; 52], player: Seat, trick: &[Card], card: Card) -> bool
+    ensures { MatchBool result (Revokes left.now player trick.now card) (Revokes left.now player trick.now card → ⊥) }
+{
+    !is_of(suit_to_follow(left, player, trick), card)
+}
+
+/// The player's cards that are left and may be played to the trick, by suit and ranks falling.
+pub(crate) fn legal_cards(
+    left: &[Option<Seat>; 52],
+    player: Seat,
+    trick: &[Card],
+) -> ArrayVec<Card, 13>
+    requires whole { length left.now ≡ 52 }
+    requires hand { count_of left.now player ≤ 13 }
+    ensures { AreListedTo left.now player trick.now 52 result.items }
+{
+    let suit = suit_to_follow(left, player, trick);
+    let mut cards = ArrayVec::new();
+    for place in 0..52 {
+        let card = card_listed(place);
+        if is_playable(left, player, suit, card) {
+            cards.push(card);
+        }
+    }
+    cards
+}
+
+/// The card in this place, where suits are listed in their order and ranks falling.
+fn card_listed(place: usize) -> Card
+    requires { place < 52 }
+    ensures { listed_place result ≡ place }
+{
+    Card {
+        suit: Suit::at(place / 13),
+        rank: Rank::at(12 - place % 13),
+    }
+}
+
+/// Whether the card is left to the player, and of the suit that has to be followed if there is one.
+fn is_playable(left: &[Option<Seat>; 52], player: Seat, suit: Option<Suit>, card: Card) -> bool
+    ensures { MatchBool result
+        ((holder_of left.now card ≡ Some player) × IsOf suit card)
+        ((holder_of left.now card ≡ Some player) × IsOf suit card → ⊥) }
+{
+    is_held(left, player, card) && is_of(suit, card)
+}

@@ -1,0 +1,17 @@
+//! The play of the cards by the Laws of Duplicate Bridge 2017: whose turn it is, which cards may be played, who
+//! wins a trick.
+//!
+//! The definitions speak of whole histories: a history is a list of cards, cut into fours from the front, and the
+//! winner of each four leads the next. [`Table`] meets them card by card.
+#![tactic(auto)]
+
+mod faults;
+mod holdings;
+mod tables;
+#[cfg(test)]
+mod tests;
+mod tricks;
+
+pub use faults::PlayFault;
+pub use tables::Table;
+pub use tricks::winner;

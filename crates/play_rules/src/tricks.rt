@@ -1,0 +1,100 @@
+//! Who wins a trick (Law 44E and 44F).
+
+ghost use Rattle.std.specs.Prelude.{◌≡◌, ℕ, ◌≤◌};
+ghost use Rattle.play_rules.specs.Tricks.{AreFourCards, deciding_suit, height, highest_place, is_of, seat_in_place, winner_of, WinsAt};
+ghost use Rattle.play_rules.specs.History.{trick_made};
+
+use cards::{Card, Seat, Suit, Trump};
+
+/// The seat that wins the trick of these four cards, which were played clockwise from the leader: the seat of
+/// the highest trump where one was played, else that of the highest card of the suit led. Of a card that stands
+/// there twice, the first counts.
+pub fn winner(
+    trump: Trump,
+    leader: Seat,
+    first: Card,
+    second: Card,
+    third: Card,
+    fourth: Card,
+) -> Seat
+    ensures winner { result ≡ winner_of trump leader (trick_made first second third fourth) }
+    ensures highest { (place : ℕ) × (place ≤ 3) × (result ≡ seat_in_place leader place)
+        × WinsAt trump (trick_made first second third fourth) place }
+    ensures no_other { AreFourCards (trick_made first second third fourth) → (place : ℕ) → place ≤ 3
+        → WinsAt trump (trick_made first second third fourth) place → result ≡ seat_in_place leader place }
+{
+    let suit = deciding(trump, first, second, third, fourth);
+    let place = place_of_greatest(
+        height_in(suit, first),
+        height_in(suit, second),
+        height_in(suit, third),
+        height_in(suit, fourth),
+    );
+    seat_at(leader, place)
+}
+
+/// The first place of four with the greatest height.
+fn place_of_greatest(first: usize, second: usize, third: usize, fourth: usize) -> usize
+    ensures { result ≡ highest_place first second third fourth }
+{
+    let greatest = first.max(second).max(third).max(fourth);
+    if first == greatest {
+        0
+    } else if second == greatest {
+        1
+    } else if third == greatest {
+        2
+    } else {
+        3
+    }
+}
+
+/// The seat that is this many places clockwise, up to three.
+fn seat_at(leader: Seat, place: usize) -> Seat
+    ensures { result ≡ seat_in_place leader place }
+{
+    match place {
+        0 => leader,
+        1 => leader.next(),
+        2 => leader.next().next(),
+        _ => leader.next().next().next(),
+    }
+}
+
+/// Whether the card is of the suit.
+fn is_of_suit(suit: Suit, card: Card) -> bool
+    ensures { result ≡ is_of suit card }
+{
+    card.suit.number() == suit.number()
+}
+
+/// The suit whose highest card wins.
+fn deciding(trump: Trump, first: Card, second: Card, third: Card, fourth: Card) -> Suit
+    ensures { result ≡ deciding_suit trump (trick_made first second third fourth) }
+{
+    match trump {
+        Trump::Nt => first.suit,
+        Trump::Suit(suit) => {
+            if is_of_suit(suit, first)
+                || is_of_suit(suit, second)
+                || is_of_suit(suit, third)
+                || is_of_suit(suit, fourth)
+            {
+                suit
+            } else {
+                first.suit
+            }
+        }
+    }
+}
+
+/// How high the card stands in the suit, 0 where it is of another.
+fn height_in(suit: Suit, card: Card) -> usize
+    ensures { result ≡ height suit card }
+{
+    if is_of_suit(suit, card) {
+        card.rank.number() + 1
+    } else {
+        0
+    }
+}
