@@ -1,0 +1,12 @@
+-- The cards that are left to be played go down; none of the cards tried so far helps the side whose turn it is.
+use Rattle.std.proofs.Common.{◌-◌, length, take}
+use Rattle.cards.specs.declared.pack.Card.{Card}
+use Rattle.play_rules.specs.Legal.{IsAmong, cards_in_play}
+use Rattle.strategies.specs.Search.{IsNoHelp}
+use Rattle.strategies.proofs.plain.+takes.Given as goal
+
+abbrev pub decreases-takes : goal.decreases-takes
+decreases-takes l = cards_in_play l.table.now.opening - length l.table.now.history
+
+abbrev pub invariant-loop-card : goal.invariant-loop-card
+invariant-loop-card l = (card : Card) → IsAmong (take l.card-index l.card-items) card → IsNoHelp l.table l.wanted card

@@ -1,0 +1,4 @@
+pub mod Strategies
+pub mod Values
+pub mod Laws
+pub mod Search

@@ -1,0 +1,95 @@
+//! A plain search, for endings of at most four cards a hand.
+
+ghost use Rattle.std.specs.Prelude.{◌≡◌, ◌≤◌, ◌↔◌, IsOk, IfOk, MatchBool};
+ghost use Rattle.cards.specs.Deal.{size_of};
+ghost use Rattle.cards.specs.Seats.{side_of};
+ghost use Rattle.cards.specs.declared.seats.Side.TheVariants.{NorthSouth, EastWest};
+ghost use Rattle.strategies.specs.Values.{IsPlainValue};
+ghost use Rattle.strategies.specs.Search.{Takes, IsHeldBelow};
+
+use cards::{Layout, Seat, Side, Trump};
+use play_rules::Table;
+use thiserror::Error;
+
+/// The layout has more than 4 cards a hand.
+#[derive(Clone, Copy, Debug, PartialEq, Eq, Hash, Error)]
+#[error("more than 4 cards a hand")]
+pub struct TooLarge;
+
+/// How many tricks North and South can win, of which East and West can win the others, where this seat leads.
+/// Every line of play is tried, so layouts of more than 4 cards a hand are refused.
+pub fn plain_value(layout: &Layout, leader: Seat, trump: Trump) -> Result<u8, TooLarge>
+    ensures value { IfOk result (IsPlainValue (record { deal = layout.now; leader = leader; trump = trump })) }
+    ensures too_large { IsOk result ↔ (size_of layout.now ≤ 4) }
+{
+    let size = layout.len();
+    if size > 4 {
+        return Err(TooLarge);
+    }
+    let size = size as u8;
+    let table = Table::new(*layout, leader, trump);
+    for value in 0..size {
+        if !takes(&table, size, value + 1) {
+            return Ok(value);
+        }
+    }
+    Ok(size)
+}
+
+/// Whether North and South can win this many tricks, those won so far counted; where they can't, East and West can
+/// win more than the rest of them.
+fn takes(table: &Table, size: u8, wanted: u8) -> bool
+    requires { size ≡ size_of table.now.opening.deal }
+    ensures { MatchBool result (Takes table.now wanted) (IsHeldBelow table.now wanted) }
+{
+    let turn = table.turn();
+    if table.tricks(Side::NorthSouth) >= wanted {
+        return true;
+    }
+    if table.tricks(Side::EastWest) >= (size + 1).saturating_sub(wanted) {
+        return false;
+    }
+    let Some(seat) = turn else { unreachable!() };
+    let own = is_north_south(seat);
+    let cards = table.legal();
+    for card in cards.as_slice() {
+        if takes(&table.after(*card), size, wanted) == own {
+            return own;
+        }
+    }
+    !own
+}
+
+/// Whether the seat plays for North and South.
+fn is_north_south(seat: Seat) -> bool
+    ensures { MatchBool result (side_of seat ≡ NorthSouth) (side_of seat ≡ EastWest) }
+{
+    match seat.side() {
+        Side::NorthSouth => true,
+        Side::EastWest => false,
+    }
+}
+
+#[cfg(test)]
+mod tests {
+    use super::*;
+    use cards::LayoutFault;
+    use std::test::Fail;
+
+    /// Spades of the four hands, as bits from the deuce up.
+    fn spades(hands: [u64; 4]) -> Result<Layout, LayoutFault> {
+        Layout::from_hands(hands)
+    }
+
+    #[test]
+    fn finesses(rt: HostRuntime) -> Result<(), Fail> {
+        // AQ over 65, 32 and K4: the king is finessed. AQ over K5: it is not.
+        let onside = spades([0x1400, 0x18, 0x3, 0x804])?;
+        let offside = spades([0x1400, 0x808, 0x3, 0x14])?;
+        assert_eq!(rt; plain_value(&onside, Seat::South, Trump::Nt), Ok(2));
+        assert_eq!(rt; plain_value(&offside, Seat::South, Trump::Nt), Ok(1));
+        let five = spades([0x1f00, 0xf8, 0x1f << 13, 0x1f << 26])?;
+        assert_eq!(rt; plain_value(&five, Seat::North, Trump::Nt), Err(TooLarge));
+        Ok(())
+    }
+}
