@@ -1,0 +1,12 @@
+pub mod DealingLemmas
+pub mod WordLemmas
+pub mod GroupLemmas
+pub mod HandLemmas
+pub mod LayoutLemmas
+pub mod TagLemmas
+pub mod GameLemmas
+pub mod LineLemmas
+pub mod CutLemmas
+pub mod StepLemmas
+pub mod OneTag
+pub mod OneAnswer

@@ -1,0 +1,11 @@
+pub mod Letters
+pub mod Dealing
+pub mod Words
+pub mod DealValue
+pub mod Faults
+pub mod LayoutValue
+pub mod Tags
+pub mod Games
+pub mod Reading
+pub mod Views
+pub mod Steps

@@ -1,0 +1,125 @@
+-- How a PBN text is read (PBN 2.1, sections 2.2 to 3.2, in this project's profile): lines, the pieces of a line, and
+-- games between blank lines. Reading stops at the fault that stands first.
+use Rattle.std.specs.Prelude.{◌≡◌, ◌≢◌, ℕ, ◌+◌, ◌==◌, Bool, true, false, not, List, [], ◌∷◌, ◌++◌, length, Option, Some, None, Result, Ok, Err, All, if◌then◌else◌}
+use Rattle.std.specs.List.{slice_split}
+use Rattle.pbn_deals.specs.declared.boards.Board.{Board}
+use Rattle.pbn_deals.specs.declared.faults.PbnFault.{PbnFault}
+use Rattle.pbn_deals.specs.declared.faults.PbnFault.TheVariants.{TagForm, OpenComment, OutOfMemory}
+use Rattle.pbn_deals.specs.Letters.{is_blank}
+use Rattle.pbn_deals.specs.DealValue.{after_blanks, is_word}
+use Rattle.pbn_deals.specs.Tags.{Tag, tag_of}
+use Rattle.pbn_deals.specs.Games.{Tags, no_tags, TakesTag, boards_of}
+
+-- ---- lines
+-- the byte order mark at the very start is skipped
+abbrev pub without_mark : List ℕ → List ℕ
+without_mark [] = []
+without_mark (a ∷ []) = a ∷ []
+without_mark (a ∷ b ∷ []) = a ∷ b ∷ []
+without_mark (a ∷ b ∷ c ∷ text) = if a == 239 then (if b == 187 then (if c == 191 then text else (a ∷ b ∷ c ∷ text)) else (a ∷ b ∷ c ∷ text)) else (a ∷ b ∷ c ∷ text)
+
+abbrev pub is_line_feed : ℕ → Bool
+is_line_feed byte = byte == 10
+
+-- a carriage return directly before the line feed belongs to the end of the line
+abbrev pub without_return : List ℕ → List ℕ
+without_return [] = []
+without_return (byte ∷ []) = if byte == 13 then [] else (byte ∷ [])
+without_return (byte ∷ other ∷ bytes) = byte ∷ without_return (other ∷ bytes)
+
+-- what is left of the parts between line feeds: the last part has no line feed behind it
+abbrev pub ended : List (List ℕ) → List (List ℕ)
+ended [] = []
+ended (part ∷ []) = part ∷ []
+ended (part ∷ next ∷ parts) = without_return part ∷ ended (next ∷ parts)
+
+abbrev pub lines_of : List ℕ → List (List ℕ)
+lines_of text = ended (slice_split is_line_feed text)
+
+-- a line with `%` in its first column
+abbrev pub is_escaped : List ℕ → Bool
+is_escaped [] = false
+is_escaped (byte ∷ bytes) = byte == 37
+
+-- a line that holds only blanks
+abbrev pub is_blank_line : List ℕ → Bool
+is_blank_line line = not (is_word (after_blanks line))
+
+-- ---- the pieces of a line
+abbrev pub Lacks : ℕ → List ℕ → Type 0
+Lacks byte text = All (λ other. other ≢ byte) text
+
+-- what a byte means where it stands outside comments and quoted texts
+pub data Meaning : Type 0 where
+  EndsLine : Meaning
+  OpensComment : Meaning
+  OpensText : Meaning
+  OpensTag : Meaning
+  IsSpace : Meaning
+  IsData : Meaning
+
+abbrev pub meaning_of : ℕ → Meaning
+meaning_of byte =
+    if byte == 59 then EndsLine else
+    (if byte == 123 then OpensComment else
+    (if byte == 34 then OpensText else
+    (if byte == 91 then OpensTag else
+    (if is_blank byte then IsSpace else
+    IsData))))
+
+-- how the reading of a line ends: with the game's tags so far, and whether a brace comment is open, or with a fault
+pub data LineEnd : Type 0 where
+  Ends : Tags → Bool → LineEnd
+  Stops : PbnFault → LineEnd
+
+-- What a line does, from one of its places on, to a game that follows so many boards. The flag tells that section
+-- data stands before the place. Comments and quoted texts go as far as their ends; a tag pair stands before all
+-- section data; section data goes to the end of the line.
+pub data Reads (number count : ℕ) : Bool → Tags → List ℕ → LineEnd → Type 0 where
+  at_end : {in_data : Bool} {tags : Tags} → Reads number count in_data tags [] (Ends tags false)
+  at_blank : {in_data : Bool} {tags : Tags} {byte : ℕ} {rest : List ℕ} {last : LineEnd} → meaning_of byte ≡ IsSpace → Reads number count in_data tags rest last → Reads number count in_data tags (byte ∷ rest) last
+  at_line_comment : {in_data : Bool} {tags : Tags} {byte : ℕ} {rest : List ℕ} → meaning_of byte ≡ EndsLine → Reads number count in_data tags (byte ∷ rest) (Ends tags false)
+  at_comment : {in_data : Bool} {tags : Tags} {byte : ℕ} (text : List ℕ) {rest behind : List ℕ} {last : LineEnd} → meaning_of byte ≡ OpensComment → rest ≡ text ++ 125 ∷ behind → Lacks 125 text → Reads number count in_data tags behind last → Reads number count in_data tags (byte ∷ rest) last
+  at_open_comment : {in_data : Bool} {tags : Tags} {byte : ℕ} {rest : List ℕ} → meaning_of byte ≡ OpensComment → Lacks 125 rest → Reads number count in_data tags (byte ∷ rest) (Ends tags true)
+  at_tag : {tags tags' : Tags} {byte : ℕ} {rest : List ℕ} {tag : Tag} {last : LineEnd} → meaning_of byte ≡ OpensTag → tag_of rest ≡ Some tag → TakesTag number count tags tag.name tag.value (Ok tags') → Reads number count false tags' tag.rest last → Reads number count false tags (byte ∷ rest) last
+  at_faulty_tag : {tags : Tags} {byte : ℕ} {rest : List ℕ} {tag : Tag} {fault : PbnFault} → meaning_of byte ≡ OpensTag → tag_of rest ≡ Some tag → TakesTag number count tags tag.name tag.value (Err fault) → Reads number count false tags (byte ∷ rest) (Stops fault)
+  at_no_tag : {tags : Tags} {byte : ℕ} {rest : List ℕ} → meaning_of byte ≡ OpensTag → tag_of rest ≡ None → Reads number count false tags (byte ∷ rest) (Stops (TagForm number))
+  at_quoted : {in_data : Bool} {tags : Tags} {byte : ℕ} (text : List ℕ) {rest behind : List ℕ} {last : LineEnd} → meaning_of byte ≡ OpensText → rest ≡ text ++ 34 ∷ behind → Lacks 34 text → Reads number count true tags behind last → Reads number count in_data tags (byte ∷ rest) last
+  at_unended : {in_data : Bool} {tags : Tags} {byte : ℕ} {rest : List ℕ} → meaning_of byte ≡ OpensText → Lacks 34 rest → Reads number count in_data tags (byte ∷ rest) (Ends tags false)
+  at_plain : {in_data : Bool} {tags : Tags} {byte : ℕ} {rest : List ℕ} {last : LineEnd} → meaning_of byte ≡ IsData → Reads number count true tags rest last → Reads number count in_data tags (byte ∷ rest) last
+  at_bracket : {tags : Tags} {byte : ℕ} {rest : List ℕ} {last : LineEnd} → meaning_of byte ≡ OpensTag → Reads number count true tags rest last → Reads number count true tags (byte ∷ rest) last
+
+-- ---- the lines of a text
+-- boards before those of a reading that went well
+abbrev pub put_boards : List Board → Result (List Board) PbnFault → Result (List Board) PbnFault
+put_boards boards (Ok others) = Ok (boards ++ others)
+put_boards boards (Err fault) = Err fault
+
+-- The answer for the lines from this number on, where the line of the `{` tells that a brace comment is open, the
+-- game's tags so far are these, and so many boards came before the game.
+pub data Answers : ℕ → Option ℕ → Tags → ℕ → List (List ℕ) → Result (List Board) PbnFault → Type 0 where
+  no_line : {number count : ℕ} {tags : Tags} → Answers number None tags count [] (Ok (boards_of tags))
+  unclosed : {number opened count : ℕ} {tags : Tags} → Answers number (Some opened) tags count [] (Err (OpenComment opened))
+  escaped_line : {number count : ℕ} {tags : Tags} {line : List ℕ} {lines : List (List ℕ)} {answer : Result (List Board) PbnFault} → is_escaped line ≡ true → Answers (number + 1) None tags count lines answer → Answers number None tags count (line ∷ lines) answer
+  blank_line : {number count : ℕ} {tags : Tags} {line : List ℕ} {lines : List (List ℕ)} {answer : Result (List Board) PbnFault} → is_escaped line ≡ false → is_blank_line line ≡ true → Answers (number + 1) None no_tags (count + length (boards_of tags)) lines answer → Answers number None tags count (line ∷ lines) (put_boards (boards_of tags) answer)
+  whole_line : {number count : ℕ} {tags tags' : Tags} {line : List ℕ} {lines : List (List ℕ)} {answer : Result (List Board) PbnFault} → is_escaped line ≡ false → is_blank_line line ≡ false → Reads number count false tags line (Ends tags' false) → Answers (number + 1) None tags' count lines answer → Answers number None tags count (line ∷ lines) answer
+  opening_line : {number count : ℕ} {tags tags' : Tags} {line : List ℕ} {lines : List (List ℕ)} {answer : Result (List Board) PbnFault} → is_escaped line ≡ false → is_blank_line line ≡ false → Reads number count false tags line (Ends tags' true) → Answers (number + 1) (Some number) tags' count lines answer → Answers number None tags count (line ∷ lines) answer
+  faulty_line : {number count : ℕ} {tags : Tags} {line : List ℕ} {lines : List (List ℕ)} {fault : PbnFault} → is_escaped line ≡ false → is_blank_line line ≡ false → Reads number count false tags line (Stops fault) → Answers number None tags count (line ∷ lines) (Err fault)
+  inner_line : {number opened count : ℕ} {tags : Tags} {line : List ℕ} {lines : List (List ℕ)} {answer : Result (List Board) PbnFault} → Lacks 125 line → Answers (number + 1) (Some opened) tags count lines answer → Answers number (Some opened) tags count (line ∷ lines) answer
+  closing_line : {number opened count : ℕ} {tags tags' : Tags} (text : List ℕ) {line rest : List ℕ} {lines : List (List ℕ)} {answer : Result (List Board) PbnFault} → line ≡ text ++ 125 ∷ rest → Lacks 125 text → Reads number count false tags rest (Ends tags' false) → Answers (number + 1) None tags' count lines answer → Answers number (Some opened) tags count (line ∷ lines) answer
+  reopening_line : {number opened count : ℕ} {tags tags' : Tags} (text : List ℕ) {line rest : List ℕ} {lines : List (List ℕ)} {answer : Result (List Board) PbnFault} → line ≡ text ++ 125 ∷ rest → Lacks 125 text → Reads number count false tags rest (Ends tags' true) → Answers (number + 1) (Some number) tags' count lines answer → Answers number (Some opened) tags count (line ∷ lines) answer
+  faulty_closing_line : {number opened count : ℕ} {tags : Tags} (text : List ℕ) {line rest : List ℕ} {lines : List (List ℕ)} {fault : PbnFault} → line ≡ text ++ 125 ∷ rest → Lacks 125 text → Reads number count false tags rest (Stops fault) → Answers number (Some opened) tags count (line ∷ lines) (Err fault)
+
+-- the answer for a whole text
+abbrev pub TextAnswers : List ℕ → Result (List Board) PbnFault → Type 0
+TextAnswers text answer = Answers 1 None no_tags 0 (lines_of (without_mark text)) answer
+
+-- what a reader answers: that, or want of memory, of which nothing is said
+abbrev pub SaysBoards : List ℕ → Result (List Board) PbnFault → Type 0
+SaysBoards text (Ok boards) = TextAnswers text (Ok boards)
+SaysBoards text (Err OutOfMemory) = Unit {0}
+SaysBoards text (Err fault) = TextAnswers text (Err fault)
+
+-- a text has one answer at most
+abbrev pub HasOneAnswer : Type 0
+HasOneAnswer = (text : List ℕ) (one other : Result (List Board) PbnFault) → TextAnswers text one → TextAnswers text other → one ≡ other

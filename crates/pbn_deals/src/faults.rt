@@ -1,0 +1,91 @@
+//! Why a PBN text is refused.
+
+ghost use Rattle.std.specs.Prelude.{◌≡◌};
+ghost use Rattle.pbn_deals.specs.Faults.{fault_number, fault_name, fault_line};
+
+use thiserror::Error;
+
+/// Why a PBN text, or a Deal value alone, is refused. All but want of memory name the line, counted from 1.
+#[derive(Clone, Copy, Debug, PartialEq, Eq, Hash, Error)]
+pub enum PbnFault {
+    /// A `[` that should begin a tag pair does not.
+    #[error("1 TagForm")]
+    TagForm { line: usize },
+    /// A brace comment is never closed.
+    #[error("2 OpenComment")]
+    OpenComment { line: usize },
+    /// A game has two Deal tags.
+    #[error("3 SecondDeal")]
+    SecondDeal { line: usize },
+    /// A Deal value is not of the form.
+    #[error("4 DealForm")]
+    DealForm { line: usize },
+    /// A Deal value names a card twice.
+    #[error("5 CardTwice")]
+    CardTwice { line: usize },
+    /// The hands of a Deal value are not of the size that is wanted.
+    #[error("6 HandSize")]
+    HandSize { line: usize },
+    /// A Board or Deal value is handed on from another game (`#`).
+    #[error("7 Inherited")]
+    Inherited { line: usize },
+    /// The text has more boards than are taken.
+    #[error("8 TooManyBoards")]
+    TooManyBoards { line: usize },
+    /// A growth was refused.
+    #[error("9 OutOfMemory")]
+    OutOfMemory,
+}
+
+impl PbnFault {
+    /// The printed number.
+    pub fn number(&self) -> u8
+        ensures { result ≡ fault_number self.now }
+    {
+        match self {
+            PbnFault::TagForm { .. } => 1,
+            PbnFault::OpenComment { .. } => 2,
+            PbnFault::SecondDeal { .. } => 3,
+            PbnFault::DealForm { .. } => 4,
+            PbnFault::CardTwice { .. } => 5,
+            PbnFault::HandSize { .. } => 6,
+            PbnFault::Inherited { .. } => 7,
+            PbnFault::TooManyBoards { .. } => 8,
+            PbnFault::OutOfMemory => 9,
+        }
+    }
+
+    /// The printed name.
+    pub fn name(&self) -> &'static str
+        ensures { result.now ≡ fault_name self.now }
+    {
+        match self {
+            PbnFault::TagForm { .. } => "TagForm",
+            PbnFault::OpenComment { .. } => "OpenComment",
+            PbnFault::SecondDeal { .. } => "SecondDeal",
+            PbnFault::DealForm { .. } => "DealForm",
+            PbnFault::CardTwice { .. } => "CardTwice",
+            PbnFault::HandSize { .. } => "HandSize",
+            PbnFault::Inherited { .. } => "Inherited",
+            PbnFault::TooManyBoards { .. } => "TooManyBoards",
+            PbnFault::OutOfMemory => "OutOfMemory",
+        }
+    }
+
+    /// The line that is named, counted from 1; none for want of memory.
+    pub fn line(&self) -> Option<usize>
+        ensures { result ≡ fault_line self.now }
+    {
+        match self {
+            PbnFault::TagForm { line }
+            | PbnFault::OpenComment { line }
+            | PbnFault::SecondDeal { line }
+            | PbnFault::DealForm { line }
+            | PbnFault::CardTwice { line }
+            | PbnFault::HandSize { line }
+            | PbnFault::Inherited { line }
+            | PbnFault::TooManyBoards { line } => Some(*line),
+            PbnFault::OutOfMemory => None,
+        }
+    }
+}

@@ -1,0 +1,57 @@
+//! The lines of a text.
+
+ghost use Rattle.std.specs.Prelude.{◌≡◌, ◌≤◌, ◌∷◌, [], length};
+ghost use Rattle.pbn_deals.specs.Reading.{without_mark, without_return, is_escaped, is_blank_line};
+ghost use Rattle.pbn_deals.specs.Views.{CutsLine};
+
+use crate::hands::after_blanks;
+use crate::tags::split_at_byte;
+
+/// The text without the byte order mark at its start.
+pub(crate) fn without_mark(text: &[u8]) -> &[u8]
+    ensures value { result.now ≡ without_mark text.now }
+    ensures within { length result.now ≤ length text.now }
+{
+    match text {
+        [first, second, third, rest @ ..] if *first == 0xef && *second == 0xbb && *third == 0xbf =>
+            rest,
+        _ => text,
+    }
+}
+
+/// The line without the carriage return at its end.
+fn without_return(line: &[u8]) -> &[u8]
+    ensures { result.now ≡ without_return line.now }
+{
+    match line {
+        [front @ .., last] if *last == b'\r' => front,
+        _ => line,
+    }
+}
+
+/// The first line, and what stands behind its line feed, where it has one.
+pub(crate) fn cut_line(text: &[u8]) -> (&[u8], Option<&[u8]>)
+    ensures { CutsLine text.now result }
+{
+    match split_at_byte(text, b'\n') {
+        Some((line, behind)) => (without_return(line), Some(behind)),
+        None => (text, None),
+    }
+}
+
+/// Whether the line has `%` in its first column.
+pub(crate) fn is_escaped(line: &[u8]) -> bool
+    ensures { result ≡ is_escaped line.now }
+{
+    match line {
+        [first, ..] => *first == b'%',
+        [] => false,
+    }
+}
+
+/// Whether the line holds only blanks.
+pub(crate) fn is_blank_line(line: &[u8]) -> bool
+    ensures { result ≡ is_blank_line line.now }
+{
+    after_blanks(line).is_empty()
+}

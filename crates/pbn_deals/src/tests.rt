@@ -1,0 +1,4 @@
+//! Values and texts with answers that were worked out by hand from the rules.
+
+mod layouts;
+mod texts;
