@@ -1,0 +1,4 @@
+pub mod WriteLemmas
+pub mod NumberLemmas
+pub mod CountLemmas
+pub mod TableLemmas

@@ -1,0 +1,20 @@
+-- Numbers below a hundred, right in two places.
+use Rattle.std.proofs.Common.{◌≡◌, ℕ, ◌+◌, ◌/◌, ◌%◌, ◌<◌, ◌≤◌, [], ◌∷◌, ◌++◌, sym, ◌∙◌, ap, arith}
+use Rattle.std.specs.Fmt.{decimal}
+use Rattle.std.proofs.lemmas.Fmt.{decimal_digit, decimal_step}
+use Rattle.tables.specs.TablesText.{right_in_two}
+
+pub decimal_two : (n : ℕ) → 10 ≤ n → n < 100 → decimal n ≡ (48 + n / 10) ∷ (48 + n % 10) ∷ []
+decimal_two n low high =
+    decimal_step n low (omega arith) ∙ ap (λ front. front ++ ((48 + n % 10) ∷ [])) (decimal_digit (n / 10) (omega arith))
+
+pub two_places_small : (n : ℕ) → n < 10 → 32 ∷ (48 + n % 10) ∷ [] ≡ right_in_two (decimal n)
+two_places_small n h =
+    let same : n % 10 ≡ n = omega arith in
+    ap (λ d. 32 ∷ (48 + d) ∷ []) same ∙ sym (ap right_in_two (decimal_digit n h))
+
+pub two_places_great : (n : ℕ) → 10 ≤ n → n < 100 → (48 + n / 10) ∷ (48 + n % 10) ∷ [] ≡ right_in_two (decimal n)
+two_places_great n low high = sym (ap right_in_two (decimal_two n low high))
+
+pub right_in_two-great : (n : ℕ) → 10 ≤ n → n < 100 → right_in_two (decimal n) ≡ decimal n
+right_in_two-great n low high = sym (two_places_great n low high) ∙ sym (decimal_two n low high)

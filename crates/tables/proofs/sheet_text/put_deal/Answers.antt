@@ -1,0 +1,20 @@
+use Rattle.std.proofs.Common.{◌∷◌, ◌++◌, []}
+use Rattle.tables.specs.TablesText.{deal_value}
+use Rattle.tables.proofs.WriteLemmas.{part_stop, part_then, writes_then, writes_err}
+use Rattle.tables.proofs.sheet_text.put_deal.Goals as goal
+
+pub returns-in_err-put : goal.returns-in_err-put
+returns-in_err-put g c =
+    writes_err c.from_residual.result _ c.from_residual.ensures.1
+    (part_stop (deal_value c.args.deal.now ++ (34 ∷ 93 ∷ 10 ∷ [])) c.in_err-put.ensures)
+
+pub returns-in_err-put_deal_value : goal.returns-in_err-put_deal_value
+returns-in_err-put_deal_value g c =
+    writes_err c.from_residual-in_err-put_deal_value.result _ c.from_residual-in_err-put_deal_value.ensures.1
+    (part_then c.in_ok-put.ensures (part_stop (34 ∷ 93 ∷ 10 ∷ []) c.in_err-put_deal_value.ensures))
+
+pub returns : goal.returns
+returns g c =
+    writes_then c.put-2.result _ _ _ c.in_ok-put.ensures
+    (writes_then c.put-2.result _ _ _ c.in_ok-put_deal_value.ensures
+    c.put-2.ensures)

@@ -1,0 +1,4 @@
+pub mod Writes
+pub mod DealText
+pub mod TablesText
+pub mod TestSheet

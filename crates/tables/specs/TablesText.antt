@@ -1,0 +1,97 @@
+-- The text of the tables of a list of boards (PBN 2.1, the Board, Deal and OptimumResultTable tags).
+use Rattle.std.specs.Prelude.{ℕ, ◌==◌, List, [], ◌∷◌, ◌++◌, length, codes, map, Bool, count_by, Option, Some, None, is_some, if◌then◌else◌, nat_lt}
+use Rattle.std.specs.List.{flat_map, enumerate_from}
+use Rattle.std.specs.Fmt.{decimal}
+use Rattle.cards.specs.declared.seats.Seat.{Seat}
+use Rattle.cards.specs.declared.seats.Seat.TheVariants.{North, East, South, West}
+use Rattle.cards.specs.declared.suits.Suit.TheVariants.{Spades, Hearts, Diamonds, Clubs}
+use Rattle.cards.specs.declared.suits.Trump.{Trump}
+use Rattle.cards.specs.declared.suits.Trump.TheVariants as trump
+use Rattle.cards.specs.Pack.{trump_letters}
+use Rattle.cards.specs.Seats.{seat_letter}
+use Rattle.cards.specs.Deal.{Deal}
+use Rattle.pbn_deals.specs.declared.boards.Board.{Board}
+use Rattle.tables.specs.DealText.{deal_text}
+
+-- the results of one board that are published, by declarer and denomination
+abbrev pub Results : Type 0
+Results = Seat → Trump → Option ℕ
+
+-- a line ends by LF
+abbrev pub line : List ℕ → List ℕ
+line text = text ++ 10 ∷ []
+
+-- a tag pair on a line of its own: the opening bracket, the name, a space, the value in quotes, the closing bracket
+abbrev pub tag_line : List ℕ → List ℕ → List ℕ
+tag_line name value = 91 ∷ (name ++ (32 ∷ 34 ∷ (value ++ (34 ∷ 93 ∷ 10 ∷ []))))
+
+-- the value of the Deal tag
+abbrev pub deal_value : Option Deal → List ℕ
+deal_value (Some deal) = deal_text deal
+deal_value None = codes "?"
+
+-- the denominations in the order of the rows
+abbrev pub denominations : List Trump
+denominations = trump.Nt ∷ trump.Suit Spades ∷ trump.Suit Hearts ∷ trump.Suit Diamonds ∷ trump.Suit Clubs ∷ []
+
+-- the twenty entries of a table: by declarer North, South, East, West, and within that by denomination
+abbrev pub entries : List (Seat × Trump)
+entries = flat_map (λ declarer. map (λ denomination. (declarer, denomination)) denominations) (North ∷ South ∷ East ∷ West ∷ [])
+
+-- a text right in two places
+abbrev pub right_in_two : List ℕ → List ℕ
+right_in_two text = if nat_lt (length text) 2 then 32 ∷ text else text
+
+-- a row: the declarer, the denomination and the result
+unfoldable pub row_text : Seat → Trump → ℕ → List ℕ
+row_text declarer denomination tricks =
+    (seat_letter declarer ++ (32 ∷ [])) ++ (right_in_two (trump_letters denomination) ++ (32 ∷ (right_in_two (decimal tricks) ++ (10 ∷ []))))
+
+-- the row of an entry that has a result
+abbrev pub result_row : Seat → Trump → Option ℕ → List ℕ
+result_row declarer denomination (Some tricks) = row_text declarer denomination tricks
+result_row declarer denomination None = []
+
+abbrev pub entry_row : Results → Seat × Trump → List ℕ
+entry_row results entry = result_row entry.0 entry.1 (results entry.0 entry.1)
+
+-- the rows of a board
+unfoldable pub rows_text : Results → List ℕ
+rows_text results = flat_map (entry_row results) entries
+
+-- how many of the twenty entries have a result
+unfoldable pub published_count : Results → ℕ
+published_count results = count_by (λ entry. is_some (results entry.0 entry.1)) entries
+
+unfoldable pub is_complete : Results → Bool
+is_complete results = published_count results == 20
+
+-- the heading of a complete table
+unfoldable pub table_tag : List ℕ
+table_tag = line (codes "[OptimumResultTable " ++ (34 ∷ codes "Declarer;Denomination") ++ (92 ∷ codes "2R;Result") ++ (92 ∷ codes "2R") ++ (34 ∷ 93 ∷ []))
+
+-- what stands in place of an incomplete table
+unfoldable pub incomplete_line : ℕ → List ℕ
+incomplete_line published = codes "; table incomplete: " ++ (decimal published ++ line (codes " of 20"))
+
+-- the table of a board
+unfoldable pub table_text : Results → List ℕ
+table_text results =
+    if is_complete results then table_tag ++ rows_text results else incomplete_line (published_count results)
+
+-- one board: its name, its deal, its table, and an empty line
+unfoldable pub board_text : Board → Results → List ℕ
+board_text board results =
+    tag_line (codes "Board") board.name ++ (tag_line (codes "Deal") (deal_value board.deal) ++ (table_text results ++ (10 ∷ [])))
+
+-- each board with its results, found by its place
+abbrev pub numbered_text : (ℕ → Results) → ℕ × Board → List ℕ
+numbered_text results numbered = board_text numbered.1 (results numbered.0)
+
+-- the whole text
+unfoldable pub tables_text : List Board → (ℕ → Results) → List ℕ
+tables_text boards results = line (codes "% PBN 2.1") ++ flat_map (numbered_text results) (enumerate_from 0 boards)
+
+-- how many boards have a complete table
+unfoldable pub complete_count : List Board → (ℕ → Results) → ℕ
+complete_count boards results = count_by (λ numbered. is_complete (results numbered.0)) (enumerate_from 0 boards)

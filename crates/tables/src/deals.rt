@@ -1,0 +1,103 @@
+//! How a deal is printed.
+
+ghost use Rattle.std.specs.Prelude.{◌≡◌, ◌∷◌, codes};
+ghost use Rattle.cards.specs.Pack.{rank_letter};
+ghost use Rattle.tables.specs.DealText.{held_letter, group_text, hand_text, deal_text};
+ghost use Rattle.tables.specs.Writes.{Writes};
+
+use crate::pieces::put;
+use cards::{Card, DeviceFault, Layout, Rank, Seat, Sink, Suit};
+
+/// The letter of a rank, in upper case.
+fn letter_of(rank: Rank) -> &'static [u8]
+    ensures { result.now ≡ rank_letter rank }
+{
+    match rank {
+        Rank::Two => b"2",
+        Rank::Three => b"3",
+        Rank::Four => b"4",
+        Rank::Five => b"5",
+        Rank::Six => b"6",
+        Rank::Seven => b"7",
+        Rank::Eight => b"8",
+        Rank::Nine => b"9",
+        Rank::Ten => b"T",
+        Rank::Jack => b"J",
+        Rank::Queen => b"Q",
+        Rank::King => b"K",
+        Rank::Ace => b"A",
+    }
+}
+
+/// Writes the letter of a card that the seat holds, and nothing for another.
+fn put_card<S: Sink>(
+    sink: &mut S,
+    layout: &Layout,
+    seat: Seat,
+    card: Card,
+) -> Result<(), DeviceFault>
+    ensures { Writes result (S.held sink.old) (S.held sink.new) (S.write_failures sink.old) (S.write_failures sink.new) (held_letter layout.now seat card.suit card.rank) }
+{
+    if layout.holds(seat, card) {
+        put(sink, letter_of(card.rank))
+    } else {
+        Ok(())
+    }
+}
+
+/// Writes the seat's cards of a suit, the ranks falling.
+fn put_group<S: Sink>(
+    sink: &mut S,
+    layout: &Layout,
+    seat: Seat,
+    suit: Suit,
+) -> Result<(), DeviceFault>
+    ensures { Writes result (S.held sink.old) (S.held sink.new) (S.write_failures sink.old) (S.write_failures sink.new) (group_text layout.now seat suit) }
+{
+    for rank in Rank::FALLING {
+        put_card(sink, layout, seat, Card { suit, rank })?;
+    }
+    Ok(())
+}
+
+/// Writes a dot and the seat's cards of a suit.
+fn put_next_group<S: Sink>(
+    sink: &mut S,
+    layout: &Layout,
+    seat: Seat,
+    suit: Suit,
+) -> Result<(), DeviceFault>
+    ensures { Writes result (S.held sink.old) (S.held sink.new) (S.write_failures sink.old) (S.write_failures sink.new) (46 ∷ group_text layout.now seat suit) }
+{
+    put(sink, b".")?;
+    put_group(sink, layout, seat, suit)
+}
+
+/// Writes the seat's hand.
+fn put_hand<S: Sink>(sink: &mut S, layout: &Layout, seat: Seat) -> Result<(), DeviceFault>
+    ensures { Writes result (S.held sink.old) (S.held sink.new) (S.write_failures sink.old) (S.write_failures sink.new) (hand_text layout.now seat) }
+{
+    put_group(sink, layout, seat, Suit::Spades)?;
+    put_next_group(sink, layout, seat, Suit::Hearts)?;
+    put_next_group(sink, layout, seat, Suit::Diamonds)?;
+    put_next_group(sink, layout, seat, Suit::Clubs)
+}
+
+/// Writes a space and the seat's hand.
+fn put_next_hand<S: Sink>(sink: &mut S, layout: &Layout, seat: Seat) -> Result<(), DeviceFault>
+    ensures { Writes result (S.held sink.old) (S.held sink.new) (S.write_failures sink.old) (S.write_failures sink.new) (32 ∷ hand_text layout.now seat) }
+{
+    put(sink, b" ")?;
+    put_hand(sink, layout, seat)
+}
+
+/// Writes the value of the Deal tag for a layout.
+pub(crate) fn put_layout<S: Sink>(sink: &mut S, layout: &Layout) -> Result<(), DeviceFault>
+    ensures { Writes result (S.held sink.old) (S.held sink.new) (S.write_failures sink.old) (S.write_failures sink.new) (deal_text layout.now) }
+{
+    put(sink, b"N:")?;
+    put_hand(sink, layout, Seat::North)?;
+    put_next_hand(sink, layout, Seat::East)?;
+    put_next_hand(sink, layout, Seat::South)?;
+    put_next_hand(sink, layout, Seat::West)
+}

@@ -1,0 +1,18 @@
+//! The tables of boards as a PBN text.
+//!
+//! [`write_sheet`] prints the boards of a [`Sheet`] with the results that are published of them. It takes no
+//! memory; after a fault of the sink a beginning of the text has gone out.
+#![tactic(auto)]
+
+mod deals;
+mod entries;
+mod pieces;
+mod sheet_text;
+mod sheets;
+mod tables;
+
+pub use sheet_text::write_sheet;
+pub use sheets::{Report, Sheet};
+
+#[cfg(test)]
+mod tests;
