@@ -1,0 +1,17 @@
+//! Why four suits are no pattern, or no rest.
+
+use thiserror::Error;
+
+/// Why four suits are no pattern, or no rest: the first that applies.
+#[derive(Clone, Copy, Debug, PartialEq, Eq, Hash, Error)]
+pub enum PatternFault {
+    /// A suit has over 13 cards.
+    #[error("a suit has over 13 cards")]
+    Lengths = 1,
+    /// The hands are of unequal size, or have too few or too many cards.
+    #[error("the hands are not of one size in the bounds")]
+    Cards = 2,
+    /// A seat is an owner in a suit more often than it has cards there.
+    #[error("a seat owns more cards of a suit than it has")]
+    Owners = 3,
+}

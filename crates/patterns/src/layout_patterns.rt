@@ -1,0 +1,113 @@
+//! Patterns.
+
+ghost use Rattle.std.specs.Prelude.{◌≡◌, ◌↔◌, ◌≤◌, IsTrue, length, slice_get};
+ghost use Rattle.patterns.specs.Shapes.{suit_of, len_of, tops_of, IsPattern, Covers};
+ghost use Rattle.patterns.specs.Holders.{Matches, shape_of_layout};
+ghost use Rattle.patterns.specs.Parts.{suit_shape, shape_of_parts, MeetsParts};
+
+use crate::faults::PatternFault;
+use crate::held_shapes::HeldShape;
+use crate::rests::Rest;
+use crate::suit_parts::SuitPart;
+use cards::{Layout, Seat, Suit};
+use std::marker::Model;
+
+/// A pattern: what the layouts that match it have in common. No suit has over 13 cards, each seat has as many
+/// cards as the others, 1 to 13, and no seat is an owner in a suit more often than it has cards there.
+#[derive(Clone, Copy, Debug, PartialEq, Eq, Hash)]
+pub struct Pattern {
+    held: HeldShape,
+}
+
+impl Model for Pattern {
+    ghost use Rattle.patterns.specs.Shapes.{Shape, IsPattern};
+
+    ghost Value = { Shape };
+
+    ghost view = { λ pattern. pattern.held };
+
+    ghost invariant = { λ pattern. IsPattern pattern.held };
+
+    ghost inverse = { λ shape. record { held = shape } };
+}
+
+impl Pattern {
+    /// The pattern of four suits, spades first.
+    pub fn from_parts(parts: [SuitPart; 4]) -> Result<Pattern, PatternFault>
+        ensures cases { MeetsParts 1 13 (shape_of_parts parts) result }
+    {
+        let held = HeldShape::of_parts(&parts);
+        held.check(1, 13)?;
+        Ok(Pattern { held })
+    }
+
+    /// The pattern of a layout, with as many owners in each suit as there are, up to its depth, that of spades first.
+    pub fn of_layout(layout: &Layout, depths: [u8; 4]) -> Pattern
+        ensures shape { result ≡ shape_of_layout layout.now depths }
+        ensures matches { Matches result layout.now }
+    {
+        let _size = layout.len();
+        Pattern {
+            held: HeldShape::of_layout(layout, depths),
+        }
+    }
+
+    /// Whether the layout matches the pattern: each seat's length in each suit is the pattern's, and the i-th
+    /// highest card of the suit among all four hands is held by the i-th owner, for each owner listed.
+    pub fn matches(&self, layout: &Layout) -> bool
+        ensures { IsTrue result ↔ Matches self.now layout.now }
+    {
+        self.held.matches(layout)
+    }
+
+    /// Whether the pattern covers the rest: the lengths are equal, and in each suit the pattern's owners are a
+    /// beginning of the rest's.
+    pub fn covers(&self, rest: &Rest) -> bool
+        ensures { IsTrue result ↔ Covers self.now rest.now }
+    {
+        self.held.covers(rest.held())
+    }
+
+    /// What every pattern keeps, for a caller that needs the fact. It does nothing.
+    pub fn invariant(&self)
+        ensures { IsPattern self.now }
+    {
+        let _held = &self.held;
+    }
+
+    /// One suit of the pattern.
+    pub fn part(&self, suit: Suit) -> SuitPart
+        ensures { suit_shape result ≡ suit_of self.now suit }
+    {
+        self.held.suit(suit).part()
+    }
+
+    /// How many cards of the suit the seat has.
+    pub fn len(&self, suit: Suit, seat: Seat) -> u8
+        ensures { result ≡ len_of (suit_of self.now suit) seat }
+    {
+        self.held.suit(suit).len(seat)
+    }
+
+    /// How often the seat is an owner in the suit.
+    pub fn tops(&self, suit: Suit, seat: Seat) -> u8
+        ensures { result ≡ tops_of (suit_of self.now suit) seat }
+    {
+        self.held.suit(suit).tops(seat)
+    }
+
+    /// How many owners are listed in the suit.
+    pub fn owner_count(&self, suit: Suit) -> usize
+        ensures count { result ≡ length (suit_of self.now suit).owners }
+        ensures within { result ≤ 13 }
+    {
+        self.held.suit(suit).owner_count()
+    }
+
+    /// The owner in this place of the suit's list, from 0, if so many are listed.
+    pub fn owner(&self, suit: Suit, place: usize) -> Option<Seat>
+        ensures { result ≡ slice_get (suit_of self.now suit).owners place }
+    {
+        self.held.suit(suit).owner(place)
+    }
+}

@@ -1,0 +1,23 @@
+//! Patterns: what a set of layouts has in common.
+//!
+//! A pattern tells for each suit how many cards each seat has, and which seats own the suit's highest cards, in
+//! falling order; the other cards are low cards without a rank. It stands for every layout that matches it (one
+//! value for a set of positions, as in Ginsberg's Partition Search, AAAI 1996). A rest is what a trick leaves of
+//! a pattern, and a pattern covers the rests of which it says no more than they do. Contracts see patterns and
+//! rests alike as four suits, each of four lengths and a list of owners, and know nothing of how they are stored.
+#![tactic(auto)]
+
+mod faults;
+mod held_shapes;
+mod held_suits;
+mod holdings;
+mod layout_patterns;
+mod rests;
+mod suit_parts;
+#[cfg(test)]
+mod tests;
+
+pub use faults::PatternFault;
+pub use layout_patterns::Pattern;
+pub use rests::Rest;
+pub use suit_parts::SuitPart;

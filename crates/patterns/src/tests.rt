@@ -1,0 +1,140 @@
+//! What no clause says: worked examples with answers made by hand.
+
+use crate::{Pattern, PatternFault, Rest, SuitPart};
+use arrayvec::ArrayVec;
+use cards::{Card, Layout, Rank, Seat, Suit};
+use std::test::Fail;
+
+const NORTH: Seat = Seat::North;
+
+const EAST: Seat = Seat::East;
+
+const SOUTH: Seat = Seat::South;
+
+const WEST: Seat = Seat::West;
+
+/// A part of these lengths and owners; at most thirteen owners count.
+fn part(lens: [u8; 4], owners: &[Seat]) -> SuitPart {
+    let mut listed = ArrayVec::new();
+    for owner in owners {
+        let _ = listed.try_push(*owner);
+    }
+    SuitPart {
+        lens,
+        owners: listed,
+    }
+}
+
+fn empty() -> SuitPart {
+    part([0, 0, 0, 0], &[])
+}
+
+/// A pattern with spades alone.
+fn spades(lens: [u8; 4], owners: &[Seat]) -> Result<Pattern, PatternFault> {
+    Pattern::from_parts([part(lens, owners), empty(), empty(), empty()])
+}
+
+fn rest_of_spades(lens: [u8; 4], owners: &[Seat]) -> Result<Rest, PatternFault> {
+    Rest::from_parts([part(lens, owners), empty(), empty(), empty()])
+}
+
+/// The bits of these ranks of spades.
+fn hand(ranks: &[Rank]) -> u64 {
+    let mut word = 0;
+    for rank in ranks {
+        let number = Card {
+            suit: Suit::Spades,
+            rank: *rank,
+        }
+        .number();
+        word |= 1u64 << number;
+    }
+    word
+}
+
+/// North has the ace and the queen of spades, East 6 and 5, South 3 and 2, West the king and the 4.
+fn finesse() -> Result<Layout, cards::LayoutFault> {
+    Layout::from_hands([
+        hand(&[Rank::Ace, Rank::Queen]),
+        hand(&[Rank::Six, Rank::Five]),
+        hand(&[Rank::Three, Rank::Two]),
+        hand(&[Rank::King, Rank::Four]),
+    ])
+}
+
+#[test]
+fn makes_the_pattern_of_a_layout(rt: HostRuntime) -> Result<(), Fail> {
+    let layout = finesse()?;
+    let short = Pattern::of_layout(&layout, [3, 0, 0, 0]);
+    assert_eq!(rt; short, spades([2, 2, 2, 2], &[NORTH, WEST, NORTH])?);
+    let whole = Pattern::of_layout(&layout, [13, 0, 0, 0]);
+    let owners = [NORTH, WEST, NORTH, EAST, EAST, WEST, SOUTH, SOUTH];
+    assert_eq!(rt; whole.part(Suit::Spades), part([2, 2, 2, 2], &owners));
+    assert_eq!(rt; whole.part(Suit::Hearts), empty());
+    Ok(())
+}
+
+#[test]
+fn matches_by_the_highest_cards_of_all_hands(rt: HostRuntime) -> Result<(), Fail> {
+    let layout = finesse()?;
+    assert!(rt; spades([2, 2, 2, 2], &[])?.matches(&layout));
+    assert!(rt; spades([2, 2, 2, 2], &[NORTH, WEST, NORTH])?.matches(&layout));
+    assert!(rt; !spades([2, 2, 2, 2], &[NORTH, NORTH])?.matches(&layout));
+    assert!(rt; !spades([2, 2, 2, 2], &[NORTH, WEST, WEST])?.matches(&layout));
+    assert!(rt; !spades([1, 1, 1, 1], &[NORTH])?.matches(&layout));
+    Ok(())
+}
+
+#[test]
+fn covers_a_rest_that_says_no_less(rt: HostRuntime) -> Result<(), Fail> {
+    let short = spades([1, 1, 1, 1], &[NORTH])?;
+    let long = spades([1, 1, 1, 1], &[NORTH, WEST])?;
+    let short_rest = rest_of_spades([1, 1, 1, 1], &[NORTH])?;
+    let long_rest = rest_of_spades([1, 1, 1, 1], &[NORTH, WEST])?;
+    assert!(rt; short.covers(&long_rest));
+    assert!(rt; !long.covers(&short_rest));
+    assert!(rt; short.covers(&short_rest));
+    assert!(rt; !spades([2, 2, 2, 2], &[NORTH])?.covers(&short_rest));
+    assert!(rt; !spades([1, 1, 1, 1], &[WEST])?.covers(&long_rest));
+    Ok(())
+}
+
+#[test]
+fn refuses_what_is_no_pattern(rt: HostRuntime) {
+    assert_eq!(rt; spades([4, 4, 3, 3], &[]), Err(PatternFault::Lengths));
+    assert_eq!(rt; spades([1, 1, 1, 0], &[]), Err(PatternFault::Cards));
+    assert_eq!(rt;
+        spades([1, 1, 1, 1], &[NORTH, NORTH]),
+        Err(PatternFault::Owners)
+    );
+    assert_eq!(rt; spades([0, 0, 0, 0], &[]), Err(PatternFault::Cards));
+    assert_eq!(rt; spades([14, 0, 0, 0], &[]), Err(PatternFault::Lengths));
+    assert_eq!(rt;
+        rest_of_spades([1, 1, 1, 1], &[SOUTH, SOUTH]),
+        Err(PatternFault::Owners)
+    );
+    let suit_each = [
+        part([13, 0, 0, 0], &[]),
+        part([0, 13, 0, 0], &[]),
+        part([0, 0, 13, 0], &[]),
+        part([0, 0, 0, 13], &[]),
+    ];
+    assert_eq!(rt; Rest::from_parts(suit_each), Err(PatternFault::Cards));
+    assert!(rt; rest_of_spades([0, 0, 0, 0], &[]).is_ok());
+}
+
+#[test]
+fn tells_its_parts(rt: HostRuntime) -> Result<(), Fail> {
+    let pattern = spades([2, 2, 2, 2], &[NORTH, WEST, NORTH])?;
+    assert_eq!(rt; pattern.len(Suit::Spades, WEST), 2);
+    assert_eq!(rt; pattern.len(Suit::Clubs, WEST), 0);
+    assert_eq!(rt; pattern.tops(Suit::Spades, NORTH), 2);
+    assert_eq!(rt; pattern.owner_count(Suit::Spades), 3);
+    assert_eq!(rt; pattern.owner(Suit::Spades, 1), Some(WEST));
+    assert_eq!(rt; pattern.owner(Suit::Spades, 3), None);
+    assert_eq!(rt;
+        rest_of_spades([1, 1, 1, 1], &[EAST])?.part(Suit::Spades),
+        part([1, 1, 1, 1], &[EAST])
+    );
+    Ok(())
+}
