@@ -1,0 +1,8 @@
+pub mod PatCards
+pub mod SeatSets
+pub mod PatCardLaws
+pub mod Tricks
+pub mod TrickLaws
+pub mod LayoutCards
+pub mod LayoutLaws
+pub mod LeftLaws

@@ -1,0 +1,28 @@
+//! One trick, played on a pattern.
+//!
+//! The cards of a pattern are its tops, each by its place in the list of owners, and low cards without a rank.
+//! A trick of four of them stands for every trick that can be played so on a layout that matches: the crate says
+//! which cards a seat may play, which seats may win, and what is left.
+#![tactic(auto)]
+
+mod layout_laws;
+mod legal_cards;
+mod legality;
+mod pat_cards;
+mod seat_sets;
+#[cfg(test)]
+mod small_layouts;
+#[cfg(test)]
+mod tests;
+mod trick_rests;
+mod trick_winners;
+
+pub use layout_laws::{
+    each_card_is_one, each_pattern_card_is_some, top_ranks_above, what_is_left_matches,
+};
+pub use legal_cards::legal;
+pub use legality::{are_legal, is_legal};
+pub use pat_cards::PatCard;
+pub use seat_sets::SeatSet;
+pub use trick_rests::rest;
+pub use trick_winners::winners;

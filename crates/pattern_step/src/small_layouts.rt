@@ -1,0 +1,382 @@
+//! All layouts of one or two cards a hand in two suits, and patterns of each depth: `legal`, `winners`, `rest`,
+//! `covers` and `matches` are compared with a slow reading of their definitions over the real cards.
+
+use crate::{PatCard, SeatSet, are_legal, legal, rest, winners};
+use arrayvec::ArrayVec;
+use cards::{Layout, LayoutFault, Seat, Suit, Trump};
+use patterns::{Pattern, Rest};
+use std::process::Abort;
+use std::test::Fail;
+
+/// Up to eight cards: the first are the spades and the others the hearts, each from the highest down. Two bits of
+/// the code name the holder of each.
+#[derive(Clone, Copy)]
+struct Small {
+    code: u32,
+    cards: u8,
+    spades: u8,
+}
+
+/// A trick on a small layout.
+#[derive(Clone, Copy)]
+struct Trick {
+    leader: Seat,
+    trump: Trump,
+    played: [u8; 4],
+}
+
+impl Small {
+    fn holder(&self, card: u8) -> Seat {
+        match self.code >> (2 * (card % 16)) & 3 {
+            0 => Seat::North,
+            1 => Seat::East,
+            2 => Seat::South,
+            _ => Seat::West,
+        }
+    }
+
+    fn suit(&self, card: u8) -> Suit {
+        if card < self.spades {
+            Suit::Spades
+        } else {
+            Suit::Hearts
+        }
+    }
+
+    /// How many cards of its suit are above the card.
+    fn place(&self, card: u8) -> u8 {
+        if card < self.spades {
+            card
+        } else {
+            card - self.spades
+        }
+    }
+
+    /// The pattern card that stands for the card, where so many owners of spades and of hearts are listed.
+    fn pat_card(&self, card: u8, depths: [u8; 4]) -> PatCard {
+        let suit = self.suit(card);
+        let depth = if card < self.spades {
+            depths[0]
+        } else {
+            depths[1]
+        };
+        let place = self.place(card);
+        if place < depth {
+            PatCard::Top(suit, place)
+        } else {
+            PatCard::Low(suit)
+        }
+    }
+
+    fn len(&self, seat: Seat, suit: Suit) -> usize {
+        (0..self.cards)
+            .filter(|card| self.holder(*card) == seat && self.suit(*card) == suit)
+            .count()
+    }
+
+    /// Whether each seat has as many cards as North.
+    fn is_fair(&self) -> bool {
+        let north = (0..self.cards)
+            .filter(|card| self.holder(*card) == Seat::North)
+            .count();
+        Seat::ALL.iter().all(|seat| (0..self.cards)
+            .filter(|card| self.holder(*card) == *seat)
+            .count()
+            == north)
+    }
+
+    fn may_play(&self, seat: Seat, led: Option<Suit>, card: u8) -> bool {
+        let follows = match led {
+            Some(suit) => self.suit(card) == suit || self.len(seat, suit) == 0,
+            None => true,
+        };
+        self.holder(card) == seat && follows
+    }
+
+    /// The real layout of the cards that are not gone.
+    fn layout(&self, gone: &[u8]) -> Result<Layout, LayoutFault> {
+        let mut words = [0u64; 4];
+        for card in 0..self.cards {
+            if !gone.contains(&card) {
+                let top = if card < self.spades { 12u8 } else { 25 };
+                let bit = 1u64 << (top.saturating_sub(self.place(card)) % 32);
+                words[self.holder(card).number()] |= bit;
+            }
+        }
+        Layout::from_hands(words)
+    }
+
+    /// The seat's first or second card, or another where it has no such one.
+    fn card_of(&self, seat: Seat, second: bool) -> u8 {
+        let mut found = 0;
+        let mut met = false;
+        for card in 0..self.cards {
+            if self.holder(card) == seat && (!met || second) {
+                found = card;
+                met = true;
+            }
+        }
+        found
+    }
+
+    /// The seat's legal pattern cards: those of its real cards that it may play.
+    fn legal(&self, depths: [u8; 4], seat: Seat, led: Option<Suit>) -> ArrayVec<PatCard, 13> {
+        let mut cards = ArrayVec::new();
+        for suit in [Suit::Spades, Suit::Hearts] {
+            for place in 0..9u8 {
+                let wanted = if place < 8 {
+                    PatCard::Top(suit, place)
+                } else {
+                    PatCard::Low(suit)
+                };
+                let found = (0..self.cards).any(|card| self.pat_card(card, depths) == wanted
+                    && self.may_play(seat, led, card));
+                if found {
+                    let _ = cards.try_push(wanted);
+                }
+            }
+        }
+        cards
+    }
+
+    /// The owners among these first cards of the suit that are not gone.
+    fn owners(&self, suit: Suit, depth: u8, gone: &[u8]) -> ArrayVec<Seat, 13> {
+        let mut owners = ArrayVec::new();
+        for card in 0..self.cards {
+            if self.suit(card) == suit && self.place(card) < depth && !gone.contains(&card) {
+                let _ = owners.try_push(self.holder(card));
+            }
+        }
+        owners
+    }
+
+    /// Whether the pattern tells these lengths and these first owners of the suit.
+    fn matches_suit(&self, pattern: &Pattern, suit: Suit) -> bool {
+        let part = pattern.part(suit);
+        let held = self.owners(suit, 13, &[]);
+        let lens = Seat::ALL.iter().all(|seat| usize::from(pattern.len(suit, *seat))
+            == self.len(*seat, suit));
+        lens && held.as_slice().starts_with(part.owners.as_slice())
+    }
+}
+
+impl Trick {
+    /// The seat that plays in this turn.
+    fn seat(&self, turn: u8) -> Seat {
+        match turn {
+            0 => self.leader,
+            1 => self.leader.next(),
+            2 => self.leader.next().next(),
+            _ => self.leader.next().next().next(),
+        }
+    }
+
+    fn deciding_suit(&self, small: &Small) -> Suit {
+        match self.trump {
+            Trump::Suit(suit) if self.played.iter().any(|card| small.suit(*card) == suit) => suit,
+            _ => small.suit(self.played[0]),
+        }
+    }
+
+    /// Whether no other card of the deciding suit is above the card.
+    fn is_highest(&self, small: &Small, card: u8) -> bool {
+        let suit = self.deciding_suit(small);
+        small.suit(card) == suit
+            && self.played.iter().all(|other| small.suit(*other) != suit
+                || small.place(card) <= small.place(*other))
+    }
+
+    fn winner(&self, small: &Small) -> Seat {
+        let highest = self
+            .played
+            .iter()
+            .find(|card| self.is_highest(small, **card));
+        match highest {
+            Some(card) => small.holder(*card),
+            None => self.leader,
+        }
+    }
+
+    /// The winners by the rule: the highest top alone, or each low card of the suit.
+    fn winners(&self, small: &Small, depths: [u8; 4]) -> SeatSet {
+        let suit = self.deciding_suit(small);
+        let ranked = self.played.iter().any(|card| small.suit(*card) == suit
+            && small.pat_card(*card, depths) != PatCard::Low(suit));
+        let mut set = SeatSet::new();
+        for card in self.played {
+            let low = small.pat_card(card, depths) == PatCard::Low(suit);
+            if (ranked && self.is_highest(small, card)) || (!ranked && low) {
+                set = set.with(small.holder(card));
+            }
+        }
+        set
+    }
+
+    fn is_legal(&self, small: &Small) -> bool {
+        let led = Some(small.suit(self.played[0]));
+        small.may_play(self.seat(0), None, self.played[0])
+            && small.may_play(self.seat(1), led, self.played[1])
+            && small.may_play(self.seat(2), led, self.played[2])
+            && small.may_play(self.seat(3), led, self.played[3])
+    }
+}
+
+/// Compares what is left of a suit.
+fn check_left(rt: &impl Abort, small: &Small, suit: Suit, depth: u8, trick: &Trick, left: &Rest) {
+    let part = left.part(suit);
+    let owners = small.owners(suit, depth, trick.played.as_slice());
+    assert!(rt; part.owners.as_slice() == owners.as_slice());
+    for seat in Seat::ALL {
+        let gone = trick
+            .played
+            .iter()
+            .filter(|card| small.holder(**card) == seat && small.suit(**card) == suit)
+            .count();
+        assert!(rt;
+            usize::from(part.lens[seat.number()]).saturating_add(gone) == small.len(seat, suit)
+        );
+    }
+}
+
+/// Compares one trick.
+fn check_trick(
+    rt: &impl Abort,
+    small: &Small,
+    depths: [u8; 4],
+    pattern: &Pattern,
+    trick: &Trick,
+) -> Result<(), Fail> {
+    let [first, second, third, fourth] = trick.played;
+    let cards = [
+        small.pat_card(first, depths),
+        small.pat_card(second, depths),
+        small.pat_card(third, depths),
+        small.pat_card(fourth, depths),
+    ];
+    let set = winners(pattern, trick.trump, trick.leader, &cards);
+    assert!(rt; set == trick.winners(small, depths));
+    assert!(rt; set.contains(trick.winner(small)));
+    assert!(rt; are_legal(pattern, trick.leader, &cards));
+    let left = rest(pattern, trick.leader, &cards);
+    check_left(rt, small, Suit::Spades, depths[0], trick, &left);
+    check_left(rt, small, Suit::Hearts, depths[1], trick, &left);
+    check_covers(rt, small, trick, &left)
+}
+
+/// Compares which patterns of the layout that is left cover the rest.
+fn check_covers(rt: &impl Abort, small: &Small, trick: &Trick, left: &Rest) -> Result<(), Fail> {
+    if small.cards <= 4 {
+        return Ok(());
+    }
+    let layout = small.layout(trick.played.as_slice())?;
+    for depth in 0..5u8 {
+        let pattern = Pattern::of_layout(&layout, [depth, 4u8.saturating_sub(depth), 0, 0]);
+        let spades = left
+            .part(Suit::Spades)
+            .owners
+            .as_slice()
+            .starts_with(pattern.part(Suit::Spades).owners.as_slice());
+        let hearts = left
+            .part(Suit::Hearts)
+            .owners
+            .as_slice()
+            .starts_with(pattern.part(Suit::Hearts).owners.as_slice());
+        assert!(rt; pattern.covers(left) == (spades && hearts));
+    }
+    Ok(())
+}
+
+/// Compares one pattern of a layout.
+fn check_pattern(
+    rt: &impl Abort,
+    small: &Small,
+    depths: [u8; 4],
+    leader: Seat,
+) -> Result<(), Fail> {
+    let layout = small.layout(&[])?;
+    let pattern = Pattern::of_layout(&layout, depths);
+    assert!(rt; pattern.matches(&layout));
+    for led in [None, Some(Suit::Spades), Some(Suit::Hearts)] {
+        assert!(rt;
+            legal(&pattern, leader, led).as_slice() == small.legal(depths, leader, led).as_slice()
+        );
+    }
+    let turned = Small {
+        code: small.code.rotate_left(2) ^ 1,
+        cards: small.cards,
+        spades: small.spades,
+    };
+    if turned.is_fair() {
+        let same = turned.matches_suit(&pattern, Suit::Spades)
+            && turned.matches_suit(&pattern, Suit::Hearts);
+        assert!(rt; pattern.matches(&turned.layout(&[])?) == same);
+    }
+    for choice in 0..16u32 {
+        let second = leader.next();
+        let third = second.next();
+        let played = [
+            small.card_of(leader, choice & 1 == 0),
+            small.card_of(second, choice & 2 == 0),
+            small.card_of(third, choice & 4 == 0),
+            small.card_of(third.next(), choice & 8 == 0),
+        ];
+        let trump = match choice % 3 {
+            0 => Trump::Nt,
+            1 => Trump::Suit(Suit::Spades),
+            _ => Trump::Suit(Suit::Hearts),
+        };
+        let trick = Trick {
+            leader,
+            trump,
+            played,
+        };
+        if trick.is_legal(small) {
+            check_trick(rt, small, depths, &pattern, &trick)?;
+        }
+    }
+    Ok(())
+}
+
+/// Compares the patterns of a layout, by how many owners of spades and of hearts they list.
+fn check_patterns(rt: &impl Abort, small: &Small, leader: Seat) -> Result<(), Fail> {
+    let hearts = small.cards.saturating_sub(small.spades);
+    for depth in 0..=small.spades {
+        for other in 0..=hearts {
+            check_pattern(rt, small, [depth, other, 0, 0], leader)?;
+        }
+    }
+    Ok(())
+}
+
+/// Compares the patterns of all the layouts with so many cards, of which so many are spades, where North has the first
+/// card: the others are these with the seats turned.
+fn check_layouts(rt: &impl Abort, cards: u8, spades: u8, codes: u32) -> Result<u32, Fail> {
+    let mut met = 0u32;
+    for turned in 0..codes {
+        let code = turned << 2;
+        let small = Small {
+            code,
+            cards,
+            spades,
+        };
+        if small.is_fair() {
+            met = met.saturating_add(1);
+            for leader in Seat::ALL {
+                check_patterns(rt, &small, leader)?;
+            }
+        }
+    }
+    Ok(met)
+}
+
+#[test]
+fn agrees_with_the_definitions_on_small_layouts(rt: HostRuntime) -> Result<(), Fail> {
+    for spades in 0..5u8 {
+        assert_eq!(rt; check_layouts(&rt, 4, spades, 64)?, 6);
+    }
+    // with fewer spades than hearts the suits are only exchanged
+    for spades in 4..9u8 {
+        assert_eq!(rt; check_layouts(&rt, 8, spades, 16384)?, 630);
+    }
+    Ok(())
+}
