@@ -1,0 +1,41 @@
+//! The texts of `--help`, for whoever runs a bridge club.
+
+pub const ABOUT: &str = "\
+Double-dummy results of bridge deals: how many tricks each side takes
+when all four hands are seen and both sides play best.";
+
+pub const EXAMPLE: &str = "\
+Example:
+  ddfarm plain \"N:AQ... 65... 32... K4...\" S NT
+prints NS 2: South leads towards North's ace and queen of spades.";
+
+pub const PLAIN_ABOUT: &str = "\
+Prints how many tricks North and South take from here on, with up to 4 cards a hand";
+
+pub const PLAIN_EXAMPLE: &str = "\
+Example:
+  ddfarm plain \"N:AQ... 65... 32... K4...\" S NT
+South leads at no-trump. West holds the king before North's ace and queen, so the
+finesse wins, and NS 2 is printed: two tricks for North and South, none for East
+and West.";
+
+pub const TABLE_ABOUT: &str = "\
+Reads the boards of a tournament in PBN and writes them with their double-dummy tables";
+
+pub const TABLE_EXAMPLE: &str = "\
+Example:
+  ddfarm table <club.pbn >tables.pbn
+reads a PBN 2.1 text from the standard input and writes one to the standard
+output: of each board its name, its deal and its table. No results are found yet,
+so each table is the line `; table incomplete: 0 of 20`, and the exit status is 3.";
+
+pub const LAYOUT: &str = "\
+The four hands, in quotes: a seat (N, E, S or W), a colon, its hand, and then
+the others clockwise, with a blank between two hands. A hand is its spades,
+hearts, diamonds and clubs with a dot between two suits, T for the ten.
+Example: \"N:AQ... 65... 32... K4...\", where North holds the ace and queen of
+spades, East the six and five, South the three and two, West the king and four.";
+
+pub const LEADER: &str = "The seat that leads to the first trick, as S for South";
+
+pub const TRUMP: &str = "The trump suit, as H for hearts, or NT for no-trump";

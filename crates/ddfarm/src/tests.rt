@@ -1,0 +1,300 @@
+//! What `ddfarm` prints and with which status it ends, over memory.
+mod endings;
+mod pbn_tables;
+
+use crate::commands::run_command;
+use crate::messages::{DONE, FAILED, REFUSED};
+use crate::plain::{PlainFault, plain_line};
+use crate::streams::{ReaderSource, WriterSink};
+use cards::{Buffer, Bytes, DeviceFault, Seat, Sink, Source, Suit, Trump};
+use endings::ENDINGS;
+use pbn_deals::PbnFault;
+use std::alloc::Global;
+use std::io;
+use std::process::Abort;
+use std::test::Fail;
+
+const ROOM: usize = 8192;
+
+/// The finesse that wins.
+const FINESSE: [&str; 5] = ["ddfarm", "plain", "N:AQ... 65... 32... K4...", "S", "NT"];
+
+/// Runs the words without an input, as `expect_words`.
+fn expect_run(
+    rt: &impl Abort,
+    alloc: Global,
+    words: &[&str],
+    room: usize,
+    want: (u8, &str, &str),
+) -> Result<(), Fail> {
+    expect_words(rt, alloc, words, b"", room, want)
+}
+
+/// Runs the words over an input and an output with this much room, and checks the status and both texts.
+fn expect_words(
+    rt: &impl Abort,
+    alloc: Global,
+    words: &[&str],
+    text: &[u8],
+    room: usize,
+    want: (u8, &str, &str),
+) -> Result<(), Fail> {
+    let mut input = Bytes::new(text, 7);
+    let mut output = Buffer::new(alloc, room, 3)?;
+    let mut errors = Buffer::new(alloc, ROOM, 7)?;
+    let status = run_command(alloc, words, &mut input, &mut output, &mut errors);
+    let printed = str::from_utf8(output.bytes())?;
+    let told = str::from_utf8(errors.bytes())?;
+    assert_eq!(rt; printed, want.1, "on the output, at {words:?}");
+    assert_eq!(rt; told, want.2, "on the error output, at {words:?}");
+    assert_eq!(rt; status, want.0, "at {words:?}");
+    Ok(())
+}
+
+#[test]
+fn worked_endings(rt: HostRuntime) -> Result<(), Fail> {
+    for (layout, leader, trump, line) in [
+        ("N:A... K... Q... J...", "E", "NT", "NS 1\n"),
+        ("E:K... Q... J... A...", "E", "NT", "NS 1\n"),
+        ("N:2... .A.. 3... .K..", "E", "S", "NS 1\n"),
+        ("N:2... .A.. 3... .K..", "E", "NT", "NS 0\n"),
+        ("N:AQ... 65... 32... K4...", "S", "NT", "NS 2\n"),
+        ("N:AQ... K5... 32... 64...", "S", "NT", "NS 1\n"),
+        ("N:AJ.K.. ..432. 2.2..A KQ.A..", "S", "NT", "NS 3\n"),
+        ("N:AJ.K.. KQ.A.. 2.2..A ..432.", "S", "NT", "NS 3\n"),
+        ("N:AJ.K.. KQ.A.. 2..2.A ..543.", "S", "NT", "NS 2\n"),
+        ("N:AJ.K.. ..543. 2..2.A KQ.A..", "S", "NT", "NS 3\n"),
+        (" s:32...\tk4...  aq... 65... ", "S", "NT", "NS 2\n"),
+    ] {
+        let words = ["ddfarm", "plain", layout, leader, trump];
+        expect_run(&rt, rt.alloc(), words.as_slice(), ROOM, (DONE, line, ""))?;
+    }
+    Ok(())
+}
+
+#[test]
+fn endings_from_outside(rt: HostRuntime) -> Result<(), Fail> {
+    for (layout, leader, trump, line) in ENDINGS.iter() {
+        let words = ["ddfarm", "plain", *layout, *leader, *trump];
+        expect_run(&rt, rt.alloc(), words.as_slice(), ROOM, (DONE, *line, ""))?;
+    }
+    Ok(())
+}
+
+#[test]
+fn refused_layouts(rt: HostRuntime) -> Result<(), Fail> {
+    for (layout, told) in [
+        (
+            "N:AKQJT... 98765... ..AKQJT. ...AKQJT",
+            "ddfarm: plain takes at most 4 cards a hand\n",
+        ),
+        ("N:A... A... Q... J...", "ddfarm: layout: 5 CardTwice\n"),
+        ("N:AA... K... Q... J...", "ddfarm: layout: 5 CardTwice\n"),
+        ("N:A... K... Q...", "ddfarm: layout: 4 DealForm\n"),
+        ("N:A... K... Q... -", "ddfarm: layout: 4 DealForm\n"),
+        ("N:10... K... Q... J...", "ddfarm: layout: 4 DealForm\n"),
+        ("", "ddfarm: layout: 4 DealForm\n"),
+        ("?", "ddfarm: layout: 4 DealForm\n"),
+        ("#", "ddfarm: layout: 4 DealForm\n"),
+        ("N:A... K... Q... J.2..", "ddfarm: layout: 6 HandSize\n"),
+        ("N:... ... ... ...", "ddfarm: layout: 6 HandSize\n"),
+    ] {
+        let words = ["ddfarm", "plain", layout, "E", "NT"];
+        expect_run(&rt, rt.alloc(), words.as_slice(), ROOM, (REFUSED, "", told))?;
+    }
+    Ok(())
+}
+
+#[test]
+fn refused_words(rt: HostRuntime) -> Result<(), Fail> {
+    for (words, told) in [
+        (
+            ["ddfarm", "solve"].as_slice(),
+            "error: unrecognized subcommand 'solve'\n",
+        ),
+        (
+            ["ddfarm", "plain"].as_slice(),
+            "error: the following required arguments were not provided:\n",
+        ),
+        (
+            ["ddfarm", "plain", "N:A", "n", "NT"].as_slice(),
+            "error: invalid value 'n' for '<LEADER>'\n",
+        ),
+        (
+            ["ddfarm", "plain", "N:A", "N", "X"].as_slice(),
+            "error: invalid value 'X' for '<TRUMP>'\n",
+        ),
+        (
+            ["ddfarm", "plain", "N:A", "N", "S", "S"].as_slice(),
+            "error: unexpected argument 'S' found\n",
+        ),
+        (
+            ["ddfarm", "table", "club.pbn"].as_slice(),
+            "error: unexpected argument 'club.pbn' found\n",
+        ),
+        (
+            ["ddfarm", "--loud"].as_slice(),
+            "error: unexpected argument '--loud' found\n",
+        ),
+        (
+            ["ddfarm"].as_slice(),
+            "Double-dummy results of bridge deals",
+        ),
+    ] {
+        let mut input = Bytes::new(b"", 1);
+        let mut output = Buffer::new(rt.alloc(), ROOM, 3)?;
+        let mut errors = Buffer::new(rt.alloc(), ROOM, 7)?;
+        let status = run_command(rt.alloc(), words, &mut input, &mut output, &mut errors);
+        let text = str::from_utf8(errors.bytes())?;
+        assert_eq!(rt; status, REFUSED, "at {words:?}");
+        assert!(rt; text.starts_with(told), "at {words:?}: {text}");
+        assert!(rt; output.bytes().is_empty(), "at {words:?}");
+    }
+    Ok(())
+}
+
+#[test]
+fn asked_help(rt: HostRuntime) -> Result<(), Fail> {
+    for (words, named) in [
+        (["ddfarm", "-h"].as_slice(), "Usage: ddfarm <COMMAND>\n"),
+        (
+            ["ddfarm", "--help"].as_slice(),
+            "  plain  Prints how many tricks",
+        ),
+        (
+            ["ddfarm", "table", "--help"].as_slice(),
+            "  ddfarm table <club.pbn >tables.pbn\n",
+        ),
+        (
+            ["ddfarm", "plain", "-h"].as_slice(),
+            "Usage: ddfarm plain <LAYOUT> <LEADER> <TRUMP>\n",
+        ),
+        (
+            ["ddfarm", "plain", "--help"].as_slice(),
+            "Example: \"N:AQ... 65... 32... K4...\"",
+        ),
+    ] {
+        let mut input = Bytes::new(b"", 1);
+        let mut output = Buffer::new(rt.alloc(), ROOM, 3)?;
+        let mut errors = Buffer::new(rt.alloc(), ROOM, 7)?;
+        let status = run_command(rt.alloc(), words, &mut input, &mut output, &mut errors);
+        let text = str::from_utf8(output.bytes())?;
+        assert_eq!(rt; status, DONE, "at {words:?}");
+        assert!(rt; text.contains(named), "at {words:?}: {text}");
+        assert!(rt; errors.bytes().is_empty(), "at {words:?}");
+    }
+    Ok(())
+}
+
+#[test]
+fn a_full_output(rt: HostRuntime) -> Result<(), Fail> {
+    for (room, printed) in [(0, ""), (1, "N"), (2, "NS"), (3, "NS "), (4, "NS 2")] {
+        expect_run(
+            &rt,
+            rt.alloc(),
+            FINESSE.as_slice(),
+            room,
+            (FAILED, printed, "ddfarm: writing failed\n"),
+        )?;
+    }
+    let help = ["ddfarm", "--help"];
+    expect_run(
+        &rt,
+        rt.alloc(),
+        help.as_slice(),
+        6,
+        (FAILED, "Double", "ddfarm: writing failed\n"),
+    )
+}
+
+#[test]
+fn a_full_error_output_is_not_told(rt: HostRuntime) -> Result<(), Fail> {
+    let mut input = Bytes::new(b"", 1);
+    let mut output = Buffer::new(rt.alloc(), ROOM, 3)?;
+    let mut errors = Buffer::new(rt.alloc(), 4, 7)?;
+    let words = ["ddfarm", "plain", "?", "S", "NT"];
+    let status = run_command(
+        rt.alloc(),
+        words.as_slice(),
+        &mut input,
+        &mut output,
+        &mut errors,
+    );
+    assert_eq!(rt; status, REFUSED);
+    assert_eq!(rt; errors.bytes(), b"ddfa".as_slice());
+    assert!(rt; output.bytes().is_empty());
+    Ok(())
+}
+
+#[test]
+fn plain_lines(rt: HostRuntime) -> Result<(), Fail> {
+    let mut output = Buffer::new(rt.alloc(), 7, 2)?;
+    let ruff = plain_line(
+        b"N:2... .A.. 3... .K..",
+        Seat::East,
+        Trump::Suit(Suit::Spades),
+        &mut output,
+    );
+    assert_eq!(rt; ruff, Ok(()));
+    let twice = plain_line(b"N:A... A... Q... J...", Seat::East, Trump::Nt, &mut output);
+    assert_eq!(rt;
+        twice,
+        Err(PlainFault::Layout(PbnFault::CardTwice { line: 1 }))
+    );
+    let large = plain_line(
+        b"N:AKQJT... 98765... ..AKQJT. ...AKQJT",
+        Seat::North,
+        Trump::Nt,
+        &mut output,
+    );
+    assert_eq!(rt; large, Err(PlainFault::TooLarge));
+    let full = plain_line(b"N:A... K... Q... J...", Seat::East, Trump::Nt, &mut output);
+    assert_eq!(rt; full, Err(PlainFault::Write));
+    assert_eq!(rt; output.bytes(), b"NS 1\nNS".as_slice());
+    Ok(())
+}
+
+/// A writer that takes no byte, or a reader and a writer that fail.
+#[derive(Drop)]
+struct Broken {
+    takes_none: bool,
+}
+
+impl io::Write for Broken {
+    fn write(&mut self, _buf: &[u8]) -> io::Result<usize> {
+        if self.takes_none {
+            return Ok(0);
+        }
+        Err(io::Error::from(io::ErrorKind::BrokenPipe))
+    }
+
+    fn flush(&mut self) -> io::Result<()> {
+        Ok(())
+    }
+}
+
+impl io::Read for Broken {
+    fn read(&mut self, _buf: &mut [u8]) -> io::Result<usize> {
+        Err(io::Error::from(io::ErrorKind::BrokenPipe))
+    }
+}
+
+#[test]
+fn streams(rt: HostRuntime) -> Result<(), Fail> {
+    let mut buffer = [0; 4];
+    let mut source = ReaderSource::new(b"abcdef".as_slice());
+    assert_eq!(rt; source.read(&mut buffer), Ok(4));
+    assert_eq!(rt; &buffer, b"abcd");
+    assert_eq!(rt; source.read(&mut buffer), Ok(2));
+    assert_eq!(rt; source.read(&mut buffer), Ok(0));
+    let mut sink = WriterSink::new(Vec::new(rt.alloc()));
+    assert_eq!(rt; sink.write(b"abc"), Ok(3));
+    assert_eq!(rt; sink.write(b""), Ok(0));
+    let mut no_source = ReaderSource::new(Broken { takes_none: false });
+    assert_eq!(rt; no_source.read(&mut buffer), Err(DeviceFault));
+    for takes_none in [false, true] {
+        let mut no_sink = WriterSink::new(Broken { takes_none });
+        assert_eq!(rt; no_sink.write(b"abc"), Err(DeviceFault));
+    }
+    Ok(())
+}

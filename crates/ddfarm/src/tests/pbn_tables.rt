@@ -1,0 +1,199 @@
+//! What `table` prints of PBN texts, worked out by hand from the format.
+
+use super::{ROOM, expect_words};
+use crate::blanks::make_blank;
+use crate::faults::MakeFault;
+use crate::messages::{DONE, FAILED, INCOMPLETE, REFUSED};
+use cards::{Buffer, Bytes, DeviceFault, Source};
+use pbn_deals::PbnFault;
+use std::test::Fail;
+use tables::Report;
+
+const TABLE: [&str; 2] = ["ddfarm", "table"];
+
+/// A file as a tournament writes it: CR LF, a comment over a blank line, words in small letters, section data with
+/// brackets and quotes, a game without a Deal tag.
+const CR_LF: &[u8] = b"% PBN 2.1\r
+[Event \"x\"]\r
+[board \"7\"]\r
+{ a comment\r
+\r
+[Deal \"N:- - - -\"] }\r
+[Deal \"e:.akqjt98765432.. ..23456789tjqka. ...AKQJT98765432 AKQJT98765432...\"]\r
+[Auction \"N\"]\r
+1C Pass {strong [x} Pass Pass\r
+\r
+[Event \"no deal\"]\r
+\r
+[Board \"8\"]\r
+[Deal \"N:AKQJT98765432... - - -\"]\r
+";
+
+const OF_CR_LF: &str = "% PBN 2.1
+[Board \"7\"]
+[Deal \"N:AKQJT98765432... .AKQJT98765432.. ..AKQJT98765432. ...AKQJT98765432\"]
+; table incomplete: 0 of 20
+
+[Board \"8\"]
+[Deal \"?\"]
+; table incomplete: 0 of 20
+
+";
+
+const UNNAMED: &str = "% PBN 2.1\n[Board \"\"]\n[Deal \"?\"]\n; table incomplete: 0 of 20\n\n";
+
+const NAMED_A: &str = "% PBN 2.1\n[Board \"a\"]\n[Deal \"?\"]\n; table incomplete: 0 of 20\n\n";
+
+const NO_BOARDS: &str = "% PBN 2.1\n";
+
+#[test]
+fn boards_without_results(rt: HostRuntime) -> Result<(), Fail> {
+    for (text, status, printed) in [
+        (CR_LF, INCOMPLETE, OF_CR_LF),
+        (
+            b"[Deal \"?\"] ; [Deal \"?\"]".as_slice(),
+            INCOMPLETE,
+            UNNAMED,
+        ),
+        (b"x [Deal \"?\"]".as_slice(), DONE, NO_BOARDS),
+        (b"{\n%}\n[Deal \"?\"]".as_slice(), INCOMPLETE, UNNAMED),
+        (
+            b"[Board \"a\"]\n{\n\n}\n[Deal \"?\"]".as_slice(),
+            INCOMPLETE,
+            NAMED_A,
+        ),
+        (b"".as_slice(), DONE, NO_BOARDS),
+        (OF_CR_LF.as_bytes(), INCOMPLETE, OF_CR_LF),
+    ] {
+        expect_words(
+            &rt,
+            rt.alloc(),
+            TABLE.as_slice(),
+            text,
+            ROOM,
+            (status, printed, ""),
+        )?;
+    }
+    Ok(())
+}
+
+#[test]
+fn refused_texts(rt: HostRuntime) -> Result<(), Fail> {
+    let mut many = Vec::new(rt.alloc());
+    for _board in 0..4097 {
+        many.extend_from_slice(b"[Deal \"?\"]\n\n")?;
+    }
+    for (text, told) in [
+        (
+            b"[Board \"1\"]\n[Deal \"N:AKQJT98765432... AKQJT98765432... ..AKQJT98765432. ...AKQJT98765432\"]".as_slice(),
+            "ddfarm: line 2: 5 CardTwice\n",
+        ),
+        (
+            b"[Deal \"N:AKQJT98765432.A.. .KQJT98765432.. ..AKQJT98765432. ...AKQJT98765432\"]".as_slice(),
+            "ddfarm: line 1: 6 HandSize\n",
+        ),
+        (
+            b"[Deal \"?\"]\n[Deal \"?\"]".as_slice(),
+            "ddfarm: line 2: 3 SecondDeal\n",
+        ),
+        (b"[Deal \"#\"]".as_slice(), "ddfarm: line 1: 7 Inherited\n"),
+        (b"[Board \"1\"".as_slice(), "ddfarm: line 1: 1 TagForm\n"),
+        (many.as_slice(), "ddfarm: line 8193: 8 TooManyBoards\n"),
+        (b"{".as_slice(), "ddfarm: line 1: 2 OpenComment\n"),
+        (
+            b"[Deal \"N:- - -\"]".as_slice(),
+            "ddfarm: line 1: 4 DealForm\n",
+        ),
+    ] {
+        expect_words(
+            &rt,
+            rt.alloc(),
+            TABLE.as_slice(),
+            text,
+            ROOM,
+            (REFUSED, "", told),
+        )?;
+    }
+    Ok(())
+}
+
+#[test]
+fn a_full_output_of_tables(rt: HostRuntime) -> Result<(), Fail> {
+    for room in 0..UNNAMED.len() {
+        let printed = UNNAMED.get(..room).unwrap_or("");
+        let want = (FAILED, printed, "ddfarm: writing failed\n");
+        let text = b"[Deal \"?\"]";
+        expect_words(&rt, rt.alloc(), TABLE.as_slice(), text, room, want)?;
+    }
+    Ok(())
+}
+
+/// A source that gives some bytes and then fails.
+#[derive(Drop)]
+struct Torn {
+    given: bool,
+    failures: u64,
+}
+
+impl Source for Torn {
+    ghost use Rattle.std.specs.Prelude.{None};
+
+    ghost left = { λ _. None };
+
+    ghost read_failures = { λ source. source.failures };
+
+    fn read(&mut self, buffer: &mut [u8]) -> Result<usize, DeviceFault> {
+        match buffer.first_mut() {
+            Some(byte) if !self.given => {
+                *byte = b'\n';
+                self.given = true;
+                Ok(1)
+            }
+            _ => {
+                self.failures = self.failures.saturating_add(1);
+                Err(DeviceFault)
+            }
+        }
+    }
+}
+
+#[test]
+fn a_torn_input(rt: HostRuntime) -> Result<(), Fail> {
+    let mut input = Torn {
+        given: false,
+        failures: 0,
+    };
+    let mut output = Buffer::new(rt.alloc(), ROOM, 3)?;
+    let made = make_blank(rt.alloc(), &mut input, &mut output);
+    assert_eq!(rt; made, Err(MakeFault::Read));
+    assert!(rt; output.bytes().is_empty());
+    Ok(())
+}
+
+#[test]
+fn reports(rt: HostRuntime) -> Result<(), Fail> {
+    let mut output = Buffer::new(rt.alloc(), ROOM, 3)?;
+    let mut input = Bytes::new(CR_LF, 5);
+    let made = make_blank(rt.alloc(), &mut input, &mut output);
+    assert_eq!(rt;
+        made,
+        Ok(Report {
+            boards: 2,
+            complete: 0
+        })
+    );
+    let mut input = Bytes::new(b"\n{", 5);
+    let refused = make_blank(rt.alloc(), &mut input, &mut output);
+    let fault = MakeFault::Pbn(PbnFault::OpenComment { line: 2 });
+    assert_eq!(rt; refused, Err(fault));
+    assert_eq!(rt; output.bytes(), OF_CR_LF.as_bytes());
+    for (fault, number) in [
+        (MakeFault::OutOfMemory, 1),
+        (MakeFault::Read, 2),
+        (fault, 3),
+        (MakeFault::Write, 5),
+    ] {
+        assert_eq!(rt; fault.number(), number);
+    }
+    Ok(())
+}
