@@ -2,3 +2,9 @@ pub mod WriteLemmas
 pub mod NumberLemmas
 pub mod CountLemmas
 pub mod TableLemmas
+pub mod LinesBack
+pub mod CalmTexts
+pub mod Dealt
+pub mod DealWords
+pub mod DealsBack
+pub mod BoardsBack

@@ -2,3 +2,4 @@ pub mod Writes
 pub mod DealText
 pub mod TablesText
 pub mod TestSheet
+pub mod ReadBack

@@ -6,11 +6,13 @@
 
 mod deals;
 mod entries;
+mod laws;
 mod pieces;
 mod sheet_text;
 mod sheets;
 mod tables;
 
+pub use laws::boards_are_read_back;
 pub use sheet_text::write_sheet;
 pub use sheets::{Report, Sheet};
 

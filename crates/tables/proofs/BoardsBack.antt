@@ -1,0 +1,313 @@
+-- Each board's lines are read as that board.
+use Rattle.std.proofs.Common.{◌≡◌, ◌≢◌, ℕ, ◌+◌, ◌<◌, ◌≤◌, Bool, true, false, cond, not, ◌&&◌, eqb, List, [], ◌∷◌, ◌++◌, length, Option, None, Some, Ok, refl, sym, ◌∙◌, ap, subst, arith, inl, inr, append_assoc}
+use Rattle.std.specs.Prelude.{Result, codes, IfSome, is_some}
+use Rattle.std.specs.List.{AllByRecursion, flat_map, enumerate_from}
+use Rattle.std.specs.Fmt.{decimal}
+use Rattle.std.proofs.lemmas.List.Elements.{recursion_from_All, All-from_recursion}
+use Rattle.std.proofs.lemmas.Bool.{cases_Bool, ne_eqb, and_parts, eqb-false, not-true}
+use Rattle.std.proofs.lemmas.List.Sums.{count_by-le-length}
+use Rattle.cards.specs.declared.seats.Seat.{Seat}
+use Rattle.cards.specs.declared.seats.Seat.TheVariants.{North, East, South, West}
+use Rattle.cards.specs.declared.suits.Trump.{Trump}
+use Rattle.cards.specs.Pack.{trump_letters}
+use Rattle.cards.specs.Seats.{seat_letter}
+use Rattle.cards.specs.Deal.{Deal}
+use Rattle.pbn_deals.specs.declared.boards.Board.{Board}
+use Rattle.pbn_deals.specs.declared.faults.PbnFault.{PbnFault}
+use Rattle.pbn_deals.specs.Tags.{Tag, tag_of, value_front, after_value, is_inherited}
+use Rattle.pbn_deals.specs.Games.{Tags, no_tags, boards_of, SaysDeal, board_tag, deal_tag, other_tag, first_board, only_deal, greatest_count, says_nothing}
+use Rattle.pbn_deals.specs.Reading.{is_line_feed, without_return, lines_of, is_escaped, is_blank_line, Ends, Reads, at_end, at_tag, at_line_comment, Answers, no_line, escaped_line, blank_line, whole_line, put_boards}
+use Rattle.tables.specs.DealText.{deal_text}
+use Rattle.tables.specs.TablesText.{Results, tag_line, deal_value, row_text, result_row, entry_row, rows_text, entries, right_in_two, is_complete, published_count, table_tag, incomplete_line, table_text, board_text, numbered_text, tables_text, line}
+use Rattle.tables.specs.ReadBack.{IsBoardDeal, IsPrintable, AreTricks, AreReadBack}
+use Rattle.tables.proofs.DealsBack.{reads_back}
+use Rattle.tables.proofs.LinesBack.{IsLine, lines_of-line, IsTame, IsLine-from_tame, IsTame-append, Reads-quiet}
+use Rattle.tables.proofs.CalmTexts.{is_calm, IsTame-from_calm, IsQuiet-from_calm, is_calm-append, NoQuote, seat_letter-calm, denomination-calm, right_in_two-calm, decimal-calm}
+
+-- the answer for the lines of a text, whatever the number of its first line
+abbrev AnswersText : Tags → ℕ → List ℕ → Result (List Board) PbnFault → Type 0
+AnswersText tags count text answer = (number : ℕ) → Answers number None tags count (lines_of text) answer
+
+-- a line that says nothing of the boards
+record IsIdle (line : List ℕ) : Type 0 where
+  as_line : IsLine line
+  not_escaped : is_escaped line ≡ false
+  not_blank : is_blank_line line ≡ false
+  read : (number count : ℕ) (tags : Tags) → Reads number count false tags line (Ends tags false)
+
+idle_step : (line rest : List ℕ) (tags : Tags) (count : ℕ) (answer : Result (List Board) PbnFault) → IsIdle line → AnswersText tags count rest answer → AnswersText tags count (line ++ 10 ∷ rest) answer
+idle_step line rest tags count answer idle more = λ number.
+    subst (λ (lines : List (List ℕ)). Answers number None tags count lines answer) (sym (lines_of-line line rest idle.as_line))
+    (whole_line idle.not_escaped idle.not_blank (idle.read number count tags) (more (number + 1)))
+
+-- ---- rows
+row_body : Seat → Trump → ℕ → List ℕ
+row_body declarer denomination tricks = (seat_letter declarer ++ (32 ∷ [])) ++ (right_in_two (trump_letters denomination) ++ (32 ∷ right_in_two (decimal tricks)))
+
+row_body-calm : (declarer : Seat) (denomination : Trump) (tricks : ℕ) → tricks ≤ 13 → is_calm (row_body declarer denomination tricks) ≡ true
+unfolding row_body
+row_body-calm declarer denomination tricks h =
+    is_calm-append (seat_letter declarer ++ (32 ∷ [])) _ (is_calm-append (seat_letter declarer) (32 ∷ []) (seat_letter-calm declarer) refl)
+    (is_calm-append (right_in_two (trump_letters denomination)) (32 ∷ right_in_two (decimal tricks)) (denomination-calm denomination)
+    (right_in_two-calm (decimal tricks) (decimal-calm tricks (omega arith))))
+
+row_body-not_escaped : (declarer : Seat) (denomination : Trump) (tricks : ℕ) → is_escaped (row_body declarer denomination tricks) ≡ false
+unfolding row_body
+row_body-not_escaped North denomination tricks = refl
+row_body-not_escaped East denomination tricks = refl
+row_body-not_escaped South denomination tricks = refl
+row_body-not_escaped West denomination tricks = refl
+
+row_body-not_blank : (declarer : Seat) (denomination : Trump) (tricks : ℕ) → is_blank_line (row_body declarer denomination tricks) ≡ false
+unfolding row_body
+row_body-not_blank North denomination tricks = refl
+row_body-not_blank East denomination tricks = refl
+row_body-not_blank South denomination tricks = refl
+row_body-not_blank West denomination tricks = refl
+
+row-idle : (declarer : Seat) (denomination : Trump) (tricks : ℕ) → tricks ≤ 13 → IsIdle (row_body declarer denomination tricks)
+row-idle declarer denomination tricks h =
+    let calm = row_body-calm declarer denomination tricks h in
+    record {
+      as_line = IsLine-from_tame _ (IsTame-from_calm _ calm);
+      not_escaped = row_body-not_escaped declarer denomination tricks;
+      not_blank = row_body-not_blank declarer denomination tricks;
+      read = λ number count tags. Reads-quiet number count false tags _ (IsQuiet-from_calm _ calm);
+    }
+
+row_text-is : (declarer : Seat) (denomination : Trump) (tricks : ℕ) (rest : List ℕ) → row_text declarer denomination tricks ++ rest ≡ row_body declarer denomination tricks ++ 10 ∷ rest
+unfolding row_text row_body
+row_text-is declarer denomination tricks rest = simp append_assoc
+
+rows_step : (results : Results) (some : List (Seat × Trump)) (rest : List ℕ) (tags : Tags) (count : ℕ) (answer : Result (List Board) PbnFault) → ((declarer : Seat) (denomination : Trump) → IfSome (results declarer denomination) (λ tricks. tricks ≤ 13)) → AnswersText tags count rest answer → AnswersText tags count (flat_map (entry_row results) some ++ rest) answer
+rows_step results [] rest tags count answer small more = more
+rows_step results (entry ∷ some) rest tags count answer small more =
+    let after = rows_step results some rest tags count answer small more in
+    go (results entry.0 entry.1) (small entry.0 entry.1) after
+  where
+    go : (result : Option ℕ) → IfSome result (λ tricks. tricks ≤ 13) → AnswersText tags count (flat_map (entry_row results) some ++ rest) answer → AnswersText tags count ((result_row entry.0 entry.1 result ++ flat_map (entry_row results) some) ++ rest) answer
+    go None h after = after
+    go (Some tricks) h after =
+        subst (λ (text : List ℕ). AnswersText tags count text answer)
+        (sym (append_assoc (row_text entry.0 entry.1 tricks) (flat_map (entry_row results) some) rest ∙ row_text-is entry.0 entry.1 tricks (flat_map (entry_row results) some ++ rest)))
+        (idle_step (row_body entry.0 entry.1 tricks) (flat_map (entry_row results) some ++ rest) tags count answer (row-idle entry.0 entry.1 tricks h) after)
+
+-- ---- the table of a board
+table_tag_body : List ℕ
+table_tag_body = codes "[OptimumResultTable " ++ (34 ∷ codes "Declarer;Denomination") ++ (92 ∷ codes "2R;Result") ++ (92 ∷ codes "2R") ++ (34 ∷ 93 ∷ [])
+
+table_tag-is : table_tag ≡ table_tag_body ++ (10 ∷ [])
+unfolding table_tag table_tag_body
+table_tag-is = refl
+
+table_tag_tag : Tag
+table_tag_tag = record { name = codes "OptimumResultTable"; value = codes "Declarer;Denomination" ++ (92 ∷ codes "2R;Result") ++ (92 ∷ codes "2R"); rest = [] }
+
+table_tag-read : (number count : ℕ) (tags : Tags) → Reads number count false tags table_tag_body (Ends tags false)
+unfolding table_tag_body table_tag_tag
+table_tag-read number count tags = at_tag {tag = table_tag_tag} refl refl (other_tag refl refl) at_end
+
+-- no line feed and no carriage return
+abbrev is_tame : List ℕ → Bool
+is_tame [] = true
+is_tame (byte ∷ bytes) = not (eqb byte 10) && (not (eqb byte 13) && is_tame bytes)
+
+IsTame-from_test : (text : List ℕ) → is_tame text ≡ true → IsTame text
+IsTame-from_test [] h = tt
+IsTame-from_test (byte ∷ bytes) h =
+    let one = and_parts (not (eqb byte 10)) _ h in
+    let two = and_parts (not (eqb byte 13)) _ one.1 in
+    (eqb-false byte 10 (not-true _ one.0), eqb-false byte 13 (not-true _ two.0), IsTame-from_test bytes two.1)
+
+table_tag-idle : IsIdle table_tag_body
+unfolding table_tag_body
+table_tag-idle = record {
+  as_line = IsLine-from_tame table_tag_body (IsTame-from_test table_tag_body refl);
+  not_escaped = refl;
+  not_blank = refl;
+  read = table_tag-read;
+}
+
+incomplete_body : ℕ → List ℕ
+incomplete_body published = codes "; table incomplete: " ++ (decimal published ++ codes " of 20")
+
+incomplete_line-is : (published : ℕ) (rest : List ℕ) → incomplete_line published ++ rest ≡ incomplete_body published ++ 10 ∷ rest
+unfolding incomplete_line incomplete_body
+incomplete_line-is published rest = simp append_assoc
+
+incomplete-idle : (published : ℕ) → published ≤ 20 → IsIdle (incomplete_body published)
+unfolding incomplete_body
+incomplete-idle published h = record {
+  as_line = IsLine-from_tame _ (IsTame-append (codes "; table incomplete: ") _ (IsTame-from_test (codes "; table incomplete: ") refl) (IsTame-append (decimal published) (codes " of 20") (IsTame-from_calm _ (decimal-calm published h)) (IsTame-from_test (codes " of 20") refl)));
+  not_escaped = refl;
+  not_blank = refl;
+  read = λ number count tags. at_line_comment refl;
+}
+
+published_count-le : (results : Results) → published_count results ≤ 20
+unfolding published_count
+published_count-le results = count_by-le-length (λ (entry : Seat × Trump). is_some (results entry.0 entry.1)) entries
+
+table_step : (results : Results) (rest : List ℕ) (tags : Tags) (count : ℕ) (answer : Result (List Board) PbnFault) → ((declarer : Seat) (denomination : Trump) → IfSome (results declarer denomination) (λ tricks. tricks ≤ 13)) → AnswersText tags count rest answer → AnswersText tags count (table_text results ++ rest) answer
+unfolding table_text rows_text
+table_step results rest tags count answer small more =
+    elim (cases_Bool (is_complete results)) [
+      | inl t ↦
+          let rows = rows_step results entries rest tags count answer small more in
+          let text : (table_tag ++ rows_text results) ++ rest ≡ table_tag_body ++ 10 ∷ (rows_text results ++ rest) =
+          append_assoc table_tag (rows_text results) rest ∙ (ap (λ (l : List ℕ). l ++ (rows_text results ++ rest)) table_tag-is ∙ append_assoc table_tag_body (10 ∷ []) (rows_text results ++ rest)) in
+          subst (λ (b : Bool). AnswersText tags count ((cond b (table_tag ++ rows_text results) (incomplete_line (published_count results))) ++ rest) answer) (sym t)
+          (subst (λ (l : List ℕ). AnswersText tags count l answer) (sym text) (idle_step table_tag_body (rows_text results ++ rest) tags count answer table_tag-idle rows))
+      | inr f ↦
+          subst (λ (b : Bool). AnswersText tags count ((cond b (table_tag ++ rows_text results) (incomplete_line (published_count results))) ++ rest) answer) (sym f)
+          (subst (λ (l : List ℕ). AnswersText tags count l answer) (sym (incomplete_line-is (published_count results) rest))
+          (idle_step (incomplete_body (published_count results)) rest tags count answer (incomplete-idle (published_count results) (published_count-le results)) more))
+    ]
+
+-- ---- tag pairs with a value
+tag_body : List ℕ → List ℕ → List ℕ
+tag_body name value = 91 ∷ (name ++ (32 ∷ 34 ∷ (value ++ (34 ∷ 93 ∷ []))))
+
+tag_line-is : (name value rest : List ℕ) → tag_line name value ++ rest ≡ tag_body name value ++ 10 ∷ rest
+unfolding tag_body
+tag_line-is name value rest = simp append_assoc
+
+value_front-is : (value rest : List ℕ) → NoQuote value → value_front (value ++ 34 ∷ rest) ≡ value
+value_front-is [] rest h = refl
+value_front-is (byte ∷ bytes) rest h = rw (ne_eqb byte 34 h.0) (ap (λ (l : List ℕ). byte ∷ l) (value_front-is bytes rest h.1))
+
+after_value-is : (value rest : List ℕ) → NoQuote value → after_value (value ++ 34 ∷ rest) ≡ Some rest
+after_value-is [] rest h = refl
+after_value-is (byte ∷ bytes) rest h = rw (ne_eqb byte 34 h.0) (after_value-is bytes rest h.1)
+
+board_tag_of : (value : List ℕ) → NoQuote value → tag_of (codes "Board" ++ (32 ∷ 34 ∷ (value ++ (34 ∷ 93 ∷ [])))) ≡ Some (record { name = codes "Board"; value = value; rest = [] })
+board_tag_of value h = rw (value_front-is value (93 ∷ []) h, after_value-is value (93 ∷ []) h) refl
+
+deal_tag_of : (value : List ℕ) → NoQuote value → tag_of (codes "Deal" ++ (32 ∷ 34 ∷ (value ++ (34 ∷ 93 ∷ [])))) ≡ Some (record { name = codes "Deal"; value = value; rest = [] })
+deal_tag_of value h = rw (value_front-is value (93 ∷ []) h, after_value-is value (93 ∷ []) h) refl
+
+-- a tag pair's line
+bracket-return : (text : List ℕ) → without_return (text ++ (34 ∷ 93 ∷ [])) ≡ text ++ (34 ∷ 93 ∷ [])
+bracket-return [] = refl
+bracket-return (byte ∷ []) = refl
+bracket-return (byte ∷ other ∷ bytes) = ap (λ (l : List ℕ). byte ∷ l) (bracket-return (other ∷ bytes))
+
+feedless : (text : List ℕ) → AllByRecursion (λ byte. byte ≢ 10) text → AllByRecursion (λ byte. is_line_feed byte ≡ false) text
+feedless [] h = tt
+feedless (byte ∷ bytes) h = (ne_eqb byte 10 h.0, feedless bytes h.1)
+
+feedless-append : (one other : List ℕ) → AllByRecursion (λ byte. is_line_feed byte ≡ false) one → AllByRecursion (λ byte. is_line_feed byte ≡ false) other → AllByRecursion (λ byte. is_line_feed byte ≡ false) (one ++ other)
+feedless-append [] other a b = b
+feedless-append (byte ∷ bytes) other a b = (a.0, feedless-append bytes other a.1 b)
+
+-- the line of a tag pair whose name and value have no line feed
+tag-line : (name value : List ℕ) → AllByRecursion (λ byte. is_line_feed byte ≡ false) name → AllByRecursion (λ byte. is_line_feed byte ≡ false) value → IsLine (tag_body name value)
+unfolding tag_body
+tag-line name value a b = record {
+  no_feed = All-from_recursion _ (91 ∷ (name ++ (32 ∷ 34 ∷ (value ++ (34 ∷ 93 ∷ []))))) (refl, feedless-append name (32 ∷ 34 ∷ (value ++ (34 ∷ 93 ∷ []))) a (refl, (refl, feedless-append value (34 ∷ 93 ∷ []) b (refl, (refl, tt)))));
+  no_return = subst (λ (l : List ℕ). without_return l ≡ l) (append_assoc (91 ∷ (name ++ (32 ∷ 34 ∷ []))) value (34 ∷ 93 ∷ []) ∙ ap (λ (l : List ℕ). 91 ∷ l) (append_assoc name (32 ∷ 34 ∷ []) (value ++ (34 ∷ 93 ∷ [])))) (bracket-return ((91 ∷ (name ++ (32 ∷ 34 ∷ []))) ++ value));
+}
+
+no_quote : (text : List ℕ) → AllByRecursion (λ byte. byte ≢ 34) text → NoQuote text
+no_quote [] h = tt
+no_quote (byte ∷ bytes) h = (h.0, no_quote bytes h.1)
+
+-- the line of the Board tag gives the name
+name_tags : List ℕ → Tags
+name_tags name = record { name = Some name; deal = None }
+
+board_line-read : (number count : ℕ) (name : List ℕ) → NoQuote name → is_inherited name ≡ false → Reads number count false no_tags (tag_body (codes "Board") name) (Ends (name_tags name) false)
+unfolding tag_body name_tags
+board_line-read number count name h own = at_tag refl (board_tag_of name h) (board_tag refl (first_board own refl)) at_end
+
+-- the line of the Deal tag gives the deal
+both_tags : List ℕ → Option Deal → Tags
+both_tags name deal = record { name = Some name; deal = Some deal }
+
+deal_line-read : (number count : ℕ) (name value : List ℕ) (deal : Option Deal) → NoQuote value → ((line : ℕ) → SaysDeal line value (Ok deal)) → count < greatest_count → Reads number count false (name_tags name) (tag_body (codes "Deal") value) (Ends (both_tags name deal) false)
+unfolding tag_body name_tags both_tags
+deal_line-read number count name value deal h says room = at_tag refl (deal_tag_of value h) (deal_tag refl refl (only_deal refl (says number) room)) at_end
+
+tag_body-not_escaped : (name value : List ℕ) → is_escaped (tag_body name value) ≡ false
+unfolding tag_body
+tag_body-not_escaped name value = refl
+
+tag_body-not_blank : (name value : List ℕ) → is_blank_line (tag_body name value) ≡ false
+unfolding tag_body
+tag_body-not_blank name value = refl
+
+-- what is known of the printed deal
+record IsReadable (deal : Option Deal) : Type 0 where
+  one_line : AllByRecursion (λ byte. is_line_feed byte ≡ false) (deal_value deal)
+  quoteless : NoQuote (deal_value deal)
+  says : (line : ℕ) → SaysDeal line (deal_value deal) (Ok deal)
+
+blank_step : (rest : List ℕ) (tags : Tags) (count : ℕ) (answer : Result (List Board) PbnFault) → AnswersText no_tags (count + length (boards_of tags)) rest answer → AnswersText tags count (10 ∷ rest) (put_boards (boards_of tags) answer)
+blank_step rest tags count answer more = λ number.
+    subst (λ (lines : List (List ℕ)). Answers number None tags count lines (put_boards (boards_of tags) answer)) (sym (lines_of-line [] rest (record { no_feed = All-from_recursion _ [] tt; no_return = refl })))
+    (blank_line refl refl (more (number + 1)))
+
+board_text-is : (board : Board) (results : Results) (rest : List ℕ) → board_text board results ++ rest ≡ tag_body (codes "Board") board.name ++ 10 ∷ (tag_body (codes "Deal") (deal_value board.deal) ++ 10 ∷ (table_text results ++ 10 ∷ rest))
+unfolding board_text
+board_text-is board results rest =
+    let table = table_text results ++ (10 ∷ []) in
+    let deal = tag_line (codes "Deal") (deal_value board.deal) in
+    append_assoc (tag_line (codes "Board") board.name) (deal ++ table) rest
+    ∙ (tag_line-is (codes "Board") board.name ((deal ++ table) ++ rest)
+    ∙ ap (λ (l : List ℕ). tag_body (codes "Board") board.name ++ 10 ∷ l)
+    (append_assoc deal table rest
+    ∙ (tag_line-is (codes "Deal") (deal_value board.deal) (table ++ rest)
+    ∙ ap (λ (l : List ℕ). tag_body (codes "Deal") (deal_value board.deal) ++ 10 ∷ l) (append_assoc (table_text results) (10 ∷ []) rest))))
+
+board_step : (board : Board) (results : Results) (rest : List ℕ) (count : ℕ) (boards : List Board) → IsPrintable board → IsReadable board.deal → ((declarer : Seat) (denomination : Trump) → IfSome (results declarer denomination) (λ tricks. tricks ≤ 13)) → count < greatest_count → AnswersText no_tags (count + 1) rest (Ok boards) → AnswersText no_tags count (board_text board results ++ rest) (Ok (board ∷ boards))
+unfolding board_text both_tags
+board_step board results rest count boards printable readable small room more = λ number.
+    let name = board.name in
+    let value = deal_value board.deal in
+    let tags = both_tags name board.deal in
+    let quoteless = no_quote name (recursion_from_All _ name printable.no_quote) in
+    let feed = feedless name (recursion_from_All _ name printable.one_line) in
+    let ending : AnswersText tags count (10 ∷ rest) (Ok (board ∷ boards)) = blank_step rest tags count (Ok boards) more in
+    let table : AnswersText tags count (table_text results ++ 10 ∷ rest) (Ok (board ∷ boards)) = table_step results (10 ∷ rest) tags count (Ok (board ∷ boards)) small ending in
+    let deal_line = tag_body (codes "Deal") value in
+    let deal : AnswersText (name_tags name) count (deal_line ++ 10 ∷ (table_text results ++ 10 ∷ rest)) (Ok (board ∷ boards)) =
+    λ number. subst (λ (lines : List (List ℕ)). Answers number None (name_tags name) count lines (Ok (board ∷ boards))) (sym (lines_of-line deal_line (table_text results ++ 10 ∷ rest) (tag-line (codes "Deal") value (refl, (refl, (refl, (refl, tt)))) readable.one_line)))
+    (whole_line (tag_body-not_escaped (codes "Deal") value) (tag_body-not_blank (codes "Deal") value) (deal_line-read number count name value board.deal readable.quoteless readable.says room) (table (number + 1))) in
+    let board_line = tag_body (codes "Board") name in
+    let first : AnswersText no_tags count (board_line ++ 10 ∷ (deal_line ++ 10 ∷ (table_text results ++ 10 ∷ rest))) (Ok (board ∷ boards)) =
+    λ number. subst (λ (lines : List (List ℕ)). Answers number None no_tags count lines (Ok (board ∷ boards))) (sym (lines_of-line board_line (deal_line ++ 10 ∷ (table_text results ++ 10 ∷ rest)) (tag-line (codes "Board") name (refl, (refl, (refl, (refl, (refl, tt))))) feed)))
+    (whole_line (tag_body-not_escaped (codes "Board") name) (tag_body-not_blank (codes "Board") name) (board_line-read number count name quoteless printable.own_name) (deal (number + 1))) in
+    subst (λ (l : List ℕ). Answers number None no_tags count (lines_of l) (Ok (board ∷ boards))) (sym (board_text-is board results rest)) (first number)
+
+readable_deal : (deal : Option Deal) → IsBoardDeal deal → IsReadable deal
+readable_deal None h = record {
+  one_line = (refl, tt);
+  quoteless = no_quote (63 ∷ []) (eqb-false 63 34 refl, tt);
+  says = λ line. says_nothing refl (inr refl);
+}
+readable_deal (Some deal) h =
+    let back = reads_back deal h in
+    record {
+      one_line = feedless (deal_text deal) (recursion_from_All _ (deal_text deal) back.one_line);
+      quoteless = no_quote (deal_text deal) (recursion_from_All _ (deal_text deal) back.no_quote);
+      says = back.says;
+    }
+
+-- the boards from one place on
+boards_step : (boards : List Board) (results : ℕ → Results) (place count : ℕ) → AllByRecursion IsPrintable boards → ((deal : Option Deal) → IsBoardDeal deal → IsReadable deal) → AreTricks results → count + length boards ≤ greatest_count → AnswersText no_tags count (flat_map (numbered_text results) (enumerate_from place boards)) (Ok boards)
+boards_step [] results place count printable readable small room = λ number. blank_line refl refl no_line
+boards_step (board ∷ boards) results place count printable readable small room =
+    let rest = flat_map (numbered_text results) (enumerate_from (place + 1) boards) in
+    let more : AnswersText no_tags (count + 1) rest (Ok boards) = boards_step boards results (place + 1) (count + 1) printable.1 readable small (omega arith) in
+    board_step board (results place) rest count boards printable.0 (readable board.deal printable.0.deal) (small place) (omega arith) more
+
+first_line : List ℕ
+first_line = codes "% PBN 2.1"
+
+pub are_read_back : AreReadBack
+unfolding tables_text first_line
+are_read_back boards results printable small room =
+    let rest = flat_map (numbered_text results) (enumerate_from 0 boards) in
+    let more = boards_step boards results 0 0 (recursion_from_All _ boards printable) readable_deal small (omega arith) in
+    let first : IsLine first_line = IsLine-from_tame first_line (IsTame-from_test first_line refl) in
+    subst (λ (lines : List (List ℕ)). Answers 1 None no_tags 0 lines (Ok boards)) (sym (lines_of-line first_line rest first)) (escaped_line refl (more 2))
