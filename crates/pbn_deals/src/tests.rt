@@ -1,4 +1,5 @@
 //! Values and texts with answers that were worked out by hand from the rules.
 
 mod layouts;
+mod memory;
 mod texts;
