@@ -10,3 +10,4 @@ pub mod CutLemmas
 pub mod StepLemmas
 pub mod OneTag
 pub mod OneAnswer
+pub mod OneLayout

@@ -27,7 +27,7 @@ same_holder held one other a b n h = go (get_or one n None) (get_or other n None
   go None (Some s) e f = (sym (at_card one) ∙ (a.holders (card_at n) s).1 ((b.holders (card_at n) s).0 (at_card other ∙ f))) ∙ sym f
   go None None e f = e ∙ sym f
 
-one_deal : (held : List Holding) (one other : Deal) → IsDealOf held one → IsDealOf held other → one ≡ other
+pub one_deal : (held : List Holding) (one other : Deal) → IsDealOf held one → IsDealOf held other → one ≡ other
 one_deal held one other a b =
     ext_get_or None one other (a.layout.whole_pack ∙ sym b.layout.whole_pack)
     (λ n h. same_holder held one other a b n (omega (arith, h, a.layout.whole_pack)))
@@ -35,16 +35,16 @@ one_deal held one other a b =
 abbrev whole_naming : List Holding → Naming
 whole_naming held = record { held = held; is_partial = false }
 
-one_held : (said : Option Naming) (held held' : List Holding) → said ≡ full held → said ≡ full held' → held ≡ held'
+pub one_held : (said : Option Naming) (held held' : List Holding) → said ≡ full held → said ≡ full held' → held ≡ held'
 one_held said held held' e f =
     let same : full held ≡ full held' = sym e ∙ f in
     let inside : whole_naming held ≡ whole_naming held' = cc in
     ap (λ (x : Naming). x.held) inside
 
-held_moved : (held held' : List Holding) (deal : Deal) → held' ≡ held → IsDealOf held' deal → IsDealOf held deal
+pub held_moved : (held held' : List Holding) (deal : Deal) → held' ≡ held → IsDealOf held' deal → IsDealOf held deal
 held_moved held held' deal e d = subst (λ h. IsDealOf h deal) e d
 
-once_or_twice : (held held' : List Holding) → held' ≡ held → NamesOnce held → NamesTwice held' → ⊥
+pub once_or_twice : (held held' : List Holding) → held' ≡ held → NamesOnce held → NamesTwice held' → ⊥
 once_or_twice held held' e once twice = let twice' = subst NamesTwice e twice in absurd (omega (arith, once twice'.0, twice'.1))
 
 size_or_thirteen : (held held' : List Holding) → held' ≡ held → HasOtherSize held' → ((seat : Seat) → hand_size held seat ≡ 13) → ⊥

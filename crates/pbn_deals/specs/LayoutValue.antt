@@ -6,7 +6,7 @@ use Rattle.pbn_deals.specs.declared.faults.PbnFault.TheVariants.{TagForm, OpenCo
 use Rattle.pbn_deals.specs.Dealing.{Holding, NamesOnce, NamesTwice, AreMissized, IsDealOf}
 use Rattle.pbn_deals.specs.DealValue.{naming_of, full}
 
--- No two cases can hold of the same value, so each answer comes exactly where its fact holds.
+-- the layout that a value says, or its fault
 abbrev pub SaysLayout : List ℕ → Result Deal PbnFault → Type 0
 SaysLayout value (Ok deal) = (held : List Holding) × (naming_of value ≡ full held) × IsDealOf held deal
 SaysLayout value (Err (DealForm line)) = (line ≡ 1) × ((held : List Holding) → naming_of value ≡ full held → ⊥)
@@ -20,3 +20,7 @@ SaysLayout value (Err (SecondDeal line)) = ⊥
 SaysLayout value (Err (Inherited line)) = ⊥
 SaysLayout value (Err (TooManyBoards line)) = ⊥
 SaysLayout value (Err OutOfMemory) = ⊥
+
+-- a value says one layout at most, or one fault
+abbrev pub HasOneLayout : Type 0
+HasOneLayout = (value : List ℕ) (one other : Result Deal PbnFault) → SaysLayout value one → SaysLayout value other → one ≡ other

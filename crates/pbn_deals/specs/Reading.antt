@@ -1,5 +1,5 @@
--- How a PBN text is read (PBN 2.1, sections 2.2 to 3.2, in this project's profile): lines, the pieces of a line, and
--- games between blank lines. Reading stops at the fault that stands first.
+-- How a PBN text is read (PBN 2.1, sections 2.2 to 3.2; docs/FORMATS.md has what the standard leaves open): lines, the
+-- pieces of a line, and games between blank lines. Reading stops at the fault that stands first.
 use Rattle.std.specs.Prelude.{◌≡◌, ◌≢◌, ℕ, ◌+◌, ◌==◌, Bool, true, false, not, List, [], ◌∷◌, ◌++◌, length, Option, Some, None, Result, Ok, Err, All, if◌then◌else◌}
 use Rattle.std.specs.List.{slice_split}
 use Rattle.pbn_deals.specs.declared.boards.Board.{Board}

@@ -46,6 +46,8 @@ impl BoardName {
 /// A board of a PBN text: its name, and its layout where the text has the cards of all four hands.
 #[derive(Drop, Debug)]
 pub struct Board {
+    /// The value of the game's first Board tag, or empty.
     pub name: BoardName,
+    /// Who holds which card, 13 cards a hand.
     pub deal: Option<Layout>,
 }

@@ -11,7 +11,9 @@ use crate::hands::{after_blanks, first_word};
 use crate::letters::seat_of_letter;
 use cards::{Layout, Seat};
 
-/// The layout that a Deal value says, of 1 to 13 cards a hand. A fault has line 1. Takes no memory.
+/// The layout that a Deal value says, of 1 to 13 cards a hand (PBN 2.1, 3.4.11), or its first fault, with line 1:
+/// `DealForm` for every other form, a hand that is not known among them, `CardTwice`, or `HandSize` for hands that are
+/// unequal, empty or of over 13 cards. Takes no memory.
 pub fn read_layout(value: &[u8]) -> Result<Layout, PbnFault>
     ensures { SaysLayout value.now result }
 {

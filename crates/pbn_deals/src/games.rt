@@ -15,7 +15,7 @@ use cards::Layout;
 use std::alloc::Global;
 
 /// How many boards a text may have.
-const GREATEST_COUNT: usize = 4096;
+const MOST_BOARDS: usize = 4096;
 
 /// The name of a game's first Board tag, and what its Deal tag says.
 #[derive(Drop)]
@@ -102,7 +102,7 @@ impl GameTags {
             Ok(deal) => deal,
             Err(fault) => return Err(fault),
         };
-        if count >= GREATEST_COUNT {
+        if count >= MOST_BOARDS {
             return Err(PbnFault::TooManyBoards { line });
         }
         self.deal = Some(deal);

@@ -1,4 +1,5 @@
-//! Boards of a PBN text, and layouts of a Deal value, in this project's profile of PBN 2.1.
+//! Boards of a PBN text, and layouts of a Deal value, as PBN 2.1 has them and, where the standard leaves room, as
+//! docs/FORMATS.md tells.
 #![tactic(auto)]
 
 mod boards;
@@ -17,7 +18,7 @@ mod tags;
 pub use boards::{Board, BoardName};
 pub use deal_values::read_layout;
 pub use faults::PbnFault;
-pub use laws::one_answer;
+pub use laws::{one_answer, one_layout};
 pub use readers::read_boards;
 
 #[cfg(test)]

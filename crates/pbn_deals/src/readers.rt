@@ -85,7 +85,8 @@ impl Reader {
     }
 }
 
-/// The boards of a PBN text, in the order of their games, or its first fault. Games without a Deal tag are skipped.
+/// The boards of a PBN text, in the order of their games, or the fault that stands first in it, with its line. Games
+/// without a Deal tag are skipped. `OutOfMemory` says that there was no memory for a name or for the list.
 pub fn read_boards(alloc: Global, text: &[u8]) -> Result<Vec<Board>, PbnFault>
     ensures { SaysBoards text.now (boards_seen result) }
 {

@@ -8,8 +8,8 @@ returns-then-is_some c = second_deal (some_of c.args.self.now.deal c.if-is_some.
 pub returns-in-Err : goal.returns-in-Err
 returns-in-Err c = unless_memory c.in-Err.fault _ (faulty_deal (none_of c.args.self.now.deal c.if-is_some.ensures) c.in-Err.ensures)
 
-pub returns-then-count-ge-GREATEST_COUNT : goal.returns-then-count-ge-GREATEST_COUNT
-returns-then-count-ge-GREATEST_COUNT c = deal_too_many (none_of c.args.self.now.deal c.if-is_some.ensures) c.in-Ok.ensures c.if-count-ge-GREATEST_COUNT.true
+pub returns-then-count-ge-MOST_BOARDS : goal.returns-then-count-ge-MOST_BOARDS
+returns-then-count-ge-MOST_BOARDS c = deal_too_many (none_of c.args.self.now.deal c.if-is_some.ensures) c.in-Ok.ensures c.if-count-ge-MOST_BOARDS.true
 
 pub returns : goal.returns
-returns c = only_deal (none_of c.args.self.now.deal c.if-is_some.ensures) c.in-Ok.ensures c.if-count-ge-GREATEST_COUNT.false
+returns c = only_deal (none_of c.args.self.now.deal c.if-is_some.ensures) c.in-Ok.ensures c.if-count-ge-MOST_BOARDS.false
