@@ -1,4 +1,4 @@
--- The seats clockwise from North, and the sides (Laws 1, 41A and 44B).
+-- The seats clockwise from North, and the sides (Laws 4 and 44B).
 use Rattle.std.specs.Prelude.{ℕ, Bool, true, false, List, codes}
 use Rattle.cards.specs.declared.seats.Seat.{Seat}
 use Rattle.cards.specs.declared.seats.Seat.TheVariants.{North, East, South, West}

@@ -19,13 +19,13 @@ use thiserror::Error;
 pub enum LayoutFault {
     /// A word has a bit from 52 up.
     #[error("a bit stands for no card")]
-    StrayBit,
+    StrayBit = 1,
     /// Two words have the same card.
     #[error("a card is in two hands")]
-    CardTwice,
+    CardTwice = 2,
     /// The hands are of unequal size, or empty, or of over 13 cards.
     #[error("the hands are not of one size from 1 to 13")]
-    HandSize,
+    HandSize = 3,
 }
 
 /// Four hands of equally many cards, 1 to 13, no card twice.
@@ -78,7 +78,7 @@ impl Layout {
         ensures cases { MeetsHands hands result }
     {
         let [north, east, south, west] = hands;
-        if (north | east | south | west) >> 52 != 0 {
+        if (north | east | south | west) >> Card::COUNT != 0 {
             return Err(LayoutFault::StrayBit);
         }
         let shared = north & east

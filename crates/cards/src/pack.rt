@@ -86,7 +86,9 @@ impl fmt::Display for Rank {
 /// A card of the pack of 52 (Law 1).
 #[derive(Clone, Copy, Debug, Default, PartialEq, Eq, Hash)]
 pub struct Card {
+    /// Its suit.
     pub suit: Suit,
+    /// Its rank.
     pub rank: Rank,
 }
 

@@ -57,7 +57,9 @@ impl fmt::Display for Suit {
 /// The denomination of play: no-trump, or the trump suit.
 #[derive(Clone, Copy, Debug, PartialEq, Eq, PartialOrd, Ord, Hash)]
 pub enum Trump {
+    /// No-trump.
     Nt,
+    /// The trump suit.
     Suit(Suit),
 }
 

@@ -56,12 +56,12 @@ pub fn what_is_left_matches(
     cards: &[Card; 4],
     rest: &Rest,
     left: &Layout,
-    child: &Pattern,
+    covering: &Pattern,
 )
     requires matches { Matches pattern.now layout.now }
     requires played { ArePlayed pattern.now layout.now leader pat_cards.now cards.now }
     requires rest { IsLeft pattern.now leader pat_cards.now rest.now }
     requires left { IsWithout layout.now leader cards.now left.now }
-    requires covers { Covers child.now rest.now }
-    ensures { Matches child.now left.now }
+    requires covers { Covers covering.now rest.now }
+    ensures { Matches covering.now left.now }
 {}

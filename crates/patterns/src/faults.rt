@@ -8,7 +8,7 @@ pub enum PatternFault {
     /// A suit has over 13 cards.
     #[error("a suit has over 13 cards")]
     Lengths = 1,
-    /// The hands are of unequal size, or have too few or too many cards.
+    /// The hands are of unequal size, or not of 1 to 13 cards in a pattern, of 0 to 12 in a rest.
     #[error("the hands are not of one size in the bounds")]
     Cards = 2,
     /// A seat is an owner in a suit more often than it has cards there.

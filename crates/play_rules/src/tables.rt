@@ -107,7 +107,8 @@ impl Table {
         }
     }
 
-    /// Plays the card for the seat whose turn it is. After a refusal the table is as before.
+    /// Plays the card for the seat whose turn it is, or refuses it: `Over` where all is played, else `NotHeld` (Law
+    /// 44A), else `MustFollow` (Law 44C). After a refusal the table is as before.
     pub fn play(&mut self, card: Card) -> Result<(), PlayFault>
         ensures cases { PlaysOrRefuses self.old card result }
         ensures ok { OnOk result (self.new ≡ with_card self.old card) }

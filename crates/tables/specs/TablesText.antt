@@ -13,7 +13,7 @@ use Rattle.cards.specs.Deal.{Deal}
 use Rattle.pbn_deals.specs.declared.boards.Board.{Board}
 use Rattle.tables.specs.DealText.{deal_text}
 
--- the results of one board that are published, by declarer and denomination
+-- the results of one board that are known, by declarer and denomination
 abbrev pub Results : Type 0
 Results = Seat → Trump → Option ℕ
 

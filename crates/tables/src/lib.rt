@@ -1,6 +1,6 @@
 //! The tables of boards as a PBN text.
 //!
-//! [`write_sheet`] prints the boards of a [`Sheet`] with the results that are published of them. It takes no
+//! [`write_sheet`] prints the boards of a [`Sheet`] with the results that are known of them. It takes no
 //! memory; after a fault of the sink a beginning of the text has gone out.
 #![tactic(auto)]
 
