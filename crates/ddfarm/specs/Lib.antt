@@ -4,3 +4,4 @@ pub mod Inputs
 pub mod Faults
 pub mod BlankSheets
 pub mod Blanks
+pub mod Runs

@@ -4,10 +4,9 @@ ghost use Rattle.std.specs.Prelude.{◌≡◌, ◌≤◌};
 ghost use Rattle.cards.specs.Devices.{StaysWhereTold};
 ghost use Rattle.ddfarm.specs.Blanks.{IsIncomplete};
 
-use crate::blanks::make_blank;
-use crate::messages::{DONE, INCOMPLETE, tell_make, tell_parse, tell_plain};
-use crate::plain::plain_line;
-use crate::requests::{Request, request_of};
+use crate::messages::tell_parse;
+use crate::requests::request_of;
+use crate::runs::run_request;
 use cards::{Sink, Source};
 use std::alloc::Global;
 use std::convert::AsStr;
@@ -31,23 +30,8 @@ pub fn run_command<'a, S: AsStr, I: Source, O: Sink, E: Sink>(
     ensures incomplete { result ≡ 3 → IsIncomplete (I.left input.old) (I.left input.new) (O.held output.old) (O.held output.new) }
     ensures quiet { result ≡ 3 → StaysWhereTold (E.held errors.old) (E.held errors.new) }
 {
-    let request = match request_of(alloc, words) {
-        Ok(request) => request,
-        Err(error) => return tell_parse(error, output, errors),
-    };
-    match request {
-        Request::Plain {
-            layout,
-            leader,
-            trump,
-        } => match plain_line(layout.as_bytes(), leader, trump, output) {
-            Ok(()) => DONE,
-            Err(fault) => tell_plain(fault, errors),
-        },
-        Request::Table => match make_blank(alloc, input, output) {
-            Ok(report) if report.complete < report.boards => INCOMPLETE,
-            Ok(_) => DONE,
-            Err(fault) => tell_make(fault, errors),
-        },
+    match request_of(alloc, words) {
+        Ok(request) => run_request(alloc, request, input, output, errors),
+        Err(error) => tell_parse(error, output, errors),
     }
 }

@@ -24,7 +24,7 @@ pub enum MakeFault {
 }
 
 impl MakeFault {
-    /// The number of the fault.
+    /// The number of the fault. 4 is kept for a thread that can't be started.
     pub fn number(self) -> u8
         ensures { result ≡ fault_number self }
     {

@@ -20,14 +20,14 @@ finesse wins, and NS 2 is printed: two tricks for North and South, none for East
 and West.";
 
 pub const TABLE_ABOUT: &str = "\
-Reads the boards of a tournament in PBN and writes them with their double-dummy tables";
+Reads the boards of a tournament in PBN and writes them, so far without tables";
 
 pub const TABLE_EXAMPLE: &str = "\
 Example:
   ddfarm table <club.pbn >tables.pbn
 reads a PBN 2.1 text from the standard input and writes one to the standard
-output: of each board its name, its deal and its table. No results are found yet,
-so each table is the line `; table incomplete: 0 of 20`, and the exit status is 3.";
+output: of each board its name and its deal. No results are found yet, so in
+place of each table stands `; table incomplete: 0 of 20`, and the exit status is 3.";
 
 pub const LAYOUT: &str = "\
 The four hands, in quotes: a seat (N, E, S or W), a colon, its hand, and then

@@ -1,16 +1,15 @@
 //! What `ddfarm` prints and with which status it ends, over memory.
 mod endings;
 mod pbn_tables;
+mod streams;
 
 use crate::commands::run_command;
 use crate::messages::{DONE, FAILED, REFUSED};
 use crate::plain::{PlainFault, plain_line};
-use crate::streams::{ReaderSource, WriterSink};
-use cards::{Buffer, Bytes, DeviceFault, Seat, Sink, Source, Suit, Trump};
+use cards::{Buffer, Bytes, Seat, Suit, Trump};
 use endings::ENDINGS;
 use pbn_deals::PbnFault;
 use std::alloc::Global;
-use std::io;
 use std::process::Abort;
 use std::test::Fail;
 
@@ -251,50 +250,5 @@ fn plain_lines(rt: HostRuntime) -> Result<(), Fail> {
     let full = plain_line(b"N:A... K... Q... J...", Seat::East, Trump::Nt, &mut output);
     assert_eq!(rt; full, Err(PlainFault::Write));
     assert_eq!(rt; output.bytes(), b"NS 1\nNS".as_slice());
-    Ok(())
-}
-
-/// A writer that takes no byte, or a reader and a writer that fail.
-#[derive(Drop)]
-struct Broken {
-    takes_none: bool,
-}
-
-impl io::Write for Broken {
-    fn write(&mut self, _buf: &[u8]) -> io::Result<usize> {
-        if self.takes_none {
-            return Ok(0);
-        }
-        Err(io::Error::from(io::ErrorKind::BrokenPipe))
-    }
-
-    fn flush(&mut self) -> io::Result<()> {
-        Ok(())
-    }
-}
-
-impl io::Read for Broken {
-    fn read(&mut self, _buf: &mut [u8]) -> io::Result<usize> {
-        Err(io::Error::from(io::ErrorKind::BrokenPipe))
-    }
-}
-
-#[test]
-fn streams(rt: HostRuntime) -> Result<(), Fail> {
-    let mut buffer = [0; 4];
-    let mut source = ReaderSource::new(b"abcdef".as_slice());
-    assert_eq!(rt; source.read(&mut buffer), Ok(4));
-    assert_eq!(rt; &buffer, b"abcd");
-    assert_eq!(rt; source.read(&mut buffer), Ok(2));
-    assert_eq!(rt; source.read(&mut buffer), Ok(0));
-    let mut sink = WriterSink::new(Vec::new(rt.alloc()));
-    assert_eq!(rt; sink.write(b"abc"), Ok(3));
-    assert_eq!(rt; sink.write(b""), Ok(0));
-    let mut no_source = ReaderSource::new(Broken { takes_none: false });
-    assert_eq!(rt; no_source.read(&mut buffer), Err(DeviceFault));
-    for takes_none in [false, true] {
-        let mut no_sink = WriterSink::new(Broken { takes_none });
-        assert_eq!(rt; no_sink.write(b"abc"), Err(DeviceFault));
-    }
     Ok(())
 }
