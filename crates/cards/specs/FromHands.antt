@@ -13,7 +13,7 @@ pub record IsLayoutOf (hands : List ℕ) (deal : Deal) : Type 0 where
   pub deals : Deals hands deal
   pub layout : IsLayout deal
 
--- The answer for four words. No two cases can hold of the same words, so each comes exactly where its fact holds.
+-- the answer for four words: their layout, or the first fault that applies
 abbrev pub MeetsHands : List ℕ → Result Deal LayoutFault → Type 0
 MeetsHands hands (Ok deal) = IsLayoutOf hands deal
 MeetsHands hands (Err StrayBit) = HaveStrayBit hands

@@ -65,8 +65,7 @@ OwnersFit shape = (suit : Suit) → HasItsOwners (suit_of shape suit)
 abbrev pub HasWrongOwner : Shape → Type 0
 HasWrongOwner shape = (suit : Suit) × HasExcessOwner (suit_of shape suit)
 
--- When four suits get each refusal: the first fault that they have. No two of these hold at once, and none holds
--- of a shape.
+-- when four suits get each refusal: the first fault that they have
 abbrev pub IsFault : ℕ → ℕ → Shape → PatternFault → Type 0
 IsFault fewest most shape Lengths = HasLongSuit shape
 IsFault fewest most shape Cards = SuitsFit shape × HasWrongHands fewest most shape

@@ -1,7 +1,7 @@
 //! One line of a text, piece by piece.
 
-ghost use Rattle.std.specs.Prelude.{◌≡◌, false};
-ghost use Rattle.pbn_deals.specs.Views.{ReadsLine};
+ghost use Rattle.std.specs.Prelude.{◌≡◌, ◌≤◌, false, length, IfOk};
+ghost use Rattle.pbn_deals.specs.Views.{ReadsLine, ReadsTag};
 
 use crate::faults::PbnFault;
 use crate::games::GameTags;
@@ -9,6 +9,26 @@ use crate::hands::first_byte;
 use crate::letters::is_blank;
 use crate::tags::{read_tag, split_at_byte};
 use std::alloc::Global;
+
+/// Takes the tag pair behind an opening bracket that stands before all section data, and answers what stands behind it.
+fn take_tag<'a>(
+    tags: &mut GameTags,
+    alloc: Global,
+    text: &'a [u8],
+    number: usize,
+    count: usize,
+) -> Result<&'a [u8], PbnFault>
+    ensures pair { ReadsTag number count tags.old tags.new text.now result }
+    ensures within { IfOk result (λ behind. length behind.now ≤ length text.now) }
+{
+    let Some(tag) = read_tag(text) else {
+        return Err(PbnFault::TagForm { line: number });
+    };
+    match tags.take(alloc, tag.name, tag.value, number, count) {
+        Ok(()) => Ok(tag.rest),
+        Err(fault) => Err(fault),
+    }
+}
 
 /// Reads a line, from one of its places outside comments on, that follows `count` boards. Answers whether a brace
 /// comment is open at its end.
@@ -37,22 +57,10 @@ pub(crate) fn read_line(
             };
             in_data = true;
             rest = behind;
-        } else if first == b'[' {
-            if in_data {
-                rest = others;
-            } else {
-                let Some(tag) = read_tag(others) else {
-                    return Err(PbnFault::TagForm { line: number });
-                };
-                match tags.take(alloc, tag.name, tag.value, number, count) {
-                    Ok(()) => rest = tag.rest,
-                    Err(fault) => return Err(fault),
-                }
-            }
-        } else if is_blank(first) {
-            rest = others;
+        } else if first == b'[' && !in_data {
+            rest = take_tag(tags, alloc, others, number, count)?;
         } else {
-            in_data = true;
+            in_data = in_data || !is_blank(first);
             rest = others;
         }
     }

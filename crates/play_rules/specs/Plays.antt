@@ -20,8 +20,7 @@ pub record FailsToFollow (position : Position) (card : Card) : Type 0 where
   pub can_follow : CanFollow position.opening position.history led
   pub other_suit : card.suit ≢ led
 
--- What comes of a card: it is played, or the first refusal that applies. No two cases can hold of one position and
--- one card, so each comes exactly where its fact holds.
+-- what comes of a card: it is played, or the first refusal that applies
 abbrev pub PlaysOrRefuses : Position → Card → Result (Unit {0}) PlayFault → Type 0
 PlaysOrRefuses position card (Ok done) =
     IsUnfinished position.opening position.history × CanPlay position.opening position.history card
