@@ -286,6 +286,41 @@ fn check_covers(rt: &impl Abort, small: &Small, trick: &Trick, left: &Rest) -> R
     Ok(())
 }
 
+/// Compares whether the pattern of a layout matches another one, in which each card has moved on to another holder.
+fn check_matches(rt: &impl Abort, small: &Small, pattern: &Pattern) -> Result<(), Fail> {
+    let turned = Small {
+        code: small.code.rotate_left(2) ^ 1,
+        cards: small.cards,
+        spades: small.spades,
+    };
+    if turned.is_fair() {
+        let same = turned.matches_suit(pattern, Suit::Spades)
+            && turned.matches_suit(pattern, Suit::Hearts);
+        assert!(rt; pattern.matches(&turned.layout(&[])?) == same);
+    }
+    Ok(())
+}
+
+/// A trick in which each seat plays its first or second card, by the bits of the choice.
+fn chosen_trick(small: &Small, leader: Seat, choice: u32) -> Trick {
+    let second = leader.next();
+    let third = second.next();
+    Trick {
+        leader,
+        trump: match choice % 3 {
+            0 => Trump::Nt,
+            1 => Trump::Suit(Suit::Spades),
+            _ => Trump::Suit(Suit::Hearts),
+        },
+        played: [
+            small.card_of(leader, choice & 1 == 0),
+            small.card_of(second, choice & 2 == 0),
+            small.card_of(third, choice & 4 == 0),
+            small.card_of(third.next(), choice & 8 == 0),
+        ],
+    }
+}
+
 /// Compares one pattern of a layout.
 fn check_pattern(
     rt: &impl Abort,
@@ -296,40 +331,14 @@ fn check_pattern(
     let layout = small.layout(&[])?;
     let pattern = Pattern::of_layout(&layout, depths);
     assert!(rt; pattern.matches(&layout));
+    check_matches(rt, small, &pattern)?;
     for led in [None, Some(Suit::Spades), Some(Suit::Hearts)] {
         assert!(rt;
             legal(&pattern, leader, led).as_slice() == small.legal(depths, leader, led).as_slice()
         );
     }
-    let turned = Small {
-        code: small.code.rotate_left(2) ^ 1,
-        cards: small.cards,
-        spades: small.spades,
-    };
-    if turned.is_fair() {
-        let same = turned.matches_suit(&pattern, Suit::Spades)
-            && turned.matches_suit(&pattern, Suit::Hearts);
-        assert!(rt; pattern.matches(&turned.layout(&[])?) == same);
-    }
     for choice in 0..16u32 {
-        let second = leader.next();
-        let third = second.next();
-        let played = [
-            small.card_of(leader, choice & 1 == 0),
-            small.card_of(second, choice & 2 == 0),
-            small.card_of(third, choice & 4 == 0),
-            small.card_of(third.next(), choice & 8 == 0),
-        ];
-        let trump = match choice % 3 {
-            0 => Trump::Nt,
-            1 => Trump::Suit(Suit::Spades),
-            _ => Trump::Suit(Suit::Hearts),
-        };
-        let trick = Trick {
-            leader,
-            trump,
-            played,
-        };
+        let trick = chosen_trick(small, leader, choice);
         if trick.is_legal(small) {
             check_trick(rt, small, depths, &pattern, &trick)?;
         }
