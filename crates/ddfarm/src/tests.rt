@@ -104,42 +104,42 @@ fn refused_layouts(rt: HostRuntime) -> Result<(), Fail> {
     Ok(())
 }
 
+/// Words that are refused, and how what is told of them begins.
+const REFUSED_WORDS: [(&[&str], &str); 8] = [
+    (
+        &["ddfarm", "solve"],
+        "error: unrecognized subcommand 'solve'\n",
+    ),
+    (
+        &["ddfarm", "plain"],
+        "error: the following required arguments were not provided:\n",
+    ),
+    (
+        &["ddfarm", "plain", "N:A", "n", "NT"],
+        "error: invalid value 'n' for '<LEADER>'\n",
+    ),
+    (
+        &["ddfarm", "plain", "N:A", "N", "X"],
+        "error: invalid value 'X' for '<TRUMP>'\n",
+    ),
+    (
+        &["ddfarm", "plain", "N:A", "N", "S", "S"],
+        "error: unexpected argument 'S' found\n",
+    ),
+    (
+        &["ddfarm", "table", "club.pbn"],
+        "error: unexpected argument 'club.pbn' found\n",
+    ),
+    (
+        &["ddfarm", "--loud"],
+        "error: unexpected argument '--loud' found\n",
+    ),
+    (&["ddfarm"], "Double-dummy results of bridge deals"),
+];
+
 #[test]
 fn refused_words(rt: HostRuntime) -> Result<(), Fail> {
-    for (words, told) in [
-        (
-            ["ddfarm", "solve"].as_slice(),
-            "error: unrecognized subcommand 'solve'\n",
-        ),
-        (
-            ["ddfarm", "plain"].as_slice(),
-            "error: the following required arguments were not provided:\n",
-        ),
-        (
-            ["ddfarm", "plain", "N:A", "n", "NT"].as_slice(),
-            "error: invalid value 'n' for '<LEADER>'\n",
-        ),
-        (
-            ["ddfarm", "plain", "N:A", "N", "X"].as_slice(),
-            "error: invalid value 'X' for '<TRUMP>'\n",
-        ),
-        (
-            ["ddfarm", "plain", "N:A", "N", "S", "S"].as_slice(),
-            "error: unexpected argument 'S' found\n",
-        ),
-        (
-            ["ddfarm", "table", "club.pbn"].as_slice(),
-            "error: unexpected argument 'club.pbn' found\n",
-        ),
-        (
-            ["ddfarm", "--loud"].as_slice(),
-            "error: unexpected argument '--loud' found\n",
-        ),
-        (
-            ["ddfarm"].as_slice(),
-            "Double-dummy results of bridge deals",
-        ),
-    ] {
+    for (words, told) in REFUSED_WORDS {
         let mut input = Bytes::new(b"", 1);
         let mut output = Buffer::new(rt.alloc(), ROOM, 3)?;
         let mut errors = Buffer::new(rt.alloc(), ROOM, 7)?;
