@@ -5,6 +5,4 @@ pub mod Hands
 pub mod Devices
 pub mod Memory
 pub mod FromHands
-pub mod PackLaws
-pub mod HandLaws
 pub mod SameDeal

@@ -46,7 +46,7 @@ impl Model for Layout {
 
     ghost inverse = { λ deal. record { hands = words_of_deal deal } };
 
-    ghost use Rattle.cards.specs.HandLaws.{words_of_deal_of_words};
+    ghost use Rattle.cards.specs.SameDeal.{words_of_deal_of_words};
     ghost use Rattle.std.proofs.Common.{ap};
 
     ghost inverse_ok = { λ layout dealt. ap (λ hands. record { hands = hands }) (words_of_deal_of_words layout.hands dealt) };

@@ -1,1 +1,5 @@
 pub mod TrickLemmas
+pub mod LayoutLaws
+pub mod LeftLaws
+pub mod PatCardLaws
+pub mod TrickLaws

@@ -1,1 +1,4 @@
 pub mod OwnerLemmas
+pub mod HolderLaws
+pub mod HoldingLaws
+pub mod SeatLaws

@@ -14,7 +14,7 @@ use Rattle.cards.specs.declared.seats.Seat.{Seat}
 use Rattle.cards.specs.declared.seats.Seat.TheVariants.{North, East, South, West}
 use Rattle.cards.specs.declared.pack.Card.{Card}
 use Rattle.cards.specs.Pack.{card_number}
-use Rattle.cards.specs.PackLaws.{card_number-lt, same_from_numbers}
+use Rattle.cards.proofs.PackLaws.{card_number-lt, same_from_numbers}
 use Rattle.cards.specs.Seats.{seat_number, is_same_seat}
 use Rattle.cards.specs.Hands.{word_of, HasBit}
 use Rattle.pbn_deals.specs.declared.dealings.Dealing.{Dealing}

@@ -2,7 +2,7 @@
 use Rattle.std.proofs.Common.{◌≡◌, ℕ, ◌<◌, Bool, true, false, List, [], ◌∷◌, get_or, Option, Some, None, Result, Ok, cond, eqb, filter, refl, sym, ◌∙◌, ap, subst, arith, inl, inr}
 use Rattle.cards.specs.declared.seats.Seat.{Seat}
 use Rattle.cards.specs.Deal.{Deal, holder_of}
-use Rattle.cards.specs.PackLaws.{card_number-card_at}
+use Rattle.cards.proofs.PackLaws.{card_number-card_at}
 use Rattle.cards.specs.Pack.{card_at}
 use Rattle.std.proofs.lemmas.List.{ext_get_or}
 use Rattle.std.specs.List.{slice_split, onto_first}

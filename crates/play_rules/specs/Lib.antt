@@ -3,12 +3,7 @@ pub mod History
 pub mod Legal
 pub mod Position
 pub mod Plays
-pub mod TrickLaws
 pub mod Left
-pub mod HistoryLaws
-pub mod LeftLaws
 pub mod Tables
 pub mod Holdings
-pub mod HoldingLaws
-pub mod PositionLaws
 pub mod Faults

@@ -7,15 +7,16 @@ use Rattle.cards.specs.declared.seats.Side.{Side}
 use Rattle.cards.specs.declared.seats.Side.TheVariants.{NorthSouth, EastWest}
 use Rattle.cards.specs.declared.pack.Card.{Card}
 use Rattle.cards.specs.Pack.{card_of, suit_number, rank_at}
-use Rattle.cards.specs.PackLaws.{same_from_suit_numbers}
-use Rattle.cards.specs.HandLaws.{held-is, is_same_seat-refl}
+use Rattle.cards.proofs.PackLaws.{same_from_suit_numbers}
+use Rattle.cards.specs.SameDeal.{is_same_seat-refl}
+use Rattle.cards.proofs.HandLaws.{held-is}
 use Rattle.cards.specs.Deal.{Deal, holder_of, is_held_by}
 use Rattle.play_rules.specs.History.{Opening, trick_of, suit_of_first}
 use Rattle.play_rules.specs.Left.{left_of}
 use Rattle.play_rules.specs.Legal.{CanPlay, seat_to_play}
 use Rattle.play_rules.specs.Holdings.{HoldsSuit, MayBePlayed}
-use Rattle.play_rules.specs.HoldingLaws.{no_suit_held}
-use Rattle.play_rules.specs.PositionLaws.{CanPlay-from_left, MayBePlayed-from_CanPlay}
+use Rattle.play_rules.proofs.HoldingLaws.{no_suit_held}
+use Rattle.play_rules.proofs.PositionLaws.{CanPlay-from_left, MayBePlayed-from_CanPlay}
 
 pub decide_side : (one other : Side) → (one ≡ other) ⊎ (one ≡ other → ⊥)
 decide_side NorthSouth NorthSouth = inl refl

@@ -6,9 +6,9 @@ use Rattle.cards.specs.declared.pack.Card.{Card}
 use Rattle.cards.specs.Seats.{side_of}
 use Rattle.cards.specs.Deal.{size_of, IsLayout}
 use Rattle.play_rules.specs.History.{Opening, trick_of, tricks_of}
-use Rattle.play_rules.specs.HistoryLaws.{tricks_of-append, length-trick_of}
+use Rattle.play_rules.proofs.HistoryLaws.{tricks_of-append, length-trick_of}
 use Rattle.play_rules.specs.Legal.{CanPlay, IsLegal, IsUnfinished, cards_in_play}
-use Rattle.play_rules.specs.PositionLaws.{IsLegal-push}
+use Rattle.play_rules.proofs.PositionLaws.{IsLegal-push}
 use Rattle.strategies.specs.Strategies.{CanWin}
 use Rattle.strategies.specs.Values.{opening_after}
 use Rattle.strategies.specs.Laws.{WinsByOwnCard, WinsAgainstEachCard, WinsTheRest, WinsNothing, WinsFewer, ShareTheTricks}

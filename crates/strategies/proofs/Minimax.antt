@@ -4,7 +4,7 @@ use Rattle.cards.specs.declared.seats.Side.{Side}
 use Rattle.cards.specs.declared.pack.Card.{Card}
 use Rattle.play_rules.specs.History.{Opening, tricks_of}
 use Rattle.play_rules.specs.Legal.{CanPlay, IsLegal, IsPlay, IsUnfinished, cards_in_play}
-use Rattle.play_rules.specs.PositionLaws.{IsLegal-push}
+use Rattle.play_rules.proofs.PositionLaws.{IsLegal-push}
 use Rattle.strategies.specs.Strategies.{choice_of, IsTurnOf, HasLegalChoice, CanWin}
 
 -- the side gets this many tricks by choosing its own cards one at a time, whatever the others play; `left` counts the

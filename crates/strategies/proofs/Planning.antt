@@ -4,11 +4,11 @@ use Rattle.std.proofs.lemmas.Bool.{cases_Bool, cases_eq, eqb-true, eq-eqb, and_p
 use Rattle.cards.specs.declared.seats.Side.{Side}
 use Rattle.cards.specs.declared.pack.Card.{Card}
 use Rattle.cards.specs.Pack.{card_number, card_at}
-use Rattle.cards.specs.PackLaws.{same_from_numbers, card_number-card_at, card_number-lt}
+use Rattle.cards.proofs.PackLaws.{same_from_numbers, card_number-card_at, card_number-lt}
 use Rattle.cards.specs.Seats.{side_of}
 use Rattle.play_rules.specs.History.{Opening, tricks_of}
 use Rattle.play_rules.specs.Legal.{CanPlay, IsLegalAfter, IsLegal, IsPlay, IsUnfinished, cards_in_play, seat_to_play}
-use Rattle.play_rules.specs.PositionLaws.{IsLegal-push}
+use Rattle.play_rules.proofs.PositionLaws.{IsLegal-push}
 use Rattle.strategies.specs.Strategies.{Strategy, is_same_history, choice_of, IsTurnOf, FollowsAfter, HasLegalChoice, IsLawfulAfter, HasTricksIn, CanWin}
 use Rattle.strategies.proofs.Deciding.{decide_side, decide_play}
 use Rattle.strategies.proofs.Minimax.{Gets, push-assoc}

@@ -10,8 +10,8 @@ use Rattle.cards.specs.declared.seats.Side.TheVariants.{NorthSouth, EastWest}
 use Rattle.cards.specs.declared.pack.Card.{Card}
 use Rattle.cards.specs.Deal.{size_of}
 use Rattle.play_rules.specs.History.{Opening, tricks_of}
-use Rattle.play_rules.specs.HistoryLaws.{length-trick_of}
-use Rattle.play_rules.specs.HoldingLaws.{IsAmong-push_cases}
+use Rattle.play_rules.proofs.HistoryLaws.{length-trick_of}
+use Rattle.play_rules.proofs.HoldingLaws.{IsAmong-push_cases}
 use Rattle.play_rules.specs.Legal.{IsAmong, CanPlay, IsUnfinished, cards_in_play, seat_to_play}
 use Rattle.play_rules.specs.Position.{Position, IsReached, AreLegalCards, turn_of, with_card}
 use Rattle.strategies.specs.Strategies.{CanWin, IsTurnOf}

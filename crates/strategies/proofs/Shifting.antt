@@ -5,11 +5,11 @@ use Rattle.cards.specs.declared.seats.Side.{Side}
 use Rattle.cards.specs.declared.pack.Card.{Card}
 use Rattle.cards.specs.Deal.{Deal}
 use Rattle.play_rules.specs.History.{Opening, trick_of, leader_after, turn_in_trick, tricks_of}
-use Rattle.play_rules.specs.HistoryLaws.{trick_of-append, leader_after-append, tricks_of-append}
-use Rattle.play_rules.specs.LeftLaws.{left_of-append, length-left_of}
+use Rattle.play_rules.proofs.HistoryLaws.{trick_of-append, leader_after-append, tricks_of-append}
+use Rattle.play_rules.proofs.LeftLaws.{left_of-append, length-left_of}
 use Rattle.play_rules.specs.Legal.{CanPlay, IsLegalAfter, seat_to_play}
 use Rattle.play_rules.specs.Holdings.{MayBePlayed}
-use Rattle.play_rules.specs.PositionLaws.{CanPlay-from_left, MayBePlayed-from_CanPlay}
+use Rattle.play_rules.proofs.PositionLaws.{CanPlay-from_left, MayBePlayed-from_CanPlay}
 use Rattle.strategies.specs.Values.{opening_after}
 
 trick-after : (history more : List Card) → trick_of history ≡ [] → trick_of (history ++ more) ≡ trick_of more

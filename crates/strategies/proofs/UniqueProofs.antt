@@ -9,9 +9,9 @@ use Rattle.cards.specs.declared.pack.Card.{Card}
 use Rattle.cards.specs.Seats.{side_of}
 use Rattle.cards.specs.Deal.{Deal, size_of, IsLayout}
 use Rattle.play_rules.specs.History.{Opening, tricks_of}
-use Rattle.play_rules.specs.HistoryLaws.{length-trick_of}
+use Rattle.play_rules.proofs.HistoryLaws.{length-trick_of}
 use Rattle.play_rules.specs.Legal.{CanPlay, IsLegal, cards_in_play, seat_to_play}
-use Rattle.play_rules.specs.PositionLaws.{IsLegal-push}
+use Rattle.play_rules.proofs.PositionLaws.{IsLegal-push}
 use Rattle.strategies.specs.Strategies.{CanWin, IsTurnOf}
 use Rattle.strategies.specs.Values.{IsValue, IsPlainValue, opening_of}
 use Rattle.strategies.specs.Laws.{WinNoMoreThanAll, HasOneValue, HasOnePlainValue}

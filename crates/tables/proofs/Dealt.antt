@@ -15,8 +15,9 @@ use Rattle.cards.specs.declared.pack.Rank.{Rank}
 use Rattle.cards.specs.declared.pack.Rank.TheVariants.{Two, Three, Four, Five, Six, Seven, Eight, Nine, Ten, Jack, Queen, King, Ace}
 use Rattle.cards.specs.declared.pack.Card.{Card}
 use Rattle.cards.specs.Pack.{card_of, card_number}
-use Rattle.cards.specs.PackLaws.{same_from_numbers}
-use Rattle.cards.specs.HandLaws.{held-is, is_same_seat-refl}
+use Rattle.cards.proofs.PackLaws.{same_from_numbers}
+use Rattle.cards.specs.SameDeal.{is_same_seat-refl}
+use Rattle.cards.proofs.HandLaws.{held-is}
 use Rattle.cards.specs.Seats.{is_same_seat}
 use Rattle.cards.specs.Deal.{Deal, holder_of, is_held_by, count_of, IsLayout}
 use Rattle.pbn_deals.specs.Dealing.{Holding, held_by, times_named, hand_size, NamesOnce, IsDealOf}

@@ -1,4 +1,4 @@
-use Rattle.pattern_step.specs.LayoutLaws.{IsOnePatCard-of}
+use Rattle.pattern_step.proofs.LayoutLaws.{IsOnePatCard-of}
 use Rattle.pattern_step.proofs.layout_laws.each_card_is_one.Goals as goal
 
 pub returns : goal.returns

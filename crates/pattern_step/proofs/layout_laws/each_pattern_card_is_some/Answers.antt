@@ -1,4 +1,4 @@
-use Rattle.pattern_step.specs.LayoutLaws.{IsSomeCard-of}
+use Rattle.pattern_step.proofs.LayoutLaws.{IsSomeCard-of}
 use Rattle.pattern_step.proofs.layout_laws.each_pattern_card_is_some.Goals as goal
 
 pub returns : goal.returns

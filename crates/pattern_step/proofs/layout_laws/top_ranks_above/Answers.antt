@@ -1,4 +1,4 @@
-use Rattle.pattern_step.specs.LayoutLaws.{top_ranks_above}
+use Rattle.pattern_step.proofs.LayoutLaws.{top_ranks_above}
 use Rattle.pattern_step.proofs.layout_laws.top_ranks_above.Goals as goal
 
 pub returns : goal.returns

@@ -1,4 +1,4 @@
-use Rattle.pattern_step.specs.LeftLaws.{Matches-left}
+use Rattle.pattern_step.proofs.LeftLaws.{Matches-left}
 use Rattle.pattern_step.proofs.layout_laws.what_is_left_matches.Goals as goal
 
 pub returns : goal.returns

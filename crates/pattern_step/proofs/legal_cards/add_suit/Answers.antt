@@ -2,13 +2,13 @@ use Rattle.std.proofs.Common.{ℕ, List, ◌≡◌, ◌+◌, ◌≤◌, ◌++◌
 use Rattle.std.proofs.lemmas.List.{length-append, append_assoc, append-nil}
 use Rattle.arrayvec.specs.ArrayVec.{ArrayVec}
 use Rattle.patterns.specs.Shapes.{Shape, suit_of, tops_of, IsPattern}
-use Rattle.patterns.specs.SeatLaws.{not_told}
+use Rattle.patterns.proofs.SeatLaws.{not_told}
 use Rattle.cards.specs.declared.suits.Suit.{Suit}
 use Rattle.cards.specs.declared.seats.Seat.{Seat}
 use Rattle.pattern_step.specs.PatCards.{cards_in}
 use Rattle.pattern_step.specs.declared.pat_cards.PatCard.{PatCard}
 use Rattle.pattern_step.specs.declared.pat_cards.PatCard.TheVariants.{Top}
-use Rattle.pattern_step.specs.PatCardLaws.{tops_in, top_counts, low_in, cards_in-is, length-tops_in-all, tops_in-owned, tops_in-other, low_in-some, low_in-none}
+use Rattle.pattern_step.proofs.PatCardLaws.{tops_in, top_counts, low_in, cards_in-is, length-tops_in-all, tops_in-owned, tops_in-other, low_in-some, low_in-none}
 use Rattle.pattern_step.proofs.legal_cards.add_suit.Goals as goal
 use Rattle.pattern_step.proofs.legal_cards.add_suit.Goals.{then-owns, else-owns}
 

@@ -1,5 +1,5 @@
 use Rattle.std.proofs.Common.{◌≡◌, ◌++◌, length}
-use Rattle.pattern_step.specs.PatCardLaws.{tops_in}
+use Rattle.pattern_step.proofs.PatCardLaws.{tops_in}
 use Rattle.pattern_step.proofs.legal_cards.add_suit.Given as goal
 
 -- the seat's tops in the places so far were added

@@ -1,4 +1,4 @@
-use Rattle.pattern_step.specs.PatCardLaws.{Contains-legal_cards}
+use Rattle.pattern_step.proofs.PatCardLaws.{Contains-legal_cards}
 use Rattle.pattern_step.proofs.legal_cards.legal.Goals as goal
 
 pub returns-clause-all : goal.returns-clause-all

@@ -2,8 +2,8 @@ use Rattle.std.proofs.Common.{◌<◌, length, sym, ◌∙◌, ap, arith, refl}
 use Rattle.arrayvec.specs.ArrayVec.{ArrayVec}
 use Rattle.cards.specs.declared.seats.Seat.{Seat}
 use Rattle.patterns.specs.Shapes.{suit_of}
-use Rattle.patterns.specs.SeatLaws.{for_each_seat}
-use Rattle.pattern_step.specs.TrickLaws.{owner_kept, owner_gone, no_owner, left_has_room, all_left}
+use Rattle.patterns.proofs.SeatLaws.{for_each_seat}
+use Rattle.pattern_step.proofs.TrickLaws.{owner_kept, owner_gone, no_owner, left_has_room, all_left}
 use Rattle.pattern_step.proofs.trick_rests.left.Goals as goal
 use Rattle.pattern_step.proofs.trick_rests.left.Goals.{then-not-is_top_played+in-Some, then-not-is_top_played+in_default, else-not-is_top_played}
 

@@ -1,5 +1,5 @@
-use Rattle.patterns.specs.SeatLaws.{for_each_suit}
-use Rattle.pattern_step.specs.TrickLaws.{IsRest-left}
+use Rattle.patterns.proofs.SeatLaws.{for_each_suit}
+use Rattle.pattern_step.proofs.TrickLaws.{IsRest-left}
 use Rattle.pattern_step.proofs.trick_rests.rest.Goals as goal
 
 pub of_parts-requires : goal.of_parts-requires

@@ -1,6 +1,6 @@
 use Rattle.std.proofs.Common.{◌≡◌, ◌↔◌, Bool, IsTrue, sym, ◌∙◌}
 use Rattle.cards.specs.declared.seats.Seat.TheVariants.{North, East, South, West}
-use Rattle.patterns.specs.SeatLaws.{for_each_seat}
+use Rattle.patterns.proofs.SeatLaws.{for_each_seat}
 use Rattle.pattern_step.specs.declared.pat_cards.PatCard.{PatCard}
 use Rattle.pattern_step.proofs.trick_winners.low_players.Goals as goal
 

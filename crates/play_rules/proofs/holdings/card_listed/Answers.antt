@@ -1,4 +1,4 @@
-use Rattle.play_rules.specs.HoldingLaws.{listed_place-at}
+use Rattle.play_rules.proofs.HoldingLaws.{listed_place-at}
 use Rattle.play_rules.proofs.holdings.card_listed.Goals as goal
 
 pub returns : goal.returns

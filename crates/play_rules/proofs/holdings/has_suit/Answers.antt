@@ -1,5 +1,5 @@
 use Rattle.std.proofs.Common.{arith}
-use Rattle.play_rules.specs.HoldingLaws.{no_suit_held}
+use Rattle.play_rules.proofs.HoldingLaws.{no_suit_held}
 use Rattle.play_rules.proofs.holdings.has_suit.Goals as goal
 
 pub returns : goal.returns

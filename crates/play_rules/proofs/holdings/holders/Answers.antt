@@ -1,6 +1,6 @@
 use Rattle.std.proofs.Common.{arith, None, ◌∙◌, sym, ap, get_or, length-set}
 use Rattle.std.proofs.lemmas.List.{ext_get_or}
-use Rattle.play_rules.specs.HoldingLaws.{holders_more}
+use Rattle.play_rules.proofs.HoldingLaws.{holders_more}
 use Rattle.play_rules.proofs.holdings.holders.Goals as goal
 
 pub loop-number-preserved : goal.loop-number-preserved

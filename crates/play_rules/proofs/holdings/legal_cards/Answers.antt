@@ -1,6 +1,6 @@
 use Rattle.std.proofs.Common.{◌<◌, ◌+◌, ◌++◌, ◌∷◌, [], length, arith, length-append}
 use Rattle.play_rules.specs.Holdings.{AreListedTo, MayBePlayed}
-use Rattle.play_rules.specs.HoldingLaws.{MayBePlayed-from_suit, IsOf-from_MayBePlayed, AreListedTo-more, AreListedTo-skip, length-le-count_of}
+use Rattle.play_rules.proofs.HoldingLaws.{MayBePlayed-from_suit, IsOf-from_MayBePlayed, AreListedTo-more, AreListedTo-skip, length-le-count_of}
 use Rattle.play_rules.proofs.holdings.legal_cards.Goals as goal
 use Rattle.play_rules.proofs.holdings.legal_cards.Goals.{then-is_playable, else-is_playable}
 

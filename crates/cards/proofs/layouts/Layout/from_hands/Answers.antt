@@ -1,7 +1,7 @@
 use Rattle.std.proofs.Common.{rules}
 use Rattle.std.proofs.lemmas.Bool.{MatchBool-at_false, MatchBool-at_true}
 use Rattle.cards.specs.Hands.{IsDealt}
-use Rattle.cards.specs.HandLaws.{some_stray, all_cards, some_card_twice, at_most_one, AreDisjoint-from_bits, AreDisjoint-from_dealt, Deals-from_words, IsLayout-from_words}
+use Rattle.cards.proofs.HandLaws.{some_stray, all_cards, some_card_twice, at_most_one, AreDisjoint-from_bits, AreDisjoint-from_dealt, Deals-from_words, IsLayout-from_words}
 use Rattle.cards.proofs.layouts.Layout.from_hands.Goals as goal
 
 pub returns-then-north-east-ne0 : goal.returns-then-north-east-ne0

@@ -1,4 +1,4 @@
-use Rattle.cards.specs.HandLaws.{bits_of_holding}
+use Rattle.cards.proofs.HandLaws.{bits_of_holding}
 use Rattle.cards.proofs.layouts.Layout.holding.Goals as goal
 
 pub returns-clause-bits : goal.returns-clause-bits

@@ -1,5 +1,5 @@
 use Rattle.std.proofs.Common.{rules}
-use Rattle.cards.specs.HandLaws.{IsTrue_held}
+use Rattle.cards.proofs.HandLaws.{IsTrue_held}
 use Rattle.cards.proofs.layouts.Layout.holds.Goals as goal
 
 pub returns : goal.returns

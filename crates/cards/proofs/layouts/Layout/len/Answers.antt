@@ -1,7 +1,8 @@
 use Rattle.std.proofs.Common.{sym, ap, ◌∙◌}
 use Rattle.cards.specs.declared.seats.Seat.TheVariants.{North}
 use Rattle.cards.specs.Deal.{size_of}
-use Rattle.cards.specs.HandLaws.{count_of-deal_of_words, IsLayout-from_words}
+use Rattle.cards.specs.SameDeal.{count_of-deal_of_words}
+use Rattle.cards.proofs.HandLaws.{IsLayout-from_words}
 use Rattle.cards.proofs.layouts.Layout.len.Goals as goal
 
 pub returns-clause-size : goal.returns-clause-size

@@ -1,5 +1,5 @@
 use Rattle.std.proofs.Common.{sym, ◌∙◌}
-use Rattle.cards.specs.HandLaws.{holder_from_words, first_of_four, second_of_four, third_of_four, fourth_of_four, none_of_four}
+use Rattle.cards.proofs.HandLaws.{holder_from_words, first_of_four, second_of_four, third_of_four, fourth_of_four, none_of_four}
 use Rattle.cards.proofs.layouts.Layout.owner.Goals as goal
 
 pub returns-then-has_bit : goal.returns-then-has_bit

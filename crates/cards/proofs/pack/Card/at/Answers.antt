@@ -1,4 +1,4 @@
-use Rattle.cards.specs.PackLaws.{card_number-card_at}
+use Rattle.cards.proofs.PackLaws.{card_number-card_at}
 use Rattle.cards.proofs.pack.Card.at.Goals as goal
 
 pub returns-clause-number : goal.returns-clause-number

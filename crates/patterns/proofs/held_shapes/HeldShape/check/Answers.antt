@@ -1,4 +1,4 @@
-use Rattle.patterns.specs.SeatLaws.{when_true, on_true}
+use Rattle.patterns.proofs.SeatLaws.{when_true, on_true}
 use Rattle.patterns.proofs.held_shapes.HeldShape.check.Goals as goal
 
 pub returns : goal.returns

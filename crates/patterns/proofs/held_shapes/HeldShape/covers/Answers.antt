@@ -1,5 +1,5 @@
 use Rattle.cards.specs.declared.suits.Suit.TheVariants.{Spades, Hearts, Diamonds, Clubs}
-use Rattle.patterns.specs.SeatLaws.{told_false, not_told, for_each_suit}
+use Rattle.patterns.proofs.SeatLaws.{told_false, not_told, for_each_suit}
 use Rattle.patterns.proofs.held_shapes.HeldShape.covers.Goals as goal
 
 pub returns-then-not-covers : goal.returns-then-not-covers

@@ -6,7 +6,7 @@ use Rattle.cards.specs.contracts.seats.Seat.{the_type}
 use Rattle.cards.specs.declared.seats.Seat.{Seat}
 use Rattle.cards.specs.declared.seats.Seat.TheVariants.{North}
 use Rattle.patterns.specs.Shapes.{BeginsWith}
-use Rattle.patterns.specs.SeatLaws.{told_true, told_false}
+use Rattle.patterns.proofs.SeatLaws.{told_true, told_false}
 use Rattle.patterns.proofs.held_suits.HeldSuit.begins.Goals as goal
 
 -- a start that is longer than the list

@@ -3,7 +3,7 @@ use Rattle.std.proofs.lemmas.Bool.{leb-true, leb-false}
 use Rattle.cards.specs.declared.seats.Seat.TheVariants.{North, East, South, West}
 use Rattle.patterns.specs.Shapes.{SuitShape, tops_of, len_of}
 use Rattle.patterns.specs.Parts.{HasItsOwners, HasExcessOwner}
-use Rattle.patterns.specs.SeatLaws.{for_each_seat}
+use Rattle.patterns.proofs.SeatLaws.{for_each_seat}
 use Rattle.patterns.proofs.held_suits.HeldSuit.has_its_owners.Goals as goal
 
 pub returns-then-tops-self : goal.returns-then-tops-self

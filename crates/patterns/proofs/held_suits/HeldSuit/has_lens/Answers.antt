@@ -1,7 +1,7 @@
 use Rattle.std.proofs.Common.{sym, ◌∙◌}
 use Rattle.std.proofs.lemmas.Bool.{eqb-true, eq-eqb}
 use Rattle.cards.specs.declared.seats.Seat.TheVariants.{North, East, South, West}
-use Rattle.patterns.specs.SeatLaws.{told_false, for_each_seat}
+use Rattle.patterns.proofs.SeatLaws.{told_false, for_each_seat}
 use Rattle.patterns.proofs.held_suits.HeldSuit.has_lens.Goals as goal
 
 pub returns-then-words-from : goal.returns-then-words-from

@@ -2,7 +2,7 @@ use Rattle.std.proofs.Common.{◌≡◌, get_or, sym, ◌∙◌, ap, arith, rule
 use denote.Enum.Bare.{differs_true, differs_false}
 use Rattle.cards.specs.contracts.seats.Seat.{the_type}
 use Rattle.cards.specs.declared.seats.Seat.TheVariants.{North}
-use Rattle.patterns.specs.SeatLaws.{told_true, told_false}
+use Rattle.patterns.proofs.SeatLaws.{told_true, told_false}
 use Rattle.patterns.proofs.OwnerLemmas.{all_met, other_met, owner_met, nobody_met, all_cards_met}
 use Rattle.patterns.proofs.held_suits.HeldSuit.has_owners.Goals as goal
 use Rattle.patterns.proofs.held_suits.HeldSuit.has_owners.Goals.{in-Some+else-ne, in_default}

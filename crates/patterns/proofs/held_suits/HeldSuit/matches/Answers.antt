@@ -1,6 +1,6 @@
 use Rattle.std.proofs.Common.{sym, ◌∙◌}
-use Rattle.patterns.specs.SeatLaws.{told_false, not_told}
-use Rattle.patterns.specs.HoldingLaws.{holders_in-is, count_ones-is}
+use Rattle.patterns.proofs.SeatLaws.{told_false, not_told}
+use Rattle.patterns.proofs.HoldingLaws.{holders_in-is, count_ones-is}
 use Rattle.patterns.proofs.held_suits.HeldSuit.matches.Goals as goal
 
 pub returns-then-not-has_lens : goal.returns-then-not-has_lens

@@ -2,7 +2,7 @@ use Rattle.std.proofs.Common.{◌<◌, length, arith, sym, ◌∙◌, get_or}
 use Rattle.std.proofs.lemmas.List.Sums.{count_by_more_yes, count_by_more_no}
 use Rattle.cards.specs.declared.seats.Seat.TheVariants.{North}
 use Rattle.cards.specs.Seats.{is_same_seat}
-use Rattle.patterns.specs.SeatLaws.{same_seat_test}
+use Rattle.patterns.proofs.SeatLaws.{same_seat_test}
 use Rattle.patterns.proofs.held_suits.HeldSuit.tops.Goals as goal
 use Rattle.patterns.proofs.held_suits.HeldSuit.tops.Goals.{then-eq, else-eq}
 

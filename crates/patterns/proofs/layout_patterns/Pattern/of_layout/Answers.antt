@@ -1,4 +1,4 @@
-use Rattle.patterns.specs.HolderLaws.{IsPattern-of_layout, Matches-of_layout}
+use Rattle.patterns.proofs.HolderLaws.{IsPattern-of_layout, Matches-of_layout}
 use Rattle.patterns.proofs.layout_patterns.Pattern.of_layout.Goals as goal
 
 pub invariant_of-result : goal.invariant_of-result

@@ -1,4 +1,4 @@
-use Rattle.play_rules.specs.PositionLaws.{AreLegalCards-from_left, hand-le, length-left}
+use Rattle.play_rules.proofs.PositionLaws.{AreLegalCards-from_left, hand-le, length-left}
 use Rattle.play_rules.proofs.tables.Table.legal.Goals as goal
 
 pub legal_cards-requires-clause-whole : goal.legal_cards-requires-clause-whole

@@ -1,4 +1,4 @@
-use Rattle.play_rules.specs.PositionLaws.{Summarizes-new}
+use Rattle.play_rules.proofs.PositionLaws.{Summarizes-new}
 use Rattle.play_rules.proofs.tables.Table.new.Goals as goal
 
 pub invariant_of-result : goal.invariant_of-result

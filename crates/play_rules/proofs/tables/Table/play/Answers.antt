@@ -1,7 +1,7 @@
 use Rattle.std.proofs.Common.{subst}
 use Rattle.play_rules.specs.Position.{Position}
 use Rattle.play_rules.specs.Legal.{CanPlay}
-use Rattle.play_rules.specs.PositionLaws.{held-from_still_held, FailsToFollow-from_Revokes, CanPlay-from_tests}
+use Rattle.play_rules.proofs.PositionLaws.{held-from_still_held, FailsToFollow-from_Revokes, CanPlay-from_tests}
 use Rattle.play_rules.proofs.tables.Table.play.Goals as goal
 
 pub returns-then-not-is_held-clause-cases : goal.returns-then-not-is_held-clause-cases

@@ -3,7 +3,7 @@ use Rattle.cards.specs.declared.seats.Side.TheVariants.{NorthSouth, EastWest}
 use Rattle.play_rules.specs.Left.{without}
 use Rattle.play_rules.specs.Legal.{CanPlay, IsUnfinished}
 use Rattle.play_rules.specs.Position.{Position}
-use Rattle.play_rules.specs.PositionLaws.{Summarizes-goes_on, Summarizes-won_north_south, Summarizes-won_east_west, three_cards, tricks-small}
+use Rattle.play_rules.proofs.PositionLaws.{Summarizes-goes_on, Summarizes-won_north_south, Summarizes-won_east_west, three_cards, tricks-small}
 use Rattle.play_rules.proofs.tables.Table.push.Goals as goal
 
 pub invariant_of-self : goal.invariant_of-self

@@ -13,19 +13,19 @@ use Rattle.cards.specs.declared.seats.Seat.{Seat}
 use Rattle.cards.specs.declared.seats.Seat.TheVariants.{North, East, South, West}
 use Rattle.cards.specs.Deal.{Deal, holder_of}
 use Rattle.cards.specs.Pack.{card_of, rank_number, suit_number, card_number}
-use Rattle.cards.specs.PackLaws.{rank_number-lt, same_from_numbers, same_from_suit_numbers, same_from_rank_numbers}
+use Rattle.cards.proofs.PackLaws.{rank_number-lt, same_from_numbers, same_from_suit_numbers, same_from_rank_numbers}
 use Rattle.cards.specs.Seats.{is_same_seat, seat_number}
 use Rattle.patterns.specs.Shapes.{Shape, suit_of, Covers}
 use Rattle.patterns.specs.Holders.{falling_ranks, holders_of, count_in, Matches}
-use Rattle.patterns.specs.SeatLaws.{same_from_is_same, is_same_seat_self, for_each_seat}
+use Rattle.patterns.proofs.SeatLaws.{same_from_is_same, is_same_seat_self, for_each_seat}
 use Rattle.pattern_step.specs.declared.pat_cards.PatCard.{PatCard}
 use Rattle.pattern_step.specs.declared.pat_cards.PatCard.TheVariants.{Top, Low}
 use Rattle.pattern_step.specs.PatCards.{suit_of_card, is_of_suit, is_top}
-use Rattle.pattern_step.specs.PatCardLaws.{slice_get-at, slice_get-within}
+use Rattle.pattern_step.proofs.PatCardLaws.{slice_get-at, slice_get-within}
 use Rattle.pattern_step.specs.Tricks.{played_by, IsLeft}
-use Rattle.pattern_step.specs.TrickLaws.{left_from, kept, owners_left-is}
+use Rattle.pattern_step.proofs.TrickLaws.{left_from, kept, owners_left-is}
 use Rattle.pattern_step.specs.LayoutCards.{place_of, StandsFor, real_by, ArePlayed, IsWithout}
-use Rattle.pattern_step.specs.LayoutLaws.{rank_there, there_rank, more_above, holder_at_place}
+use Rattle.pattern_step.proofs.LayoutLaws.{rank_there, there_rank, more_above, holder_at_place}
 
 -- whether a test holds of some seat
 any_seat : (Seat → Bool) → Bool

@@ -19,12 +19,12 @@ use Rattle.cards.specs.declared.seats.Seat.TheVariants.{North, East, South, West
 use Rattle.cards.specs.Deal.{Deal, holder_of, is_held_by}
 use Rattle.cards.specs.Hands.{holder_by_bits}
 use Rattle.cards.specs.Pack.{card_of, rank_number, rank_at}
-use Rattle.cards.specs.PackLaws.{rank_number-rank_at}
+use Rattle.cards.proofs.PackLaws.{rank_number-rank_at}
 use Rattle.cards.specs.Seats.{seat_number, is_same_seat}
 use Rattle.patterns.specs.Holders.{falling_ranks, holders_of, count_in}
 use Rattle.patterns.specs.Holdings.{TellHolders, holder_in, falling_numbers, holders_above, holders_in}
-use Rattle.patterns.specs.HolderLaws.{count_in-filter_map, length-filter_map-le}
-use Rattle.patterns.specs.SeatLaws.{same_from_is_same, is_same_seat_self}
+use Rattle.patterns.proofs.HolderLaws.{count_in-filter_map, length-filter_map-le}
+use Rattle.patterns.proofs.SeatLaws.{same_from_is_same, is_same_seat_self}
 
 -- four bits name the holder
 tells : (n e s w : ℕ) (holder : Option Seat) → (n ≡ 1) ↔ (holder ≡ Some North) → (e ≡ 1) ↔ (holder ≡ Some East) → (s ≡ 1) ↔ (holder ≡ Some South) → (w ≡ 1) ↔ (holder ≡ Some West) → holder_by_bits n e s w ≡ holder

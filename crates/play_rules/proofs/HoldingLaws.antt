@@ -5,13 +5,13 @@ use Rattle.cards.specs.declared.suits.Suit.{Suit}
 use Rattle.cards.specs.declared.seats.Seat.{Seat}
 use Rattle.cards.specs.declared.pack.Card.{Card}
 use Rattle.cards.specs.Pack.{card_of, suit_number, suit_at, rank_number, rank_at}
-use Rattle.cards.specs.PackLaws.{same_from_numbers, suit_number-lt, rank_number-lt, rank_at-rank_number, rank_number-rank_at, suit_number-suit_at}
-use Rattle.cards.specs.HandLaws.{is_same_seat-refl}
+use Rattle.cards.proofs.PackLaws.{same_from_numbers, suit_number-lt, rank_number-lt, rank_at-rank_number, rank_number-rank_at, suit_number-suit_at}
+use Rattle.cards.specs.SameDeal.{is_same_seat-refl}
 use Rattle.cards.specs.Seats.{is_same_seat}
 use Rattle.cards.specs.Deal.{Deal, holder_of, count_of}
 use Rattle.play_rules.specs.Legal.{IsAmong}
 use Rattle.play_rules.specs.Left.{without}
-use Rattle.play_rules.specs.LeftLaws.{length-without, holder_of-without_other, count_of-without}
+use Rattle.play_rules.proofs.LeftLaws.{length-without, holder_of-without_other, count_of-without}
 use Rattle.play_rules.specs.Position.{AreInOrder, listed_place}
 use Rattle.play_rules.specs.Holdings.{HoldsSuit, MayBePlayed, IsSuitToFollow, IsOf, AreListedTo}
 

@@ -9,17 +9,17 @@ use Rattle.cards.specs.declared.pack.Card.{Card}
 use Rattle.cards.specs.Seats.{next_of, side_of, is_same_side}
 use Rattle.std.proofs.lemmas.Bool.{cases_eq}
 use Rattle.cards.specs.Pack.{suit_number}
-use Rattle.cards.specs.PackLaws.{same_from_suit_numbers}
+use Rattle.cards.proofs.PackLaws.{same_from_suit_numbers}
 use Rattle.cards.specs.Deal.{holder_of, count_of, IsLayout}
 use Rattle.play_rules.specs.Tricks.{winner_of}
 use Rattle.play_rules.specs.History.{Opening, trick_made, trick_of, leader_after, turn_in_trick, tricks_of}
 use Rattle.play_rules.specs.Left.{left_of, without}
-use Rattle.play_rules.specs.LeftLaws.{still_held, left_when_held, left_of-push, length-left_of, count_of-left_of-le}
-use Rattle.play_rules.specs.HistoryLaws.{trick_of-append, leader_after-append, tricks_of-append, turn_in_trick-push, GoesOn-from_short, Ends-from_four}
+use Rattle.play_rules.proofs.LeftLaws.{still_held, left_when_held, left_of-push, length-left_of, count_of-left_of-le}
+use Rattle.play_rules.proofs.HistoryLaws.{trick_of-append, leader_after-append, tricks_of-append, turn_in_trick-push, GoesOn-from_short, Ends-from_four}
 use Rattle.play_rules.specs.Legal.{StillHolds, CanFollow, CanPlay, IsLegalAfter, IsLegal, IsUnfinished, seat_to_play}
 use Rattle.play_rules.specs.Position.{Position, IsReached, AreLegalCards, with_card}
 use Rattle.play_rules.specs.Holdings.{HoldsSuit, MayBePlayed, IsToBeFollowed, Revokes, AreListedTo}
-use Rattle.play_rules.specs.HoldingLaws.{listed_place-lt}
+use Rattle.play_rules.proofs.HoldingLaws.{listed_place-lt}
 use Rattle.play_rules.specs.Plays.{FailsToFollow}
 use Rattle.play_rules.specs.Tables.{Summary, Summarizes}
 

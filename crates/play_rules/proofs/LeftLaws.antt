@@ -5,7 +5,7 @@ use Rattle.std.proofs.lemmas.List.Sums.{sum_by-set}
 use Rattle.cards.specs.declared.seats.Seat.{Seat}
 use Rattle.cards.specs.declared.pack.Card.{Card}
 use Rattle.cards.specs.Pack.{card_number}
-use Rattle.cards.specs.PackLaws.{card_number-lt, same_from_numbers}
+use Rattle.cards.proofs.PackLaws.{card_number-lt, same_from_numbers}
 use Rattle.cards.specs.Seats.{is_same_seat}
 use Rattle.cards.specs.Deal.{Deal, holder_of, is_held_by, count_of}
 use Rattle.play_rules.specs.Left.{without, left_of}

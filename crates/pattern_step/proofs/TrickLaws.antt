@@ -10,14 +10,14 @@ use Rattle.cards.specs.declared.suits.Suit.{Suit}
 use Rattle.cards.specs.declared.suits.Suit.TheVariants.{Spades, Hearts, Diamonds, Clubs}
 use Rattle.cards.specs.declared.seats.Seat.{Seat}
 use Rattle.cards.specs.declared.seats.Seat.TheVariants.{North, East, South, West}
-use Rattle.cards.specs.PackLaws.{same_from_suit_numbers}
+use Rattle.cards.proofs.PackLaws.{same_from_suit_numbers}
 use Rattle.cards.specs.Seats.{is_same_seat}
 use Rattle.patterns.specs.Shapes.{Shape, suit_of, len_of, tops_of, suit_size, hand_size, IsPattern, IsRest}
-use Rattle.patterns.specs.SeatLaws.{is_same_seat_self}
+use Rattle.patterns.proofs.SeatLaws.{is_same_seat_self}
 use Rattle.pattern_step.specs.declared.pat_cards.PatCard.{PatCard}
 use Rattle.pattern_step.specs.declared.pat_cards.PatCard.TheVariants.{Top, Low}
 use Rattle.pattern_step.specs.PatCards.{HasCard, is_of_suit, is_top}
-use Rattle.pattern_step.specs.PatCardLaws.{slice_get-at, slice_get-within, top_counts}
+use Rattle.pattern_step.proofs.PatCardLaws.{slice_get-at, slice_get-within, top_counts}
 use Rattle.pattern_step.specs.Tricks.{turn_of, played_by, AreLegalInTurn, owners_left, IsLeft}
 
 -- the items in the places that are kept, where the first place has this number

@@ -19,92 +19,15 @@ use Rattle.cards.specs.Pack.{card_number, card_at, card_of, rank_number, suit_nu
 use Rattle.cards.specs.Seats.{is_same_seat}
 use Rattle.cards.specs.Deal.{Deal, IsLayout, holder_of, is_held_by, count_of}
 use Rattle.cards.specs.Hands.{word_of, holder_by_bits, holder_by_words, deal_of_words, IsDealt, word_of_deal, words_of_deal, Deals, AreDisjoint, HaveStrayBit, HaveCardsAlone, HaveCardTwice}
-use Rattle.cards.specs.PackLaws.{card_number-lt, card_number-card_at, rank_number-lt}
-
--- a place among four bits
-abbrev bit_of_seat : Seat → ℕ → ℕ → ℕ → ℕ → ℕ
-bit_of_seat North a b c d = a
-bit_of_seat East a b c d = b
-bit_of_seat South a b c d = c
-bit_of_seat West a b c d = d
-
--- where at most one of four bits is 1, the holder is the seat whose bit it is
-held_by_bit : (a b c d : ℕ) (seat : Seat) → a + b + c + d ≤ 1 → cond (is_held_by seat (holder_by_bits a b c d)) 1 0 ≡ bit_of_seat seat a b c d
-held_by_bit zero zero zero zero seat h = elim seat as (λ s. cond (is_held_by s (holder_by_bits 0 0 0 0)) 1 0 ≡ bit_of_seat s 0 0 0 0) [ North ↦ refl | East ↦ refl | South ↦ refl | West ↦ refl ]
-held_by_bit (suc zero) zero zero zero seat h = elim seat as (λ s. cond (is_held_by s (holder_by_bits 1 0 0 0)) 1 0 ≡ bit_of_seat s 1 0 0 0) [ North ↦ refl | East ↦ refl | South ↦ refl | West ↦ refl ]
-held_by_bit zero (suc zero) zero zero seat h = elim seat as (λ s. cond (is_held_by s (holder_by_bits 0 1 0 0)) 1 0 ≡ bit_of_seat s 0 1 0 0) [ North ↦ refl | East ↦ refl | South ↦ refl | West ↦ refl ]
-held_by_bit zero zero (suc zero) zero seat h = elim seat as (λ s. cond (is_held_by s (holder_by_bits 0 0 1 0)) 1 0 ≡ bit_of_seat s 0 0 1 0) [ North ↦ refl | East ↦ refl | South ↦ refl | West ↦ refl ]
-held_by_bit zero zero zero (suc zero) seat h = elim seat as (λ s. cond (is_held_by s (holder_by_bits 0 0 0 1)) 1 0 ≡ bit_of_seat s 0 0 0 1) [ North ↦ refl | East ↦ refl | South ↦ refl | West ↦ refl ]
-held_by_bit _ _ _ _ seat h = absurd (omega arith)
-
-bit_of_word : (hands : List ℕ) (seat : Seat) (i : ℕ) → bit_of_seat seat (bit_at (slice_index hands 0) i) (bit_at (slice_index hands 1) i) (bit_at (slice_index hands 2) i) (bit_at (slice_index hands 3) i) ≡ bit_at (word_of hands seat) i
-bit_of_word hands North i = refl
-bit_of_word hands East i = refl
-bit_of_word hands South i = refl
-bit_of_word hands West i = refl
-
-held_by_word : (hands : List ℕ) → IsDealt hands → (seat : Seat) (i : ℕ) → cond (is_held_by seat (holder_by_words hands i)) 1 0 ≡ bit_at (word_of hands seat) i
-held_by_word hands dealt seat i = held_by_bit _ _ _ _ seat (dealt.one_holder i) ∙ bit_of_word hands seat i
-
-pub length-deal_of_words : (hands : List ℕ) → length (deal_of_words hands) ≡ 52
-unfolding deal_of_words
-length-deal_of_words hands = length-map-range_with_len (holder_by_words hands) 0 52
-
-get_or-deal_of_words : (hands : List ℕ) (i : ℕ) → i < 52 → get_or (deal_of_words hands) i None ≡ holder_by_words hands i
-unfolding deal_of_words
-get_or-deal_of_words hands i h = get_or-map-range_with_len (holder_by_words hands) 0 52 i i None h (omega arith)
+use Rattle.cards.proofs.PackLaws.{card_number-lt, card_number-card_at, rank_number-lt}
+use Rattle.cards.specs.SameDeal.{bit_of_seat, bit_of_word, held_by_word, length-deal_of_words, get_or-deal_of_words, word_of_deal_of_words, count_of-deal_of_words, words_of_deal_of_words, same_seat, is_same_seat-refl}
 
 pub holder_of-deal_of_words : (hands : List ℕ) (card : Card) → holder_of (deal_of_words hands) card ≡ holder_by_words hands (card_number card)
 holder_of-deal_of_words hands card = get_or-deal_of_words hands (card_number card) (card_number-lt card)
 
--- the word of a seat in the deal is the seat's word
-pub word_of_deal_of_words : (hands : List ℕ) → IsDealt hands → (seat : Seat) → word_of_deal seat (deal_of_words hands) ≡ word_of hands seat
-unfolding word_of_deal
-word_of_deal_of_words hands dealt seat =
-    let bits = map (is_held_by seat) (deal_of_words hands) in
-    let len : length bits ≡ 52 = length-map (deal_of_words hands) (is_held_by seat) ∙ length-deal_of_words hands in
-    let small : mask_l bits < 2 ^ 52 = rw len at (mask_l-lt bits) in
-    same_from_bits_below 52 (mask_l bits) (word_of hands seat) small (dealt.cards_alone seat)
-    (λ i h. let lt : i < length (deal_of_words hands) = omega (arith, length-deal_of_words hands) in
-    let at : get_or bits i false ≡ is_held_by seat (holder_by_words hands i) = get_or-map (is_held_by seat) (deal_of_words hands) i None false lt ∙ ap (is_held_by seat) (get_or-deal_of_words hands i h) in
-    bit_mask_l bits i ∙ (ap (λ b. cond b 1 0) at ∙ held_by_word hands dealt seat i))
-
--- how many cards the seat holds is how many bits its word has
-pub count_of-deal_of_words : (hands : List ℕ) → IsDealt hands → (seat : Seat) → count_of (deal_of_words hands) seat ≡ count_ones (word_of hands seat)
-unfolding word_of_deal
-count_of-deal_of_words hands dealt seat =
-    sym (ones-mask_l (is_held_by seat) (deal_of_words hands)) ∙ ap count_ones (word_of_deal_of_words hands dealt seat)
-
-same_from_four : (hands : List ℕ) → length hands ≡ 4 → slice_index hands 0 ∷ slice_index hands 1 ∷ slice_index hands 2 ∷ slice_index hands 3 ∷ [] ≡ hands
-same_from_four [] h = absurd (omega arith)
-same_from_four (a ∷ []) h = absurd (omega arith)
-same_from_four (a ∷ b ∷ []) h = absurd (omega arith)
-same_from_four (a ∷ b ∷ c ∷ []) h = absurd (omega arith)
-same_from_four (a ∷ b ∷ c ∷ d ∷ []) h = refl
-same_from_four (a ∷ b ∷ c ∷ d ∷ e ∷ rest) h = absurd (omega arith)
-
--- the words of the deal are the words
-pub words_of_deal_of_words : (hands : List ℕ) → IsDealt hands → words_of_deal (deal_of_words hands) ≡ hands
-words_of_deal_of_words hands dealt =
-    rw (word_of_deal_of_words hands dealt North, word_of_deal_of_words hands dealt East, word_of_deal_of_words hands dealt South, word_of_deal_of_words hands dealt West)
-    (same_from_four hands dealt.four)
-
-pub same_seat : (one other : Seat) → is_same_seat one other ≡ true → one ≡ other
-same_seat North North h = refl
-same_seat East East h = refl
-same_seat South South h = refl
-same_seat West West h = refl
-same_seat _ _ h = cc
-
 pub held-is : (seat : Seat) (holder : Option Seat) → is_held_by seat holder ≡ true → holder ≡ Some seat
 held-is seat None h = cc
 held-is seat (Some other) h = ap Some (sym (same_seat seat other h))
-
-pub is_same_seat-refl : (seat : Seat) → is_same_seat seat seat ≡ true
-is_same_seat-refl North = refl
-is_same_seat-refl East = refl
-is_same_seat-refl South = refl
-is_same_seat-refl West = refl
 
 cond-one : (b : Bool) → ◌≡◌ {A = ℕ} (cond b 1 0) 1 → b ≡ true
 cond-one true h = refl

@@ -16,12 +16,12 @@ use Rattle.cards.specs.Pack.{card_of, rank_number}
 use Rattle.cards.specs.Seats.{is_same_seat}
 use Rattle.patterns.specs.Shapes.{Shape, SuitShape, suit_of, len_of, tops_of}
 use Rattle.patterns.specs.Holders.{falling_ranks, holders_of, count_in, MatchesSuit, Matches}
-use Rattle.patterns.specs.HolderLaws.{count_in-cons}
-use Rattle.patterns.specs.SeatLaws.{is_same_seat_self, same_from_is_same}
+use Rattle.patterns.proofs.HolderLaws.{count_in-cons}
+use Rattle.patterns.proofs.SeatLaws.{is_same_seat_self, same_from_is_same}
 use Rattle.pattern_step.specs.declared.pat_cards.PatCard.{PatCard}
 use Rattle.pattern_step.specs.declared.pat_cards.PatCard.TheVariants.{Top, Low}
 use Rattle.pattern_step.specs.PatCards.{HasCard}
-use Rattle.pattern_step.specs.PatCardLaws.{slice_get-within}
+use Rattle.pattern_step.proofs.PatCardLaws.{slice_get-within}
 use Rattle.pattern_step.specs.LayoutCards.{ranks_above, place_of, StandsFor, IsOnePatCard, IsSomeCard, IsBelowTop}
 
 -- an item that gives something stands, among what all items give, behind what those before it give

@@ -14,8 +14,8 @@ use Rattle.cards.specs.declared.seats.Seat.TheVariants.{North, East, South, West
 use Rattle.cards.specs.Deal.{is_held_by}
 use Rattle.cards.specs.Seats.{is_same_seat}
 use Rattle.patterns.specs.Shapes.{Shape, suit_of, len_of, tops_of, IsPattern}
-use Rattle.patterns.specs.HolderLaws.{counts_add_up}
-use Rattle.patterns.specs.SeatLaws.{is_same_seat_self, same_from_is_same}
+use Rattle.patterns.proofs.HolderLaws.{counts_add_up}
+use Rattle.patterns.proofs.SeatLaws.{is_same_seat_self, same_from_is_same}
 use Rattle.pattern_step.specs.declared.pat_cards.PatCard.{PatCard}
 use Rattle.pattern_step.specs.declared.pat_cards.PatCard.TheVariants.{Top, Low}
 use Rattle.pattern_step.specs.PatCards.{suit_of_card, HasCard, has_card, tops_of_suit, cards_of_suit, cards_in, cards_held, legal_cards, IsLegal}

@@ -13,7 +13,7 @@ use Rattle.cards.specs.Pack.{card_of}
 use Rattle.cards.specs.Seats.{is_same_seat}
 use Rattle.patterns.specs.Shapes.{suit_of, len_of, tops_of, suit_size, hand_size, IsPattern}
 use Rattle.patterns.specs.Holders.{falling_ranks, holders_of, count_in, suit_of_layout, shape_of_layout, MatchesSuit, Matches}
-use Rattle.patterns.specs.SeatLaws.{for_each_suit, for_each_seat}
+use Rattle.patterns.proofs.SeatLaws.{for_each_suit, for_each_seat}
 
 -- how often a seat is told
 pub count_in-cons : (one : Seat) (holders : List Seat) (seat : Seat) → count_in (one ∷ holders) seat ≡ cond (is_same_seat seat one) 1 0 + count_in holders seat

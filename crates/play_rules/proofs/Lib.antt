@@ -1,0 +1,5 @@
+pub mod HistoryLaws
+pub mod HoldingLaws
+pub mod LeftLaws
+pub mod PositionLaws
+pub mod TrickLaws
