@@ -1,5 +1,5 @@
 -- The seats clockwise from North, and the sides (Laws 4 and 44B).
-use Rattle.std.specs.Prelude.{ℕ, Bool, true, false, List, codes}
+use Rattle.std.specs.Prelude.{ℕ, zero, suc, ◌+◌, ◌-◌, ◌%◌, Bool, true, false, List, codes}
 use Rattle.cards.specs.declared.seats.Seat.{Seat}
 use Rattle.cards.specs.declared.seats.Seat.TheVariants.{North, East, South, West}
 use Rattle.cards.specs.declared.seats.Side.{Side}
@@ -18,6 +18,15 @@ seat_number North = 0
 seat_number East = 1
 seat_number South = 2
 seat_number West = 3
+
+-- the seat so many places clockwise
+abbrev pub seat_in_place : Seat → ℕ → Seat
+seat_in_place seat zero = seat
+seat_in_place seat (suc places) = seat_in_place (next_of seat) places
+
+-- how many places clockwise from the first seat the second one is, 0 to 3
+abbrev pub place_of : Seat → Seat → ℕ
+place_of leader seat = (seat_number seat + 4 - seat_number leader) % 4
 
 -- North and South are partners, and so are East and West
 abbrev pub side_of : Seat → Side
