@@ -1,6 +1,6 @@
 -- What the cards of a layout and of a pattern that it matches have to do with each other.
-use Rattle.std.proofs.Common.{◌≡◌, ℕ, zero, suc, ◌+◌, ◌-◌, ◌<◌, ◌≤◌, Bool, true, false, cond, List, [], ◌∷◌, ◌++◌, length, take, drop, Option, None, Some, inl, inr, refl, sym, ◌∙◌, ap, arith, zero-add}
-use Rattle.std.specs.Prelude.{slice_get}
+use Rattle.std.proofs.Common.{◌≡◌, ℕ, zero, suc, ◌+◌, ◌-◌, ◌<◌, ◌≤◌, Bool, true, false, cond, List, [], ◌∷◌, ◌++◌, length, take, drop, Option, None, Some, inl, inr, refl, sym, ◌∙◌, ap, arith, zero-add, ◌↔◌}
+use Rattle.std.specs.Prelude.{slice_get, slice_index}
 use Rattle.std.specs.List.{filter_map, cons_option}
 use Rattle.std.proofs.lemmas.Bool.{cases_lt}
 use Rattle.std.proofs.lemmas.List.Sums.{sum_by-append}
@@ -10,19 +10,20 @@ use Rattle.cards.specs.declared.pack.Rank.{Rank}
 use Rattle.cards.specs.declared.pack.Rank.TheVariants.{Two, Three, Four, Five, Six, Seven, Eight, Nine, Ten, Jack, Queen, King, Ace}
 use Rattle.cards.specs.declared.pack.Card.{Card}
 use Rattle.cards.specs.declared.suits.Suit.{Suit}
+use Rattle.cards.specs.declared.suits.Suit.TheVariants.{Spades, Hearts, Diamonds, Clubs}
 use Rattle.cards.specs.declared.seats.Seat.{Seat}
-use Rattle.cards.specs.Deal.{Deal, holder_of}
+use Rattle.cards.specs.Deal.{Deal, holder_of, count_of}
 use Rattle.cards.specs.Pack.{card_of, rank_number}
-use Rattle.cards.specs.Seats.{is_same_seat}
-use Rattle.patterns.specs.Shapes.{Shape, SuitShape, suit_of, len_of, tops_of}
+use Rattle.cards.specs.Seats.{is_same_seat, seat_number}
+use Rattle.patterns.specs.Shapes.{Shape, SuitShape, suit_of, len_of, tops_of, hand_size, Covers}
 use Rattle.patterns.specs.Holders.{falling_ranks, holders_of, count_in, MatchesSuit, Matches}
-use Rattle.patterns.proofs.HolderLaws.{count_in-cons}
+use Rattle.patterns.proofs.HolderLaws.{count_in-cons, suits_add_up}
 use Rattle.patterns.proofs.SeatLaws.{is_same_seat_self, same_from_is_same}
 use Rattle.pattern_step.specs.declared.pat_cards.PatCard.{PatCard}
 use Rattle.pattern_step.specs.declared.pat_cards.PatCard.TheVariants.{Top, Low}
-use Rattle.pattern_step.specs.PatCards.{HasCard}
+use Rattle.pattern_step.specs.PatCards.{suit_of_card, HasCard}
 use Rattle.pattern_step.proofs.PatCardLaws.{slice_get-within}
-use Rattle.pattern_step.specs.LayoutCards.{ranks_above, place_of, StandsFor, IsOnePatCard, IsSomeCard, IsBelowTop}
+use Rattle.pattern_step.specs.LayoutCards.{ranks_above, place_in_suit, StandsFor, IsOnePatCard, IsSomeCard, HoldsSuit, IsBelowTop}
 
 -- an item that gives something stands, among what all items give, behind what those before it give
 at_place : {X : Type 0} (f : X → Option Seat) (xs : List X) (i : ℕ) (x : X) (seat : Seat) → slice_get xs i ≡ Some x → f x ≡ Some seat → slice_get (filter_map f xs) (length (filter_map f (take i xs))) ≡ Some seat
@@ -101,7 +102,7 @@ there_rank i rank h = go i rank (slice_get-within falling_ranks i rank h) h
     go (suc (suc (suc (suc (suc (suc (suc (suc (suc (suc (suc (suc (suc n))))))))))))) r less e = absurd (omega arith)
 
 -- the holder of a card stands in its place among the holders of its suit
-pub holder_at_place : (deal : Deal) (card : Card) (seat : Seat) → holder_of deal card ≡ Some seat → slice_get (holders_of deal card.suit) (place_of deal card) ≡ Some seat
+pub holder_at_place : (deal : Deal) (card : Card) (seat : Seat) → holder_of deal card ≡ Some seat → slice_get (holders_of deal card.suit) (place_in_suit deal card) ≡ Some seat
 unfolding holders_of
 holder_at_place deal card seat held =
     at_place (λ rank. holder_of deal (card_of card.suit rank)) falling_ranks (12 - rank_number card.rank) card.rank seat (rank_there card.rank) held
@@ -111,7 +112,7 @@ pub record HoldsAtPlace (deal : Deal) (suit : Suit) (k : ℕ) (seat : Seat) : Ty
   pub card : Card
   pub suit_is : card.suit ≡ suit
   pub held : holder_of deal card ≡ Some seat
-  pub place : place_of deal card ≡ k
+  pub place : place_in_suit deal card ≡ k
 
 pub card_at_place : (deal : Deal) (suit : Suit) (k : ℕ) (seat : Seat) → slice_get (holders_of deal suit) k ≡ Some seat → HoldsAtPlace deal suit k seat
 unfolding holders_of
@@ -125,13 +126,13 @@ card_at_place deal suit k seat h =
     }
 
 -- of two cards of a suit the one in the lesser place ranks above
-pub lesser_place_ranks_above : (deal : Deal) (suit : Suit) (higher lower : Card) → higher.suit ≡ suit → lower.suit ≡ suit → place_of deal higher < place_of deal lower → rank_number lower.rank < rank_number higher.rank
+pub lesser_place_ranks_above : (deal : Deal) (suit : Suit) (higher lower : Card) → higher.suit ≡ suit → lower.suit ≡ suit → place_in_suit deal higher < place_in_suit deal lower → rank_number lower.rank < rank_number higher.rank
 lesser_place_ranks_above deal suit higher lower hs ls less =
     elim (cases_lt (rank_number lower.rank) (rank_number higher.rank)) [
       | inl h ↦ h
       | inr h ↦ (let more = more_above (λ rank. holder_of deal (card_of suit rank)) falling_ranks (12 - rank_number lower.rank) (12 - rank_number higher.rank) (omega arith) in
-          let a : place_of deal higher ≡ length (filter_map (λ rank. holder_of deal (card_of suit rank)) (ranks_above higher.rank)) = ap (λ s. length (filter_map (λ rank. holder_of deal (card_of s rank)) (ranks_above higher.rank))) hs in
-          let b : place_of deal lower ≡ length (filter_map (λ rank. holder_of deal (card_of suit rank)) (ranks_above lower.rank)) = ap (λ s. length (filter_map (λ rank. holder_of deal (card_of s rank)) (ranks_above lower.rank))) ls in
+          let a : place_in_suit deal higher ≡ length (filter_map (λ rank. holder_of deal (card_of suit rank)) (ranks_above higher.rank)) = ap (λ s. length (filter_map (λ rank. holder_of deal (card_of s rank)) (ranks_above higher.rank))) hs in
+          let b : place_in_suit deal lower ≡ length (filter_map (λ rank. holder_of deal (card_of suit rank)) (ranks_above lower.rank)) = ap (λ s. length (filter_map (λ rank. holder_of deal (card_of s rank)) (ranks_above lower.rank))) ls in
           absurd (omega (arith, more, a, b, less)))
     ]
 
@@ -166,6 +167,40 @@ stands_there (x ∷ xs) seat h = go (λ below. stands_there xs seat below) (is_s
         let r = below (omega (arith, n, h, count_in-cons x xs seat)) in
         (suc r.0, r.1)
 
+-- the suit of a card is that of the pattern card that stands for it
+pub stands_suit : (shape : Shape) (deal : Deal) (pat_card : PatCard) (card : Card) → StandsFor shape deal pat_card card → card.suit ≡ suit_of_card pat_card
+stands_suit shape deal (Top suit place) card stands = stands.0
+stands_suit shape deal (Low suit) card stands = stands.0
+
+-- a seat has a length above 0 just in the suits of which it holds a card
+pub length_is_held : (shape : Shape) (deal : Deal) (suit : Suit) (seat : Seat) → Matches shape deal → (0 < len_of (suit_of shape suit) seat) ↔ HoldsSuit deal suit seat
+length_is_held shape deal suit seat matches = (
+  λ some.
+      let there = stands_there (holders_of deal suit) seat (omega (arith, some, (matches suit).lens seat)) in
+      let card = card_at_place deal suit there.0 seat there.1 in
+      (card.card, card.held, card.suit_is),
+  λ h.
+      let there : slice_get (holders_of deal suit) (place_in_suit deal h.0) ≡ Some seat =
+      ap (λ s. slice_get (holders_of deal s) (place_in_suit deal h.0)) (sym h.2) ∙ holder_at_place deal h.0 seat h.1 in
+      omega (arith, counted (holders_of deal suit) (place_in_suit deal h.0) seat there, (matches suit).lens seat),
+)
+
+four_same : (a b c d a' b' c' d' : ℕ) → a ≡ a' → b ≡ b' → c ≡ c' → d ≡ d' → a + b + c + d ≡ a' + b' + c' + d'
+four_same a b c d a' b' c' d' ea eb ec ed = omega (arith, ea, eb, ec, ed)
+
+-- a hand of a pattern has as many cards as it has in a deal that matches
+pub hand_size-dealt : (shape : Shape) (deal : Deal) (seat : Seat) → length deal ≡ 52 → Matches shape deal → hand_size shape seat ≡ count_of deal seat
+hand_size-dealt shape deal seat whole matches =
+    four_same _ _ _ _ _ _ _ _ ((matches Spades).lens seat) ((matches Hearts).lens seat) ((matches Diamonds).lens seat) ((matches Clubs).lens seat)
+    ∙ suits_add_up deal whole seat
+
+-- and as many as in a rest that it covers
+pub hand_size-covered : (pattern rest : Shape) (seat : Seat) → Covers pattern rest → hand_size pattern seat ≡ hand_size rest seat
+hand_size-covered pattern rest seat covers = four_same _ _ _ _ _ _ _ _ (same Spades) (same Hearts) (same Diamonds) (same Clubs)
+  where
+    same : (suit : Suit) → len_of (suit_of pattern suit) seat ≡ len_of (suit_of rest suit) seat
+    same suit = ap (λ lens. slice_index lens (seat_number seat)) (covers suit).lens
+
 -- how many of a suit a seat has behind the owners
 behind : (suit : SuitShape) (holders : List Seat) (m : MatchesSuit suit holders) (seat : Seat) → len_of suit seat ≡ tops_of suit seat + count_in m.owners.0 seat
 behind suit holders m seat =
@@ -174,36 +209,36 @@ behind suit holders m seat =
 -- Each card of a matching layout is exactly one pattern card of the seat that holds it.
 pub IsOnePatCard-of : (shape : Shape) (deal : Deal) (seat : Seat) (card : Card) → Matches shape deal → holder_of deal card ≡ Some seat → IsOnePatCard shape deal seat card
 IsOnePatCard-of shape deal seat card matches held =
-    elim (cases_lt (place_of deal card) (length (suit_of shape card.suit).owners)) [
-      | inl less ↦ record { one = Top card.suit (place_of deal card); has = owns less; stands = (refl, refl, less); alone = λ other stands. no_other_top less other stands }
+    elim (cases_lt (place_in_suit deal card) (length (suit_of shape card.suit).owners)) [
+      | inl less ↦ record { one = Top card.suit (place_in_suit deal card); has = owns less; stands = (refl, refl, less); alone = λ other stands. no_other_top less other stands }
       | inr more ↦ record { one = Low card.suit; has = has_low more; stands = (refl, more); alone = λ other stands. no_other_low more other stands }
     ]
   where
-    there : slice_get (holders_of deal card.suit) (place_of deal card) ≡ Some seat
+    there : slice_get (holders_of deal card.suit) (place_in_suit deal card) ≡ Some seat
     there = holder_at_place deal card seat held
 
-    owns : place_of deal card < length (suit_of shape card.suit).owners → slice_get (suit_of shape card.suit).owners (place_of deal card) ≡ Some seat
+    owns : place_in_suit deal card < length (suit_of shape card.suit).owners → slice_get (suit_of shape card.suit).owners (place_in_suit deal card) ≡ Some seat
     owns less =
         let m = matches card.suit in
-        sym (ap (λ xs. slice_get xs (place_of deal card)) m.owners.1 ∙ slice_get-front (suit_of shape card.suit).owners m.owners.0 (place_of deal card) less) ∙ there
+        sym (ap (λ xs. slice_get xs (place_in_suit deal card)) m.owners.1 ∙ slice_get-front (suit_of shape card.suit).owners m.owners.0 (place_in_suit deal card) less) ∙ there
 
-    has_low : length (suit_of shape card.suit).owners ≤ place_of deal card → tops_of (suit_of shape card.suit) seat < len_of (suit_of shape card.suit) seat
+    has_low : length (suit_of shape card.suit).owners ≤ place_in_suit deal card → tops_of (suit_of shape card.suit) seat < len_of (suit_of shape card.suit) seat
     has_low more =
         let m = matches card.suit in
         let owners = (suit_of shape card.suit).owners in
-        let j : ℕ = place_of deal card - length owners in
-        let e : length owners + j ≡ place_of deal card = omega arith in
+        let j : ℕ = place_in_suit deal card - length owners in
+        let e : length owners + j ≡ place_in_suit deal card = omega arith in
         let at : slice_get m.owners.0 j ≡ Some seat =
-        sym (slice_get-back owners m.owners.0 j) ∙ (ap (slice_get (owners ++ m.owners.0)) e ∙ (ap (λ xs. slice_get xs (place_of deal card)) (sym m.owners.1) ∙ there)) in
+        sym (slice_get-back owners m.owners.0 j) ∙ (ap (slice_get (owners ++ m.owners.0)) e ∙ (ap (λ xs. slice_get xs (place_in_suit deal card)) (sym m.owners.1) ∙ there)) in
         omega (arith, counted m.owners.0 j seat at, behind (suit_of shape card.suit) (holders_of deal card.suit) m seat)
 
-    no_other_top : place_of deal card < length (suit_of shape card.suit).owners → (other : PatCard) → StandsFor shape deal other card → other ≡ Top card.suit (place_of deal card)
+    no_other_top : place_in_suit deal card < length (suit_of shape card.suit).owners → (other : PatCard) → StandsFor shape deal other card → other ≡ Top card.suit (place_in_suit deal card)
     no_other_top less (Top suit place) stands = ap (λ s. Top s place) (sym stands.0) ∙ ap (Top card.suit) (sym stands.1)
     no_other_top less (Low suit) stands =
         let e : length (suit_of shape suit).owners ≡ length (suit_of shape card.suit).owners = ap (λ s. length (suit_of shape s).owners) (sym stands.0) in
         absurd (omega (arith, e, stands.1, less))
 
-    no_other_low : length (suit_of shape card.suit).owners ≤ place_of deal card → (other : PatCard) → StandsFor shape deal other card → other ≡ Low card.suit
+    no_other_low : length (suit_of shape card.suit).owners ≤ place_in_suit deal card → (other : PatCard) → StandsFor shape deal other card → other ≡ Low card.suit
     no_other_low more (Top suit place) stands =
         let e : length (suit_of shape suit).owners ≡ length (suit_of shape card.suit).owners = ap (λ s. length (suit_of shape s).owners) (sym stands.0) in
         absurd (omega (arith, e, stands.1, stands.2, more))

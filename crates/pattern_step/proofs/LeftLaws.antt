@@ -24,8 +24,8 @@ use Rattle.pattern_step.specs.PatCards.{suit_of_card, is_of_suit, is_top}
 use Rattle.pattern_step.proofs.PatCardLaws.{slice_get-at, slice_get-within}
 use Rattle.pattern_step.specs.Tricks.{played_by, IsLeft}
 use Rattle.pattern_step.proofs.TrickLaws.{left_from, kept, owners_left-is}
-use Rattle.pattern_step.specs.LayoutCards.{place_of, StandsFor, real_by, ArePlayed, IsWithout}
-use Rattle.pattern_step.proofs.LayoutLaws.{rank_there, there_rank, more_above, holder_at_place}
+use Rattle.pattern_step.specs.LayoutCards.{place_in_suit, StandsFor, real_by, ArePlayed, IsWithout}
+use Rattle.pattern_step.proofs.LayoutLaws.{rank_there, there_rank, more_above, holder_at_place, stands_suit}
 
 -- whether a test holds of some seat
 any_seat : (Seat → Bool) → Bool
@@ -250,14 +250,14 @@ rank_at_place rank =
     (within, (let e = sym (slice_get-at falling_ranks (12 - rank_number rank) rank within) ∙ rank_there rank in cc))
 
 -- a card that is held counts in the place of each lower card
-place_below : (deal : Deal) (suit : Suit) (high low : Rank) (seat : Seat) → rank_number low < rank_number high → holder_of deal (card_of suit high) ≡ Some seat → place_of deal (card_of suit high) + 1 ≤ place_of deal (card_of suit low)
+place_below : (deal : Deal) (suit : Suit) (high low : Rank) (seat : Seat) → rank_number low < rank_number high → holder_of deal (card_of suit high) ≡ Some seat → place_in_suit deal (card_of suit high) + 1 ≤ place_in_suit deal (card_of suit low)
 place_below deal suit high low seat less held =
     let f : Rank → Option Seat = λ rank. holder_of deal (card_of suit rank) in
     let at = rank_at_place high in
     strictly_more f falling_ranks (12 - rank_number high) (12 - rank_number low) high seat (omega (arith, rank_number-lt high)) at.0 (ap f at.1 ∙ held)
 
 -- two cards of a suit that are held in one place are one
-same_place : (deal : Deal) (suit : Suit) (one other : Rank) (a b : Seat) → holder_of deal (card_of suit one) ≡ Some a → holder_of deal (card_of suit other) ≡ Some b → place_of deal (card_of suit one) ≡ place_of deal (card_of suit other) → one ≡ other
+same_place : (deal : Deal) (suit : Suit) (one other : Rank) (a b : Seat) → holder_of deal (card_of suit one) ≡ Some a → holder_of deal (card_of suit other) ≡ Some b → place_in_suit deal (card_of suit one) ≡ place_in_suit deal (card_of suit other) → one ≡ other
 same_place deal suit one other a b ha hb same =
     elim (cases_lt (rank_number one) (rank_number other)) [
       | inl less ↦ absurd (omega (arith, place_below deal suit other one b less hb, same))
@@ -269,7 +269,7 @@ same_place deal suit one other a b ha hb same =
 
 -- whether the card that the seat played stood in this place of the suit
 hit : Deal → Seat → List Card → Suit → ℕ → Seat → Bool
-hit deal leader real suit place seat = eqb (suit_number (real_by leader real seat).suit) (suit_number suit) && eqb (place_of deal (real_by leader real seat)) place
+hit deal leader real suit place seat = eqb (suit_number (real_by leader real seat).suit) (suit_number suit) && eqb (place_in_suit deal (real_by leader real seat)) place
 
 -- the places whose cards were not played
 stays_at : Deal → Seat → List Card → Suit → ℕ → Bool
@@ -279,22 +279,22 @@ and-both : (a b : Bool) → a && b ≡ true → (a ≡ true) × (b ≡ true)
 and-both true b h = (refl, h)
 and-both false b h = absurd (false≢true h)
 
-hit-is : (deal : Deal) (leader : Seat) (real : List Card) (suit : Suit) (place : ℕ) (seat : Seat) → hit deal leader real suit place seat ≡ true → ((real_by leader real seat).suit ≡ suit) × (place_of deal (real_by leader real seat) ≡ place)
+hit-is : (deal : Deal) (leader : Seat) (real : List Card) (suit : Suit) (place : ℕ) (seat : Seat) → hit deal leader real suit place seat ≡ true → ((real_by leader real seat).suit ≡ suit) × (place_in_suit deal (real_by leader real seat) ≡ place)
 unfolding hit
 hit-is deal leader real suit place seat h =
     let both = and-both _ _ h in
     (same_from_suit_numbers _ suit (eqb-true _ _ both.0), eqb-true _ _ both.1)
 
-is-hit : (deal : Deal) (leader : Seat) (real : List Card) (suit : Suit) (place : ℕ) (seat : Seat) → (real_by leader real seat).suit ≡ suit → place_of deal (real_by leader real seat) ≡ place → hit deal leader real suit place seat ≡ true
+is-hit : (deal : Deal) (leader : Seat) (real : List Card) (suit : Suit) (place : ℕ) (seat : Seat) → (real_by leader real seat).suit ≡ suit → place_in_suit deal (real_by leader real seat) ≡ place → hit deal leader real suit place seat ≡ true
 unfolding hit
 is-hit deal leader real suit place seat s p =
-    ap (λ b. b && eqb (place_of deal (real_by leader real seat)) place) (eq-eqb _ _ (ap suit_number s)) ∙ eq-eqb _ _ p
+    ap (λ b. b && eqb (place_in_suit deal (real_by leader real seat)) place) (eq-eqb _ _ (ap suit_number s)) ∙ eq-eqb _ _ p
 
-gone_at : (deal : Deal) (leader : Seat) (real : List Card) (suit : Suit) (place : ℕ) (seat : Seat) → (real_by leader real seat).suit ≡ suit → place_of deal (real_by leader real seat) ≡ place → stays_at deal leader real suit place ≡ false
+gone_at : (deal : Deal) (leader : Seat) (real : List Card) (suit : Suit) (place : ℕ) (seat : Seat) → (real_by leader real seat).suit ≡ suit → place_in_suit deal (real_by leader real seat) ≡ place → stays_at deal leader real suit place ≡ false
 unfolding stays_at
 gone_at deal leader real suit place seat s p = ap not (any_seat-yes (hit deal leader real suit place) seat (is-hit deal leader real suit place seat s p))
 
-kept_at : (deal : Deal) (leader : Seat) (real : List Card) (suit : Suit) (place : ℕ) → ((seat : Seat) → (real_by leader real seat).suit ≡ suit → place_of deal (real_by leader real seat) ≡ place → ⊥) → stays_at deal leader real suit place ≡ true
+kept_at : (deal : Deal) (leader : Seat) (real : List Card) (suit : Suit) (place : ℕ) → ((seat : Seat) → (real_by leader real seat).suit ≡ suit → place_in_suit deal (real_by leader real seat) ≡ place → ⊥) → stays_at deal leader real suit place ≡ true
 unfolding stays_at
 kept_at deal leader real suit place none =
     ap not (any_seat-no (hit deal leader real suit place) (λ seat. to_false (hit deal leader real suit place seat) (λ h. let is = hit-is deal leader real suit place seat h in none seat is.0 is.1)))
@@ -339,46 +339,41 @@ holders_left shape deal leader cards real left played without suit =
       | inr n ↦ without.stays (card_of suit x) n ∙ gives
     ]
 
-    by_place : (k : ℕ) (x : Rank) (seat : Seat) → place_of deal (card_of suit x) ≡ k → holder_of deal (card_of suit x) ≡ Some seat → holder_of left (card_of suit x) ≡ cond (stays_at deal leader real suit k) (Some seat) None
+    by_place : (k : ℕ) (x : Rank) (seat : Seat) → place_in_suit deal (card_of suit x) ≡ k → holder_of deal (card_of suit x) ≡ Some seat → holder_of left (card_of suit x) ≡ cond (stays_at deal leader real suit k) (Some seat) None
     by_place k x seat place gives = elim (dec_played leader real (card_of suit x)) [
       | inl h ↦
-          (let out = gone_at deal leader real suit k h.0 (ap (λ (c : Card). c.suit) (sym h.1)) (ap (place_of deal) (sym h.1) ∙ place) in
+          (let out = gone_at deal leader real suit k h.0 (ap (λ (c : Card). c.suit) (sym h.1)) (ap (place_in_suit deal) (sym h.1) ∙ place) in
           ap (holder_of left) h.1 ∙ (without.gone h.0 ∙ ap (λ b. cond b (Some seat) None) (sym out)))
       | inr n ↦
           (let kept = kept_at deal leader real suit k (λ t suit_is place_is. n t (is_real t suit_is place_is)) in
           without.stays (card_of suit x) n ∙ (gives ∙ ap (λ b. cond b (Some seat) None) (sym kept)))
     ]
       where
-        is_real : (t : Seat) → (real_by leader real t).suit ≡ suit → place_of deal (real_by leader real t) ≡ k → card_of suit x ≡ real_by leader real t
+        is_real : (t : Seat) → (real_by leader real t).suit ≡ suit → place_in_suit deal (real_by leader real t) ≡ k → card_of suit x ≡ real_by leader real t
         is_real t suit_is place_is =
             let e : card_of suit (real_by leader real t).rank ≡ real_by leader real t = ap (λ s. card_of s (real_by leader real t).rank) (sym suit_is) in
             let held : holder_of deal (card_of suit (real_by leader real t).rank) ≡ Some t = ap (holder_of deal) e ∙ played.held t in
-            let same = same_place deal suit x (real_by leader real t).rank seat t gives held (place ∙ (sym place_is ∙ ap (place_of deal) (sym e))) in
+            let same = same_place deal suit x (real_by leader real t).rank seat t gives held (place ∙ (sym place_is ∙ ap (place_in_suit deal) (sym e))) in
             ap (card_of suit) same ∙ e
 
     some : (i : ℕ) (x : Rank) (seat : Seat) → slice_get falling_ranks i ≡ Some x → holder_of deal (card_of suit x) ≡ Some seat →
         holder_of left (card_of suit x) ≡ cond (stays_at deal leader real suit (0 + length (filter_map (λ rank. holder_of deal (card_of suit rank)) (take i falling_ranks)))) (Some seat) None
     some i x seat there gives =
-        let e : place_of deal (card_of suit x) ≡ 0 + length (filter_map (λ rank. holder_of deal (card_of suit rank)) (take i falling_ranks)) =
+        let e : place_in_suit deal (card_of suit x) ≡ 0 + length (filter_map (λ rank. holder_of deal (card_of suit rank)) (take i falling_ranks)) =
         ap (λ n. length (filter_map (λ rank. holder_of deal (card_of suit rank)) (take n falling_ranks))) (sym (there_rank i x there)) ∙ sym (zero-add _) in
         by_place (0 + length (filter_map (λ rank. holder_of deal (card_of suit rank)) (take i falling_ranks))) x seat e gives
 
--- the suit of a card is that of the pattern card that stands for it
-stands_suit : (shape : Shape) (deal : Deal) (pat_card : PatCard) (card : Card) → StandsFor shape deal pat_card card → card.suit ≡ suit_of_card pat_card
-stands_suit shape deal (Top suit place) card stands = stands.0
-stands_suit shape deal (Low suit) card stands = stands.0
-
 -- a card stands in a place of the owners just where its pattern card is the top of that place
 hit_top : (shape : Shape) (deal : Deal) (suit : Suit) (place : ℕ) (pat_card : PatCard) (card : Card) → place < length (suit_of shape suit).owners → StandsFor shape deal pat_card card →
-    eqb (suit_number card.suit) (suit_number suit) && eqb (place_of deal card) place ≡ is_top suit place pat_card
+    eqb (suit_number card.suit) (suit_number suit) && eqb (place_in_suit deal card) place ≡ is_top suit place pat_card
 hit_top shape deal suit place (Top of other) card within stands =
-    ap (λ s. eqb (suit_number s) (suit_number suit) && eqb (place_of deal card) place) stands.0
+    ap (λ s. eqb (suit_number s) (suit_number suit) && eqb (place_in_suit deal card) place) stands.0
     ∙ ap (λ n. eqb (suit_number of) (suit_number suit) && eqb n place) stands.1
 hit_top shape deal suit place (Low of) card within stands =
     to_false _ (λ h.
     let both = and-both _ _ h in
     let same : of ≡ suit = sym stands.0 ∙ same_from_suit_numbers card.suit suit (eqb-true _ _ both.0) in
-    let here : place_of deal card ≡ place = eqb-true _ _ both.1 in
+    let here : place_in_suit deal card ≡ place = eqb-true _ _ both.1 in
     let e : length (suit_of shape of).owners ≡ length (suit_of shape suit).owners = ap (λ s. length (suit_of shape s).owners) same in
     omega (arith, e, here, stands.1, within))
 
@@ -401,14 +396,14 @@ count_holders_left : (shape : Shape) (deal : Deal) (leader : Seat) (cards : List
 count_holders_left shape deal leader cards real played suit seat =
     go (is_of_suit suit (played_by leader cards seat)) refl
   where
-    held_there : (t : Seat) → (real_by leader real t).suit ≡ suit → slice_get (holders_of deal suit) (place_of deal (real_by leader real t)) ≡ Some t
-    held_there t suit_is = ap (λ s. slice_get (holders_of deal s) (place_of deal (real_by leader real t))) (sym suit_is) ∙ holder_at_place deal (real_by leader real t) t (played.held t)
+    held_there : (t : Seat) → (real_by leader real t).suit ≡ suit → slice_get (holders_of deal suit) (place_in_suit deal (real_by leader real t)) ≡ Some t
+    held_there t suit_is = ap (λ s. slice_get (holders_of deal s) (place_in_suit deal (real_by leader real t))) (sym suit_is) ∙ holder_at_place deal (real_by leader real t) t (played.held t)
 
     own_suit : (real_by leader real seat).suit ≡ suit_of_card (played_by leader cards seat)
     own_suit = stands_suit shape deal (played_by leader cards seat) (real_by leader real seat) (played.stands seat)
 
     -- a card of the seat that is gone is the one that it played
-    own : (n : ℕ) → n < length (holders_of deal suit) → is_same_seat seat (get_or (holders_of deal suit) n North) ≡ true → (t : Seat) → (real_by leader real t).suit ≡ suit → place_of deal (real_by leader real t) ≡ n → t ≡ seat
+    own : (n : ℕ) → n < length (holders_of deal suit) → is_same_seat seat (get_or (holders_of deal suit) n North) ≡ true → (t : Seat) → (real_by leader real t).suit ≡ suit → place_in_suit deal (real_by leader real t) ≡ n → t ≡ seat
     own n within passes t suit_is place_is =
         let here : slice_get (holders_of deal suit) n ≡ Some t = ap (slice_get (holders_of deal suit)) (sym place_is) ∙ held_there t suit_is in
         let at : Some (get_or (holders_of deal suit) n North) ≡ Some t = sym (slice_get-at (holders_of deal suit) n North within) ∙ here in
@@ -419,7 +414,7 @@ count_holders_left shape deal leader cards real played suit seat =
         cond b (count_in (holders_of deal suit) seat - 1) (count_in (holders_of deal suit) seat) ≡ count_in (left_from (stays_at deal leader real suit) 0 (holders_of deal suit)) seat
     go true e =
         let suit_is : (real_by leader real seat).suit ≡ suit = own_suit ∙ same_from_suit_numbers _ suit (eqb-true _ _ e) in
-        let m : ℕ = place_of deal (real_by leader real seat) in
+        let m : ℕ = place_in_suit deal (real_by leader real seat) in
         let there = held_there seat suit_is in
         let within = slice_get-within (holders_of deal suit) m seat there in
         let at : Some (get_or (holders_of deal suit) m North) ≡ Some seat = sym (slice_get-at (holders_of deal suit) m North within) ∙ there in
@@ -428,7 +423,7 @@ count_holders_left shape deal leader cards real played suit seat =
         let out : stays_at deal leader real suit (0 + m) ≡ false = ap (stays_at deal leader real suit) (zero-add m) ∙ gone_at deal leader real suit m seat suit_is refl in
         let one = count_left-one (stays_at deal leader real suit) (is_same_seat seat) 0 (holders_of deal suit) m within passes out
         (λ n less apart h. ap (stays_at deal leader real suit) (zero-add n) ∙ kept_at deal leader real suit n
-        (λ t s p. apart (sym p ∙ ap (λ x. place_of deal (real_by leader real x)) (own n less h t s p)))) in
+        (λ t s p. apart (sym p ∙ ap (λ x. place_in_suit deal (real_by leader real x)) (own n less h t s p)))) in
         omega (arith, one)
     go false e =
         sym (count_left-all (stays_at deal leader real suit) (is_same_seat seat) 0 (holders_of deal suit)

@@ -1,18 +1,18 @@
 -- What is left of a pattern after a trick is a rest.
 use Rattle.std.proofs.Common.{◌≡◌, ℕ, zero, suc, ◌+◌, ◌-◌, ◌<◌, ◌≤◌, Bool, true, false, cond, not, ◌&&◌, eqb, List, [], ◌∷◌, ◌++◌, length, get_or, take, map, filter, None, Some, refl, sym, ◌∙◌, ap, subst, arith, count_by, zero-add}
-use Rattle.std.specs.Prelude.{slice_get}
+use Rattle.std.specs.Prelude.{slice_get, slice_index}
 use Rattle.std.specs.List.{list_any, enumerate_from}
 use Rattle.std.proofs.lemmas.Bool.{eqb-true, eq-eqb}
 use Rattle.std.proofs.lemmas.List.Sums.{sum_by-cons}
 use Rattle.std.proofs.lemmas.List.Recursion.{or_at}
-use Rattle.std.proofs.lemmas.List.{take_more, take_all, length-take-le, append-nil}
+use Rattle.std.proofs.lemmas.List.{take_more, take_all, length-take-le, append-nil, same_lists, get_or_default}
 use Rattle.cards.specs.declared.suits.Suit.{Suit}
 use Rattle.cards.specs.declared.suits.Suit.TheVariants.{Spades, Hearts, Diamonds, Clubs}
 use Rattle.cards.specs.declared.seats.Seat.{Seat}
 use Rattle.cards.specs.declared.seats.Seat.TheVariants.{North, East, South, West}
 use Rattle.cards.proofs.PackLaws.{same_from_suit_numbers}
-use Rattle.cards.specs.Seats.{is_same_seat}
-use Rattle.patterns.specs.Shapes.{Shape, suit_of, len_of, tops_of, suit_size, hand_size, IsPattern, IsRest}
+use Rattle.cards.specs.Seats.{is_same_seat, seat_number}
+use Rattle.patterns.specs.Shapes.{Shape, SuitShape, suit_of, len_of, tops_of, suit_size, hand_size, IsPattern, IsRest}
 use Rattle.patterns.proofs.SeatLaws.{is_same_seat_self}
 use Rattle.pattern_step.specs.declared.pat_cards.PatCard.{PatCard}
 use Rattle.pattern_step.specs.declared.pat_cards.PatCard.TheVariants.{Top, Low}
@@ -257,3 +257,32 @@ left_has_room cards suit owners n left less within so_far =
 
 pub all_left : (cards : List PatCard) (suit : Suit) (owners : List Seat) (n : ℕ) (left : List Seat) → length owners ≤ n → left ≡ owners_left cards suit (take n owners) → left ≡ owners_left cards suit owners
 all_left cards suit owners n left end so_far = so_far ∙ ap (owners_left cards suit) (take_all n owners end)
+
+same_lens : (one other : List ℕ) → length one ≡ 4 → length other ≡ 4 → ((seat : Seat) → slice_index one (seat_number seat) ≡ slice_index other (seat_number seat)) → one ≡ other
+same_lens one other four four' same =
+    same_lists one other (four ∙ sym four')
+    (λ k d less. get_or_default one k d 0 less ∙ (each k (omega arith) ∙ sym (get_or_default other k d 0 (omega arith))))
+  where
+    each : (k : ℕ) → k < 4 → get_or one k 0 ≡ get_or other k 0
+    each zero less = same North
+    each (suc zero) less = same East
+    each (suc (suc zero)) less = same South
+    each (suc (suc (suc zero))) less = same West
+    each (suc (suc (suc (suc k)))) less = absurd (omega arith)
+
+same_suits : (one other : SuitShape) → one.lens ≡ other.lens → one.owners ≡ other.owners → one ≡ other
+same_suits one other lens owners = ap (λ (l : List ℕ). record one { lens = l }) lens ∙ ap (λ (o : List Seat). record other { owners = o }) owners
+
+same_shapes : (one other : Shape) → ((suit : Suit) → suit_of one suit ≡ suit_of other suit) → one ≡ other
+same_shapes one other same =
+    ap (λ (s : SuitShape). record one { spades = s }) (same Spades)
+    ∙ (ap (λ (s : SuitShape). record one { spades = other.spades; hearts = s }) (same Hearts)
+    ∙ (ap (λ (s : SuitShape). record other { diamonds = s; clubs = one.clubs }) (same Diamonds)
+    ∙ ap (λ (s : SuitShape). record other { clubs = s }) (same Clubs)))
+
+-- four cards leave one rest at most
+pub one_left : (shape : Shape) (leader : Seat) (cards : List PatCard) (one other : Shape) → IsLeft shape leader cards one → IsLeft shape leader cards other → one ≡ other
+one_left shape leader cards one other is_one is_other = same_shapes one other (λ suit. same_suits _ _ (lens suit) ((is_one suit).owners ∙ sym (is_other suit).owners))
+  where
+    lens : (suit : Suit) → (suit_of one suit).lens ≡ (suit_of other suit).lens
+    lens suit = same_lens _ _ (is_one suit).four_seats (is_other suit).four_seats (λ seat. (is_one suit).lens seat ∙ sym ((is_other suit).lens seat))

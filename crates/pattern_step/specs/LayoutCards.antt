@@ -21,14 +21,14 @@ abbrev pub ranks_above : Rank → List Rank
 ranks_above rank = take (12 - rank_number rank) falling_ranks
 
 -- how many higher cards of the suit are in the four hands
-abbrev pub place_of : Deal → Card → ℕ
-place_of deal card = length (filter_map (λ rank. holder_of deal (card_of card.suit rank)) (ranks_above card.rank))
+abbrev pub place_in_suit : Deal → Card → ℕ
+place_in_suit deal card = length (filter_map (λ rank. holder_of deal (card_of card.suit rank)) (ranks_above card.rank))
 
 -- A pattern card stands for a card of the layout: a top for the card of its suit in its place, and a low card for
 -- each card of its suit in a place behind the owners.
 abbrev pub StandsFor : Shape → Deal → PatCard → Card → Type 0
-StandsFor shape deal (Top suit place) card = (card.suit ≡ suit) × (place_of deal card ≡ place) × (place < length (suit_of shape suit).owners)
-StandsFor shape deal (Low suit) card = (card.suit ≡ suit) × (length (suit_of shape suit).owners ≤ place_of deal card)
+StandsFor shape deal (Top suit place) card = (card.suit ≡ suit) × (place_in_suit deal card ≡ place) × (place < length (suit_of shape suit).owners)
+StandsFor shape deal (Low suit) card = (card.suit ≡ suit) × (length (suit_of shape suit).owners ≤ place_in_suit deal card)
 
 -- the card is exactly one pattern card, and the seat has that one
 pub record IsOnePatCard (shape : Shape) (deal : Deal) (seat : Seat) (card : Card) : Type 0 where
@@ -42,6 +42,10 @@ pub record IsSomeCard (shape : Shape) (deal : Deal) (seat : Seat) (pat_card : Pa
   pub card : Card
   pub held : holder_of deal card ≡ Some seat
   pub stands : StandsFor shape deal pat_card card
+
+-- the seat holds a card of the suit
+abbrev pub HoldsSuit : Deal → Suit → Seat → Type 0
+HoldsSuit deal suit seat = (card : Card) × (holder_of deal card ≡ Some seat) × (card.suit ≡ suit)
 
 -- a pattern card is below the top in this place: a top of a greater place, or a low card, of the same suit
 abbrev pub IsBelowTop : Suit → ℕ → PatCard → Type 0

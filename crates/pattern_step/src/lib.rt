@@ -5,7 +5,7 @@
 //! which cards a seat may play, which seats may win, and what is left.
 #![tactic(auto)]
 
-mod layout_laws;
+mod laws;
 mod legal_cards;
 mod legality;
 mod pat_cards;
@@ -17,8 +17,10 @@ mod tests;
 mod trick_rests;
 mod trick_winners;
 
-pub use layout_laws::{
-    each_card_is_one, each_pattern_card_is_some, top_ranks_above, what_is_left_matches,
+pub use laws::{
+    covered_hands_are_as_large, each_card_is_one, each_hand_has_one_less, each_pat_card_is_some,
+    hands_are_as_large, lengths_are_held, one_is_left, stands_for_its_suit, tops_rank_above,
+    what_is_left_matches,
 };
 pub use legal_cards::legal;
 pub use legality::{are_legal, is_legal};
