@@ -3,3 +3,4 @@ pub mod LayoutLaws
 pub mod LeftLaws
 pub mod PatCardLaws
 pub mod TrickLaws
+pub mod TurnLaws

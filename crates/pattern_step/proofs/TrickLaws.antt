@@ -11,14 +11,15 @@ use Rattle.cards.specs.declared.suits.Suit.TheVariants.{Spades, Hearts, Diamonds
 use Rattle.cards.specs.declared.seats.Seat.{Seat}
 use Rattle.cards.specs.declared.seats.Seat.TheVariants.{North, East, South, West}
 use Rattle.cards.proofs.PackLaws.{same_from_suit_numbers}
-use Rattle.cards.specs.Seats.{is_same_seat, seat_number}
+use Rattle.cards.specs.Seats.{is_same_seat, seat_number, place_of}
 use Rattle.patterns.specs.Shapes.{Shape, SuitShape, suit_of, len_of, tops_of, suit_size, hand_size, IsPattern, IsRest}
 use Rattle.patterns.proofs.SeatLaws.{is_same_seat_self}
 use Rattle.pattern_step.specs.declared.pat_cards.PatCard.{PatCard}
 use Rattle.pattern_step.specs.declared.pat_cards.PatCard.TheVariants.{Top, Low}
 use Rattle.pattern_step.specs.PatCards.{HasCard, is_of_suit, is_top}
 use Rattle.pattern_step.proofs.PatCardLaws.{slice_get-at, slice_get-within, top_counts}
-use Rattle.pattern_step.specs.Tricks.{turn_of, played_by, AreLegalInTurn, owners_left, IsLeft}
+use Rattle.pattern_step.proofs.TurnLaws.{place_of-lt, seat_in_place-place_of}
+use Rattle.pattern_step.specs.Tricks.{played_by, AreLegalInTurn, owners_left, IsLeft}
 
 -- the items in the places that are kept, where the first place has this number
 unfoldable pub left_from : {X : Type 0} → (ℕ → Bool) → ℕ → List X → List X
@@ -108,30 +109,13 @@ length-owners_left cards suit owners = rw (owners_left-is cards suit owners) (le
 
 -- each seat has the card that it played
 pub played_is_held : (shape : Shape) (leader : Seat) (cards : List PatCard) → AreLegalInTurn shape leader cards → (seat : Seat) → HasCard shape seat (played_by leader cards seat)
-played_is_held shape North cards legal North = legal.first.has
-played_is_held shape North cards legal East = legal.second.has
-played_is_held shape North cards legal South = legal.third.has
-played_is_held shape North cards legal West = legal.fourth.has
-played_is_held shape East cards legal East = legal.first.has
-played_is_held shape East cards legal South = legal.second.has
-played_is_held shape East cards legal West = legal.third.has
-played_is_held shape East cards legal North = legal.fourth.has
-played_is_held shape South cards legal South = legal.first.has
-played_is_held shape South cards legal West = legal.second.has
-played_is_held shape South cards legal North = legal.third.has
-played_is_held shape South cards legal East = legal.fourth.has
-played_is_held shape West cards legal West = legal.first.has
-played_is_held shape West cards legal North = legal.second.has
-played_is_held shape West cards legal East = legal.third.has
-played_is_held shape West cards legal South = legal.fourth.has
-
-pub turn_of-lt : (leader seat : Seat) → turn_of leader seat < 4
-turn_of-lt leader seat = omega arith
+played_is_held shape leader cards legal seat =
+    subst (λ s. HasCard shape s (played_by leader cards seat)) (seat_in_place-place_of leader seat) (legal (place_of leader seat) (place_of-lt leader seat)).has
 
 -- a test that is true of the seat's card is true of some card
 pub some_card : (leader : Seat) (cards : List PatCard) (seat : Seat) (test : PatCard → Bool) → length cards ≡ 4 → test (played_by leader cards seat) ≡ true → list_any test cards ≡ true
 some_card leader cards seat test four h =
-    or_at (list_any test) test refl (λ _ _. refl) cards (turn_of leader seat) (Low Spades) (omega (arith, turn_of-lt leader seat)) h
+    or_at (list_any test) test refl (λ _ _. refl) cards (place_of leader seat) (Top Spades 0) (omega (arith, place_of-lt leader seat)) h
 
 -- a suit of which a seat has a pattern card is one of which it has cards
 pub held_suit : (shape : Shape) → IsPattern shape → (seat : Seat) (card : PatCard) (suit : Suit) → HasCard shape seat card → is_of_suit suit card ≡ true → 1 ≤ len_of (suit_of shape suit) seat

@@ -10,7 +10,7 @@ use Rattle.pattern_step.specs.declared.pat_cards.PatCard.TheVariants.{Top, Low}
 use Rattle.cards.specs.declared.suits.Trump.{Trump}
 use Rattle.cards.specs.declared.seats.Seat.{Seat}
 use Rattle.patterns.specs.Shapes.{Shape, suit_of}
-use Rattle.pattern_step.specs.Tricks.{IsHighest, lesser, MayWin, deciding_suit, played_by}
+use Rattle.pattern_step.specs.Tricks.{IsHighestTop, lesser, MayWin, winning_suit, played_by}
 
 -- a list of one
 one_is : (x y : PatCard) → Contains (x ∷ []) y → x ≡ y
@@ -24,7 +24,7 @@ is_one : (x y : PatCard) → x ≡ y → Contains (x ∷ []) y
 is_one x y e = (0, omega arith, e)
 
 -- a card that is no top of the suit
-pub no_top_added : (cards : List PatCard) (card : PatCard) (suit : Suit) (least : Option ℕ) → ((place : ℕ) → card ≡ Top suit place → ⊥) → IsHighest cards suit least → IsHighest (cards ++ card ∷ []) suit least
+pub no_top_added : (cards : List PatCard) (card : PatCard) (suit : Suit) (least : Option ℕ) → ((place : ℕ) → card ≡ Top suit place → ⊥) → IsHighestTop cards suit least → IsHighestTop (cards ++ card ∷ []) suit least
 no_top_added cards card suit None none h = λ other within.
     elim (Contains-append_cases cards (card ∷ []) (Top suit other) within) [ inl a ↦ h other a | inr b ↦ none other (one_is card (Top suit other) b) ]
 no_top_added cards card suit (Some place) none h = (
@@ -33,7 +33,7 @@ no_top_added cards card suit (Some place) none h = (
 )
 
 -- a top of the suit
-pub top_added : (cards : List PatCard) (card : PatCard) (suit : Suit) (least : Option ℕ) (place : ℕ) → card ≡ Top suit place → IsHighest cards suit least → IsHighest (cards ++ card ∷ []) suit (Some (lesser least place))
+pub top_added : (cards : List PatCard) (card : PatCard) (suit : Suit) (least : Option ℕ) (place : ℕ) → card ≡ Top suit place → IsHighestTop cards suit least → IsHighestTop (cards ++ card ∷ []) suit (Some (lesser least place))
 top_added cards card suit None place is h = (
   Contains-append_right cards (card ∷ []) (Top suit place) (is_one card (Top suit place) is),
   λ other within. elim (Contains-append_cases cards (card ∷ []) (Top suit other) within) [
@@ -60,17 +60,17 @@ top_added cards card suit (Some before) place is h =
     ]
 
 -- the cards so far, and one more
-pub no_top_met : (cards : List PatCard) (n : ℕ) (d : PatCard) (suit : Suit) (least : Option ℕ) → n < length cards → ((place : ℕ) → get_or cards n d ≡ Top suit place → ⊥) → IsHighest (take n cards) suit least → IsHighest (take (n + 1) cards) suit least
+pub no_top_met : (cards : List PatCard) (n : ℕ) (d : PatCard) (suit : Suit) (least : Option ℕ) → n < length cards → ((place : ℕ) → get_or cards n d ≡ Top suit place → ⊥) → IsHighestTop (take n cards) suit least → IsHighestTop (take (n + 1) cards) suit least
 no_top_met cards n d suit least within none h = rw (take_more cards n d within) (no_top_added (take n cards) (get_or cards n d) suit least none h)
 
-pub top_met : (cards : List PatCard) (n : ℕ) (d : PatCard) (suit : Suit) (least : Option ℕ) (place : ℕ) → n < length cards → get_or cards n d ≡ Top suit place → IsHighest (take n cards) suit least → IsHighest (take (n + 1) cards) suit (Some (lesser least place))
+pub top_met : (cards : List PatCard) (n : ℕ) (d : PatCard) (suit : Suit) (least : Option ℕ) (place : ℕ) → n < length cards → get_or cards n d ≡ Top suit place → IsHighestTop (take n cards) suit least → IsHighestTop (take (n + 1) cards) suit (Some (lesser least place))
 top_met cards n d suit least place within is h = rw (take_more cards n d within) (top_added (take n cards) (get_or cards n d) suit least place is h)
 
-pub all_met : (cards : List PatCard) (n : ℕ) (suit : Suit) (least : Option ℕ) → length cards ≤ n → IsHighest (take n cards) suit least → IsHighest cards suit least
+pub all_met : (cards : List PatCard) (n : ℕ) (suit : Suit) (least : Option ℕ) → length cards ≤ n → IsHighestTop (take n cards) suit least → IsHighestTop cards suit least
 all_met cards n suit least end h = rw (take_all n cards end) at h
 
--- who may win, where a top of the deciding suit was played
-pub wins_by_top : (shape : Shape) (trump : Trump) (leader : Seat) (cards : List PatCard) (suit : Suit) (place : ℕ) (seat : Seat) → suit ≡ deciding_suit trump cards → IsHighest cards suit (Some place) →
+-- who may win, where a top of the winning suit was played
+pub wins_by_top : (shape : Shape) (trump : Trump) (leader : Seat) (cards : List PatCard) (suit : Suit) (place : ℕ) (seat : Seat) → suit ≡ winning_suit trump cards → IsHighestTop cards suit (Some place) →
     (slice_get (suit_of shape suit).owners place ≡ Some seat) ↔ MayWin shape trump leader cards seat
 wins_by_top shape trump leader cards suit place seat decides h =
     rw (← decides) (
@@ -82,7 +82,7 @@ wins_by_top shape trump leader cards suit place seat decides h =
     )
 
 -- who may win, where none was
-pub wins_by_low : (shape : Shape) (trump : Trump) (leader : Seat) (cards : List PatCard) (suit : Suit) (seat : Seat) → suit ≡ deciding_suit trump cards → IsHighest cards suit None →
+pub wins_by_low : (shape : Shape) (trump : Trump) (leader : Seat) (cards : List PatCard) (suit : Suit) (seat : Seat) → suit ≡ winning_suit trump cards → IsHighestTop cards suit None →
     (played_by leader cards seat ≡ Low suit) ↔ MayWin shape trump leader cards seat
 wins_by_low shape trump leader cards suit seat decides h =
     rw (← decides) (

@@ -9,12 +9,13 @@ use Rattle.cards.specs.declared.suits.Suit.TheVariants.{Spades}
 use Rattle.cards.specs.declared.seats.Seat.{Seat}
 use Rattle.cards.specs.Deal.{Deal, holder_of}
 use Rattle.cards.specs.Pack.{card_of, rank_number}
+use Rattle.cards.specs.Seats.{place_of}
 use Rattle.patterns.specs.Shapes.{Shape, suit_of}
 use Rattle.patterns.specs.Holders.{falling_ranks}
 use Rattle.pattern_step.specs.declared.pat_cards.PatCard.{PatCard}
 use Rattle.pattern_step.specs.declared.pat_cards.PatCard.TheVariants.{Top, Low}
 use Rattle.pattern_step.specs.PatCards.{HasCard}
-use Rattle.pattern_step.specs.Tricks.{turn_of, played_by}
+use Rattle.pattern_step.specs.Tricks.{played_by}
 
 -- the ranks above this one, the ace first
 abbrev pub ranks_above : Rank → List Rank
@@ -54,7 +55,7 @@ IsBelowTop suit place (Low of) = of ≡ suit
 
 -- the card of the layout that the seat played, of four that were played clockwise from the leader
 abbrev pub real_by : Seat → List Card → Seat → Card
-real_by leader real seat = slice_index_or real (turn_of leader seat) (card_of Spades Two)
+real_by leader real seat = slice_index_or real (place_of leader seat) (card_of Spades Two)
 
 -- each seat played a card that it holds, and the pattern card that it played stands for that one
 pub record ArePlayed (shape : Shape) (deal : Deal) (leader : Seat) (cards : List PatCard) (real : List Card) : Type 0 where

@@ -1,49 +1,49 @@
 -- One trick of pattern cards: who plays which card, who may win, and what is left.
-use Rattle.std.specs.Prelude.{◌≡◌, ℕ, ◌+◌, ◌-◌, ◌%◌, ◌≤◌, min, not, List, length, map, filter, Option, None, Some, ◌⊎◌, Contains, slice_index_or, slice_get, if◌then◌else◌}
+use Rattle.std.specs.Prelude.{◌≡◌, ℕ, ◌-◌, ◌<◌, ◌≤◌, min, not, List, [], ◌∷◌, length, take, map, filter, Option, None, Some, ◌⊎◌, Contains, slice_index_or, slice_get, if◌then◌else◌}
 use Rattle.std.specs.List.{list_any, enumerate_from}
 use Rattle.cards.specs.declared.suits.Suit.{Suit}
 use Rattle.cards.specs.declared.suits.Suit.TheVariants.{Spades}
 use Rattle.cards.specs.declared.suits.Trump.{Trump}
 use Rattle.cards.specs.declared.suits.Trump.TheVariants as trump
 use Rattle.cards.specs.declared.seats.Seat.{Seat}
-use Rattle.cards.specs.Seats.{next_of, seat_number}
+use Rattle.cards.specs.Seats.{seat_in_place, place_of}
 use Rattle.patterns.specs.Shapes.{Shape, SuitShape, suit_of, len_of}
 use Rattle.pattern_step.specs.declared.pat_cards.PatCard.{PatCard}
 use Rattle.pattern_step.specs.declared.pat_cards.PatCard.TheVariants.{Top, Low}
 use Rattle.pattern_step.specs.PatCards.{suit_of_card, is_of_suit, is_top, IsLegal}
 
 -- the card that was played first, second, third or last
-abbrev pub card_at : List PatCard → ℕ → PatCard
-card_at cards turn = slice_index_or cards turn (Low Spades)
-
--- how many seats play before this one
-abbrev pub turn_of : Seat → Seat → ℕ
-turn_of leader seat = (seat_number seat + 4 - seat_number leader) % 4
+abbrev pub played_in_place : List PatCard → ℕ → PatCard
+played_in_place cards place = slice_index_or cards place (Top Spades 0)
 
 -- the card that the seat played
 abbrev pub played_by : Seat → List PatCard → Seat → PatCard
-played_by leader cards seat = card_at cards (turn_of leader seat)
+played_by leader cards seat = played_in_place cards (place_of leader seat)
 
--- the suit led
-abbrev pub suit_led : List PatCard → Suit
-suit_led cards = suit_of_card (card_at cards 0)
+-- the suit that these cards of a trick, the first ones, have led
+abbrev pub suit_led_by : List PatCard → Option Suit
+suit_led_by [] = None
+suit_led_by (first ∷ cards) = Some (suit_of_card first)
 
 -- the four cards are legal in turn, clockwise from the leader
-pub record AreLegalInTurn (shape : Shape) (leader : Seat) (cards : List PatCard) : Type 0 where
-  pub first : IsLegal shape leader None (card_at cards 0)
-  pub second : IsLegal shape (next_of leader) (Some (suit_led cards)) (card_at cards 1)
-  pub third : IsLegal shape (next_of (next_of leader)) (Some (suit_led cards)) (card_at cards 2)
-  pub fourth : IsLegal shape (next_of (next_of (next_of leader))) (Some (suit_led cards)) (card_at cards 3)
+abbrev pub AreLegalInTurn : Shape → Seat → List PatCard → Type 0
+AreLegalInTurn shape leader cards =
+    (place : ℕ) → place < 4
+    → IsLegal shape (seat_in_place leader place) (suit_led_by (take place cards)) (played_in_place cards place)
+
+-- the suit of the first card of four
+abbrev pub suit_of_lead : List PatCard → Suit
+suit_of_lead cards = suit_of_card (played_in_place cards 0)
 
 -- the suit that decides who wins: trump if a trump was played, else the suit led (Laws 44E and 44F)
-abbrev pub deciding_suit : Trump → List PatCard → Suit
-deciding_suit trump.Nt cards = suit_led cards
-deciding_suit (trump.Suit suit) cards = if list_any (is_of_suit suit) cards then suit else suit_led cards
+abbrev pub winning_suit : Trump → List PatCard → Suit
+winning_suit trump.Nt cards = suit_of_lead cards
+winning_suit (trump.Suit suit) cards = if list_any (is_of_suit suit) cards then suit else suit_of_lead cards
 
 -- the place of the highest top of the suit that was played, if one was
-abbrev pub IsHighest : List PatCard → Suit → Option ℕ → Type 0
-IsHighest cards suit None = (other : ℕ) → Contains cards (Top suit other) → ⊥
-IsHighest cards suit (Some place) = Contains cards (Top suit place) × ((other : ℕ) → Contains cards (Top suit other) → place ≤ other)
+abbrev pub IsHighestTop : List PatCard → Suit → Option ℕ → Type 0
+IsHighestTop cards suit None = (other : ℕ) → Contains cards (Top suit other) → ⊥
+IsHighestTop cards suit (Some place) = Contains cards (Top suit place) × ((other : ℕ) → Contains cards (Top suit other) → place ≤ other)
 
 -- the lesser of two places, the first of which may be missing
 abbrev pub lesser : Option ℕ → ℕ → ℕ
@@ -62,11 +62,11 @@ pub record PlayedLow (leader : Seat) (cards : List PatCard) (suit : Suit) (seat 
   pub no_top : (other : ℕ) → Contains cards (Top suit other) → ⊥
   pub low : played_by leader cards seat ≡ Low suit
 
--- Who may win. If a top of the deciding suit was played, the owner of the one with the least place wins. Else every
+-- Who may win. If a top of the winning suit was played, the owner of the one with the least place wins. Else every
 -- seat that played a low card of that suit may win.
 abbrev pub MayWin : Shape → Trump → Seat → List PatCard → Seat → Type 0
 MayWin shape trump leader cards seat =
-    OwnsHighest shape cards (deciding_suit trump cards) seat ⊎ PlayedLow leader cards (deciding_suit trump cards) seat
+    OwnsHighest shape cards (winning_suit trump cards) seat ⊎ PlayedLow leader cards (winning_suit trump cards) seat
 
 -- the owners in the places whose tops were not played, in their order
 abbrev pub owners_left : List PatCard → Suit → List Seat → List Seat

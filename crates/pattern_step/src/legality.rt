@@ -16,26 +16,17 @@ pub fn are_legal(pattern: &Pattern, leader: Seat, cards: &[PatCard; 4]) -> bool
     let led = Some(cards[0].suit());
     let second = leader.next();
     let third = second.next();
-    if !is_legal(pattern, leader, None, cards[0]) {
-        return false;
-    }
-    if !is_legal(pattern, second, led, cards[1]) {
-        return false;
-    }
-    if !is_legal(pattern, third, led, cards[2]) {
-        return false;
-    }
-    is_legal(pattern, third.next(), led, cards[3])
+    is_legal(pattern, leader, None, cards[0])
+        && is_legal(pattern, second, led, cards[1])
+        && is_legal(pattern, third, led, cards[2])
+        && is_legal(pattern, third.next(), led, cards[3])
 }
 
 /// Whether the seat may play the card where this suit was led, or where it leads.
 pub fn is_legal(pattern: &Pattern, seat: Seat, led: Option<Suit>, card: PatCard) -> bool
     ensures { IsTrue result ↔ IsLegal pattern.now seat led card }
 {
-    if !has(pattern, seat, card) {
-        return false;
-    }
-    follows(pattern, seat, led, card)
+    has(pattern, seat, card) && follows(pattern, seat, led, card)
 }
 
 /// Whether the seat has the card.
@@ -54,11 +45,6 @@ fn follows(pattern: &Pattern, seat: Seat, led: Option<Suit>, card: PatCard) -> b
 {
     match led {
         None => true,
-        Some(suit) => {
-            if pattern.len(suit, seat) == 0 {
-                return true;
-            }
-            card.suit() == suit
-        }
+        Some(suit) => pattern.len(suit, seat) == 0 || card.suit() == suit,
     }
 }

@@ -6,20 +6,20 @@ ghost use Rattle.cards.specs.declared.seats.Seat.{Seat};
 ghost use Rattle.pattern_step.specs.declared.pat_cards.PatCard.TheVariants.{Low};
 ghost use Rattle.pattern_step.specs.PatCards.{is_of_suit};
 ghost use Rattle.pattern_step.specs.SeatSets.{is_in};
-ghost use Rattle.pattern_step.specs.Tricks.{played_by, deciding_suit, IsHighest, lesser, MayWin};
+ghost use Rattle.pattern_step.specs.Tricks.{played_by, winning_suit, IsHighestTop, lesser, MayWin};
 
 use crate::pat_cards::PatCard;
 use crate::seat_sets::SeatSet;
 use cards::{Seat, Suit, Trump};
 use patterns::Pattern;
 
-/// The possible winners of four pattern cards that were played clockwise from the leader. If a top of the deciding
+/// The possible winners of four pattern cards that were played clockwise from the leader. If a top of the winning
 /// suit was played, the owner of the one with the least place wins; else every seat that played a low card of
-/// that suit may win. The deciding suit is trump if a trump was played, else the suit led (Laws 44E and 44F).
+/// that suit may win. The winning suit is trump if a trump was played, else the suit led (Laws 44E and 44F).
 pub fn winners(pattern: &Pattern, trump: Trump, leader: Seat, cards: &[PatCard; 4]) -> SeatSet
     ensures { (seat : Seat) → IsTrue (is_in result seat) ↔ MayWin pattern.now trump leader cards.now seat }
 {
-    let suit = deciding_suit(trump, cards);
+    let suit = winning_suit(trump, cards);
     match highest(cards, suit) {
         Some(place) => alone(pattern.owner(suit, place as usize)),
         None => low_players(leader, cards, suit),
@@ -56,8 +56,8 @@ fn is_played(cards: &[PatCard; 4], suit: Suit) -> bool
 }
 
 /// The suit that decides who wins.
-fn deciding_suit(trump: Trump, cards: &[PatCard; 4]) -> Suit
-    ensures { result ≡ deciding_suit trump cards.now }
+fn winning_suit(trump: Trump, cards: &[PatCard; 4]) -> Suit
+    ensures { result ≡ winning_suit trump cards.now }
 {
     match trump {
         Trump::Nt => cards[0].suit(),
@@ -73,7 +73,7 @@ fn deciding_suit(trump: Trump, cards: &[PatCard; 4]) -> Suit
 
 /// The least place of a top of the suit that was played, if one was.
 fn highest(cards: &[PatCard; 4], suit: Suit) -> Option<u8>
-    ensures { IsHighest cards.now suit result }
+    ensures { IsHighestTop cards.now suit result }
 {
     let mut least = None;
     for card in cards {

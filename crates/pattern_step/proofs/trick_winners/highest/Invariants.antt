@@ -1,7 +1,7 @@
 use Rattle.std.proofs.Common.{take}
-use Rattle.pattern_step.specs.Tricks.{IsHighest}
+use Rattle.pattern_step.specs.Tricks.{IsHighestTop}
 use Rattle.pattern_step.proofs.trick_winners.highest.Given as goal
 
 -- the highest top so far
 abbrev pub invariant-loop-card : goal.invariant-loop-card
-invariant-loop-card l = IsHighest (take l.card-index l.cards) l.suit l.least
+invariant-loop-card l = IsHighestTop (take l.card-index l.cards) l.suit l.least
