@@ -12,7 +12,8 @@ use Rattle.cards.specs.declared.seats.Seat.{Seat}
 use Rattle.cards.specs.declared.seats.Seat.TheVariants.{North, East, South, West}
 use Rattle.cards.proofs.PackLaws.{same_from_suit_numbers}
 use Rattle.cards.specs.Seats.{is_same_seat, seat_number, place_of}
-use Rattle.patterns.specs.Shapes.{Shape, SuitShape, suit_of, len_of, tops_of, suit_size, hand_size, IsPattern, IsRest}
+use Rattle.patterns.specs.Shapes.{Shape, suit_of, len_of, tops_of, suit_size, hand_size, IsPattern, IsRest}
+use Rattle.patterns.proofs.EqualityLaws.{same_suits, same_shapes}
 use Rattle.patterns.proofs.SeatLaws.{is_same_seat_self}
 use Rattle.pattern_step.specs.declared.pat_cards.PatCard.{PatCard}
 use Rattle.pattern_step.specs.declared.pat_cards.PatCard.TheVariants.{Top, Low}
@@ -253,16 +254,6 @@ same_lens one other four four' same =
     each (suc (suc zero)) less = same South
     each (suc (suc (suc zero))) less = same West
     each (suc (suc (suc (suc k)))) less = absurd (omega arith)
-
-same_suits : (one other : SuitShape) → one.lens ≡ other.lens → one.owners ≡ other.owners → one ≡ other
-same_suits one other lens owners = ap (λ (l : List ℕ). record one { lens = l }) lens ∙ ap (λ (o : List Seat). record other { owners = o }) owners
-
-same_shapes : (one other : Shape) → ((suit : Suit) → suit_of one suit ≡ suit_of other suit) → one ≡ other
-same_shapes one other same =
-    ap (λ (s : SuitShape). record one { spades = s }) (same Spades)
-    ∙ (ap (λ (s : SuitShape). record one { spades = other.spades; hearts = s }) (same Hearts)
-    ∙ (ap (λ (s : SuitShape). record other { diamonds = s; clubs = one.clubs }) (same Diamonds)
-    ∙ ap (λ (s : SuitShape). record other { clubs = s }) (same Clubs)))
 
 -- four cards leave one rest at most
 pub one_left : (shape : Shape) (leader : Seat) (cards : List PatCard) (one other : Shape) → IsLeft shape leader cards one → IsLeft shape leader cards other → one ≡ other

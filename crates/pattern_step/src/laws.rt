@@ -1,6 +1,13 @@
 //! The laws of patterns and of the deals that match them. Each is a function that does nothing: its contract is the law.
 
+ghost use Rattle.std.specs.Prelude.{◌≡◌};
+ghost use Rattle.std.specs.Bool.{Decides};
+ghost use Rattle.pattern_step.specs.declared.pat_cards.PatCard.{PatCard};
+ghost use Rattle.pattern_step.specs.SeatSets.{Seats};
 ghost use Rattle.pattern_step.specs.Laws.{EachCardIsOne, EachPatCardIsSome, TopsRankAbove, WhatIsLeftMatches, StandsForItsSuit, LengthsAreHeld, HandsAreAsLarge, CoveredHandsAreAsLarge, OneIsLeft, EachHandHasOneLess};
+
+use crate::pat_cards::PatCard;
+use crate::seat_sets::SeatSet;
 
 /// Each card of a matching deal is exactly one pattern card, and the seat that holds it has that one.
 pub fn each_card_is_one()
@@ -51,4 +58,14 @@ pub fn one_is_left()
 /// Four cards that are legal in turn leave each hand of a pattern one card less.
 pub fn each_hand_has_one_less()
     ensures { EachHandHasOneLess }
+{}
+
+/// `==` of two pattern cards says whether they are the same.
+pub fn equal_pat_cards_are_one()
+    ensures { (one other : PatCard) → Decides (⟦<PatCard as PartialEq>⟧.eq one other) (one ≡ other) }
+{}
+
+/// `==` of two sets says whether they have the same seats.
+pub fn equal_seat_sets_are_one()
+    ensures { (one other : Seats) → Decides (⟦<SeatSet as PartialEq>⟧.eq one other) (one ≡ other) }
 {}

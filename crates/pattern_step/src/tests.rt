@@ -225,3 +225,16 @@ fn decides_by_trump(rt: HostRuntime) -> Result<(), Fail> {
     );
     Ok(())
 }
+
+#[test]
+fn tells_unequal_cards_and_sets_apart(rt: HostRuntime) {
+    assert!(rt; top(Suit::Spades, 0) != top(Suit::Hearts, 0));
+    assert!(rt; top(Suit::Spades, 0) != top(Suit::Spades, 1));
+    assert!(rt; top(Suit::Spades, 0) != low(Suit::Spades));
+    assert!(rt; low(Suit::Spades) != low(Suit::Clubs));
+    assert_eq!(rt; top(Suit::Clubs, 12), top(Suit::Clubs, 12));
+    for seat in [NORTH, EAST, SOUTH, WEST] {
+        assert!(rt; set(&[seat]) != SeatSet::new());
+        assert_eq!(rt; set(&[seat, seat]), set(&[seat]));
+    }
+}

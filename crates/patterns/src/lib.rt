@@ -11,6 +11,7 @@ mod faults;
 mod held_shapes;
 mod held_suits;
 mod holdings;
+mod laws;
 mod layout_patterns;
 mod rests;
 mod suit_parts;
@@ -18,6 +19,7 @@ mod suit_parts;
 mod tests;
 
 pub use faults::PatternFault;
+pub use laws::{equal_parts_are_one, equal_patterns_are_one, equal_rests_are_one};
 pub use layout_patterns::Pattern;
 pub use rests::Rest;
 pub use suit_parts::SuitPart;

@@ -138,3 +138,64 @@ fn tells_its_parts(rt: HostRuntime) -> Result<(), Fail> {
     );
     Ok(())
 }
+
+/// Four suits of a card a seat, one of which lists these owners.
+fn suits_with_owners(suit: usize, owners: &[Seat]) -> [SuitPart; 4] {
+    [
+        part_with_owners(suit == 0, owners),
+        part_with_owners(suit == 1, owners),
+        part_with_owners(suit == 2, owners),
+        part_with_owners(suit == 3, owners),
+    ]
+}
+
+fn part_with_owners(listed: bool, owners: &[Seat]) -> SuitPart {
+    if listed {
+        part([1, 1, 1, 1], owners)
+    } else {
+        part([1, 1, 1, 1], &[])
+    }
+}
+
+#[test]
+fn tells_unequal_suits_apart(rt: HostRuntime) -> Result<(), Fail> {
+    let pattern = Pattern::from_parts(suits_with_owners(0, &[]))?;
+    let rest = Rest::from_parts(suits_with_owners(0, &[]))?;
+    for suit in 0..4 {
+        assert_eq!(rt; Pattern::from_parts(suits_with_owners(suit, &[]))?, pattern);
+        assert_eq!(rt; Rest::from_parts(suits_with_owners(suit, &[]))?, rest);
+        let north = Pattern::from_parts(suits_with_owners(suit, &[NORTH]))?;
+        let west = Pattern::from_parts(suits_with_owners(suit, &[WEST]))?;
+        assert!(rt; north != pattern);
+        assert!(rt; north != west);
+        assert!(rt; Rest::from_parts(suits_with_owners(suit, &[NORTH]))? != rest);
+    }
+    Ok(())
+}
+
+#[test]
+fn tells_unequal_lengths_apart(rt: HostRuntime) -> Result<(), Fail> {
+    let even = part([1, 1, 1, 1], &[]);
+    assert!(rt; part([2, 1, 1, 1], &[]) != even);
+    assert!(rt; part([1, 2, 1, 1], &[]) != even);
+    assert!(rt; part([1, 1, 2, 1], &[]) != even);
+    assert!(rt; part([1, 1, 1, 2], &[]) != even);
+    assert!(rt; part([1, 1, 1, 1], &[NORTH]) != even);
+    assert!(rt; part([1, 1, 1, 1], &[NORTH]) != part([1, 1, 1, 1], &[EAST]));
+    assert_eq!(rt; part([1, 1, 1, 1], &[]), even);
+    let long = Rest::from_parts([
+        part([2, 0, 1, 1], &[]),
+        part([0, 2, 1, 1], &[]),
+        empty(),
+        empty(),
+    ])?;
+    let other = Rest::from_parts([
+        part([0, 2, 1, 1], &[]),
+        part([2, 0, 1, 1], &[]),
+        empty(),
+        empty(),
+    ])?;
+    assert!(rt; long != other);
+    assert!(rt; spades([1, 1, 1, 1], &[])? != spades([2, 2, 2, 2], &[])?);
+    Ok(())
+}

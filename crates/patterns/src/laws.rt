@@ -1,0 +1,26 @@
+//! The laws of `==`. Each is a function that does nothing: its contract is the law.
+
+ghost use Rattle.std.specs.Prelude.{◌≡◌};
+ghost use Rattle.std.specs.Bool.{Decides};
+ghost use Rattle.patterns.specs.Shapes.{Shape, IsPattern, IsRest};
+ghost use Rattle.patterns.specs.Parts.{suit_shape};
+ghost use Rattle.patterns.specs.declared.suit_parts.SuitPart.{SuitPart};
+
+use crate::layout_patterns::Pattern;
+use crate::rests::Rest;
+use crate::suit_parts::SuitPart;
+
+/// `==` of two patterns says whether they are the same.
+pub fn equal_patterns_are_one()
+    ensures { (one other : Shape) → IsPattern one → IsPattern other → Decides (⟦<Pattern as PartialEq>⟧.eq one other) (one ≡ other) }
+{}
+
+/// `==` of two rests says whether they are the same.
+pub fn equal_rests_are_one()
+    ensures { (one other : Shape) → IsRest one → IsRest other → Decides (⟦<Rest as PartialEq>⟧.eq one other) (one ≡ other) }
+{}
+
+/// `==` of two parts says whether they tell the same suit.
+pub fn equal_parts_are_one()
+    ensures { (one other : SuitPart) → Decides (⟦<SuitPart as PartialEq>⟧.eq one other) (suit_shape one ≡ suit_shape other) }
+{}
