@@ -1,5 +1,5 @@
 -- What four words of bits tell of a layout.
-use Rattle.std.proofs.Common.{◌≡◌, ◌≢◌, ℕ, zero, suc, ◌+◌, ◌-◌, ◌<◌, ◌≤◌, Bool, true, false, cond, eqb, List, [], ◌∷◌, ◌++◌, length, map, get_or, take, drop, Option, None, Some, ◌↔◌, refl, sym, ◌∙◌, ap, arith, count_by}
+use Rattle.std.proofs.Common.{◌≡◌, ◌≢◌, ℕ, zero, suc, ◌+◌, ◌-◌, ◌<◌, ◌≤◌, Bool, true, false, cond, eqb, List, [], ◌∷◌, ◌++◌, length, map, get_or, take, drop, Option, None, Some, ◌↔◌, refl, sym, ◌∙◌, ap, arith, count_by, IsTrue, nat_eq}
 use Rattle.std.specs.Prelude.{count_ones, slice_index}
 use Rattle.std.specs.Int.{bit_at}
 use Rattle.std.specs.Option.{option_to_list}
@@ -7,7 +7,7 @@ use Rattle.std.specs.List.{filter_map, cons_option}
 use lib.Lanes.{mask_l}
 use Rattle.std.proofs.lemmas.Nat.Bits.{bit_at-lt, same_from_bits_below}
 use Rattle.std.proofs.lemmas.Simd.{bit_mask_l, mask_l-lt, ones-mask_l}
-use Rattle.std.proofs.lemmas.Bool.{eq-eqb, ne_eqb, false≢true}
+use Rattle.std.proofs.lemmas.Bool.{eq-eqb, eqb-true, ne_eqb, false≢true}
 use Rattle.std.proofs.lemmas.List.Elements.{filter_map-append}
 use Rattle.std.proofs.lemmas.List.{get_or-map, take_more, take_all, take-append-le, take-append-drop, length-take, length-append, length-take-le}
 use Rattle.std.proofs.lemmas.List.FromFn.{get_or-map-range_with_len}
@@ -21,10 +21,15 @@ use Rattle.cards.specs.Hands.{holder_by_bits}
 use Rattle.cards.specs.Pack.{card_of, rank_number, rank_at}
 use Rattle.cards.proofs.PackLaws.{rank_number-rank_at}
 use Rattle.cards.specs.Seats.{seat_number, is_same_seat}
-use Rattle.patterns.specs.Holders.{falling_ranks, holders_of, count_in}
-use Rattle.patterns.specs.Holdings.{TellHolders, holder_in, falling_numbers, holders_above, holders_in}
+use Rattle.patterns.specs.Holders.{falling_ranks, holders_of, count_in, MatchesSuit}
+use Rattle.patterns.specs.Shapes.{SuitShape, len_of, BeginsWith}
+use Rattle.patterns.specs.Holdings.{TellHolders, holder_in, falling_numbers, holders_in}
 use Rattle.patterns.proofs.HolderLaws.{count_in-filter_map, length-filter_map-le}
 use Rattle.patterns.proofs.SeatLaws.{same_from_is_same, is_same_seat_self}
+
+-- the seats that hold the highest so many of the suit's thirteen cards, that of the highest first
+abbrev pub holders_above : List ℕ → ℕ → List Seat
+holders_above words n = filter_map (holder_in words) (take n falling_numbers)
 
 -- four bits name the holder
 tells : (n e s w : ℕ) (holder : Option Seat) → (n ≡ 1) ↔ (holder ≡ Some North) → (e ≡ 1) ↔ (holder ≡ Some East) → (s ≡ 1) ↔ (holder ≡ Some South) → (w ≡ 1) ↔ (holder ≡ Some West) → holder_by_bits n e s w ≡ holder
@@ -152,3 +157,18 @@ pub holders_in-split : (words : List ℕ) (n : ℕ) → holders_in words ≡ hol
 unfolding holders_in
 holders_in-split words n =
     ap (filter_map (holder_in words)) (sym (take-append-drop n falling_numbers)) ∙ filter_map-append (holder_in words) (take n falling_numbers) (drop n falling_numbers)
+
+-- a suit matches where the words have its lengths and their holders begin with its owners
+pub matches_by_words : (words : List ℕ) (deal : Deal) (suit : Suit) (shape : SuitShape) → TellHolders words deal suit →
+    MatchesSuit shape (holders_of deal suit)
+    ↔ (((seat : Seat) → len_of shape seat ≡ count_ones (slice_index words (seat_number seat))) × BeginsWith (holders_in words) shape.owners)
+matches_by_words words deal suit shape told =
+    let ones = count_ones-is words deal suit told in
+    let holders = holders_in-is words deal suit told in (
+      λ matches. (λ seat. matches.lens seat ∙ sym (ones seat), rw holders matches.owners),
+      λ h. record { lens = λ seat. h.0 seat ∙ ones seat; owners = rw (← holders) h.1 },
+    )
+
+-- a comparison of a seat's length with what is counted
+pub told_len : {ones from len : ℕ} → from ≡ len → IsTrue (nat_eq ones from) ↔ (len ≡ ones)
+told_len is = (λ h. sym is ∙ sym (eqb-true _ _ h), λ e. eq-eqb _ _ (sym e ∙ sym is))

@@ -13,8 +13,8 @@ use Rattle.cards.specs.declared.suits.Suit.{Suit}
 use Rattle.cards.specs.Deal.{Deal}
 use Rattle.patterns.specs.Shapes.{BeginsWith, SuitShape}
 use Rattle.patterns.specs.Holders.{suit_of_layout}
-use Rattle.patterns.specs.Holdings.{TellHolders, holder_in, falling_numbers, holders_above, holders_in}
-use Rattle.patterns.proofs.HoldingLaws.{holders_above-more, holders_in-split, length-holders_above, take-more, take-full, holders_in-is, count_ones-is}
+use Rattle.patterns.specs.Holdings.{TellHolders, holder_in, falling_numbers, holders_in}
+use Rattle.patterns.proofs.HoldingLaws.{holders_above, holders_above-more, holders_in-split, length-holders_above, take-more, take-full, holders_in-is, count_ones-is}
 
 -- all owners were met
 pub all_met : (words : List ℕ) (owners : List Seat) (n seen count : ℕ) → holders_above words n ≡ take seen owners → seen ≡ count → BeginsWith (holders_in words) (take count owners)

@@ -64,3 +64,21 @@ on_true P false told h = absurd (false≢true h)
 -- a fact that a false test stands for does not hold
 pub not_told : {P : Type 0} {test : Bool} → IsTrue test ↔ P → test ≡ false → P → ⊥
 not_told told h p = false≢true (sym h ∙ told.1 p)
+
+-- what holds of all seats, and of all suits, as four facts
+pub all_seats : (P : Seat → Type 0) → ((seat : Seat) → P seat) ↔ (((P North × P East) × P South) × P West)
+all_seats P = (λ all. (((all North, all East), all South), all West), λ four. for_each_seat P four.0.0.0 four.0.0.1 four.0.1 four.1)
+
+pub all_suits : (P : Suit → Type 0) → ((suit : Suit) → P suit) ↔ (((P Spades × P Hearts) × P Diamonds) × P Clubs)
+all_suits P = (λ all. (((all Spades, all Hearts), all Diamonds), all Clubs), λ four. for_each_suit P four.0.0.0 four.0.0.1 four.0.1 four.1)
+
+-- what a test tells of a fact that is the same as another
+pub told_alike : {P Q : Type 0} {test : Bool} → IsTrue test ↔ P → Q ↔ P → IsTrue test ↔ Q
+told_alike told alike = (λ h. alike.1 (told.0 h), λ q. told.1 (alike.0 q))
+
+-- what `&&` tells, where its first part holds and where it does not
+pub and_then : {P Q : Type 0} {one other both : Bool} → IsTrue one ↔ P → IsTrue other ↔ Q → one ≡ true → both ≡ other → IsTrue both ↔ (P × Q)
+and_then first second holds is = (λ h. (first.0 holds, second.0 (sym is ∙ h)), λ h. is ∙ second.1 h.1)
+
+pub and_else : {P Q : Type 0} {one both : Bool} → IsTrue one ↔ P → one ≡ false → both ≡ one → IsTrue both ↔ (P × Q)
+and_else first fails is = (λ h. absurd (false≢true (sym fails ∙ (sym is ∙ h))), λ h. absurd (false≢true (sym fails ∙ first.1 h.0)))

@@ -17,11 +17,13 @@ pub record IsStored (lens : List ℕ) (count : ℕ) (places : List Seat) : Type 
   pub blank : drop count places ≡ replicate (13 - count) North
 
 -- the count is the number of owners
-pub length_stored : (lens : List ℕ) (count : ℕ) (places : List Seat) → IsStored lens count places → length (take count places) ≡ count
+pub length_stored : (lens : List ℕ) (count : ℕ) (places : List Seat) → IsStored lens count places
+    → length (take count places) ≡ count
 length_stored lens count places h = length-take-le count places (omega (arith, h.within, h.thirteen))
 
 -- the places are those of the owners
-pub places_stored : (lens : List ℕ) (count : ℕ) (places : List Seat) → IsStored lens count places → places_of (take count places) ≡ places
+pub places_stored : (lens : List ℕ) (count : ℕ) (places : List Seat) → IsStored lens count places
+    → places_of (take count places) ≡ places
 places_stored lens count places h =
     ap (λ n. take count places ++ replicate (13 - n) North) (length_stored lens count places h)
     ∙ (ap (λ rest. take count places ++ rest) (sym h.blank) ∙ take-append-drop count places)

@@ -37,11 +37,13 @@ Matches shape deal = (suit : Suit) → MatchesSuit (suit_of shape suit) (holders
 
 -- how many of these cards the four seats hold
 abbrev pub counts_of : List Seat → List ℕ
-counts_of holders = count_in holders North ∷ count_in holders East ∷ count_in holders South ∷ count_in holders West ∷ []
+counts_of holders =
+    count_in holders North ∷ count_in holders East ∷ count_in holders South ∷ count_in holders West ∷ []
 
 -- one suit of a layout: all lengths, and the owners of as many of the highest cards as there are, up to the depth
 abbrev pub suit_of_layout : Deal → Suit → ℕ → SuitShape
-suit_of_layout deal suit depth = record { lens = counts_of (holders_of deal suit); owners = take depth (holders_of deal suit) }
+suit_of_layout deal suit depth =
+    record { lens = counts_of (holders_of deal suit); owners = take depth (holders_of deal suit) }
 
 -- the four suits of a layout, to four depths, that of spades first
 abbrev pub shape_of_layout : Deal → List ℕ → Shape

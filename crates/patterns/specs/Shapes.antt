@@ -39,7 +39,8 @@ suit_size suit = len_of suit North + len_of suit East + len_of suit South + len_
 
 -- how many cards the seat has
 abbrev pub hand_size : Shape → Seat → ℕ
-hand_size shape seat = len_of shape.spades seat + len_of shape.hearts seat + len_of shape.diamonds seat + len_of shape.clubs seat
+hand_size shape seat =
+    len_of shape.spades seat + len_of shape.hearts seat + len_of shape.diamonds seat + len_of shape.clubs seat
 
 -- What patterns and rests have in common: no suit has over 13 cards, the hands are of one size, within the bounds
 -- given, and no seat is an owner in a suit more often than it has cards there.

@@ -71,16 +71,10 @@ impl HeldShape {
         ensures cases { MatchBool result (SuitsFit self.now) (HasLongSuit self.now) }
         ensures seats { OnTrue result (HasFourSeats self.now) }
     {
-        if self.spades.size() > 13 {
-            return false;
-        }
-        if self.hearts.size() > 13 {
-            return false;
-        }
-        if self.diamonds.size() > 13 {
-            return false;
-        }
-        self.clubs.size() <= 13
+        self.spades.size() <= 13
+            && self.hearts.size() <= 13
+            && self.diamonds.size() <= 13
+            && self.clubs.size() <= 13
     }
 
     /// Whether the hands are of one size within the bounds.
@@ -88,35 +82,21 @@ impl HeldShape {
         ensures { MatchBool result (HandsFit fewest most self.now) (HasWrongHands fewest most self.now) }
     {
         let size = self.hand_size(Seat::North);
-        if size < fewest {
-            return false;
-        }
-        if size > most {
-            return false;
-        }
-        if self.hand_size(Seat::East) != size {
-            return false;
-        }
-        if self.hand_size(Seat::South) != size {
-            return false;
-        }
-        self.hand_size(Seat::West) == size
+        fewest <= size
+            && size <= most
+            && self.hand_size(Seat::East) == size
+            && self.hand_size(Seat::South) == size
+            && self.hand_size(Seat::West) == size
     }
 
     /// Whether no seat is an owner in a suit more often than it has cards there.
     fn owners_fit(&self) -> bool
         ensures { MatchBool result (OwnersFit self.now) (HasWrongOwner self.now) }
     {
-        if !self.spades.has_its_owners() {
-            return false;
-        }
-        if !self.hearts.has_its_owners() {
-            return false;
-        }
-        if !self.diamonds.has_its_owners() {
-            return false;
-        }
-        self.clubs.has_its_owners()
+        self.spades.has_its_owners()
+            && self.hearts.has_its_owners()
+            && self.diamonds.has_its_owners()
+            && self.clubs.has_its_owners()
     }
 
     /// Whether the four suits are of the kind that has these numbers of cards a seat, else why not.
@@ -151,31 +131,19 @@ impl HeldShape {
     pub(crate) fn matches(&self, layout: &Layout) -> bool
         ensures { IsTrue result ↔ Matches self.now layout.now }
     {
-        if !self.spades.matches(layout, Suit::Spades) {
-            return false;
-        }
-        if !self.hearts.matches(layout, Suit::Hearts) {
-            return false;
-        }
-        if !self.diamonds.matches(layout, Suit::Diamonds) {
-            return false;
-        }
-        self.clubs.matches(layout, Suit::Clubs)
+        self.spades.matches(layout, Suit::Spades)
+            && self.hearts.matches(layout, Suit::Hearts)
+            && self.diamonds.matches(layout, Suit::Diamonds)
+            && self.clubs.matches(layout, Suit::Clubs)
     }
 
     /// Whether these four suits, as a pattern, cover the others, as a rest.
     pub(crate) fn covers(&self, rest: &HeldShape) -> bool
         ensures { IsTrue result ↔ Covers self.now rest.now }
     {
-        if !self.spades.covers(&rest.spades) {
-            return false;
-        }
-        if !self.hearts.covers(&rest.hearts) {
-            return false;
-        }
-        if !self.diamonds.covers(&rest.diamonds) {
-            return false;
-        }
-        self.clubs.covers(&rest.clubs)
+        self.spades.covers(&rest.spades)
+            && self.hearts.covers(&rest.hearts)
+            && self.diamonds.covers(&rest.diamonds)
+            && self.clubs.covers(&rest.clubs)
     }
 }

@@ -128,24 +128,17 @@ impl HeldSuit {
     pub(crate) fn has_its_owners(&self) -> bool
         ensures { MatchBool result (HasItsOwners self.now) (HasExcessOwner self.now) }
     {
-        if self.tops(Seat::North) > self.lens[0] {
-            return false;
-        }
-        if self.tops(Seat::East) > self.lens[1] {
-            return false;
-        }
-        if self.tops(Seat::South) > self.lens[2] {
-            return false;
-        }
-        self.tops(Seat::West) <= self.lens[3]
+        self.tops(Seat::North) <= self.lens[0]
+            && self.tops(Seat::East) <= self.lens[1]
+            && self.tops(Seat::South) <= self.lens[2]
+            && self.tops(Seat::West) <= self.lens[3]
     }
 
     /// Whether the other suit's owners begin with those of this one.
     fn begins(&self, other: &HeldSuit) -> bool
         ensures { IsTrue result ↔ BeginsWith other.now.owners self.now.owners }
     {
-        let longest = other.count;
-        if self.count > longest {
+        if self.count > other.count {
             return false;
         }
         for place in 0..self.count as usize {
@@ -192,26 +185,17 @@ impl HeldSuit {
         ensures { IsTrue result ↔ MatchesSuit self.now (holders_of layout.now suit) }
     {
         let words = holdings(layout, suit);
-        if !self.has_lens(&words) {
-            return false;
-        }
-        self.has_owners(&words)
+        self.has_lens(&words) && self.has_owners(&words)
     }
 
     /// Whether the words have as many cards as the lengths say.
     fn has_lens(&self, words: &[u16; 4]) -> bool
         ensures { IsTrue result ↔ ((seat : Seat) → len_of self.now seat ≡ count_ones (slice_index words.now (seat_number seat))) }
     {
-        if words[0].count_ones() != u32::from(self.lens[0]) {
-            return false;
-        }
-        if words[1].count_ones() != u32::from(self.lens[1]) {
-            return false;
-        }
-        if words[2].count_ones() != u32::from(self.lens[2]) {
-            return false;
-        }
-        words[3].count_ones() == u32::from(self.lens[3])
+        words[0].count_ones() == u32::from(self.lens[0])
+            && words[1].count_ones() == u32::from(self.lens[1])
+            && words[2].count_ones() == u32::from(self.lens[2])
+            && words[3].count_ones() == u32::from(self.lens[3])
     }
 
     /// Whether the owners hold the highest cards of the words, in their order.

@@ -1,23 +1,28 @@
-use Rattle.cards.specs.declared.suits.Suit.TheVariants.{Spades, Hearts, Diamonds, Clubs}
-use Rattle.patterns.proofs.SeatLaws.{told_false, not_told, for_each_suit}
+use Rattle.std.proofs.Common.{IsTrue, ◌↔◌, refl}
+use Rattle.patterns.proofs.SeatLaws.{all_suits, told_alike, and_then, and_else}
 use Rattle.patterns.proofs.held_shapes.HeldShape.covers.Goals as goal
+use Rattle.patterns.proofs.held_shapes.HeldShape.covers.Goals.{then-covers, else-covers, then-covers-2, else-covers-2}
 
-pub returns-then-not-covers : goal.returns-then-not-covers
-returns-then-not-covers c =
-    rw (← c.self.view_is, ← c.rest.view_is) (told_false (λ all. not_told c.covers.ensures c.if-not-covers.true (all Spades)))
+pub returns-then-covers-3 : goal.returns-then-covers-3
+returns-then-covers-3 c =
+    let two : IsTrue c.if-covers.value ↔ (_ × _) = elim c.if-covers.branch [
+      | then-covers w ↦ and_then c.covers.ensures w.covers-then-covers.ensures w.if-covers.true w.value-is
+      | else-covers w ↦ and_else c.covers.ensures w.if-covers.false w.value-is
+    ] in
+    let three : IsTrue c.if-covers-2.value ↔ (_ × _) = elim c.if-covers-2.branch [
+      | then-covers-2 w ↦ and_then two w.covers-then-covers-2.ensures w.if-covers-2.true w.value-is
+      | else-covers-2 w ↦ and_else two w.if-covers-2.false w.value-is
+    ] in
+    rw (← c.self.view_is, ← c.rest.view_is) (told_alike (and_then three c.covers-then-covers-3.ensures c.if-covers-3.true refl) (all_suits _))
 
-pub returns-then-not-covers-2 : goal.returns-then-not-covers-2
-returns-then-not-covers-2 c =
-    rw (← c.self.view_is, ← c.rest.view_is) (told_false (λ all. not_told c.covers-2.ensures c.if-not-covers-2.true (all Hearts)))
-
-pub returns-then-not-covers-3 : goal.returns-then-not-covers-3
-returns-then-not-covers-3 c =
-    rw (← c.self.view_is, ← c.rest.view_is) (told_false (λ all. not_told c.covers-3.ensures c.if-not-covers-3.true (all Diamonds)))
-
-pub returns : goal.returns
-returns c =
-    rw (← c.self.view_is, ← c.rest.view_is) (
-      (λ h. for_each_suit _ (c.covers.ensures.0 c.if-not-covers.false) (c.covers-2.ensures.0 c.if-not-covers-2.false)
-          (c.covers-3.ensures.0 c.if-not-covers-3.false) (c.covers-4.ensures.0 h)),
-      λ all. c.covers-4.ensures.1 (all Clubs),
-    )
+pub returns-else-covers-3 : goal.returns-else-covers-3
+returns-else-covers-3 c =
+    let two : IsTrue c.if-covers.value ↔ (_ × _) = elim c.if-covers.branch [
+      | then-covers w ↦ and_then c.covers.ensures w.covers-then-covers.ensures w.if-covers.true w.value-is
+      | else-covers w ↦ and_else c.covers.ensures w.if-covers.false w.value-is
+    ] in
+    let three : IsTrue c.if-covers-2.value ↔ (_ × _) = elim c.if-covers-2.branch [
+      | then-covers-2 w ↦ and_then two w.covers-then-covers-2.ensures w.if-covers-2.true w.value-is
+      | else-covers-2 w ↦ and_else two w.if-covers-2.false w.value-is
+    ] in
+    rw (← c.self.view_is, ← c.rest.view_is) (told_alike (and_else three c.if-covers-3.false refl) (all_suits _))

@@ -38,22 +38,22 @@ taken_begins xs ys n m x13 y13 fits within same =
     begins (take m ys) (take n xs) (omega arith)
     (λ k less. let lt : k < n = omega arith in get_or-take m ys k North (omega arith) ∙ (same k lt ∙ sym (get_or-take n xs k North lt)))
 
-pub returns-then-self-longest : goal.returns-then-self-longest
-returns-then-self-longest c =
+pub returns-then-self-other : goal.returns-then-self-other
+returns-then-self-other c =
     rw (← c.other.view_is, ← c.self.view_is)
     (told_false (taken_too_long c.self.inside.owners c.other.inside.owners c.self.inside.count c.other.inside.count
-    c.self.invariant.thirteen c.other.invariant.thirteen c.self.invariant.within c.if-self-longest.true))
+    c.self.invariant.thirteen c.other.invariant.thirteen c.self.invariant.within c.if-self-other.true))
 
 pub returns-then-ne : goal.returns-then-ne
 returns-then-ne c =
     rw (← c.other.view_is, ← c.self.view_is)
     (told_false (taken_differs c.self.inside.owners c.other.inside.owners c.self.inside.count c.other.inside.count c.loop-place.place
-    c.self.invariant.thirteen c.self.invariant.within c.if-self-longest.false c.loop-place-test.true
+    c.self.invariant.thirteen c.self.invariant.within c.if-self-other.false c.loop-place-test.true
     (differs_true the_type _ _ (sym c.ne.ensures ∙ c.if-ne.true))))
 
 pub returns : goal.returns
 returns c =
     rw (← c.other.view_is, ← c.self.view_is)
     (told_true (taken_begins c.self.inside.owners c.other.inside.owners c.self.inside.count c.other.inside.count
-    c.self.invariant.thirteen c.other.invariant.thirteen c.if-self-longest.false c.other.invariant.within
+    c.self.invariant.thirteen c.other.invariant.thirteen c.if-self-other.false c.other.invariant.within
     (λ k less. c.loop-place.invariant k (omega arith))))

@@ -1,25 +1,30 @@
-use Rattle.std.proofs.Common.{sym, ◌∙◌}
-use Rattle.std.proofs.lemmas.Bool.{eqb-true, eq-eqb}
-use Rattle.cards.specs.declared.seats.Seat.TheVariants.{North, East, South, West}
-use Rattle.patterns.proofs.SeatLaws.{told_false, for_each_seat}
+use Rattle.std.proofs.Common.{IsTrue, ◌↔◌, refl}
+use Rattle.std.proofs.lemmas.Bool.{eq-eqb, ne_eqb}
+use Rattle.patterns.proofs.SeatLaws.{all_seats, told_alike, and_then, and_else}
+use Rattle.patterns.proofs.HoldingLaws.{told_len}
 use Rattle.patterns.proofs.held_suits.HeldSuit.has_lens.Goals as goal
-
-pub returns-then-words-from : goal.returns-then-words-from
-returns-then-words-from c =
-    rw (← c.self.view_is) (told_false (λ all. c.if-words-from.true (sym (all North) ∙ sym c.from.ensures)))
-
-pub returns-then-words-from-2 : goal.returns-then-words-from-2
-returns-then-words-from-2 c =
-    rw (← c.self.view_is) (told_false (λ all. c.if-words-from-2.true (sym (all East) ∙ sym c.from-2.ensures)))
+use Rattle.patterns.proofs.held_suits.HeldSuit.has_lens.Goals.{then-words-from, else-words-from, then-words-from-2, else-words-from-2}
 
 pub returns-then-words-from-3 : goal.returns-then-words-from-3
 returns-then-words-from-3 c =
-    rw (← c.self.view_is) (told_false (λ all. c.if-words-from-3.true (sym (all South) ∙ sym c.from-3.ensures)))
+    let two : IsTrue c.if-words-from.value ↔ (_ × _) = elim c.if-words-from.branch [
+      | then-words-from w ↦ and_then (told_len c.from.ensures) (told_len w.from-then-words-from.ensures) (eq-eqb _ _ w.if-words-from.true) w.value-is
+      | else-words-from w ↦ and_else (told_len c.from.ensures) (ne_eqb _ _ w.if-words-from.false) w.value-is
+    ] in
+    let three : IsTrue c.if-words-from-2.value ↔ (_ × _) = elim c.if-words-from-2.branch [
+      | then-words-from-2 w ↦ and_then two (told_len w.from-then-words-from-2.ensures) w.if-words-from-2.true w.value-is
+      | else-words-from-2 w ↦ and_else two w.if-words-from-2.false w.value-is
+    ] in
+    rw (← c.self.view_is) (told_alike (and_then three (told_len c.from-then-words-from-3.ensures) c.if-words-from-3.true refl) (all_seats _))
 
-pub returns : goal.returns
-returns c =
-    rw (← c.self.view_is) (
-      (λ h. for_each_seat _ (sym (c.if-words-from.false ∙ c.from.ensures)) (sym (c.if-words-from-2.false ∙ c.from-2.ensures))
-          (sym (c.if-words-from-3.false ∙ c.from-3.ensures)) (sym (eqb-true _ _ h ∙ c.from-4.ensures))),
-      λ all. eq-eqb _ _ (sym (all West) ∙ sym c.from-4.ensures),
-    )
+pub returns-else-words-from-3 : goal.returns-else-words-from-3
+returns-else-words-from-3 c =
+    let two : IsTrue c.if-words-from.value ↔ (_ × _) = elim c.if-words-from.branch [
+      | then-words-from w ↦ and_then (told_len c.from.ensures) (told_len w.from-then-words-from.ensures) (eq-eqb _ _ w.if-words-from.true) w.value-is
+      | else-words-from w ↦ and_else (told_len c.from.ensures) (ne_eqb _ _ w.if-words-from.false) w.value-is
+    ] in
+    let three : IsTrue c.if-words-from-2.value ↔ (_ × _) = elim c.if-words-from-2.branch [
+      | then-words-from-2 w ↦ and_then two (told_len w.from-then-words-from-2.ensures) w.if-words-from-2.true w.value-is
+      | else-words-from-2 w ↦ and_else two w.if-words-from-2.false w.value-is
+    ] in
+    rw (← c.self.view_is) (told_alike (and_else three c.if-words-from-3.false refl) (all_seats _))

@@ -1,21 +1,14 @@
-use Rattle.std.proofs.Common.{sym, ◌∙◌}
-use Rattle.patterns.proofs.SeatLaws.{told_false, not_told}
-use Rattle.patterns.proofs.HoldingLaws.{holders_in-is, count_ones-is}
+use Rattle.std.proofs.Common.{refl}
+use Rattle.patterns.proofs.SeatLaws.{told_alike, and_then, and_else}
+use Rattle.patterns.proofs.HoldingLaws.{matches_by_words}
 use Rattle.patterns.proofs.held_suits.HeldSuit.matches.Goals as goal
 
-pub returns-then-not-has_lens : goal.returns-then-not-has_lens
-returns-then-not-has_lens c =
-    let ones = count_ones-is c.holdings-words.result c.args.layout.now c.args.suit c.holdings-words.ensures in
-    told_false (λ matches. not_told c.has_lens.ensures c.if-not-has_lens.true (λ seat. matches.lens seat ∙ sym (ones seat)))
+pub returns-then-has_lens : goal.returns-then-has_lens
+returns-then-has_lens c =
+    told_alike (and_then c.has_lens.ensures c.has_owners.ensures c.if-has_lens.true refl)
+    (matches_by_words c.holdings-words.result c.args.layout.now c.args.suit c.args.self.now c.holdings-words.ensures)
 
-pub returns : goal.returns
-returns c =
-    let words = c.holdings-words.result in
-    let ones = count_ones-is words c.args.layout.now c.args.suit c.holdings-words.ensures in
-    let holders = holders_in-is words c.args.layout.now c.args.suit c.holdings-words.ensures in (
-      λ h. record {
-        lens = λ seat. c.has_lens.ensures.0 c.if-not-has_lens.false seat ∙ ones seat;
-        owners = rw (← holders) (c.has_owners.ensures.0 h);
-      },
-      λ matches. c.has_owners.ensures.1 (rw holders matches.owners),
-    )
+pub returns-else-has_lens : goal.returns-else-has_lens
+returns-else-has_lens c =
+    told_alike (and_else c.has_lens.ensures c.if-has_lens.false refl)
+    (matches_by_words c.holdings-words.result c.args.layout.now c.args.suit c.args.self.now c.holdings-words.ensures)

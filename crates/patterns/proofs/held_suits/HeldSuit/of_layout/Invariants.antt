@@ -1,5 +1,5 @@
 use Rattle.std.proofs.Common.{◌≡◌, take}
-use Rattle.patterns.specs.Holdings.{holders_above}
+use Rattle.patterns.proofs.HoldingLaws.{holders_above}
 use Rattle.patterns.proofs.held_suits.HeldSuit.of_layout.Given as goal
 
 -- the owners are the holders met so far, up to the depth
