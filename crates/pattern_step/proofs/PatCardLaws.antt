@@ -18,7 +18,8 @@ use Rattle.patterns.proofs.HolderLaws.{counts_add_up}
 use Rattle.patterns.proofs.SeatLaws.{is_same_seat_self, same_from_is_same}
 use Rattle.pattern_step.specs.declared.pat_cards.PatCard.{PatCard}
 use Rattle.pattern_step.specs.declared.pat_cards.PatCard.TheVariants.{Top, Low}
-use Rattle.pattern_step.specs.PatCards.{suit_of_card, HasCard, has_card, tops_of_suit, cards_of_suit, cards_in, cards_held, legal_cards, IsLegal}
+use Rattle.pattern_step.specs.PatCards.{suit_of_card, HasCard, IsLegal}
+use Rattle.pattern_step.specs.LegalCards.{has_card, tops_of_suit, cards_of_suit, cards_in, cards_held, legal_cards}
 
 -- what stands in a place of a list
 pub slice_get-at : {X : Type 0} (xs : List X) (n : ℕ) (d : X) → n < length xs → slice_get xs n ≡ Some (get_or xs n d)

@@ -10,7 +10,8 @@ use Rattle.pattern_step.specs.declared.pat_cards.PatCard.TheVariants.{Top, Low}
 use Rattle.cards.specs.declared.suits.Trump.{Trump}
 use Rattle.cards.specs.declared.seats.Seat.{Seat}
 use Rattle.patterns.specs.Shapes.{Shape, suit_of}
-use Rattle.pattern_step.specs.Tricks.{IsHighestTop, lesser, MayWin, winning_suit, played_by}
+use Rattle.pattern_step.specs.Tricks.{MayWin, winning_suit, played_by}
+use Rattle.pattern_step.specs.HighestTops.{IsHighestTop, lesser}
 
 -- a list of one
 one_is : (x y : PatCard) → Contains (x ∷ []) y → x ≡ y

@@ -1,6 +1,5 @@
 -- Who plays in which place of a trick.
-use Rattle.std.proofs.Common.{◌≡◌, ℕ, zero, suc, ◌<◌, Bool, true, false, IsTrue, List, [], ◌∷◌, length, take, None, Some, ◌↔◌, refl, sym, ◌∙◌, arith}
-use Rattle.std.proofs.lemmas.Bool.{false≢true}
+use Rattle.std.proofs.Common.{◌≡◌, ℕ, zero, suc, ◌<◌, List, [], ◌∷◌, length, take, None, Some, ◌↔◌, refl, arith}
 use Rattle.cards.specs.declared.suits.Suit.{Suit}
 use Rattle.cards.specs.declared.seats.Seat.{Seat}
 use Rattle.cards.specs.declared.seats.Seat.TheVariants.{North, East, South, West}
@@ -58,7 +57,7 @@ suit_led_by-take [] place four = absurd (omega (arith, four))
 suit_led_by-take (card ∷ cards) place four = refl
 
 -- a card of a trick is legal where this suit was led
-abbrev pub LegalAt : Shape → Seat → Suit → List PatCard → ℕ → Type 0
+abbrev LegalAt : Shape → Seat → Suit → List PatCard → ℕ → Type 0
 LegalAt shape seat led cards place = IsLegal shape seat (Some led) (played_in_place cards place)
 
 -- four cards are legal in turn where the first may be led and the others may follow it
@@ -83,14 +82,3 @@ legal_in_turn shape leader second third fourth led cards four is_second is_third
     each all (suc (suc zero)) less = rw (suit_led_by-take cards 1 four) all.0.1
     each all (suc (suc (suc zero))) less = rw (suit_led_by-take cards 2 four) all.1
     each all (suc (suc (suc (suc place)))) less = absurd (omega arith)
-
--- what two tests tell that stand for facts which are one
-pub told_alike : {P Q : Type 0} {test : Bool} → IsTrue test ↔ P → Q ↔ P → IsTrue test ↔ Q
-told_alike told alike = (λ h. alike.1 (told.0 h), λ q. told.1 (alike.0 q))
-
--- what `&&` tells, where its first part holds and where it does not
-pub and_then : {P Q : Type 0} {one other both : Bool} → IsTrue one ↔ P → IsTrue other ↔ Q → one ≡ true → both ≡ other → IsTrue both ↔ (P × Q)
-and_then first second holds is = (λ h. (first.0 holds, second.0 (sym is ∙ h)), λ h. is ∙ second.1 h.1)
-
-pub and_else : {P Q : Type 0} {one both : Bool} → IsTrue one ↔ P → one ≡ false → both ≡ one → IsTrue both ↔ (P × Q)
-and_else first fails is = (λ h. absurd (false≢true (sym fails ∙ (sym is ∙ h))), λ h. absurd (false≢true (sym fails ∙ first.1 h.0)))

@@ -23,13 +23,16 @@ ranks_above rank = take (12 - rank_number rank) falling_ranks
 
 -- how many higher cards of the suit are in the four hands
 abbrev pub place_in_suit : Deal → Card → ℕ
-place_in_suit deal card = length (filter_map (λ rank. holder_of deal (card_of card.suit rank)) (ranks_above card.rank))
+place_in_suit deal card =
+    length (filter_map (λ rank. holder_of deal (card_of card.suit rank)) (ranks_above card.rank))
 
 -- A pattern card stands for a card of the layout: a top for the card of its suit in its place, and a low card for
 -- each card of its suit in a place behind the owners.
 abbrev pub StandsFor : Shape → Deal → PatCard → Card → Type 0
-StandsFor shape deal (Top suit place) card = (card.suit ≡ suit) × (place_in_suit deal card ≡ place) × (place < length (suit_of shape suit).owners)
-StandsFor shape deal (Low suit) card = (card.suit ≡ suit) × (length (suit_of shape suit).owners ≤ place_in_suit deal card)
+StandsFor shape deal (Top suit place) card =
+    (card.suit ≡ suit) × (place_in_suit deal card ≡ place) × (place < length (suit_of shape suit).owners)
+StandsFor shape deal (Low suit) card =
+    (card.suit ≡ suit) × (length (suit_of shape suit).owners ≤ place_in_suit deal card)
 
 -- the card is exactly one pattern card, and the seat has that one
 pub record IsOnePatCard (shape : Shape) (deal : Deal) (seat : Seat) (card : Card) : Type 0 where
@@ -58,11 +61,13 @@ abbrev pub real_by : Seat → List Card → Seat → Card
 real_by leader real seat = slice_index_or real (place_of leader seat) (card_of Spades Two)
 
 -- each seat played a card that it holds, and the pattern card that it played stands for that one
-pub record ArePlayed (shape : Shape) (deal : Deal) (leader : Seat) (cards : List PatCard) (real : List Card) : Type 0 where
+pub record ArePlayed (shape : Shape) (deal : Deal) (leader : Seat) (cards : List PatCard) (real : List Card)
+    : Type 0 where
   pub held : (seat : Seat) → holder_of deal (real_by leader real seat) ≡ Some seat
   pub stands : (seat : Seat) → StandsFor shape deal (played_by leader cards seat) (real_by leader real seat)
 
 -- the deal without those cards
 pub record IsWithout (deal : Deal) (leader : Seat) (real : List Card) (left : Deal) : Type 0 where
   pub gone : (seat : Seat) → holder_of left (real_by leader real seat) ≡ None
-  pub stays : (card : Card) → ((seat : Seat) → card ≢ real_by leader real seat) → holder_of left card ≡ holder_of deal card
+  pub stays : (card : Card) → ((seat : Seat) → card ≢ real_by leader real seat)
+      → holder_of left card ≡ holder_of deal card

@@ -1,5 +1,5 @@
 -- One trick of pattern cards: who plays which card, who may win, and what is left.
-use Rattle.std.specs.Prelude.{◌≡◌, ℕ, ◌-◌, ◌<◌, ◌≤◌, min, not, List, [], ◌∷◌, length, take, map, filter, Option, None, Some, ◌⊎◌, Contains, slice_index_or, slice_get, if◌then◌else◌}
+use Rattle.std.specs.Prelude.{◌≡◌, ℕ, ◌-◌, ◌<◌, ◌≤◌, not, List, [], ◌∷◌, length, take, map, filter, Option, None, Some, ◌⊎◌, Contains, slice_index_or, slice_get, if◌then◌else◌}
 use Rattle.std.specs.List.{list_any, enumerate_from}
 use Rattle.cards.specs.declared.suits.Suit.{Suit}
 use Rattle.cards.specs.declared.suits.Suit.TheVariants.{Spades}
@@ -40,16 +40,6 @@ abbrev pub winning_suit : Trump → List PatCard → Suit
 winning_suit trump.Nt cards = suit_of_lead cards
 winning_suit (trump.Suit suit) cards = if list_any (is_of_suit suit) cards then suit else suit_of_lead cards
 
--- the place of the highest top of the suit that was played, if one was
-abbrev pub IsHighestTop : List PatCard → Suit → Option ℕ → Type 0
-IsHighestTop cards suit None = (other : ℕ) → Contains cards (Top suit other) → ⊥
-IsHighestTop cards suit (Some place) = Contains cards (Top suit place) × ((other : ℕ) → Contains cards (Top suit other) → place ≤ other)
-
--- the lesser of two places, the first of which may be missing
-abbrev pub lesser : Option ℕ → ℕ → ℕ
-lesser None place = place
-lesser (Some before) place = min before place
-
 -- the owner of the highest top that was played of the suit
 pub record OwnsHighest (shape : Shape) (cards : List PatCard) (suit : Suit) (seat : Seat) : Type 0 where
   pub place : ℕ
@@ -70,7 +60,8 @@ MayWin shape trump leader cards seat =
 
 -- the owners in the places whose tops were not played, in their order
 abbrev pub owners_left : List PatCard → Suit → List Seat → List Seat
-owners_left cards suit owners = map (λ entry. entry.1) (filter (λ entry. not (list_any (is_top suit entry.0) cards)) (enumerate_from 0 owners))
+owners_left cards suit owners =
+    map (λ entry. entry.1) (filter (λ entry. not (list_any (is_top suit entry.0) cards)) (enumerate_from 0 owners))
 
 -- the seat's length in the suit, less one where its card was of that suit
 abbrev pub len_left : SuitShape → Seat → List PatCard → Suit → Seat → ℕ
@@ -78,7 +69,8 @@ len_left suit_shape leader cards suit seat =
     if is_of_suit suit (played_by leader cards seat) then len_of suit_shape seat - 1 else len_of suit_shape seat
 
 -- what is left of one suit
-pub record IsLeftOf (before : SuitShape) (leader : Seat) (cards : List PatCard) (suit : Suit) (left : SuitShape) : Type 0 where
+pub record IsLeftOf (before : SuitShape) (leader : Seat) (cards : List PatCard) (suit : Suit) (left : SuitShape)
+    : Type 0 where
   pub four_seats : length left.lens ≡ 4
   pub lens : (seat : Seat) → len_of left seat ≡ len_left before leader cards suit seat
   pub owners : left.owners ≡ owners_left cards suit before.owners

@@ -2,7 +2,8 @@
 
 ghost use Rattle.std.specs.Prelude.{◌≡◌, ◌+◌, ◌≤◌, ◌++◌, ◌↔◌, IsTrue, Some, Contains, length, slice_get};
 ghost use Rattle.patterns.specs.Shapes.{suit_of, len_of};
-ghost use Rattle.pattern_step.specs.PatCards.{IsLegal, cards_in, legal_cards};
+ghost use Rattle.pattern_step.specs.PatCards.{IsLegal};
+ghost use Rattle.pattern_step.specs.LegalCards.{cards_in, legal_cards};
 ghost use Rattle.pattern_step.specs.declared.pat_cards.PatCard.{PatCard};
 
 use crate::pat_cards::PatCard;

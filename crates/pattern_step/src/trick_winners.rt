@@ -6,7 +6,8 @@ ghost use Rattle.cards.specs.declared.seats.Seat.{Seat};
 ghost use Rattle.pattern_step.specs.declared.pat_cards.PatCard.TheVariants.{Low};
 ghost use Rattle.pattern_step.specs.PatCards.{is_of_suit};
 ghost use Rattle.pattern_step.specs.SeatSets.{is_in};
-ghost use Rattle.pattern_step.specs.Tricks.{played_by, winning_suit, IsHighestTop, lesser, MayWin};
+ghost use Rattle.pattern_step.specs.Tricks.{played_by, winning_suit, MayWin};
+ghost use Rattle.pattern_step.specs.HighestTops.{IsHighestTop, lesser};
 
 use crate::pat_cards::PatCard;
 use crate::seat_sets::SeatSet;

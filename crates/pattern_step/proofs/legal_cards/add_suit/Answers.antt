@@ -5,7 +5,7 @@ use Rattle.patterns.specs.Shapes.{Shape, suit_of, tops_of, IsPattern}
 use Rattle.patterns.proofs.SeatLaws.{not_told}
 use Rattle.cards.specs.declared.suits.Suit.{Suit}
 use Rattle.cards.specs.declared.seats.Seat.{Seat}
-use Rattle.pattern_step.specs.PatCards.{cards_in}
+use Rattle.pattern_step.specs.LegalCards.{cards_in}
 use Rattle.pattern_step.specs.declared.pat_cards.PatCard.{PatCard}
 use Rattle.pattern_step.specs.declared.pat_cards.PatCard.TheVariants.{Top}
 use Rattle.pattern_step.proofs.PatCardLaws.{tops_in, top_counts, low_in, cards_in-is, length-tops_in-all, tops_in-owned, tops_in-other, low_in-some, low_in-none}

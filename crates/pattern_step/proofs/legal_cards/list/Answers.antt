@@ -1,7 +1,7 @@
 use Rattle.std.proofs.Common.{length, ap, ◌∙◌, arith}
 use Rattle.std.proofs.lemmas.List.{length-append}
 use Rattle.cards.specs.declared.suits.Suit.TheVariants.{Spades, Hearts, Diamonds}
-use Rattle.pattern_step.specs.PatCards.{cards_in}
+use Rattle.pattern_step.specs.LegalCards.{cards_in}
 use Rattle.pattern_step.proofs.PatCardLaws.{length-cards_in}
 use Rattle.pattern_step.proofs.legal_cards.list.Goals as goal
 

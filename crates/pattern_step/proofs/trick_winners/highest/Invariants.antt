@@ -1,5 +1,5 @@
 use Rattle.std.proofs.Common.{take}
-use Rattle.pattern_step.specs.Tricks.{IsHighestTop}
+use Rattle.pattern_step.specs.HighestTops.{IsHighestTop}
 use Rattle.pattern_step.proofs.trick_winners.highest.Given as goal
 
 -- the highest top so far
