@@ -45,10 +45,7 @@ fn list(pattern: &Pattern, seat: Seat, led: Option<Suit>) -> ArrayVec<PatCard, 1
 pub(crate) fn owns(pattern: &Pattern, suit: Suit, place: usize, seat: Seat) -> bool
     ensures { IsTrue result ↔ (slice_get (suit_of pattern.now suit).owners place ≡ Some seat) }
 {
-    match pattern.owner(suit, place) {
-        Some(owner) => owner == seat,
-        None => false,
-    }
+    pattern.owner(suit, place) == Some(seat)
 }
 
 /// Adds the seat's cards of the suit.

@@ -29,8 +29,7 @@ impl PatCard {
         ensures { result ≡ suit_of_card self }
     {
         match self {
-            PatCard::Top(suit, _) => suit,
-            PatCard::Low(suit) => suit,
+            PatCard::Top(suit, _) | PatCard::Low(suit) => suit,
         }
     }
 
@@ -38,29 +37,24 @@ impl PatCard {
     pub fn is_of(self, suit: Suit) -> bool
         ensures { result ≡ is_of_suit suit self }
     {
-        self.suit().number() == suit.number()
+        self.suit() == suit
     }
 
     /// The place of the card where it is a top of the suit.
     pub fn top_of(self, suit: Suit) -> Option<u8>
         ensures { MatchOption result ((place : ℕ) → self ≡ Top suit place → ⊥) (λ place. self ≡ Top suit place) }
     {
-        if let PatCard::Top(of, place) = self {
-            if of == suit {
-                return Some(place);
-            }
+        match self {
+            PatCard::Top(of, place) if of == suit => Some(place),
+            _ => None,
         }
-        None
     }
 
     /// Whether this is the low card of the suit.
     pub fn is_low_of(self, suit: Suit) -> bool
         ensures { IsTrue result ↔ (self ≡ Low suit) }
     {
-        match self {
-            PatCard::Top(_, _) => false,
-            PatCard::Low(of) => of == suit,
-        }
+        self == PatCard::Low(suit)
     }
 
     /// Whether this is the top in this place of the suit.
@@ -68,7 +62,7 @@ impl PatCard {
         ensures { result ≡ is_top suit place self }
     {
         match self {
-            PatCard::Top(of, other) => of.number() == suit.number() && other as usize == place,
+            PatCard::Top(of, other) => of == suit && other as usize == place,
             PatCard::Low(_) => false,
         }
     }

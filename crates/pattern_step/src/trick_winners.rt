@@ -61,14 +61,8 @@ fn winning_suit(trump: Trump, cards: &[PatCard; 4]) -> Suit
     ensures { result ≡ winning_suit trump cards.now }
 {
     match trump {
-        Trump::Nt => cards[0].suit(),
-        Trump::Suit(suit) => {
-            if is_played(cards, suit) {
-                suit
-            } else {
-                cards[0].suit()
-            }
-        }
+        Trump::Suit(suit) if is_played(cards, suit) => suit,
+        _ => cards[0].suit(),
     }
 }
 
@@ -89,10 +83,7 @@ fn highest(cards: &[PatCard; 4], suit: Suit) -> Option<u8>
 fn lesser(least: Option<u8>, place: u8) -> u8
     ensures { result ≡ lesser least place }
 {
-    match least {
-        Some(before) => before.min(place),
-        None => place,
-    }
+    least.map_or(place, |before| before.min(place))
 }
 
 /// The card that the seat played.
