@@ -12,7 +12,7 @@ use Rattle.pattern_step.specs.declared.pat_cards.PatCard.{PatCard}
 use Rattle.pattern_step.specs.declared.pat_cards.PatCard.TheVariants.{Top, Low}
 use Rattle.pattern_step.specs.PatCards.{suit_of_card, is_of_suit, is_top, IsLegal}
 
--- the card that was played first, second, third or last
+-- the card that was played first, second, third or last (where no card was, it is of no account which this is)
 abbrev pub played_in_place : List PatCard → ℕ → PatCard
 played_in_place cards place = slice_index_or cards place (Top Spades 0)
 
@@ -20,7 +20,7 @@ played_in_place cards place = slice_index_or cards place (Top Spades 0)
 abbrev pub played_by : Seat → List PatCard → Seat → PatCard
 played_by leader cards seat = played_in_place cards (place_of leader seat)
 
--- the suit that these cards of a trick, the first ones, have led
+-- the suit led, after these first cards of a trick
 abbrev pub suit_led_by : List PatCard → Option Suit
 suit_led_by [] = None
 suit_led_by (first ∷ cards) = Some (suit_of_card first)

@@ -150,13 +150,22 @@ impl Small {
         owners
     }
 
-    /// Whether the pattern tells these lengths and these first owners of the suit.
-    fn matches_suit(&self, pattern: &Pattern, suit: Suit) -> bool {
-        let part = pattern.part(suit);
+    /// Whether the other layout's lengths of the suit are these, and its first owners of it begin the holders here.
+    fn matches_suit(&self, other: &Small, suit: Suit, depth: u8) -> bool {
+        let lens = Seat::ALL
+            .iter()
+            .all(|seat| other.len(*seat, suit) == self.len(*seat, suit));
         let held = self.owners(suit, 13, &[]);
-        let lens = Seat::ALL.iter().all(|seat| usize::from(pattern.len(suit, *seat))
-            == self.len(*seat, suit));
-        lens && held.as_slice().starts_with(part.owners.as_slice())
+        lens && held
+            .as_slice()
+            .starts_with(other.owners(suit, depth, &[]).as_slice())
+    }
+
+    /// Whether so many owners of the cards left are no more than a pattern of this depth lists of them: both begin
+    /// the holders of the cards left.
+    fn covers_suit(&self, suit: Suit, listed: u8, depth: u8, gone: &[u8]) -> bool {
+        let held = self.owners(suit, 13, gone).len();
+        held.min(usize::from(listed)) <= self.owners(suit, depth, gone).len()
     }
 }
 
@@ -260,42 +269,47 @@ fn check_trick(
     let left = rest(pattern, trick.leader, &cards);
     check_left(rt, small, Suit::Spades, depths[0], trick, &left);
     check_left(rt, small, Suit::Hearts, depths[1], trick, &left);
-    check_covers(rt, small, trick, &left)
+    check_covers(rt, small, depths, trick, &left)
 }
 
 /// Compares which patterns of the layout that is left cover the rest.
-fn check_covers(rt: &impl Abort, small: &Small, trick: &Trick, left: &Rest) -> Result<(), Fail> {
+fn check_covers(
+    rt: &impl Abort,
+    small: &Small,
+    depths: [u8; 4],
+    trick: &Trick,
+    left: &Rest,
+) -> Result<(), Fail> {
     if small.cards <= 4 {
         return Ok(());
     }
-    let layout = small.layout(trick.played.as_slice())?;
-    for depth in 0..5u8 {
-        let pattern = Pattern::of_layout(&layout, [depth, 4u8.saturating_sub(depth), 0, 0]);
-        let spades = left
-            .part(Suit::Spades)
-            .owners
-            .as_slice()
-            .starts_with(pattern.part(Suit::Spades).owners.as_slice());
-        let hearts = left
-            .part(Suit::Hearts)
-            .owners
-            .as_slice()
-            .starts_with(pattern.part(Suit::Hearts).owners.as_slice());
-        assert!(rt; pattern.covers(left) == (spades && hearts));
+    let gone = trick.played.as_slice();
+    let layout = small.layout(gone)?;
+    for listed in 0..5u8 {
+        let others = 4u8.saturating_sub(listed);
+        let pattern = Pattern::of_layout(&layout, [listed, others, 0, 0]);
+        let covers = small.covers_suit(Suit::Spades, listed, depths[0], gone)
+            && small.covers_suit(Suit::Hearts, others, depths[1], gone);
+        assert!(rt; pattern.covers(left) == covers);
     }
     Ok(())
 }
 
 /// Compares whether the pattern of a layout matches another one, in which each card has moved on to another holder.
-fn check_matches(rt: &impl Abort, small: &Small, pattern: &Pattern) -> Result<(), Fail> {
+fn check_matches(
+    rt: &impl Abort,
+    small: &Small,
+    depths: [u8; 4],
+    pattern: &Pattern,
+) -> Result<(), Fail> {
     let turned = Small {
         code: small.code.rotate_left(2) ^ 1,
         cards: small.cards,
         spades: small.spades,
     };
     if turned.is_fair() {
-        let same = turned.matches_suit(pattern, Suit::Spades)
-            && turned.matches_suit(pattern, Suit::Hearts);
+        let same = turned.matches_suit(small, Suit::Spades, depths[0])
+            && turned.matches_suit(small, Suit::Hearts, depths[1]);
         assert!(rt; pattern.matches(&turned.layout(&[])?) == same);
     }
     Ok(())
@@ -331,7 +345,7 @@ fn check_pattern(
     let layout = small.layout(&[])?;
     let pattern = Pattern::of_layout(&layout, depths);
     assert!(rt; pattern.matches(&layout));
-    check_matches(rt, small, &pattern)?;
+    check_matches(rt, small, depths, &pattern)?;
     for led in [None, Some(Suit::Spades), Some(Suit::Hearts)] {
         assert!(rt;
             legal(&pattern, leader, led).as_slice() == small.legal(depths, leader, led).as_slice()
