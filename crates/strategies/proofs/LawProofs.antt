@@ -1,5 +1,6 @@
 -- The laws of "can win".
-use Rattle.std.proofs.Common.{◌≡◌, ℕ, zero, suc, ◌+◌, ◌-◌, ◌≤◌, List, [], ◌∷◌, ◌++◌, length, sym, ◌∙◌, ap, subst, arith, append_assoc, append-nil, length-append}
+use Rattle.std.proofs.Common.{◌≡◌, ℕ, zero, suc, ◌+◌, ◌-◌, ◌<◌, ◌≤◌, List, [], ◌∷◌, ◌++◌, length, sym, ◌∙◌, ap, subst, arith, append_assoc, append-nil, length-append, inl, inr}
+use Rattle.std.proofs.lemmas.Bool.{cases_lt}
 use Rattle.cards.specs.declared.seats.Seat.TheVariants.{North}
 use Rattle.cards.specs.declared.seats.Side.{Side}
 use Rattle.cards.specs.declared.pack.Card.{Card}
@@ -11,7 +12,7 @@ use Rattle.play_rules.specs.Legal.{CanPlay, IsLegal, IsUnfinished, cards_in_play
 use Rattle.play_rules.proofs.PositionLaws.{IsLegal-push}
 use Rattle.strategies.specs.Strategies.{CanWin}
 use Rattle.strategies.specs.Values.{opening_after}
-use Rattle.strategies.specs.Laws.{WinsByOwnCard, WinsAgainstEachCard, WinsTheRest, WinsNothing, WinsFewer, ShareTheTricks}
+use Rattle.strategies.specs.Laws.{WinsByOwnCard, WinsAgainstEachCard, WinsTheRest, WinsNothing, WinsWhatIsWon, WinsFewer, ShareTheTricks}
 use Rattle.strategies.proofs.Shifting.{seat_to_play-after, tricks_of-after, CanPlay-after, CanPlay-before}
 use Rattle.strategies.proofs.Counting.{tricks-add_up, count_of-left_of, IsLayout-after, some_card_to_play}
 use Rattle.strategies.proofs.Deciding.{some_legal_card}
@@ -116,14 +117,26 @@ Gets-won opening side tricks (suc left) history layout whole legal won =
       λ not card can. next card can,
     )
 
-pub won_already : (opening : Opening) (side : Side) (tricks : ℕ) (history : List Card) → IsLayout opening.deal → IsLegal opening history → length history ≤ cards_in_play opening → tricks ≤ tricks_of side opening.trump opening.leader history → CanWin opening side tricks history
-won_already opening side tricks history layout legal within won =
-    let left = cards_in_play opening - length history in
-    let whole : length history + left ≡ cards_in_play opening = omega arith in
-    CanWin-from_Gets opening side tricks left history layout.whole_pack whole legal (Gets-won opening side tricks left history layout whole legal won)
+-- a history too long has no play that goes on from it, so that nothing is asked of a strategy
+CanWin-too_long : (opening : Opening) (side : Side) (tricks : ℕ) (history : List Card) → cards_in_play opening < length history → CanWin opening side tricks history
+CanWin-too_long opening side tricks history long = record {
+  strategy = [];
+  lawful = λ cards legal more. absurd (omega (arith, length-append history cards));
+  enough = λ cards play. absurd (omega (arith, play.whole, length-append history cards));
+}
+
+pub what_is_won : WinsWhatIsWon
+what_is_won opening side tricks history layout legal won =
+    elim (cases_lt (cards_in_play opening) (length history)) [
+      | inl long ↦ CanWin-too_long opening side tricks history long
+      | inr within ↦
+          let left = cards_in_play opening - length history in
+          let whole : length history + left ≡ cards_in_play opening = omega arith in
+          CanWin-from_Gets opening side tricks left history layout.whole_pack whole legal (Gets-won opening side tricks left history layout whole legal won)
+    ]
 
 pub nothing : WinsNothing
-nothing opening side layout = won_already opening side 0 [] layout tt (omega arith) (omega arith)
+nothing opening side layout = what_is_won opening side 0 [] layout tt (omega arith)
 
 pub fewer : WinsFewer
 fewer opening side tricks less history h win = record {

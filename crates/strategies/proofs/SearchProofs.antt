@@ -17,7 +17,7 @@ use Rattle.play_rules.specs.Position.{Position, IsReached, AreLegalCards, turn_o
 use Rattle.strategies.specs.Strategies.{CanWin, IsTurnOf}
 use Rattle.strategies.specs.Values.{IsPlainValue}
 use Rattle.strategies.specs.Search.{Takes, IsHeldBelow, IsNoHelp}
-use Rattle.strategies.proofs.LawProofs.{by_own_card, against_each_card, won_already}
+use Rattle.strategies.proofs.LawProofs.{by_own_card, against_each_card, what_is_won}
 use Rattle.strategies.proofs.Counting.{tricks-add_up}
 
 -- whose turn it is, as the search knows it
@@ -61,7 +61,7 @@ over_settles position wanted over few fewer =
     omega (arith, tricks-add_up position.opening.trump position.opening.leader position.history, length-trick_of position.history)
 
 pub won_by : (position : Position) (side : Side) (wanted : ℕ) → IsReached position → wanted ≤ tricks_of side position.opening.trump position.opening.leader position.history → CanWin position.opening side wanted position.history
-won_by position side wanted reached won = won_already position.opening side wanted position.history reached.layout reached.legal reached.within won
+won_by position side wanted reached won = what_is_won position.opening side wanted position.history reached.layout reached.legal won
 
 -- one card more was tried
 pub IsNoHelp-more : (position : Position) (wanted : ℕ) (cards : List Card) (i : ℕ) (d : Card) → i < length cards → ((card : Card) → IsAmong (take i cards) card → IsNoHelp position wanted card) → IsNoHelp position wanted (get_or cards i d) → (card : Card) → IsAmong (take (i + 1) cards) card → IsNoHelp position wanted card

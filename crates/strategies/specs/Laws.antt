@@ -5,11 +5,12 @@ use Rattle.cards.specs.declared.seats.Seat.{Seat}
 use Rattle.cards.specs.declared.seats.Side.{Side}
 use Rattle.cards.specs.declared.seats.Side.TheVariants.{NorthSouth, EastWest}
 use Rattle.cards.specs.declared.pack.Card.{Card}
+use Rattle.cards.specs.Seats.{side_of}
 use Rattle.cards.specs.Deal.{Deal, IsLayout, size_of}
 use Rattle.play_rules.specs.History.{Opening, trick_of, tricks_of}
 use Rattle.play_rules.specs.Legal.{CanPlay, IsLegal, IsPlay, IsUnfinished, cards_in_play}
 use Rattle.strategies.specs.Strategies.{CanWin, IsTurnOf}
-use Rattle.strategies.specs.Values.{opening_after, IsValue, IsPlainValue}
+use Rattle.strategies.specs.Values.{opening_of, opening_after, IsValue, IsPlainValue}
 
 -- after some legal card
 abbrev pub CanWinAfterSome : Opening → Side → ℕ → List Card → Type 0
@@ -40,6 +41,13 @@ WinsTheRest =
 abbrev pub WinsNothing : Type 0
 WinsNothing = (opening : Opening) (side : Side) → IsLayout opening.deal → CanWin opening side 0 []
 
+-- tricks that were won can be won
+abbrev pub WinsWhatIsWon : Type 0
+WinsWhatIsWon =
+    (opening : Opening) (side : Side) (tricks : ℕ) (history : List Card)
+    → IsLayout opening.deal → IsLegal opening history → tricks ≤ tricks_of side opening.trump opening.leader history
+    → CanWin opening side tricks history
+
 -- who can win this many tricks can win fewer
 abbrev pub WinsFewer : Type 0
 WinsFewer =
@@ -64,3 +72,15 @@ HasOneValue =
 abbrev pub HasOnePlainValue : Type 0
 HasOnePlainValue =
     (opening : Opening) (one other : ℕ) → IsLayout opening.deal → IsPlainValue opening one → IsPlainValue opening other → one ≡ other
+
+-- how many of all the tricks North and South have, where this side has so many
+abbrev pub north_south_of : Side → ℕ → ℕ → ℕ
+north_south_of NorthSouth all tricks = tricks
+north_south_of EastWest all tricks = all - tricks
+
+-- the value from the side of North and South is the double-dummy value, or what it leaves of the tricks
+abbrev pub PlainValueIsValue : Type 0
+PlainValueIsValue =
+    (deal : Deal) (declarer : Seat) (trump : Trump) (tricks plain : ℕ)
+    → IsLayout deal → IsValue deal declarer trump tricks → IsPlainValue (opening_of deal declarer trump) plain
+    → plain ≡ north_south_of (side_of declarer) (size_of deal) tricks

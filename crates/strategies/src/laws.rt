@@ -1,6 +1,6 @@
 //! The laws of "can win". Each is a function that does nothing: its contract is the law.
 
-ghost use Rattle.strategies.specs.Laws.{WinsByOwnCard, WinsAgainstEachCard, WinsTheRest, WinsNothing, WinsFewer, ShareTheTricks, WinNoMoreThanAll, HasOneValue, HasOnePlainValue};
+ghost use Rattle.strategies.specs.Laws.{WinsByOwnCard, WinsAgainstEachCard, WinsTheRest, WinsNothing, WinsWhatIsWon, WinsFewer, ShareTheTricks, WinNoMoreThanAll, HasOneValue, HasOnePlainValue, PlainValueIsValue};
 
 /// At its own turn a side can win k tricks exactly where it can after some legal card.
 pub fn wins_by_own_card()
@@ -21,6 +21,11 @@ pub fn wins_the_rest()
 /// From every layout each side can win 0 tricks: a lawful strategy always exists.
 pub fn each_side_wins_nothing()
     ensures { WinsNothing }
+{}
+
+/// After every legal history a side can win the tricks that it has won.
+pub fn wins_what_is_won()
+    ensures { WinsWhatIsWon }
 {}
 
 /// A side that can win k tricks can win fewer.
@@ -46,4 +51,10 @@ pub fn value_is_unique()
 /// An ending has one value, from the side of North and South: no number but the one that [`crate::plain_value`] answers.
 pub fn plain_value_is_unique()
     ensures { HasOnePlainValue }
+{}
+
+/// Of the tricks of a contract's double-dummy value the value from the side of North and South is the same number where
+/// one of them declares, and else the number of the others.
+pub fn plain_value_is_value()
+    ensures { PlainValueIsValue }
 {}
