@@ -11,7 +11,7 @@ use Rattle.cards.specs.Seats.{is_same_seat}
 use Rattle.cards.specs.Deal.{Deal, holder_of, count_of}
 use Rattle.play_rules.specs.Legal.{IsAmong}
 use Rattle.play_rules.specs.Left.{without}
-use Rattle.play_rules.proofs.LeftLaws.{length-without, holder_of-without_other, count_of-without}
+use Rattle.play_rules.proofs.LeftLaws.{holder_of-without_other, count_of-without}
 use Rattle.play_rules.specs.Position.{AreInOrder, listed_place}
 use Rattle.play_rules.specs.Holdings.{HoldsSuit, MayBePlayed, IsSuitToFollow, IsOf, AreListedTo}
 
@@ -41,12 +41,12 @@ AreInOrder-push (first ∷ rest) card order below = (
 )
 
 -- a player's cards are no fewer than those of a list of them
-pub length-le-count_of : (left : Deal) (player : Seat) (cards : List Card) → length left ≡ 52 → AreInOrder cards → ((card : Card) → IsAmong cards card → holder_of left card ≡ Some player) → length cards ≤ count_of left player
-length-le-count_of left player [] whole order held = omega arith
-length-le-count_of left player (first ∷ rest) whole order held =
-    let fewer = length-le-count_of (without left first) player rest (length-without left first ∙ whole) order.1
+pub length-le-count_of : (left : Deal) (player : Seat) (cards : List Card) → AreInOrder cards → ((card : Card) → IsAmong cards card → holder_of left card ≡ Some player) → length cards ≤ count_of left player
+length-le-count_of left player [] order held = omega arith
+length-le-count_of left player (first ∷ rest) order held =
+    let fewer = length-le-count_of (without left first) player rest order.1
     (λ card h. holder_of-without_other left first card (λ e. let lt : listed_place first < listed_place card = order.0 card h in absurd (omega (arith, ap listed_place e))) ∙ held card (inr h)) in
-    let one : count_of (without left first) player + cond (is_same_seat player player) 1 0 ≡ count_of left player = count_of-without left first player player whole (held first (inl refl)) in
+    let one : count_of (without left first) player + cond (is_same_seat player player) 1 0 ≡ count_of left player = count_of-without left first player player (held first (inl refl)) in
     let one' : count_of (without left first) player + 1 ≡ count_of left player = rw (is_same_seat-refl player) at one in
     omega arith
 

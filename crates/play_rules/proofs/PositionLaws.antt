@@ -14,7 +14,7 @@ use Rattle.cards.specs.Deal.{holder_of, count_of, IsLayout}
 use Rattle.play_rules.specs.Tricks.{winner_of}
 use Rattle.play_rules.specs.History.{Opening, trick_made, trick_of, leader_after, turn_in_trick, tricks_of}
 use Rattle.play_rules.specs.Left.{left_of, without}
-use Rattle.play_rules.proofs.LeftLaws.{still_held, left_when_held, left_of-push, length-left_of, count_of-left_of-le}
+use Rattle.play_rules.proofs.LeftLaws.{still_held, left_when_held, left_of-push, count_of-left_of-le}
 use Rattle.play_rules.proofs.HistoryLaws.{trick_of-append, leader_after-append, tricks_of-append, turn_in_trick-push, GoesOn-from_short, Ends-from_four}
 use Rattle.play_rules.specs.Legal.{StillHolds, CanFollow, CanPlay, IsLegalAfter, IsLegal, IsUnfinished, seat_to_play}
 use Rattle.play_rules.specs.Position.{Position, IsReached, AreLegalCards, with_card}
@@ -24,23 +24,23 @@ use Rattle.play_rules.specs.Plays.{FailsToFollow}
 use Rattle.play_rules.specs.Tables.{Summary, Summarizes}
 
 -- who still holds a card of a suit, by what is left
-pub CanFollow-from_left : (opening : Opening) (history : List Card) (suit : Suit) → length opening.deal ≡ 52 → HoldsSuit (left_of opening.deal history) (seat_to_play opening history) suit → CanFollow opening history suit
-CanFollow-from_left opening history suit whole h = (h.0, still_held opening.deal history (seat_to_play opening history) h.0 whole h.1, h.2)
+pub CanFollow-from_left : (opening : Opening) (history : List Card) (suit : Suit) → HoldsSuit (left_of opening.deal history) (seat_to_play opening history) suit → CanFollow opening history suit
+CanFollow-from_left opening history suit h = (h.0, still_held opening.deal history (seat_to_play opening history) h.0 h.1, h.2)
 
-pub HoldsSuit-from_CanFollow : (opening : Opening) (history : List Card) (suit : Suit) → length opening.deal ≡ 52 → CanFollow opening history suit → HoldsSuit (left_of opening.deal history) (seat_to_play opening history) suit
-HoldsSuit-from_CanFollow opening history suit whole h = (h.0, left_when_held opening.deal history (seat_to_play opening history) h.0 whole h.1, h.2)
+pub HoldsSuit-from_CanFollow : (opening : Opening) (history : List Card) (suit : Suit) → CanFollow opening history suit → HoldsSuit (left_of opening.deal history) (seat_to_play opening history) suit
+HoldsSuit-from_CanFollow opening history suit h = (h.0, left_when_held opening.deal history (seat_to_play opening history) h.0 h.1, h.2)
 
 -- which cards may be played, by what is left
-pub CanPlay-from_left : (opening : Opening) (history : List Card) (card : Card) → length opening.deal ≡ 52 → MayBePlayed (left_of opening.deal history) (seat_to_play opening history) (trick_of history) card → CanPlay opening history card
-CanPlay-from_left opening history card whole may = record {
-  held = still_held opening.deal history (seat_to_play opening history) card whole may.held;
-  follows = λ led is can. may.follows led is (HoldsSuit-from_CanFollow opening history led whole can);
+pub CanPlay-from_left : (opening : Opening) (history : List Card) (card : Card) → MayBePlayed (left_of opening.deal history) (seat_to_play opening history) (trick_of history) card → CanPlay opening history card
+CanPlay-from_left opening history card may = record {
+  held = still_held opening.deal history (seat_to_play opening history) card may.held;
+  follows = λ led is can. may.follows led is (HoldsSuit-from_CanFollow opening history led can);
 }
 
-pub MayBePlayed-from_CanPlay : (opening : Opening) (history : List Card) (card : Card) → length opening.deal ≡ 52 → CanPlay opening history card → MayBePlayed (left_of opening.deal history) (seat_to_play opening history) (trick_of history) card
-MayBePlayed-from_CanPlay opening history card whole can = record {
-  held = left_when_held opening.deal history (seat_to_play opening history) card whole can.held;
-  follows = λ led is has. can.follows led is (CanFollow-from_left opening history led whole has);
+pub MayBePlayed-from_CanPlay : (opening : Opening) (history : List Card) (card : Card) → CanPlay opening history card → MayBePlayed (left_of opening.deal history) (seat_to_play opening history) (trick_of history) card
+MayBePlayed-from_CanPlay opening history card can = record {
+  held = left_when_held opening.deal history (seat_to_play opening history) card can.held;
+  follows = λ led is has. can.follows led is (CanFollow-from_left opening history led has);
 }
 
 -- legal play goes on
@@ -128,11 +128,10 @@ three_cards (a ∷ b ∷ c ∷ x ∷ rest) d e f h = absurd (omega arith)
 -- the list of what may be played, by what the table keeps
 pub AreLegalCards-from_left : (position : Position) (s : Summary) (cards : List Card) → Summarizes position s → AreListedTo s.left s.player s.trick 52 cards → AreLegalCards position cards
 AreLegalCards-from_left position s cards kept listed =
-    let whole = kept.reached.layout.whole_pack in
     let listed' : AreListedTo (left_of position.opening.deal position.history) (seat_to_play position.opening position.history) (trick_of position.history) 52 cards = rw (kept.left_is, player-is position s kept, kept.trick_is) at listed in
     record {
-      legal = λ card h. CanPlay-from_left position.opening position.history card whole (listed'.legal card h);
-      all = λ card can. listed'.all card (listed_place-lt card) (MayBePlayed-from_CanPlay position.opening position.history card whole can);
+      legal = λ card h. CanPlay-from_left position.opening position.history card (listed'.legal card h);
+      all = λ card can. listed'.all card (listed_place-lt card) (MayBePlayed-from_CanPlay position.opening position.history card can);
       in_order = listed.in_order;
     }
 
@@ -144,17 +143,14 @@ hand-le position s kept =
     let same : count_of s.left s.player ≡ count_of (left_of position.opening.deal position.history) s.player = ap (λ d. count_of d s.player) kept.left_is in
     omega (arith, layout.equal_hands s.player, layout.at_most_13)
 
-pub length-left : (position : Position) (s : Summary) → Summarizes position s → length s.left ≡ 52
-length-left position s kept = ap length kept.left_is ∙ (length-left_of position.opening.deal position.history ∙ kept.reached.layout.whole_pack)
-
 -- the three tests of a card, by what the table keeps
 pub still_held-from_left : (position : Position) (s : Summary) (card : Card) → Summarizes position s → holder_of s.left card ≡ Some s.player → StillHolds position.opening.deal position.history (seat_to_play position.opening position.history) card
 still_held-from_left position s card kept held =
-    still_held position.opening.deal position.history _ card kept.reached.layout.whole_pack (rw (kept.left_is, player-is position s kept) at held)
+    still_held position.opening.deal position.history _ card (rw (kept.left_is, player-is position s kept) at held)
 
 pub held-from_still_held : (position : Position) (s : Summary) (card : Card) → Summarizes position s → StillHolds position.opening.deal position.history (seat_to_play position.opening position.history) card → holder_of s.left card ≡ Some s.player
 held-from_still_held position s card kept h =
-    rw (kept.left_is, player-is position s kept) (left_when_held position.opening.deal position.history _ card kept.reached.layout.whole_pack h)
+    rw (kept.left_is, player-is position s kept) (left_when_held position.opening.deal position.history _ card h)
 
 pub FailsToFollow-from_Revokes : (position : Position) (s : Summary) (card : Card) → Summarizes position s → holder_of s.left card ≡ Some s.player → Revokes s.left s.player s.trick card → FailsToFollow position card
 FailsToFollow-from_Revokes position s card kept held revokes =
@@ -163,7 +159,7 @@ FailsToFollow-from_Revokes position s card kept held revokes =
       held = still_held-from_left position s card kept held;
       led = revokes.suit;
       is_led = must.led;
-      can_follow = CanFollow-from_left position.opening position.history revokes.suit kept.reached.layout.whole_pack must.held;
+      can_follow = CanFollow-from_left position.opening position.history revokes.suit must.held;
       other_suit = revokes.other;
     }
 
@@ -171,7 +167,7 @@ pub CanPlay-from_tests : (position : Position) (s : Summary) (card : Card) → S
 CanPlay-from_tests position s card kept held not = record {
   held = still_held-from_left position s card kept held;
   follows = λ led is can.
-      let has : HoldsSuit s.left s.player led = rw (kept.left_is, player-is position s kept) (HoldsSuit-from_CanFollow position.opening position.history led kept.reached.layout.whole_pack can) in
+      let has : HoldsSuit s.left s.player led = rw (kept.left_is, player-is position s kept) (HoldsSuit-from_CanFollow position.opening position.history led can) in
       elim (cases_eq (suit_number card.suit) (suit_number led)) [
         | inl e ↦ same_from_suit_numbers card.suit led e
         | inr n ↦ absurd (not (record { suit = led; to_be_followed = record { led = rw kept.trick_is is; held = has }; other = λ e. n (ap suit_number e) }))

@@ -8,6 +8,7 @@ use Rattle.cards.specs.declared.pack.Card.{Card}
 use Rattle.cards.specs.Pack.{suit_number, rank_number, card_of}
 use Rattle.cards.proofs.PackLaws.{same_from_suit_numbers, same_from_rank_numbers}
 use Rattle.play_rules.specs.Tricks.{Trick, card_in_place, IsHighest, HasSuit, WinsAt, AreFourCards, is_of, deciding_suit, height, highest_place, winning_place}
+use Rattle.play_rules.specs.Laws.{WinsByHighestCard}
 
 -- the height in a place
 abbrev height_at : ℕ → ℕ → ℕ → ℕ → ℕ → ℕ
@@ -114,6 +115,18 @@ some_card suit trick h =
         ]
       ]
     ]
+
+-- the suit that decides a trick was played to it
+deciding_suit-played : (trump : Trump) (trick : Trick) → HasSuit trick (deciding_suit trump trick)
+deciding_suit-played trump.Nt trick = (0, refl)
+deciding_suit-played (trump.Suit suit) trick =
+    elim (cases_Bool (is_of suit trick.first || (is_of suit trick.second || (is_of suit trick.third || is_of suit trick.fourth)))) [
+      | inl e ↦ rw e (some_card suit trick e)
+      | inr e ↦ rw e (0, refl)
+    ]
+
+pub wins_by_highest_card : WinsByHighestCard
+wins_by_highest_card trump trick = IsHighest-from_place trick (deciding_suit trump trick) (deciding_suit-played trump trick)
 
 -- two highest cards of one suit are one card
 same_highest : (trick : Trick) (suit : Suit) (one other : ℕ) → IsHighest trick suit one → IsHighest trick suit other → card_in_place trick one ≡ card_in_place trick other

@@ -7,3 +7,4 @@ pub mod Left
 pub mod Tables
 pub mod Holdings
 pub mod Faults
+pub mod Laws

@@ -1,6 +1,6 @@
 //! Who holds what is left, and which of it may be played.
 
-ghost use Rattle.std.specs.Prelude.{◌≡◌, ◌<◌, ◌≤◌, length, Some, MatchBool};
+ghost use Rattle.std.specs.Prelude.{◌≡◌, ◌<◌, ◌≤◌, Some, MatchBool};
 ghost use Rattle.cards.specs.Deal.{holder_of, count_of};
 ghost use Rattle.play_rules.specs.Position.{listed_place};
 ghost use Rattle.play_rules.specs.Holdings.{HoldsSuit, IsSuitToFollow, IsOf, MayBePlayed, Revokes, AreListedTo};
@@ -82,8 +82,7 @@ pub(crate) fn legal_cards(
     player: Seat,
     trick: &[Card],
 ) -> ArrayVec<Card, 13>
-    requires whole { length left.now ≡ 52 }
-    requires hand { count_of left.now player ≤ 13 }
+    requires { count_of left.now player ≤ 13 }
     ensures { AreListedTo left.now player trick.now 52 result.items }
 {
     let suit = suit_to_follow(left, player, trick);

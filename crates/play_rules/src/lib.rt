@@ -7,11 +7,13 @@
 
 mod faults;
 mod holdings;
+mod laws;
 mod tables;
 #[cfg(test)]
 mod tests;
 mod tricks;
 
 pub use faults::PlayFault;
+pub use laws::{leaves_the_unplayed, wins_by_highest_card};
 pub use tables::Table;
 pub use tricks::winner;

@@ -100,33 +100,30 @@ apart_3 South = refl
 apart_3 West = refl
 
 -- who held the first cards of a trick
-held_1 : (trump : Trump) (deal : Deal) (leader : Seat) (a : Card) → length deal ≡ 52 → CanPlay (at_start trump deal leader) [] a → holder_of deal a ≡ Some leader
+held_1 : (trump : Trump) (deal : Deal) (leader : Seat) (a : Card) → CanPlay (at_start trump deal leader) [] a → holder_of deal a ≡ Some leader
 unfolding leader_after trick_of left_of
-held_1 trump deal leader a whole can = left_when_held deal [] leader a whole can.held
+held_1 trump deal leader a can = left_when_held deal [] leader a can.held
 
-held_2 : (trump : Trump) (deal : Deal) (leader : Seat) (a b : Card) → length deal ≡ 52 → CanPlay (at_start trump deal leader) (a ∷ []) b → holder_of (without deal a) b ≡ Some (next_of leader)
+held_2 : (trump : Trump) (deal : Deal) (leader : Seat) (a b : Card) → CanPlay (at_start trump deal leader) (a ∷ []) b → holder_of (without deal a) b ≡ Some (next_of leader)
 unfolding leader_after trick_of left_of
-held_2 trump deal leader a b whole can = left_when_held deal (a ∷ []) (next_of leader) b whole can.held
+held_2 trump deal leader a b can = left_when_held deal (a ∷ []) (next_of leader) b can.held
 
-held_3 : (trump : Trump) (deal : Deal) (leader : Seat) (a b c : Card) → length deal ≡ 52 → CanPlay (at_start trump deal leader) (a ∷ b ∷ []) c → holder_of (without (without deal a) b) c ≡ Some (next_of (next_of leader))
+held_3 : (trump : Trump) (deal : Deal) (leader : Seat) (a b c : Card) → CanPlay (at_start trump deal leader) (a ∷ b ∷ []) c → holder_of (without (without deal a) b) c ≡ Some (next_of (next_of leader))
 unfolding leader_after trick_of left_of
-held_3 trump deal leader a b c whole can = left_when_held deal (a ∷ b ∷ []) (next_of (next_of leader)) c whole can.held
+held_3 trump deal leader a b c can = left_when_held deal (a ∷ b ∷ []) (next_of (next_of leader)) c can.held
 
-held_4 : (trump : Trump) (deal : Deal) (leader : Seat) (a b c e : Card) → length deal ≡ 52 → CanPlay (at_start trump deal leader) (a ∷ b ∷ c ∷ []) e → holder_of (without (without (without deal a) b) c) e ≡ Some (next_of (next_of (next_of leader)))
+held_4 : (trump : Trump) (deal : Deal) (leader : Seat) (a b c e : Card) → CanPlay (at_start trump deal leader) (a ∷ b ∷ c ∷ []) e → holder_of (without (without (without deal a) b) c) e ≡ Some (next_of (next_of (next_of leader)))
 unfolding leader_after trick_of left_of
-held_4 trump deal leader a b c e whole can = left_when_held deal (a ∷ b ∷ c ∷ []) (next_of (next_of (next_of leader))) e whole can.held
+held_4 trump deal leader a b c e can = left_when_held deal (a ∷ b ∷ c ∷ []) (next_of (next_of (next_of leader))) e can.held
 
 -- what a whole trick takes from each hand
-pub count_of-trick : (trump : Trump) (deal : Deal) (leader : Seat) (a b c e : Card) (rest : List Card) → length deal ≡ 52 → IsLegal (at_start trump deal leader) (a ∷ b ∷ c ∷ e ∷ rest) → (seat : Seat) → count_of (left_of deal (a ∷ b ∷ c ∷ e ∷ [])) seat + 1 ≡ count_of deal seat
+pub count_of-trick : (trump : Trump) (deal : Deal) (leader : Seat) (a b c e : Card) (rest : List Card) → IsLegal (at_start trump deal leader) (a ∷ b ∷ c ∷ e ∷ rest) → (seat : Seat) → count_of (left_of deal (a ∷ b ∷ c ∷ e ∷ [])) seat + 1 ≡ count_of deal seat
 unfolding left_of
-count_of-trick trump deal leader a b c e rest whole legal seat =
-    let w1 = length-without deal a ∙ whole in
-    let w2 = length-without (without deal a) b ∙ w1 in
-    let w3 = length-without (without (without deal a) b) c ∙ w2 in
-    let c1 = count_of-without deal a leader seat whole (held_1 trump deal leader a whole legal.0) in
-    let c2 = count_of-without (without deal a) b (next_of leader) seat w1 (held_2 trump deal leader a b whole legal.1.0) in
-    let c3 = count_of-without (without (without deal a) b) c (next_of (next_of leader)) seat w2 (held_3 trump deal leader a b c whole legal.1.1.0) in
-    let c4 = count_of-without (without (without (without deal a) b) c) e (next_of (next_of (next_of leader))) seat w3 (held_4 trump deal leader a b c e whole legal.1.1.1.0) in
+count_of-trick trump deal leader a b c e rest legal seat =
+    let c1 = count_of-without deal a leader seat (held_1 trump deal leader a legal.0) in
+    let c2 = count_of-without (without deal a) b (next_of leader) seat (held_2 trump deal leader a b legal.1.0) in
+    let c3 = count_of-without (without (without deal a) b) c (next_of (next_of leader)) seat (held_3 trump deal leader a b c legal.1.1.0) in
+    let c4 = count_of-without (without (without (without deal a) b) c) e (next_of (next_of (next_of leader))) seat (held_4 trump deal leader a b c e legal.1.1.1.0) in
     omega (arith, each_once seat leader, c1, c2, c3, c4)
 
 four-whole : (a b c e : Card) → trick_of (a ∷ b ∷ c ∷ e ∷ []) ≡ []
@@ -134,28 +131,28 @@ unfolding trick_of
 four-whole a b c e = refl
 
 -- the rest of a history, after its first trick
-pub rest-legal : (trump : Trump) (deal : Deal) (leader : Seat) (a b c e : Card) (rest : List Card) → length deal ≡ 52 → IsLegal (at_start trump deal leader) (a ∷ b ∷ c ∷ e ∷ rest) → IsLegal (at_start trump (left_of deal (a ∷ b ∷ c ∷ e ∷ [])) (winner_of trump leader (trick_made a b c e))) rest
+pub rest-legal : (trump : Trump) (deal : Deal) (leader : Seat) (a b c e : Card) (rest : List Card) → IsLegal (at_start trump deal leader) (a ∷ b ∷ c ∷ e ∷ rest) → IsLegal (at_start trump (left_of deal (a ∷ b ∷ c ∷ e ∷ [])) (winner_of trump leader (trick_made a b c e))) rest
 unfolding leader_after
-rest-legal trump deal leader a b c e rest whole legal =
-    IsLegal-after (at_start trump deal leader) (a ∷ b ∷ c ∷ e ∷ []) [] rest whole (four-whole a b c e) legal.1.1.1.1
+rest-legal trump deal leader a b c e rest legal =
+    IsLegal-after (at_start trump deal leader) (a ∷ b ∷ c ∷ e ∷ []) [] rest (four-whole a b c e) legal.1.1.1.1
 
 -- after whole tricks each hand has lost a card a trick
-pub count_of-left_of : (trump : Trump) (deal : Deal) (leader : Seat) (history : List Card) → length deal ≡ 52 → IsLegal (at_start trump deal leader) history → trick_of history ≡ [] → (seat : Seat) → 4 * count_of (left_of deal history) seat + length history ≡ 4 * count_of deal seat
+pub count_of-left_of : (trump : Trump) (deal : Deal) (leader : Seat) (history : List Card) → IsLegal (at_start trump deal leader) history → trick_of history ≡ [] → (seat : Seat) → 4 * count_of (left_of deal history) seat + length history ≡ 4 * count_of deal seat
 unfolding trick_of left_of
-count_of-left_of trump deal leader [] whole legal e seat = omega arith
-count_of-left_of trump deal leader (a ∷ []) whole legal e seat = absurd (omega (arith, ap length e))
-count_of-left_of trump deal leader (a ∷ b ∷ []) whole legal e seat = absurd (omega (arith, ap length e))
-count_of-left_of trump deal leader (a ∷ b ∷ c ∷ []) whole legal e seat = absurd (omega (arith, ap length e))
-count_of-left_of trump deal leader (a ∷ b ∷ c ∷ d ∷ rest) whole legal e seat =
+count_of-left_of trump deal leader [] legal e seat = omega arith
+count_of-left_of trump deal leader (a ∷ []) legal e seat = absurd (omega (arith, ap length e))
+count_of-left_of trump deal leader (a ∷ b ∷ []) legal e seat = absurd (omega (arith, ap length e))
+count_of-left_of trump deal leader (a ∷ b ∷ c ∷ []) legal e seat = absurd (omega (arith, ap length e))
+count_of-left_of trump deal leader (a ∷ b ∷ c ∷ d ∷ rest) legal e seat =
     let left = left_of deal (a ∷ b ∷ c ∷ d ∷ []) in
-    let one = count_of-trick trump deal leader a b c d rest whole legal seat in
-    let more = count_of-left_of trump left (winner_of trump leader (trick_made a b c d)) rest (length-left_of deal (a ∷ b ∷ c ∷ d ∷ []) ∙ whole) (rest-legal trump deal leader a b c d rest whole legal) e seat in
+    let one = count_of-trick trump deal leader a b c d rest legal seat in
+    let more = count_of-left_of trump left (winner_of trump leader (trick_made a b c d)) rest (rest-legal trump deal leader a b c d rest legal) e seat in
     omega (arith, one, more)
 
 -- the layout left after whole tricks, while cards are left
 pub IsLayout-after : (opening : Opening) (history : List Card) → IsLayout opening.deal → IsLegal opening history → trick_of history ≡ [] → length history < 4 * size_of opening.deal → IsLayout (left_of opening.deal history)
 IsLayout-after opening history layout legal e more =
-    let count = count_of-left_of opening.trump opening.deal opening.leader history layout.whole_pack legal e in
+    let count = count_of-left_of opening.trump opening.deal opening.leader history legal e in
     record {
       whole_pack = length-left_of opening.deal history ∙ layout.whole_pack;
       some_cards = omega (arith, count North);
@@ -168,25 +165,25 @@ pub some_card_to_play : (trump : Trump) (deal : Deal) (leader : Seat) (history :
 unfolding trick_of leader_after left_of
 some_card_to_play trump deal leader [] n whole count legal more = some_card_held deal leader whole (omega (arith, count leader))
 some_card_to_play trump deal leader (a ∷ []) n whole count legal more =
-    let c1 = count_of-without deal a leader (next_of leader) whole (held_1 trump deal leader a whole legal.0) in
+    let c1 = count_of-without deal a leader (next_of leader) (held_1 trump deal leader a legal.0) in
     some_card_held (without deal a) (next_of leader) (length-without deal a ∙ whole) (omega (arith, c1, count (next_of leader), apart_1 leader))
 some_card_to_play trump deal leader (a ∷ b ∷ []) n whole count legal more =
     let seat = next_of (next_of leader) in
     let w1 = length-without deal a ∙ whole in
-    let c1 = count_of-without deal a leader seat whole (held_1 trump deal leader a whole legal.0) in
-    let c2 = count_of-without (without deal a) b (next_of leader) seat w1 (held_2 trump deal leader a b whole legal.1.0) in
+    let c1 = count_of-without deal a leader seat (held_1 trump deal leader a legal.0) in
+    let c2 = count_of-without (without deal a) b (next_of leader) seat (held_2 trump deal leader a b legal.1.0) in
     some_card_held (without (without deal a) b) seat (length-without (without deal a) b ∙ w1) (omega (arith, c1, c2, count seat, apart_1 (next_of leader), apart_2 leader))
 some_card_to_play trump deal leader (a ∷ b ∷ c ∷ []) n whole count legal more =
     let seat = next_of (next_of (next_of leader)) in
     let w1 = length-without deal a ∙ whole in
     let w2 = length-without (without deal a) b ∙ w1 in
-    let c1 = count_of-without deal a leader seat whole (held_1 trump deal leader a whole legal.0) in
-    let c2 = count_of-without (without deal a) b (next_of leader) seat w1 (held_2 trump deal leader a b whole legal.1.0) in
-    let c3 = count_of-without (without (without deal a) b) c (next_of (next_of leader)) seat w2 (held_3 trump deal leader a b c whole legal.1.1.0) in
+    let c1 = count_of-without deal a leader seat (held_1 trump deal leader a legal.0) in
+    let c2 = count_of-without (without deal a) b (next_of leader) seat (held_2 trump deal leader a b legal.1.0) in
+    let c3 = count_of-without (without (without deal a) b) c (next_of (next_of leader)) seat (held_3 trump deal leader a b c legal.1.1.0) in
     some_card_held (without (without (without deal a) b) c) seat (length-without (without (without deal a) b) c ∙ w2)
     (omega (arith, c1, c2, c3, count seat, apart_1 (next_of (next_of leader)), apart_2 (next_of leader), apart_3 leader))
 some_card_to_play trump deal leader (a ∷ b ∷ c ∷ d ∷ rest) n whole count legal more =
     let left = left_of deal (a ∷ b ∷ c ∷ d ∷ []) in
     some_card_to_play trump left (winner_of trump leader (trick_made a b c d)) rest (n - 1) (length-left_of deal (a ∷ b ∷ c ∷ d ∷ []) ∙ whole)
-    (λ seat. omega (arith, count_of-trick trump deal leader a b c d rest whole legal seat, count seat))
-    (rest-legal trump deal leader a b c d rest whole legal) (omega arith)
+    (λ seat. omega (arith, count_of-trick trump deal leader a b c d rest legal seat, count seat))
+    (rest-legal trump deal leader a b c d rest legal) (omega arith)

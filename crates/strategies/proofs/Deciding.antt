@@ -1,5 +1,5 @@
 -- Whether a card may be played can be decided.
-use Rattle.std.proofs.Common.{◌≡◌, ℕ, zero, suc, ◌<◌, List, length, Option, None, Some, refl, sym, ◌∙◌, ap, arith, inl, inr, ◌⊎◌}
+use Rattle.std.proofs.Common.{◌≡◌, ℕ, zero, suc, ◌<◌, List, Option, None, Some, refl, sym, ◌∙◌, ap, arith, inl, inr, ◌⊎◌}
 use Rattle.std.proofs.lemmas.Bool.{cases_Bool, cases_eq, false≢true}
 use Rattle.cards.specs.declared.suits.Suit.{Suit}
 use Rattle.cards.specs.declared.seats.Seat.{Seat}
@@ -80,16 +80,16 @@ decide_may left player trick card =
       ]
     ]
 
-pub decide_play : (opening : Opening) (history : List Card) (card : Card) → length opening.deal ≡ 52 → CanPlay opening history card ⊎ (CanPlay opening history card → ⊥)
-decide_play opening history card whole =
+pub decide_play : (opening : Opening) (history : List Card) (card : Card) → CanPlay opening history card ⊎ (CanPlay opening history card → ⊥)
+decide_play opening history card =
     elim (decide_may (left_of opening.deal history) (seat_to_play opening history) (trick_of history) card) [
-      | inl may ↦ inl (CanPlay-from_left opening history card whole may)
-      | inr not ↦ inr (λ can. not (MayBePlayed-from_CanPlay opening history card whole can))
+      | inl may ↦ inl (CanPlay-from_left opening history card may)
+      | inr not ↦ inr (λ can. not (MayBePlayed-from_CanPlay opening history card can))
     ]
 
 -- a seat with a card left has one that it may play
-pub some_legal_card : (opening : Opening) (history : List Card) (card : Card) → length opening.deal ≡ 52 → holder_of (left_of opening.deal history) card ≡ Some (seat_to_play opening history) → (other : Card) × CanPlay opening history other
-some_legal_card opening history card whole held = go (suit_of_first (trick_of history)) refl
+pub some_legal_card : (opening : Opening) (history : List Card) (card : Card) → holder_of (left_of opening.deal history) card ≡ Some (seat_to_play opening history) → (other : Card) × CanPlay opening history other
+some_legal_card opening history card held = go (suit_of_first (trick_of history)) refl
   where
     left : Deal
     left = left_of opening.deal history
@@ -98,9 +98,9 @@ some_legal_card opening history card whole held = go (suit_of_first (trick_of hi
     player = seat_to_play opening history
 
     go : (first : Option Suit) → suit_of_first (trick_of history) ≡ first → (other : Card) × CanPlay opening history other
-    go None e = (card, CanPlay-from_left opening history card whole (record { held = held; follows = λ led is. absurd (None-suit led (sym e ∙ is)) }))
+    go None e = (card, CanPlay-from_left opening history card (record { held = held; follows = λ led is. absurd (None-suit led (sym e ∙ is)) }))
     go (Some suit) e =
         elim (decide_suit (left_of opening.deal history) (seat_to_play opening history) suit) [
-          | inl has ↦ (has.0, CanPlay-from_left opening history has.0 whole (record { held = has.1; follows = λ led is can. has.2 ∙ Some-suit suit led (sym e ∙ is) }))
-          | inr none ↦ (card, CanPlay-from_left opening history card whole (record { held = held; follows = λ led is can. absurd (none (rw (← Some-suit suit led (sym e ∙ is)) at can)) }))
+          | inl has ↦ (has.0, CanPlay-from_left opening history has.0 (record { held = has.1; follows = λ led is can. has.2 ∙ Some-suit suit led (sym e ∙ is) }))
+          | inr none ↦ (card, CanPlay-from_left opening history card (record { held = held; follows = λ led is can. absurd (none (rw (← Some-suit suit led (sym e ∙ is)) at can)) }))
         ]

@@ -34,7 +34,7 @@ by_own_card opening side tricks history layout legal more turn = (
       (own.card, own.legal, CanWin-follow opening side tricks history own.card win (λ _. own.chosen)),
   λ (card, can, win).
       let rest = left_of_play opening history more in
-      CanWin-from_Gets opening side tricks (suc rest.0) history layout.whole_pack rest.1 legal
+      CanWin-from_Gets opening side tricks (suc rest.0) history rest.1 legal
       (λ _. (card, can, Gets-next opening side tricks rest.0 history card rest.1 legal can win), λ not. absurd (not turn)),
 )
 
@@ -43,41 +43,41 @@ against_each_card opening side tricks history layout legal more not = (
   λ win card can. CanWin-follow opening side tricks history card win (λ turn. absurd (not turn)),
   λ each.
       let rest = left_of_play opening history more in
-      CanWin-from_Gets opening side tricks (suc rest.0) history layout.whole_pack rest.1 legal
+      CanWin-from_Gets opening side tricks (suc rest.0) history rest.1 legal
       (λ turn. absurd (not turn), λ _ card can. Gets-next opening side tricks rest.0 history card rest.1 legal can (each card can)),
 )
 
 -- play after whole tricks is play from what is left
-Gets-after : (opening : Opening) (side : Side) (tricks left : ℕ) (history more : List Card) → length opening.deal ≡ 52 → trick_of history ≡ [] → Gets opening side tricks left (history ++ more) → Gets (opening_after opening history) side (tricks - tricks_of side opening.trump opening.leader history) left more
-Gets-after opening side tricks zero history more whole e gets = omega (arith, tricks_of-after opening side history more e)
-Gets-after opening side tricks (suc left) history more whole e gets =
+Gets-after : (opening : Opening) (side : Side) (tricks left : ℕ) (history more : List Card) → trick_of history ≡ [] → Gets opening side tricks left (history ++ more) → Gets (opening_after opening history) side (tricks - tricks_of side opening.trump opening.leader history) left more
+Gets-after opening side tricks zero history more e gets = omega (arith, tricks_of-after opening side history more e)
+Gets-after opening side tricks (suc left) history more e gets =
     let seat = seat_to_play-after opening history more e in (
       λ turn.
           let own = gets.0 (ap side_of seat ∙ turn) in (
             own.0,
-            CanPlay-after opening history more own.0 whole e own.1,
-            Gets-after opening side tricks left history (more ++ own.0 ∷ []) whole e (subst (λ (h : List Card). Gets opening side tricks left h) (append_assoc history more (own.0 ∷ [])) own.2),
+            CanPlay-after opening history more own.0 e own.1,
+            Gets-after opening side tricks left history (more ++ own.0 ∷ []) e (subst (λ (h : List Card). Gets opening side tricks left h) (append_assoc history more (own.0 ∷ [])) own.2),
           ),
       λ not card can.
-          Gets-after opening side tricks left history (more ++ card ∷ []) whole e
+          Gets-after opening side tricks left history (more ++ card ∷ []) e
           (subst (λ (h : List Card). Gets opening side tricks left h) (append_assoc history more (card ∷ []))
-          (gets.1 (λ turn. not (sym (ap side_of seat) ∙ turn)) card (CanPlay-before opening history more card whole e can))),
+          (gets.1 (λ turn. not (sym (ap side_of seat) ∙ turn)) card (CanPlay-before opening history more card e can))),
     )
 
-Gets-before : (opening : Opening) (side : Side) (tricks left : ℕ) (history more : List Card) → length opening.deal ≡ 52 → trick_of history ≡ [] → Gets (opening_after opening history) side (tricks - tricks_of side opening.trump opening.leader history) left more → Gets opening side tricks left (history ++ more)
-Gets-before opening side tricks zero history more whole e gets = omega (arith, tricks_of-after opening side history more e)
-Gets-before opening side tricks (suc left) history more whole e gets =
+Gets-before : (opening : Opening) (side : Side) (tricks left : ℕ) (history more : List Card) → trick_of history ≡ [] → Gets (opening_after opening history) side (tricks - tricks_of side opening.trump opening.leader history) left more → Gets opening side tricks left (history ++ more)
+Gets-before opening side tricks zero history more e gets = omega (arith, tricks_of-after opening side history more e)
+Gets-before opening side tricks (suc left) history more e gets =
     let seat = seat_to_play-after opening history more e in (
       λ turn.
           let own = gets.0 (sym (ap side_of seat) ∙ turn) in (
             own.0,
-            CanPlay-before opening history more own.0 whole e own.1,
-            subst (λ (h : List Card). Gets opening side tricks left h) (sym (append_assoc history more (own.0 ∷ []))) (Gets-before opening side tricks left history (more ++ own.0 ∷ []) whole e own.2),
+            CanPlay-before opening history more own.0 e own.1,
+            subst (λ (h : List Card). Gets opening side tricks left h) (sym (append_assoc history more (own.0 ∷ []))) (Gets-before opening side tricks left history (more ++ own.0 ∷ []) e own.2),
           ),
       λ not card can.
           subst (λ (h : List Card). Gets opening side tricks left h) (sym (append_assoc history more (card ∷ [])))
-          (Gets-before opening side tricks left history (more ++ card ∷ []) whole e
-          (gets.1 (λ turn. not (ap side_of seat ∙ turn)) card (CanPlay-after opening history more card whole e can))),
+          (Gets-before opening side tricks left history (more ++ card ∷ []) e
+          (gets.1 (λ turn. not (ap side_of seat ∙ turn)) card (CanPlay-after opening history more card e can))),
     )
 
 pub the_rest : WinsTheRest
@@ -86,17 +86,17 @@ the_rest opening side tricks history layout legal more e =
     let left = cards_in_play opening - length history in
     let whole : length history + left ≡ cards_in_play opening = omega arith in
     let after = opening_after opening history in
-    let rest : length {A = Card} [] + left ≡ cards_in_play after = omega (arith, count_of-left_of opening.trump opening.deal opening.leader history layout.whole_pack legal e North) in
+    let rest : length {A = Card} [] + left ≡ cards_in_play after = omega (arith, count_of-left_of opening.trump opening.deal opening.leader history legal e North) in
     let fewer = tricks - tricks_of side opening.trump opening.leader history in
     let nil : history ++ [] ≡ history = append-nil history in (
       left_layout,
       (
         λ win.
-            CanWin-from_Gets after side fewer left [] left_layout.whole_pack rest tt
-            (Gets-after opening side tricks left history [] layout.whole_pack e (subst (λ (h : List Card). Gets opening side tricks left h) (sym nil) (Gets-from_CanWin opening side tricks left history whole legal win))),
+            CanWin-from_Gets after side fewer left [] rest tt
+            (Gets-after opening side tricks left history [] e (subst (λ (h : List Card). Gets opening side tricks left h) (sym nil) (Gets-from_CanWin opening side tricks left history whole legal win))),
         λ win.
-            CanWin-from_Gets opening side tricks left history layout.whole_pack whole legal
-            (subst (λ (h : List Card). Gets opening side tricks left h) nil (Gets-before opening side tricks left history [] layout.whole_pack e (Gets-from_CanWin after side fewer left [] rest tt win))),
+            CanWin-from_Gets opening side tricks left history whole legal
+            (subst (λ (h : List Card). Gets opening side tricks left h) nil (Gets-before opening side tricks left history [] e (Gets-from_CanWin after side fewer left [] rest tt win))),
       ),
     )
 
@@ -112,7 +112,7 @@ Gets-won opening side tricks (suc left) history layout whole legal won =
     (omega (arith, tricks_of-push side opening history card)) in (
       λ turn.
           let held = some_card_to_play opening.trump opening.deal opening.leader history (size_of opening.deal) layout.whole_pack layout.equal_hands legal (omega arith) in
-          let legal_card = some_legal_card opening history held.0 layout.whole_pack held.1 in
+          let legal_card = some_legal_card opening history held.0 held.1 in
           (legal_card.0, legal_card.1, next legal_card.0 legal_card.1),
       λ not card can. next card can,
     )
@@ -132,7 +132,7 @@ what_is_won opening side tricks history layout legal won =
       | inr within ↦
           let left = cards_in_play opening - length history in
           let whole : length history + left ≡ cards_in_play opening = omega arith in
-          CanWin-from_Gets opening side tricks left history layout.whole_pack whole legal (Gets-won opening side tricks left history layout whole legal won)
+          CanWin-from_Gets opening side tricks left history whole legal (Gets-won opening side tricks left history layout whole legal won)
     ]
 
 pub nothing : WinsNothing

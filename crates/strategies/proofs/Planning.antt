@@ -155,13 +155,13 @@ record Joined (opening : Opening) (side : Side) (tricks : ℕ) (history : List C
       (plan : Plan opening side tricks (history ++ card ∷ [])) × AgreeAfter plan.win.strategy strategy (history ++ card ∷ [])
   away : (other : List Card) → ((card : Card) → card_number card < n → Begins (history ++ card ∷ []) other → ⊥) → choice_of strategy other ≡ None
 
-joined : (opening : Opening) (side : Side) (tricks : ℕ) (history : List Card) → length opening.deal ≡ 52 → ((card : Card) → CanPlay opening history card → Plan opening side tricks (history ++ card ∷ [])) → (n : ℕ) → n ≤ 52 → Joined opening side tricks history n
-joined opening side tricks history whole plans zero small = record { strategy = []; serves = λ card h. absurd (omega arith); away = λ other h. refl }
-joined opening side tricks history whole plans (suc n) small =
-    let before = joined opening side tricks history whole plans n (omega arith) in
+joined : (opening : Opening) (side : Side) (tricks : ℕ) (history : List Card) → ((card : Card) → CanPlay opening history card → Plan opening side tricks (history ++ card ∷ [])) → (n : ℕ) → n ≤ 52 → Joined opening side tricks history n
+joined opening side tricks history plans zero small = record { strategy = []; serves = λ card h. absurd (omega arith); away = λ other h. refl }
+joined opening side tricks history plans (suc n) small =
+    let before = joined opening side tricks history plans n (omega arith) in
     let last = card_at n in
     let last_number : card_number last ≡ n = card_number-card_at n (omega arith) in
-    elim (decide_play opening history last whole) [
+    elim (decide_play opening history last) [
       | inr not ↦ record {
         strategy = before.strategy;
         serves = λ card h can. elim (cases_eq (card_number card) n) [
@@ -202,9 +202,9 @@ IsLegalAfter-split opening history (card ∷ cards) more legal =
     subst (λ (h : List Card). IsLegalAfter opening h more) (append_assoc history (card ∷ []) cards) (IsLegalAfter-split opening (history ++ card ∷ []) cards more legal.1)
 
 -- the strategy that waits for the opponents' card
-Plan-opponents : (opening : Opening) (side : Side) (tricks : ℕ) (history : List Card) → length opening.deal ≡ 52 → IsUnfinished opening history → (IsTurnOf opening side history → ⊥) → ((card : Card) → CanPlay opening history card → Plan opening side tricks (history ++ card ∷ [])) → Plan opening side tricks history
-Plan-opponents opening side tricks history whole more not plans =
-    let all = joined opening side tricks history whole plans 52 (omega arith) in
+Plan-opponents : (opening : Opening) (side : Side) (tricks : ℕ) (history : List Card) → IsUnfinished opening history → (IsTurnOf opening side history → ⊥) → ((card : Card) → CanPlay opening history card → Plan opening side tricks (history ++ card ∷ [])) → Plan opening side tricks history
+Plan-opponents opening side tricks history more not plans =
+    let all = joined opening side tricks history plans 52 (omega arith) in
     let strategy = all.strategy in
     let serves : (card : Card) → CanPlay opening history card → IsLawfulAfter opening side strategy (history ++ card ∷ []) × HasTricksIn opening side tricks strategy (history ++ card ∷ []) =
     λ card can. let p = all.serves card (card_number-lt card) can in CanWin-agree opening side tricks (history ++ card ∷ []) p.0.win strategy p.1 in
@@ -245,18 +245,18 @@ Plan-over opening side tricks history over enough = record {
   within = λ other h. refl;
 }
 
-Plan-from_Gets : (opening : Opening) (side : Side) (tricks left : ℕ) (history : List Card) → length opening.deal ≡ 52 → length history + left ≡ cards_in_play opening → IsLegal opening history → Gets opening side tricks left history → Plan opening side tricks history
-Plan-from_Gets opening side tricks zero history whole over legal gets = Plan-over opening side tricks history (omega arith) gets
-Plan-from_Gets opening side tricks (suc left) history whole over legal gets =
+Plan-from_Gets : (opening : Opening) (side : Side) (tricks left : ℕ) (history : List Card) → length history + left ≡ cards_in_play opening → IsLegal opening history → Gets opening side tricks left history → Plan opening side tricks history
+Plan-from_Gets opening side tricks zero history over legal gets = Plan-over opening side tricks history (omega arith) gets
+Plan-from_Gets opening side tricks (suc left) history over legal gets =
     elim (decide_side (side_of (seat_to_play opening history)) side) [
       | inl turn ↦
           let own = gets.0 turn in
           Plan-own opening side tricks history own.0 (omega arith) turn own.1
-          (Plan-from_Gets opening side tricks left (history ++ own.0 ∷ []) whole (omega (arith, length-append history (own.0 ∷ []))) (IsLegal-push opening history own.0 legal own.1) own.2)
+          (Plan-from_Gets opening side tricks left (history ++ own.0 ∷ []) (omega (arith, length-append history (own.0 ∷ []))) (IsLegal-push opening history own.0 legal own.1) own.2)
       | inr not ↦
-          Plan-opponents opening side tricks history whole (omega arith) not
-          (λ card can. Plan-from_Gets opening side tricks left (history ++ card ∷ []) whole (omega (arith, length-append history (card ∷ []))) (IsLegal-push opening history card legal can) (gets.1 not card can))
+          Plan-opponents opening side tricks history (omega arith) not
+          (λ card can. Plan-from_Gets opening side tricks left (history ++ card ∷ []) (omega (arith, length-append history (card ∷ []))) (IsLegal-push opening history card legal can) (gets.1 not card can))
     ]
 
-pub CanWin-from_Gets : (opening : Opening) (side : Side) (tricks left : ℕ) (history : List Card) → length opening.deal ≡ 52 → length history + left ≡ cards_in_play opening → IsLegal opening history → Gets opening side tricks left history → CanWin opening side tricks history
-CanWin-from_Gets opening side tricks left history whole over legal gets = (Plan-from_Gets opening side tricks left history whole over legal gets).win
+pub CanWin-from_Gets : (opening : Opening) (side : Side) (tricks left : ℕ) (history : List Card) → length history + left ≡ cards_in_play opening → IsLegal opening history → Gets opening side tricks left history → CanWin opening side tricks history
+CanWin-from_Gets opening side tricks left history over legal gets = (Plan-from_Gets opening side tricks left history over legal gets).win

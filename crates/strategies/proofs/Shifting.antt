@@ -1,12 +1,12 @@
 -- After whole tricks, play goes on as it would begin with the layout left and the last winner leading.
-use Rattle.std.proofs.Common.{◌≡◌, ◌+◌, List, [], ◌∷◌, ◌++◌, length, sym, ◌∙◌, ap, subst, append_assoc}
+use Rattle.std.proofs.Common.{◌≡◌, ◌+◌, List, [], ◌∷◌, ◌++◌, sym, ◌∙◌, ap, subst, append_assoc}
 use Rattle.cards.specs.declared.seats.Seat.{Seat}
 use Rattle.cards.specs.declared.seats.Side.{Side}
 use Rattle.cards.specs.declared.pack.Card.{Card}
 use Rattle.cards.specs.Deal.{Deal}
 use Rattle.play_rules.specs.History.{Opening, trick_of, leader_after, turn_in_trick, tricks_of}
 use Rattle.play_rules.proofs.HistoryLaws.{trick_of-append, leader_after-append, tricks_of-append}
-use Rattle.play_rules.proofs.LeftLaws.{left_of-append, length-left_of}
+use Rattle.play_rules.proofs.LeftLaws.{left_of-append}
 use Rattle.play_rules.specs.Legal.{CanPlay, IsLegalAfter, seat_to_play}
 use Rattle.play_rules.specs.Holdings.{MayBePlayed}
 use Rattle.play_rules.proofs.PositionLaws.{CanPlay-from_left, MayBePlayed-from_CanPlay}
@@ -34,22 +34,22 @@ moved left left' player player' trick trick' card a b c may =
     subst (λ (t : List Card). MayBePlayed left' player' t card) c
     (subst (λ (s : Seat). MayBePlayed left' s trick card) b (subst (λ (d : Deal). MayBePlayed d player trick card) a may))
 
-pub CanPlay-after : (opening : Opening) (history more : List Card) (card : Card) → length opening.deal ≡ 52 → trick_of history ≡ [] → CanPlay opening (history ++ more) card → CanPlay (opening_after opening history) more card
-CanPlay-after opening history more card whole e can =
-    CanPlay-from_left (opening_after opening history) more card (length-left_of opening.deal history ∙ whole)
+pub CanPlay-after : (opening : Opening) (history more : List Card) (card : Card) → trick_of history ≡ [] → CanPlay opening (history ++ more) card → CanPlay (opening_after opening history) more card
+CanPlay-after opening history more card e can =
+    CanPlay-from_left (opening_after opening history) more card
     (moved _ _ _ _ _ _ card (left_of-append opening.deal history more) (seat_to_play-after opening history more e) (trick-after history more e)
-    (MayBePlayed-from_CanPlay opening (history ++ more) card whole can))
+    (MayBePlayed-from_CanPlay opening (history ++ more) card can))
 
-pub CanPlay-before : (opening : Opening) (history more : List Card) (card : Card) → length opening.deal ≡ 52 → trick_of history ≡ [] → CanPlay (opening_after opening history) more card → CanPlay opening (history ++ more) card
-CanPlay-before opening history more card whole e can =
-    CanPlay-from_left opening (history ++ more) card whole
+pub CanPlay-before : (opening : Opening) (history more : List Card) (card : Card) → trick_of history ≡ [] → CanPlay (opening_after opening history) more card → CanPlay opening (history ++ more) card
+CanPlay-before opening history more card e can =
+    CanPlay-from_left opening (history ++ more) card
     (moved _ _ _ _ _ _ card (sym (left_of-append opening.deal history more)) (sym (seat_to_play-after opening history more e)) (sym (trick-after history more e))
-    (MayBePlayed-from_CanPlay (opening_after opening history) more card (length-left_of opening.deal history ∙ whole) can))
+    (MayBePlayed-from_CanPlay (opening_after opening history) more card can))
 
-pub IsLegal-after : (opening : Opening) (history more cards : List Card) → length opening.deal ≡ 52 → trick_of history ≡ [] → IsLegalAfter opening (history ++ more) cards → IsLegalAfter (opening_after opening history) more cards
-IsLegal-after opening history more [] whole e legal = tt
-IsLegal-after opening history more (card ∷ cards) whole e legal = (
-  CanPlay-after opening history more card whole e legal.0,
-  IsLegal-after opening history (more ++ card ∷ []) cards whole e
+pub IsLegal-after : (opening : Opening) (history more cards : List Card) → trick_of history ≡ [] → IsLegalAfter opening (history ++ more) cards → IsLegalAfter (opening_after opening history) more cards
+IsLegal-after opening history more [] e legal = tt
+IsLegal-after opening history more (card ∷ cards) e legal = (
+  CanPlay-after opening history more card e legal.0,
+  IsLegal-after opening history (more ++ card ∷ []) cards e
       (subst (λ (h : List Card). IsLegalAfter opening h cards) (append_assoc history more (card ∷ [])) legal.1),
 )

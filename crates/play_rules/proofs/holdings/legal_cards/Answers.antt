@@ -14,8 +14,8 @@ push-requires c =
     let playable = c.if-is_playable.ensures in
     let may : MayBePlayed left player trick card = MayBePlayed-from_suit left player trick _ card c.suit_to_follow-suit.ensures playable.0 playable.1 in
     let more : AreListedTo left player trick (c.loop-place.place + 1) (cards ++ card ∷ []) = AreListedTo-more left player trick c.loop-place.place cards card c.card_listed-card.ensures c.loop-place.invariant may in
-    let few = length-le-count_of left player (cards ++ card ∷ []) c.requires.whole more.in_order (λ x h. (more.legal x h).held) in
-    let room : length cards < 13 = omega (arith, few, length-append cards (card ∷ []), c.requires.hand) in
+    let few = length-le-count_of left player (cards ++ card ∷ []) more.in_order (λ x h. (more.legal x h).held) in
+    let room : length cards < 13 = omega (arith, few, length-append cards (card ∷ []), c.requires) in
     (omega arith, room)
 
 pub loop-place-preserved : goal.loop-place-preserved

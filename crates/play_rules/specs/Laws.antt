@@ -1,0 +1,19 @@
+-- What follows from the definitions of a trick and of the cards left.
+use Rattle.std.specs.Prelude.{◌≡◌, List, None}
+use Rattle.cards.specs.declared.suits.Trump.{Trump}
+use Rattle.cards.specs.declared.pack.Card.{Card}
+use Rattle.cards.specs.Deal.{Deal, holder_of}
+use Rattle.play_rules.specs.Tricks.{Trick, IsHighest, deciding_suit, winning_place}
+use Rattle.play_rules.specs.Legal.{IsAmong}
+use Rattle.play_rules.specs.Left.{left_of}
+
+-- the winner's card is the highest of the suit that decides the trick
+abbrev pub WinsByHighestCard : Type 0
+WinsByHighestCard = (trump : Trump) (trick : Trick) → IsHighest trick (deciding_suit trump trick) (winning_place trump trick)
+
+-- of a deal is left: no holder of a card that was played, and of every other card the holder to whom it was dealt
+abbrev pub LeavesTheUnplayed : Type 0
+LeavesTheUnplayed =
+    (deal : Deal) (history : List Card) (card : Card)
+    → (IsAmong history card → holder_of (left_of deal history) card ≡ None)
+    × ((IsAmong history card → ⊥) → holder_of (left_of deal history) card ≡ holder_of deal card)
