@@ -5,7 +5,7 @@ use Rattle.cards.specs.declared.seats.Seat.{Seat}
 use Rattle.cards.specs.declared.seats.Side.{Side}
 use Rattle.cards.specs.declared.pack.Card.{Card}
 use Rattle.cards.specs.Seats.{next_of, side_of, is_same_side}
-use Rattle.play_rules.specs.Tricks.{winner_of}
+use Rattle.play_rules.specs.Winners.{winner_of}
 use Rattle.play_rules.specs.History.{trick_made, trick_of, leader_after, turn_in_trick, tricks_of}
 
 pub trick_of-append : (history more : List Card) → trick_of (history ++ more) ≡ trick_of (trick_of history ++ more)

@@ -11,7 +11,7 @@ use Rattle.std.proofs.lemmas.Bool.{cases_eq}
 use Rattle.cards.specs.Pack.{suit_number}
 use Rattle.cards.proofs.PackLaws.{same_from_suit_numbers}
 use Rattle.cards.specs.Deal.{holder_of, count_of, IsLayout}
-use Rattle.play_rules.specs.Tricks.{winner_of}
+use Rattle.play_rules.specs.Winners.{winner_of}
 use Rattle.play_rules.specs.History.{Opening, trick_made, trick_of, leader_after, turn_in_trick, tricks_of}
 use Rattle.play_rules.specs.Left.{left_of, without}
 use Rattle.play_rules.proofs.LeftLaws.{still_held, left_when_held, left_of-push, count_of-left_of-le}

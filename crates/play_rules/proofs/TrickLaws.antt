@@ -7,7 +7,8 @@ use Rattle.cards.specs.declared.suits.Trump.TheVariants as trump
 use Rattle.cards.specs.declared.pack.Card.{Card}
 use Rattle.cards.specs.Pack.{suit_number, rank_number, card_of}
 use Rattle.cards.proofs.PackLaws.{same_from_suit_numbers, same_from_rank_numbers}
-use Rattle.play_rules.specs.Tricks.{Trick, card_in_place, IsHighest, HasSuit, WinsAt, AreFourCards, is_of, deciding_suit, height, highest_place, winning_place}
+use Rattle.play_rules.specs.Tricks.{Trick, card_in_place, IsHighest, HasSuit, WinsAt, AreFourCards}
+use Rattle.play_rules.specs.Winners.{is_of, deciding_suit, height, highest_place, winning_place}
 use Rattle.play_rules.specs.Laws.{WinsByHighestCard}
 
 -- the height in a place

@@ -8,7 +8,8 @@ use Rattle.cards.specs.declared.seats.Side.{Side}
 use Rattle.cards.specs.declared.pack.Card.{Card}
 use Rattle.cards.specs.Seats.{next_of, side_of, is_same_side}
 use Rattle.cards.specs.Deal.{Deal}
-use Rattle.play_rules.specs.Tricks.{Trick, winner_of}
+use Rattle.play_rules.specs.Tricks.{Trick}
+use Rattle.play_rules.specs.Winners.{winner_of}
 
 -- what play begins with: the layout, the seat that leads, and the trump
 pub record Opening : Type 0 where

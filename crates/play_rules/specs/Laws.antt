@@ -3,7 +3,8 @@ use Rattle.std.specs.Prelude.{◌≡◌, List, None}
 use Rattle.cards.specs.declared.suits.Trump.{Trump}
 use Rattle.cards.specs.declared.pack.Card.{Card}
 use Rattle.cards.specs.Deal.{Deal, holder_of}
-use Rattle.play_rules.specs.Tricks.{Trick, IsHighest, deciding_suit, winning_place}
+use Rattle.play_rules.specs.Tricks.{Trick, IsHighest}
+use Rattle.play_rules.specs.Winners.{deciding_suit, winning_place}
 use Rattle.play_rules.specs.Legal.{IsAmong}
 use Rattle.play_rules.specs.Left.{left_of}
 

@@ -1,4 +1,5 @@
 pub mod Tricks
+pub mod Winners
 pub mod History
 pub mod Legal
 pub mod Position

@@ -24,10 +24,7 @@ pub(crate) fn holders(layout: &Layout) -> [Option<Seat>; 52]
 pub(crate) fn is_held(left: &[Option<Seat>; 52], player: Seat, card: Card) -> bool
     ensures { MatchBool result (holder_of left.now card ≡ Some player) (holder_of left.now card ≡ Some player → ⊥) }
 {
-    match left[card.number()] {
-        Some(holder) => holder.number() == player.number(),
-        None => false,
-    }
+    left[card.number()] == Some(player)
 }
 
 /// Whether the player has a card of the suit left.
@@ -64,7 +61,7 @@ fn is_of(suit: Option<Suit>, card: Card) -> bool
     ensures { MatchBool result (IsOf suit card) (IsOf suit card → ⊥) }
 {
     match suit {
-        Some(suit) => card.suit.number() == suit.number(),
+        Some(suit) => card.suit == suit,
         None => true,
     }
 }

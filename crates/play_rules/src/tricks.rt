@@ -1,7 +1,9 @@
 //! Who wins a trick (Law 44E and 44F).
 
 ghost use Rattle.std.specs.Prelude.{◌≡◌, ℕ, ◌≤◌};
-ghost use Rattle.play_rules.specs.Tricks.{AreFourCards, deciding_suit, height, highest_place, is_of, seat_in_place, winner_of, WinsAt};
+ghost use Rattle.cards.specs.Seats.{seat_in_place};
+ghost use Rattle.play_rules.specs.Tricks.{AreFourCards, WinsAt};
+ghost use Rattle.play_rules.specs.Winners.{deciding_suit, height, highest_place, winner_of};
 ghost use Rattle.play_rules.specs.History.{trick_made};
 
 use cards::{Card, Seat, Suit, Trump};
@@ -35,7 +37,8 @@ pub fn winner(
 
 /// The first place of four with the greatest height.
 fn place_of_greatest(first: usize, second: usize, third: usize, fourth: usize) -> usize
-    ensures { result ≡ highest_place first second third fourth }
+    ensures place { result ≡ highest_place first second third fourth }
+    ensures within { result ≤ 3 }
 {
     let greatest = first.max(second).max(third).max(fourth);
     if first == greatest {
@@ -49,8 +52,9 @@ fn place_of_greatest(first: usize, second: usize, third: usize, fourth: usize) -
     }
 }
 
-/// The seat that is this many places clockwise, up to three.
+/// The seat that is this many places clockwise.
 fn seat_at(leader: Seat, place: usize) -> Seat
+    requires { place ≤ 3 }
     ensures { result ≡ seat_in_place leader place }
 {
     match place {
@@ -61,30 +65,17 @@ fn seat_at(leader: Seat, place: usize) -> Seat
     }
 }
 
-/// Whether the card is of the suit.
-fn is_of_suit(suit: Suit, card: Card) -> bool
-    ensures { result ≡ is_of suit card }
-{
-    card.suit.number() == suit.number()
-}
-
 /// The suit whose highest card wins.
 fn deciding(trump: Trump, first: Card, second: Card, third: Card, fourth: Card) -> Suit
     ensures { result ≡ deciding_suit trump (trick_made first second third fourth) }
 {
     match trump {
-        Trump::Nt => first.suit,
-        Trump::Suit(suit) => {
-            if is_of_suit(suit, first)
-                || is_of_suit(suit, second)
-                || is_of_suit(suit, third)
-                || is_of_suit(suit, fourth)
-            {
-                suit
-            } else {
-                first.suit
-            }
-        }
+        Trump::Suit(suit)
+            if first.suit == suit
+                || second.suit == suit
+                || third.suit == suit
+                || fourth.suit == suit => { suit }
+        _ => first.suit,
     }
 }
 
@@ -92,7 +83,7 @@ fn deciding(trump: Trump, first: Card, second: Card, third: Card, fourth: Card) 
 fn height_in(suit: Suit, card: Card) -> usize
     ensures { result ≡ height suit card }
 {
-    if is_of_suit(suit, card) {
+    if card.suit == suit {
         card.rank.number() + 1
     } else {
         0

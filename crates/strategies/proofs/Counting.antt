@@ -12,7 +12,7 @@ use Rattle.cards.proofs.PackLaws.{card_number-card_at}
 use Rattle.cards.proofs.HandLaws.{held-is}
 use Rattle.cards.specs.Seats.{next_of, side_of, is_same_seat, is_same_side}
 use Rattle.cards.specs.Deal.{Deal, holder_of, is_held_by, count_of, size_of, IsLayout}
-use Rattle.play_rules.specs.Tricks.{winner_of}
+use Rattle.play_rules.specs.Winners.{winner_of}
 use Rattle.play_rules.specs.History.{Opening, trick_made, trick_of, leader_after, turn_after, tricks_of}
 use Rattle.play_rules.specs.Left.{left_of, without}
 use Rattle.play_rules.proofs.LeftLaws.{length-without, length-left_of, left_when_held, count_of-without}

@@ -1,11 +1,12 @@
 use Rattle.std.proofs.Common.{◌≡◌, refl, ap, ◌∙◌}
-use Rattle.play_rules.specs.Tricks.{seat_in_place, winner_of, winning_place}
+use Rattle.cards.specs.Seats.{seat_in_place}
+use Rattle.play_rules.specs.Winners.{winner_of, winning_place}
 use Rattle.play_rules.specs.History.{trick_made}
 use Rattle.play_rules.proofs.TrickLaws.{winning_place-le, winning_place-wins, one_winning_place}
 use Rattle.play_rules.proofs.tricks.winner.Goals as goal
 
 place_is : (c : goal.After-seat_at) → c.place_of_greatest-place.result ≡ winning_place c.args.trump (trick_made c.args.first c.args.second c.args.third c.args.fourth)
-place_is c = rw (c.place_of_greatest-place.ensures, c.height_in.ensures, c.height_in-2.ensures, c.height_in-3.ensures, c.height_in-4.ensures, c.deciding-suit.ensures) refl
+place_is c = rw (c.place_of_greatest-place.ensures.place, c.height_in.ensures, c.height_in-2.ensures, c.height_in-3.ensures, c.height_in-4.ensures, c.deciding-suit.ensures) refl
 
 pub returns-clause-winner : goal.returns-clause-winner
 unfolding winner_of
