@@ -1,6 +1,8 @@
 -- What one turn of the search may answer.
-use Rattle.std.proofs.Common.{◌≡◌, ℕ, zero, suc, ◌+◌, ◌-◌, ◌<◌, ◌≤◌, Bool, true, false, not, List, [], ◌∷◌, ◌++◌, length, take, get_or, refl, sym, subst, arith, inl, inr, MatchBool, None, Some, ltb}
+use Rattle.std.proofs.Common.{◌≡◌, ℕ, zero, suc, ◌+◌, ◌-◌, ◌<◌, ◌≤◌, Bool, true, false, not, List, [], ◌∷◌, ◌++◌, length, take, get_or, refl, sym, ◌∙◌, ap, subst, arith, inl, inr, MatchBool, None, Some, ltb}
 use mathlib.Core.Bool.{beq}
+use denote.Enum.Bare.{sameb}
+use Rattle.cards.specs.contracts.seats.Side.{the_type}
 use Rattle.cards.specs.Seats.{side_of}
 use Rattle.std.proofs.lemmas.Bool.{false≢true, cases_Bool, ltb-true, ltb-false}
 use Rattle.std.proofs.lemmas.List.{take_more}
@@ -16,9 +18,25 @@ use Rattle.play_rules.specs.Legal.{IsAmong, CanPlay, IsUnfinished, cards_in_play
 use Rattle.play_rules.specs.Position.{Position, IsReached, AreLegalCards, turn_of, with_card}
 use Rattle.strategies.specs.Strategies.{CanWin, IsTurnOf}
 use Rattle.strategies.specs.Values.{IsPlainValue}
-use Rattle.strategies.specs.Search.{Takes, IsHeldBelow, IsNoHelp}
 use Rattle.strategies.proofs.LawProofs.{by_own_card, against_each_card, what_is_won}
 use Rattle.strategies.proofs.Counting.{tricks-add_up}
+
+-- North and South can win this many tricks from the position
+abbrev CanTake : Position → ℕ → Type 0
+CanTake position wanted = CanWin position.opening NorthSouth wanted position.history
+
+-- East and West can win so many that North and South do not
+abbrev IsHeldBelow : Position → ℕ → Type 0
+IsHeldBelow position wanted = CanWin position.opening EastWest (size_of position.opening.deal + 1 - wanted) position.history
+
+-- the card does not help the side whose turn it is
+pub record IsNoHelp (position : Position) (wanted : ℕ) (card : Card) : Type 0 where
+  pub to_north_south :
+      IsTurnOf position.opening NorthSouth position.history →
+      CanWin position.opening EastWest (size_of position.opening.deal + 1 - wanted) (position.history ++ card ∷ [])
+  pub to_east_west :
+      IsTurnOf position.opening EastWest position.history →
+      CanWin position.opening NorthSouth wanted (position.history ++ card ∷ [])
 
 -- whose turn it is, as the search knows it
 abbrev pub IsOwn : Position → Bool → Type 0
@@ -40,14 +58,14 @@ no_help position wanted card false true turn won apart = record { to_north_south
 no_help position wanted card true false turn won apart = record { to_north_south = λ other. absurd (sides-apart _ other turn); to_east_west = λ _. won }
 
 -- a card that it would choose settles the turn
-pub settled : (position : Position) (wanted : ℕ) (card : Card) (answer own : Bool) → IsReached position → IsUnfinished position.opening position.history → CanPlay position.opening position.history card → IsOwn position own → IsAnswer position wanted card answer → answer ≡ own → MatchBool own (Takes position wanted) (IsHeldBelow position wanted)
+pub settled : (position : Position) (wanted : ℕ) (card : Card) (answer own : Bool) → IsReached position → IsUnfinished position.opening position.history → CanPlay position.opening position.history card → IsOwn position own → IsAnswer position wanted card answer → answer ≡ own → MatchBool own (CanTake position wanted) (IsHeldBelow position wanted)
 settled position wanted card true true reached more can turn won same = (by_own_card position.opening NorthSouth wanted position.history reached.layout reached.legal more turn).1 (card, can, won)
 settled position wanted card false false reached more can turn won same = (by_own_card position.opening EastWest (size_of position.opening.deal + 1 - wanted) position.history reached.layout reached.legal more turn).1 (card, can, won)
 settled position wanted card true false reached more can turn won same = absurd (false≢true (sym same))
 settled position wanted card false true reached more can turn won same = absurd (false≢true same)
 
 -- where no card helps, the others hold their own
-pub none_helps : (position : Position) (wanted : ℕ) (own : Bool) → IsReached position → IsUnfinished position.opening position.history → IsOwn position own → ((card : Card) → CanPlay position.opening position.history card → IsNoHelp position wanted card) → MatchBool (not own) (Takes position wanted) (IsHeldBelow position wanted)
+pub none_helps : (position : Position) (wanted : ℕ) (own : Bool) → IsReached position → IsUnfinished position.opening position.history → IsOwn position own → ((card : Card) → CanPlay position.opening position.history card → IsNoHelp position wanted card) → MatchBool (not own) (CanTake position wanted) (IsHeldBelow position wanted)
 none_helps position wanted true reached more turn none =
     (against_each_card position.opening EastWest (size_of position.opening.deal + 1 - wanted) position.history reached.layout reached.legal more (λ other. sides-apart _ turn other)).1
     (λ card can. (none card can).to_north_south turn)
@@ -113,18 +131,25 @@ beq-apart false false h e = false≢true (sym h)
 beq-apart true false h e = false≢true (sym e)
 beq-apart false true h e = false≢true e
 
+-- the test that the code makes of a side
+side_test : (side : Side) → MatchBool (sameb the_type side NorthSouth) (side ≡ NorthSouth) (side ≡ EastWest)
+side_test NorthSouth = refl
+side_test EastWest = refl
+
 -- the seat whose turn it is plays for the side that the search took
-pub IsOwn-from_seat : (position : Position) (seat : Seat) (own : Bool) → turn_of position ≡ Some seat → MatchBool own (side_of seat ≡ NorthSouth) (side_of seat ≡ EastWest) → IsOwn position own
-IsOwn-from_seat position seat own turn side =
-    subst (λ (s : Seat). MatchBool own (side_of s ≡ NorthSouth) (side_of s ≡ EastWest)) (sym (turn-unfinished position seat turn).1) side
+pub IsOwn-from_test : (position : Position) (seat : Seat) (side : Side) (own : Bool) → turn_of position ≡ Some seat → side ≡ side_of seat → own ≡ sameb the_type side NorthSouth → IsOwn position own
+IsOwn-from_test position seat side own turn plays test =
+    let plays' : side ≡ side_of (seat_to_play position.opening position.history) = plays ∙ ap side_of (sym (turn-unfinished position seat turn).1) in
+    subst (λ (s : Side). MatchBool own (s ≡ NorthSouth) (s ≡ EastWest)) plays'
+    (subst (λ (b : Bool). MatchBool b (side ≡ NorthSouth) (side ≡ EastWest)) (sym test) (side_test side))
 
 -- a card of the list of legal cards may be played
 pub CanPlay-at : (position : Position) (cards : List Card) (i : ℕ) (d : Card) → AreLegalCards position cards → i < length cards → CanPlay position.opening position.history (get_or cards i d)
 CanPlay-at position cards i d legal lt = legal.legal (get_or cards i d) (IsAmong-at cards i d lt)
 
 -- the answer after a card, in terms of the position before it
-pub IsAnswer-from_after : (position after : Position) (wanted : ℕ) (card : Card) (answer : Bool) → after ≡ with_card position card → MatchBool answer (Takes after wanted) (IsHeldBelow after wanted) → IsAnswer position wanted card answer
-IsAnswer-from_after position after wanted card answer e h = subst (λ (p : Position). MatchBool answer (Takes p wanted) (IsHeldBelow p wanted)) e h
+pub IsAnswer-from_after : (position after : Position) (wanted : ℕ) (card : Card) (answer : Bool) → after ≡ with_card position card → MatchBool answer (CanTake after wanted) (IsHeldBelow after wanted) → IsAnswer position wanted card answer
+IsAnswer-from_after position after wanted card answer e h = subst (λ (p : Position). MatchBool answer (CanTake p wanted) (IsHeldBelow p wanted)) e h
 
 -- both halves of a value, from those at the new table
 pub IsPlainValue-from_table : (position : Position) (opening : Opening) (value : ℕ) → position.opening ≡ opening → position.history ≡ [] → value ≤ size_of position.opening.deal → CanWin position.opening NorthSouth value position.history → CanWin position.opening EastWest (size_of position.opening.deal + 1 - (value + 1)) position.history → IsPlainValue opening value

@@ -1,4 +1,3 @@
 pub mod Strategies
 pub mod Values
 pub mod Laws
-pub mod Search

@@ -1,11 +1,10 @@
 //! A plain search, for endings of at most four cards a hand.
 
-ghost use Rattle.std.specs.Prelude.{◌≡◌, ◌≤◌, ◌↔◌, IsOk, IfOk, MatchBool};
+ghost use Rattle.std.specs.Prelude.{◌≡◌, ◌+◌, ◌-◌, ◌≤◌, ◌↔◌, IsOk, IfOk, MatchBool};
 ghost use Rattle.cards.specs.Deal.{size_of};
-ghost use Rattle.cards.specs.Seats.{side_of};
 ghost use Rattle.cards.specs.declared.seats.Side.TheVariants.{NorthSouth, EastWest};
+ghost use Rattle.strategies.specs.Strategies.{CanWin};
 ghost use Rattle.strategies.specs.Values.{IsPlainValue};
-ghost use Rattle.strategies.specs.Search.{Takes, IsHeldBelow};
 
 use cards::{Layout, Seat, Side, Trump};
 use play_rules::Table;
@@ -29,7 +28,7 @@ pub fn plain_value(layout: &Layout, leader: Seat, trump: Trump) -> Result<u8, To
     let size = size as u8;
     let table = Table::new(*layout, leader, trump);
     for value in 0..size {
-        if !takes(&table, size, value + 1) {
+        if !can_take(&table, size, value + 1) {
             return Ok(value);
         }
     }
@@ -38,9 +37,11 @@ pub fn plain_value(layout: &Layout, leader: Seat, trump: Trump) -> Result<u8, To
 
 /// Whether North and South can win this many tricks, those won so far counted; where they can't, East and West can
 /// win more than the rest of them.
-fn takes(table: &Table, size: u8, wanted: u8) -> bool
+fn can_take(table: &Table, size: u8, wanted: u8) -> bool
     requires { size ≡ size_of table.now.opening.deal }
-    ensures { MatchBool result (Takes table.now wanted) (IsHeldBelow table.now wanted) }
+    ensures { MatchBool result
+        (CanWin table.now.opening NorthSouth wanted table.now.history)
+        (CanWin table.now.opening EastWest (size_of table.now.opening.deal + 1 - wanted) table.now.history) }
 {
     let turn = table.turn();
     if table.tricks(Side::NorthSouth) >= wanted {
@@ -50,24 +51,14 @@ fn takes(table: &Table, size: u8, wanted: u8) -> bool
         return false;
     }
     let Some(seat) = turn else { unreachable!() };
-    let own = is_north_south(seat);
+    let own = seat.side() == Side::NorthSouth;
     let cards = table.legal();
     for card in cards.as_slice() {
-        if takes(&table.after(*card), size, wanted) == own {
+        if can_take(&table.after(*card), size, wanted) == own {
             return own;
         }
     }
     !own
-}
-
-/// Whether the seat plays for North and South.
-fn is_north_south(seat: Seat) -> bool
-    ensures { MatchBool result (side_of seat ≡ NorthSouth) (side_of seat ≡ EastWest) }
-{
-    match seat.side() {
-        Side::NorthSouth => true,
-        Side::EastWest => false,
-    }
 }
 
 #[cfg(test)]

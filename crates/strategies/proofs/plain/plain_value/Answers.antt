@@ -9,10 +9,10 @@ use Rattle.strategies.proofs.plain.plain_value.Goals as goal
 pub loop-value-init : goal.loop-value-init
 loop-value-init c = won_by c.new-table.result NorthSouth 0 c.new-table.ensures.reached (omega arith)
 
-pub returns-then-not-takes-clause-value : goal.returns-then-not-takes-clause-value
-returns-then-not-takes-clause-value c =
+pub returns-then-not-can_take-clause-value : goal.returns-then-not-can_take-clause-value
+returns-then-not-can_take-clause-value c =
     let deal : size_of c.new-table.result.opening.deal ≡ size_of c.args.layout.now = ap (λ (o : Opening). size_of o.deal) c.new-table.ensures.opening in
-    IsPlainValue-from_table c.new-table.result _ c.loop-value.value c.new-table.ensures.opening c.new-table.ensures.history (omega (arith, deal, c.len-size.ensures.size)) c.loop-value.invariant c.if-not-takes.ensures
+    IsPlainValue-from_table c.new-table.result _ c.loop-value.value c.new-table.ensures.opening c.new-table.ensures.history (omega (arith, deal, c.len-size.ensures.size)) c.loop-value.invariant c.if-not-can_take.ensures
 
 pub returns-clause-value : goal.returns-clause-value
 returns-clause-value c =

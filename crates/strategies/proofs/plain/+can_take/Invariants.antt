@@ -2,11 +2,11 @@
 use Rattle.std.proofs.Common.{◌-◌, length, take}
 use Rattle.cards.specs.declared.pack.Card.{Card}
 use Rattle.play_rules.specs.Legal.{IsAmong, cards_in_play}
-use Rattle.strategies.specs.Search.{IsNoHelp}
-use Rattle.strategies.proofs.plain.+takes.Given as goal
+use Rattle.strategies.proofs.SearchProofs.{IsNoHelp}
+use Rattle.strategies.proofs.plain.+can_take.Given as goal
 
-abbrev pub decreases-takes : goal.decreases-takes
-decreases-takes l = cards_in_play l.table.now.opening - length l.table.now.history
+abbrev pub decreases-can_take : goal.decreases-can_take
+decreases-can_take l = cards_in_play l.table.now.opening - length l.table.now.history
 
 abbrev pub invariant-loop-card : goal.invariant-loop-card
 invariant-loop-card l = (card : Card) → IsAmong (take l.card-index l.card-items) card → IsNoHelp l.table l.wanted card
