@@ -16,7 +16,7 @@ use Rattle.play_rules.specs.History.{Opening, trick_made, trick_of, leader_after
 use Rattle.play_rules.specs.Left.{left_of, without}
 use Rattle.play_rules.proofs.LeftLaws.{still_held, left_when_held, left_of-push, count_of-left_of-le}
 use Rattle.play_rules.proofs.HistoryLaws.{trick_of-append, leader_after-append, tricks_of-append, turn_in_trick-push, GoesOn-from_short, Ends-from_four}
-use Rattle.play_rules.specs.Legal.{StillHolds, CanFollow, CanPlay, IsLegalAfter, IsLegal, IsUnfinished, seat_to_play}
+use Rattle.play_rules.specs.Legal.{StillHolds, CanFollow, CanPlay, IsLegalAfter, IsLegalHistory, IsUnfinished, seat_to_play}
 use Rattle.play_rules.specs.Position.{Position, IsReached, AreLegalCards, with_card}
 use Rattle.play_rules.specs.Holdings.{HoldsSuit, MayBePlayed, IsToBeFollowed, Revokes, AreListedTo}
 use Rattle.play_rules.proofs.HoldingLaws.{listed_place-lt}
@@ -49,8 +49,8 @@ IsLegalAfter-append opening history [] more a b = rw append-nil at b
 IsLegalAfter-append opening history (card ∷ cards) more a b =
     (a.0, IsLegalAfter-append opening (history ++ card ∷ []) cards more a.1 (rw (← append_assoc history (card ∷ []) cards) at b))
 
-pub IsLegal-push : (opening : Opening) (history : List Card) (card : Card) → IsLegal opening history → CanPlay opening history card → IsLegal opening (history ++ card ∷ [])
-IsLegal-push opening history card legal can = IsLegalAfter-append opening [] history (card ∷ []) legal (can, tt)
+pub IsLegalHistory-push : (opening : Opening) (history : List Card) (card : Card) → IsLegalHistory opening history → CanPlay opening history card → IsLegalHistory opening (history ++ card ∷ [])
+IsLegalHistory-push opening history card legal can = IsLegalAfter-append opening [] history (card ∷ []) legal (can, tt)
 
 -- a side wins no more tricks than there are fours
 pub tricks_of-le : (side : Side) (trump : Trump) (leader : Seat) (history : List Card) → 4 * tricks_of side trump leader history ≤ length history
@@ -75,7 +75,7 @@ player-is position s kept =
 IsReached-push : (position : Position) (card : Card) → IsReached position → IsUnfinished position.opening position.history → CanPlay position.opening position.history card → IsReached (with_card position card)
 IsReached-push position card reached more can = record {
   layout = reached.layout;
-  legal = IsLegal-push position.opening position.history card reached.legal can;
+  legal = IsLegalHistory-push position.opening position.history card reached.legal can;
   within = omega (arith, length-append position.history (card ∷ []));
 }
 

@@ -36,8 +36,8 @@ IsLegalAfter opening history [] = Unit {0}
 IsLegalAfter opening history (card ∷ cards) = CanPlay opening history card × IsLegalAfter opening (history ++ card ∷ []) cards
 
 -- a legal history of the opening
-abbrev pub IsLegal : Opening → List Card → Type 0
-IsLegal opening history = IsLegalAfter opening [] history
+abbrev pub IsLegalHistory : Opening → List Card → Type 0
+IsLegalHistory opening history = IsLegalAfter opening [] history
 
 -- how many cards are played in all
 abbrev pub cards_in_play : Opening → ℕ
@@ -49,5 +49,5 @@ IsUnfinished opening history = length history < cards_in_play opening
 
 -- a play: a legal history of all the cards
 pub record IsPlay (opening : Opening) (history : List Card) : Type 0 where
-  pub legal : IsLegal opening history
+  pub legal : IsLegalHistory opening history
   pub whole : length history ≡ cards_in_play opening

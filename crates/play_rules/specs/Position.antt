@@ -5,7 +5,7 @@ use Rattle.cards.specs.declared.pack.Card.{Card}
 use Rattle.cards.specs.Pack.{suit_number, rank_number}
 use Rattle.cards.specs.Deal.{IsLayout}
 use Rattle.play_rules.specs.History.{Opening}
-use Rattle.play_rules.specs.Legal.{IsAmong, CanPlay, IsLegal, cards_in_play, seat_to_play}
+use Rattle.play_rules.specs.Legal.{IsAmong, CanPlay, IsLegalHistory, cards_in_play, seat_to_play}
 
 -- what play began with, and the cards played since
 pub record Position : Type 0 where
@@ -15,7 +15,7 @@ pub record Position : Type 0 where
 -- what is true of every table: a legal history of a layout
 pub record IsReached (position : Position) : Type 0 where
   pub layout : IsLayout position.opening.deal
-  pub legal : IsLegal position.opening position.history
+  pub legal : IsLegalHistory position.opening position.history
   pub within : length position.history ≤ cards_in_play position.opening
 
 -- the seat to play, where a card is still to be played

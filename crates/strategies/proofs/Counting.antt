@@ -16,8 +16,8 @@ use Rattle.play_rules.specs.Winners.{winner_of}
 use Rattle.play_rules.specs.History.{Opening, trick_made, trick_of, leader_after, turn_after, tricks_of}
 use Rattle.play_rules.specs.Left.{left_of, without}
 use Rattle.play_rules.proofs.LeftLaws.{length-without, length-left_of, left_when_held, count_of-without}
-use Rattle.play_rules.specs.Legal.{CanPlay, IsLegal}
-use Rattle.strategies.proofs.Shifting.{IsLegal-after}
+use Rattle.play_rules.specs.Legal.{CanPlay, IsLegalHistory}
+use Rattle.strategies.proofs.Shifting.{IsLegalAfter-after}
 
 -- the two sides' tricks are all the fours
 pub tricks-add_up : (trump : Trump) (leader : Seat) (history : List Card) → 4 * (tricks_of NorthSouth trump leader history + tricks_of EastWest trump leader history) + length (trick_of history) ≡ length history
@@ -117,7 +117,7 @@ unfolding leader_after trick_of left_of
 held_4 trump deal leader a b c e can = left_when_held deal (a ∷ b ∷ c ∷ []) (next_of (next_of (next_of leader))) e can.held
 
 -- what a whole trick takes from each hand
-pub count_of-trick : (trump : Trump) (deal : Deal) (leader : Seat) (a b c e : Card) (rest : List Card) → IsLegal (at_start trump deal leader) (a ∷ b ∷ c ∷ e ∷ rest) → (seat : Seat) → count_of (left_of deal (a ∷ b ∷ c ∷ e ∷ [])) seat + 1 ≡ count_of deal seat
+pub count_of-trick : (trump : Trump) (deal : Deal) (leader : Seat) (a b c e : Card) (rest : List Card) → IsLegalHistory (at_start trump deal leader) (a ∷ b ∷ c ∷ e ∷ rest) → (seat : Seat) → count_of (left_of deal (a ∷ b ∷ c ∷ e ∷ [])) seat + 1 ≡ count_of deal seat
 unfolding left_of
 count_of-trick trump deal leader a b c e rest legal seat =
     let c1 = count_of-without deal a leader seat (held_1 trump deal leader a legal.0) in
@@ -131,13 +131,13 @@ unfolding trick_of
 four-whole a b c e = refl
 
 -- the rest of a history, after its first trick
-pub rest-legal : (trump : Trump) (deal : Deal) (leader : Seat) (a b c e : Card) (rest : List Card) → IsLegal (at_start trump deal leader) (a ∷ b ∷ c ∷ e ∷ rest) → IsLegal (at_start trump (left_of deal (a ∷ b ∷ c ∷ e ∷ [])) (winner_of trump leader (trick_made a b c e))) rest
+pub rest-legal : (trump : Trump) (deal : Deal) (leader : Seat) (a b c e : Card) (rest : List Card) → IsLegalHistory (at_start trump deal leader) (a ∷ b ∷ c ∷ e ∷ rest) → IsLegalHistory (at_start trump (left_of deal (a ∷ b ∷ c ∷ e ∷ [])) (winner_of trump leader (trick_made a b c e))) rest
 unfolding leader_after
 rest-legal trump deal leader a b c e rest legal =
-    IsLegal-after (at_start trump deal leader) (a ∷ b ∷ c ∷ e ∷ []) [] rest (four-whole a b c e) legal.1.1.1.1
+    IsLegalAfter-after (at_start trump deal leader) (a ∷ b ∷ c ∷ e ∷ []) [] rest (four-whole a b c e) legal.1.1.1.1
 
 -- after whole tricks each hand has lost a card a trick
-pub count_of-left_of : (trump : Trump) (deal : Deal) (leader : Seat) (history : List Card) → IsLegal (at_start trump deal leader) history → trick_of history ≡ [] → (seat : Seat) → 4 * count_of (left_of deal history) seat + length history ≡ 4 * count_of deal seat
+pub count_of-left_of : (trump : Trump) (deal : Deal) (leader : Seat) (history : List Card) → IsLegalHistory (at_start trump deal leader) history → trick_of history ≡ [] → (seat : Seat) → 4 * count_of (left_of deal history) seat + length history ≡ 4 * count_of deal seat
 unfolding trick_of left_of
 count_of-left_of trump deal leader [] legal e seat = omega arith
 count_of-left_of trump deal leader (a ∷ []) legal e seat = absurd (omega (arith, ap length e))
@@ -150,7 +150,7 @@ count_of-left_of trump deal leader (a ∷ b ∷ c ∷ d ∷ rest) legal e seat =
     omega (arith, one, more)
 
 -- the layout left after whole tricks, while cards are left
-pub IsLayout-after : (opening : Opening) (history : List Card) → IsLayout opening.deal → IsLegal opening history → trick_of history ≡ [] → length history < 4 * size_of opening.deal → IsLayout (left_of opening.deal history)
+pub IsLayout-after : (opening : Opening) (history : List Card) → IsLayout opening.deal → IsLegalHistory opening history → trick_of history ≡ [] → length history < 4 * size_of opening.deal → IsLayout (left_of opening.deal history)
 IsLayout-after opening history layout legal e more =
     let count = count_of-left_of opening.trump opening.deal opening.leader history legal e in
     record {
@@ -161,7 +161,7 @@ IsLayout-after opening history layout legal e more =
     }
 
 -- a seat to play that still has a card
-pub some_card_to_play : (trump : Trump) (deal : Deal) (leader : Seat) (history : List Card) (n : ℕ) → length deal ≡ 52 → ((seat : Seat) → count_of deal seat ≡ n) → IsLegal (at_start trump deal leader) history → length history < 4 * n → (card : Card) × (holder_of (left_of deal history) card ≡ Some (turn_after trump leader history))
+pub some_card_to_play : (trump : Trump) (deal : Deal) (leader : Seat) (history : List Card) (n : ℕ) → length deal ≡ 52 → ((seat : Seat) → count_of deal seat ≡ n) → IsLegalHistory (at_start trump deal leader) history → length history < 4 * n → (card : Card) × (holder_of (left_of deal history) card ≡ Some (turn_after trump leader history))
 unfolding trick_of leader_after left_of
 some_card_to_play trump deal leader [] n whole count legal more = some_card_held deal leader whole (omega (arith, count leader))
 some_card_to_play trump deal leader (a ∷ []) n whole count legal more =

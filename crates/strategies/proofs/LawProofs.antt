@@ -8,8 +8,8 @@ use Rattle.cards.specs.Seats.{side_of}
 use Rattle.cards.specs.Deal.{size_of, IsLayout}
 use Rattle.play_rules.specs.History.{Opening, trick_of, tricks_of}
 use Rattle.play_rules.proofs.HistoryLaws.{tricks_of-append, length-trick_of}
-use Rattle.play_rules.specs.Legal.{CanPlay, IsLegal, IsUnfinished, cards_in_play}
-use Rattle.play_rules.proofs.PositionLaws.{IsLegal-push}
+use Rattle.play_rules.specs.Legal.{CanPlay, IsLegalHistory, IsUnfinished, cards_in_play}
+use Rattle.play_rules.proofs.PositionLaws.{IsLegalHistory-push}
 use Rattle.strategies.specs.Strategies.{CanWin}
 use Rattle.strategies.specs.Values.{opening_after}
 use Rattle.strategies.specs.Laws.{WinsByOwnCard, WinsAgainstEachCard, WinsTheRest, WinsNothing, WinsWhatIsWon, WinsFewer, ShareTheTricks}
@@ -23,9 +23,9 @@ use Rattle.strategies.proofs.Planning.{CanWin-from_Gets}
 left_of_play : (opening : Opening) (history : List Card) → IsUnfinished opening history → (left : ℕ) × (length history + suc left ≡ cards_in_play opening)
 left_of_play opening history more = (cards_in_play opening - length history - 1, omega arith)
 
-Gets-next : (opening : Opening) (side : Side) (tricks left : ℕ) (history : List Card) (card : Card) → length history + suc left ≡ cards_in_play opening → IsLegal opening history → CanPlay opening history card → CanWin opening side tricks (history ++ card ∷ []) → Gets opening side tricks left (history ++ card ∷ [])
+Gets-next : (opening : Opening) (side : Side) (tricks left : ℕ) (history : List Card) (card : Card) → length history + suc left ≡ cards_in_play opening → IsLegalHistory opening history → CanPlay opening history card → CanWin opening side tricks (history ++ card ∷ []) → Gets opening side tricks left (history ++ card ∷ [])
 Gets-next opening side tricks left history card whole legal can win =
-    Gets-from_CanWin opening side tricks left (history ++ card ∷ []) (omega (arith, length-append history (card ∷ []))) (IsLegal-push opening history card legal can) win
+    Gets-from_CanWin opening side tricks left (history ++ card ∷ []) (omega (arith, length-append history (card ∷ []))) (IsLegalHistory-push opening history card legal can) win
 
 pub by_own_card : WinsByOwnCard
 by_own_card opening side tricks history layout legal more turn = (
@@ -104,11 +104,11 @@ tricks_of-push : (side : Side) (opening : Opening) (history : List Card) (card :
 tricks_of-push side opening history card = omega (arith, tricks_of-append side opening.trump opening.leader history (card ∷ []))
 
 -- what is won already is won
-Gets-won : (opening : Opening) (side : Side) (tricks left : ℕ) (history : List Card) → IsLayout opening.deal → length history + left ≡ cards_in_play opening → IsLegal opening history → tricks ≤ tricks_of side opening.trump opening.leader history → Gets opening side tricks left history
+Gets-won : (opening : Opening) (side : Side) (tricks left : ℕ) (history : List Card) → IsLayout opening.deal → length history + left ≡ cards_in_play opening → IsLegalHistory opening history → tricks ≤ tricks_of side opening.trump opening.leader history → Gets opening side tricks left history
 Gets-won opening side tricks zero history layout whole legal won = won
 Gets-won opening side tricks (suc left) history layout whole legal won =
     let next : (card : Card) → CanPlay opening history card → Gets opening side tricks left (history ++ card ∷ []) =
-    λ card can. Gets-won opening side tricks left (history ++ card ∷ []) layout (omega (arith, length-append history (card ∷ []))) (IsLegal-push opening history card legal can)
+    λ card can. Gets-won opening side tricks left (history ++ card ∷ []) layout (omega (arith, length-append history (card ∷ []))) (IsLegalHistory-push opening history card legal can)
     (omega (arith, tricks_of-push side opening history card)) in (
       λ turn.
           let held = some_card_to_play opening.trump opening.deal opening.leader history (size_of opening.deal) layout.whole_pack layout.equal_hands legal (omega arith) in

@@ -7,8 +7,8 @@ use Rattle.cards.specs.Pack.{card_number, card_at}
 use Rattle.cards.proofs.PackLaws.{same_from_numbers, card_number-card_at, card_number-lt}
 use Rattle.cards.specs.Seats.{side_of}
 use Rattle.play_rules.specs.History.{Opening, tricks_of}
-use Rattle.play_rules.specs.Legal.{CanPlay, IsLegalAfter, IsLegal, IsPlay, IsUnfinished, cards_in_play, seat_to_play}
-use Rattle.play_rules.proofs.PositionLaws.{IsLegal-push}
+use Rattle.play_rules.specs.Legal.{CanPlay, IsLegalAfter, IsLegalHistory, IsPlay, IsUnfinished, cards_in_play, seat_to_play}
+use Rattle.play_rules.proofs.PositionLaws.{IsLegalHistory-push}
 use Rattle.strategies.specs.Strategies.{Strategy, is_same_history, choice_of, IsTurnOf, FollowsAfter, HasLegalChoice, IsLawfulAfter, HasTricksIn, CanWin}
 use Rattle.strategies.proofs.Deciding.{decide_side, decide_play}
 use Rattle.strategies.proofs.Minimax.{Gets, push-assoc}
@@ -100,7 +100,7 @@ Plan-own opening side tricks history card more turn can plan =
               let same : first ≡ card = Some-card first card (sym (follows.0 turn) ∙ here) in
               let e : history ++ first ∷ cards ≡ next ++ cards = ap (λ (c : Card). history ++ c ∷ cards) same ∙ sym (push-assoc history card cards) in
               subst (λ (h : List Card). HasLegalChoice opening strategy h) (sym e)
-              (serves.0 cards (subst (λ (h : List Card). IsLegal opening h) e legal) (subst (λ (h : List Card). IsUnfinished opening h) e unfinished)
+              (serves.0 cards (subst (λ (h : List Card). IsLegalHistory opening h) e legal) (subst (λ (h : List Card). IsUnfinished opening h) e unfinished)
               (subst (λ (c : Card). FollowsAfter opening side strategy (history ++ c ∷ []) cards) same follows.1) (subst (λ (h : List Card). IsTurnOf opening side h) e own))
         ];
         enough = elim [
@@ -217,7 +217,7 @@ Plan-opponents opening side tricks history more not plans =
               let can : CanPlay opening history first = (IsLegalAfter-split opening [] history (first ∷ cards) legal).0 in
               let e : history ++ first ∷ cards ≡ (history ++ first ∷ []) ++ cards = sym (push-assoc history first cards) in
               subst (λ (h : List Card). HasLegalChoice opening strategy h) (sym e)
-              ((serves first can).0 cards (subst (λ (h : List Card). IsLegal opening h) e legal) (subst (λ (h : List Card). IsUnfinished opening h) e unfinished) follows.1 (subst (λ (h : List Card). IsTurnOf opening side h) e own))
+              ((serves first can).0 cards (subst (λ (h : List Card). IsLegalHistory opening h) e legal) (subst (λ (h : List Card). IsUnfinished opening h) e unfinished) follows.1 (subst (λ (h : List Card). IsTurnOf opening side h) e own))
         ];
         enough = elim [
           | [] ↦ λ play follows. absurd (let w : length (history ++ []) ≡ cards_in_play opening = play.whole in omega (arith, ap length (append-nil history)))
@@ -245,18 +245,18 @@ Plan-over opening side tricks history over enough = record {
   within = λ other h. refl;
 }
 
-Plan-from_Gets : (opening : Opening) (side : Side) (tricks left : ℕ) (history : List Card) → length history + left ≡ cards_in_play opening → IsLegal opening history → Gets opening side tricks left history → Plan opening side tricks history
+Plan-from_Gets : (opening : Opening) (side : Side) (tricks left : ℕ) (history : List Card) → length history + left ≡ cards_in_play opening → IsLegalHistory opening history → Gets opening side tricks left history → Plan opening side tricks history
 Plan-from_Gets opening side tricks zero history over legal gets = Plan-over opening side tricks history (omega arith) gets
 Plan-from_Gets opening side tricks (suc left) history over legal gets =
     elim (decide_side (side_of (seat_to_play opening history)) side) [
       | inl turn ↦
           let own = gets.0 turn in
           Plan-own opening side tricks history own.0 (omega arith) turn own.1
-          (Plan-from_Gets opening side tricks left (history ++ own.0 ∷ []) (omega (arith, length-append history (own.0 ∷ []))) (IsLegal-push opening history own.0 legal own.1) own.2)
+          (Plan-from_Gets opening side tricks left (history ++ own.0 ∷ []) (omega (arith, length-append history (own.0 ∷ []))) (IsLegalHistory-push opening history own.0 legal own.1) own.2)
       | inr not ↦
           Plan-opponents opening side tricks history (omega arith) not
-          (λ card can. Plan-from_Gets opening side tricks left (history ++ card ∷ []) (omega (arith, length-append history (card ∷ []))) (IsLegal-push opening history card legal can) (gets.1 not card can))
+          (λ card can. Plan-from_Gets opening side tricks left (history ++ card ∷ []) (omega (arith, length-append history (card ∷ []))) (IsLegalHistory-push opening history card legal can) (gets.1 not card can))
     ]
 
-pub CanWin-from_Gets : (opening : Opening) (side : Side) (tricks left : ℕ) (history : List Card) → length history + left ≡ cards_in_play opening → IsLegal opening history → Gets opening side tricks left history → CanWin opening side tricks history
+pub CanWin-from_Gets : (opening : Opening) (side : Side) (tricks left : ℕ) (history : List Card) → length history + left ≡ cards_in_play opening → IsLegalHistory opening history → Gets opening side tricks left history → CanWin opening side tricks history
 CanWin-from_Gets opening side tricks left history over legal gets = (Plan-from_Gets opening side tricks left history over legal gets).win

@@ -46,10 +46,10 @@ CanPlay-before opening history more card e can =
     (moved _ _ _ _ _ _ card (sym (left_of-append opening.deal history more)) (sym (seat_to_play-after opening history more e)) (sym (trick-after history more e))
     (MayBePlayed-from_CanPlay (opening_after opening history) more card can))
 
-pub IsLegal-after : (opening : Opening) (history more cards : List Card) → trick_of history ≡ [] → IsLegalAfter opening (history ++ more) cards → IsLegalAfter (opening_after opening history) more cards
-IsLegal-after opening history more [] e legal = tt
-IsLegal-after opening history more (card ∷ cards) e legal = (
+pub IsLegalAfter-after : (opening : Opening) (history more cards : List Card) → trick_of history ≡ [] → IsLegalAfter opening (history ++ more) cards → IsLegalAfter (opening_after opening history) more cards
+IsLegalAfter-after opening history more [] e legal = tt
+IsLegalAfter-after opening history more (card ∷ cards) e legal = (
   CanPlay-after opening history more card e legal.0,
-  IsLegal-after opening history (more ++ card ∷ []) cards e
+  IsLegalAfter-after opening history (more ++ card ∷ []) cards e
       (subst (λ (h : List Card). IsLegalAfter opening h cards) (append_assoc history more (card ∷ [])) legal.1),
 )

@@ -8,8 +8,8 @@ use Rattle.cards.specs.Seats.{side_of}
 use Rattle.cards.specs.Deal.{size_of, IsLayout}
 use Rattle.play_rules.specs.History.{Opening}
 use Rattle.play_rules.proofs.HistoryLaws.{length-trick_of}
-use Rattle.play_rules.specs.Legal.{IsLegal, cards_in_play, seat_to_play}
-use Rattle.play_rules.proofs.PositionLaws.{IsLegal-push}
+use Rattle.play_rules.specs.Legal.{IsLegalHistory, cards_in_play, seat_to_play}
+use Rattle.play_rules.proofs.PositionLaws.{IsLegalHistory-push}
 use Rattle.strategies.specs.Strategies.{CanWin}
 use Rattle.strategies.specs.Values.{IsPlainValue, opening_of}
 use Rattle.strategies.specs.Laws.{WinNoMoreThanAll, HasOneValue, HasOnePlainValue, PlainValueIsValue}
@@ -24,18 +24,18 @@ other-side : (side : Side) → (side ≡ NorthSouth → ⊥) → side ≡ EastWe
 other-side NorthSouth not = absurd (not refl)
 other-side EastWest not = refl
 
-together : (opening : Opening) (one other left : ℕ) (history : List Card) → length history + left ≡ cards_in_play opening → IsLegal opening history → Gets opening NorthSouth one left history → Gets opening EastWest other left history → one + other ≤ size_of opening.deal
+together : (opening : Opening) (one other left : ℕ) (history : List Card) → length history + left ≡ cards_in_play opening → IsLegalHistory opening history → Gets opening NorthSouth one left history → Gets opening EastWest other left history → one + other ≤ size_of opening.deal
 together opening one other zero history whole legal a b =
     omega (arith, tricks-add_up opening.trump opening.leader history, length-trick_of history)
 together opening one other (suc left) history whole legal a b =
     elim (decide_side (side_of (seat_to_play opening history)) NorthSouth) [
       | inl turn ↦
           let own = a.0 turn in
-          together opening one other left (history ++ own.0 ∷ []) (omega (arith, length-append history (own.0 ∷ []))) (IsLegal-push opening history own.0 legal own.1) own.2
+          together opening one other left (history ++ own.0 ∷ []) (omega (arith, length-append history (own.0 ∷ []))) (IsLegalHistory-push opening history own.0 legal own.1) own.2
           (b.1 (λ east_west. sides-apart _ turn east_west) own.0 own.1)
       | inr not ↦
           let own = b.0 (other-side _ not) in
-          together opening one other left (history ++ own.0 ∷ []) (omega (arith, length-append history (own.0 ∷ []))) (IsLegal-push opening history own.0 legal own.1) (a.1 not own.0 own.1)
+          together opening one other left (history ++ own.0 ∷ []) (omega (arith, length-append history (own.0 ∷ []))) (IsLegalHistory-push opening history own.0 legal own.1) (a.1 not own.0 own.1)
           own.2
     ]
 

@@ -8,7 +8,7 @@ use Rattle.cards.specs.declared.pack.Card.{Card}
 use Rattle.cards.specs.Seats.{side_of}
 use Rattle.cards.specs.Deal.{Deal, IsLayout, size_of}
 use Rattle.play_rules.specs.History.{Opening, trick_of, tricks_of}
-use Rattle.play_rules.specs.Legal.{CanPlay, IsLegal, IsPlay, IsUnfinished, cards_in_play}
+use Rattle.play_rules.specs.Legal.{CanPlay, IsLegalHistory, IsPlay, IsUnfinished, cards_in_play}
 use Rattle.strategies.specs.Strategies.{CanWin, IsTurnOf}
 use Rattle.strategies.specs.Values.{opening_of, opening_after, IsValue, IsPlainValue}
 
@@ -23,17 +23,17 @@ CanWinAfterEach opening side tricks history = (card : Card) → CanPlay opening 
 -- at its own turn a side can win what it can win after some legal card
 abbrev pub WinsByOwnCard : Type 0
 WinsByOwnCard =
-    (opening : Opening) (side : Side) (tricks : ℕ) (history : List Card) → IsLayout opening.deal → IsLegal opening history → IsUnfinished opening history → IsTurnOf opening side history → CanWin opening side tricks history ↔ CanWinAfterSome opening side tricks history
+    (opening : Opening) (side : Side) (tricks : ℕ) (history : List Card) → IsLayout opening.deal → IsLegalHistory opening history → IsUnfinished opening history → IsTurnOf opening side history → CanWin opening side tricks history ↔ CanWinAfterSome opening side tricks history
 
 -- at a turn of the opponents a side can win what it can win after each legal card
 abbrev pub WinsAgainstEachCard : Type 0
 WinsAgainstEachCard =
-    (opening : Opening) (side : Side) (tricks : ℕ) (history : List Card) → IsLayout opening.deal → IsLegal opening history → IsUnfinished opening history → (IsTurnOf opening side history → ⊥) → CanWin opening side tricks history ↔ CanWinAfterEach opening side tricks history
+    (opening : Opening) (side : Side) (tricks : ℕ) (history : List Card) → IsLayout opening.deal → IsLegalHistory opening history → IsUnfinished opening history → (IsTurnOf opening side history → ⊥) → CanWin opening side tricks history ↔ CanWinAfterEach opening side tricks history
 
 -- after whole tricks, with cards left, what is left is a layout, and a side can win what it lacks from there
 abbrev pub WinsTheRest : Type 0
 WinsTheRest =
-    (opening : Opening) (side : Side) (tricks : ℕ) (history : List Card) → IsLayout opening.deal → IsLegal opening history → IsUnfinished opening history → trick_of history ≡ []
+    (opening : Opening) (side : Side) (tricks : ℕ) (history : List Card) → IsLayout opening.deal → IsLegalHistory opening history → IsUnfinished opening history → trick_of history ≡ []
     → IsLayout (opening_after opening history).deal
     × (CanWin opening side tricks history ↔ CanWin (opening_after opening history) side (tricks - tricks_of side opening.trump opening.leader history) [])
 
@@ -45,7 +45,7 @@ WinsNothing = (opening : Opening) (side : Side) → IsLayout opening.deal → Ca
 abbrev pub WinsWhatIsWon : Type 0
 WinsWhatIsWon =
     (opening : Opening) (side : Side) (tricks : ℕ) (history : List Card)
-    → IsLayout opening.deal → IsLegal opening history → tricks ≤ tricks_of side opening.trump opening.leader history
+    → IsLayout opening.deal → IsLegalHistory opening history → tricks ≤ tricks_of side opening.trump opening.leader history
     → CanWin opening side tricks history
 
 -- who can win this many tricks can win fewer
@@ -61,7 +61,7 @@ ShareTheTricks =
 -- the two sides together can win no more tricks than there are
 abbrev pub WinNoMoreThanAll : Type 0
 WinNoMoreThanAll =
-    (opening : Opening) (north_south east_west : ℕ) (history : List Card) → IsLayout opening.deal → IsLegal opening history → length history ≤ cards_in_play opening → CanWin opening NorthSouth north_south history → CanWin opening EastWest east_west history → north_south + east_west ≤ size_of opening.deal
+    (opening : Opening) (north_south east_west : ℕ) (history : List Card) → IsLayout opening.deal → IsLegalHistory opening history → length history ≤ cards_in_play opening → CanWin opening NorthSouth north_south history → CanWin opening EastWest east_west history → north_south + east_west ≤ size_of opening.deal
 
 -- a contract has one double-dummy value
 abbrev pub HasOneValue : Type 0

@@ -6,7 +6,7 @@ use Rattle.cards.specs.declared.pack.Card.{Card}
 use Rattle.cards.specs.Pack.{card_number}
 use Rattle.cards.specs.Seats.{side_of}
 use Rattle.play_rules.specs.History.{Opening, tricks_of}
-use Rattle.play_rules.specs.Legal.{CanPlay, IsLegal, IsPlay, IsUnfinished, seat_to_play}
+use Rattle.play_rules.specs.Legal.{CanPlay, IsLegalHistory, IsPlay, IsUnfinished, seat_to_play}
 
 -- what a strategy plays after one history
 pub record Choice : Type 0 where
@@ -47,7 +47,7 @@ pub record HasLegalChoice (opening : Opening) (strategy : Strategy) (history : L
 -- Every legal unfinished history that follows the strategy after this one, with the side to play, has a legal choice.
 abbrev pub IsLawfulAfter : Opening → Side → Strategy → List Card → Type 0
 IsLawfulAfter opening side strategy history =
-    (cards : List Card) → IsLegal opening (history ++ cards) → IsUnfinished opening (history ++ cards) → FollowsAfter opening side strategy history cards → IsTurnOf opening side (history ++ cards) → HasLegalChoice opening strategy (history ++ cards)
+    (cards : List Card) → IsLegalHistory opening (history ++ cards) → IsUnfinished opening (history ++ cards) → FollowsAfter opening side strategy history cards → IsTurnOf opening side (history ++ cards) → HasLegalChoice opening strategy (history ++ cards)
 
 -- Every play that follows the strategy after the history has at least this many tricks for the side.
 abbrev pub HasTricksIn : Opening → Side → ℕ → Strategy → List Card → Type 0
