@@ -7,5 +7,4 @@ pub mod Plays
 pub mod Left
 pub mod Tables
 pub mod Holdings
-pub mod Faults
 pub mod Laws

@@ -1,8 +1,5 @@
 //! Why a card cannot be played.
 
-ghost use Rattle.std.specs.Prelude.{◌≡◌};
-ghost use Rattle.play_rules.specs.Faults.{fault_number};
-
 use thiserror::Error;
 
 /// Why a card cannot be played: `Over` where it applies, else the first of the others.
@@ -17,17 +14,4 @@ pub enum PlayFault {
     /// All the cards were played.
     #[error("the play is over")]
     Over,
-}
-
-impl PlayFault {
-    /// The number of the fault.
-    pub fn number(self) -> u8
-        ensures { result ≡ fault_number self }
-    {
-        match self {
-            PlayFault::NotHeld => 1,
-            PlayFault::MustFollow => 2,
-            PlayFault::Over => 3,
-        }
-    }
 }

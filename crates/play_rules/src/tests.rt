@@ -126,7 +126,4 @@ fn trumps_win(rt: HostRuntime) {
         ),
         Seat::West
     );
-    assert_eq!(rt; PlayFault::NotHeld.number(), 1);
-    assert_eq!(rt; PlayFault::MustFollow.number(), 2);
-    assert_eq!(rt; PlayFault::Over.number(), 3);
 }
