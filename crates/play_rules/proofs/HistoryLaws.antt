@@ -1,12 +1,13 @@
 -- How the words on a history go on when more cards are played.
-use Rattle.std.proofs.Common.{◌≡◌, ◌+◌, ◌%◌, ◌<◌, cond, List, [], ◌∷◌, ◌++◌, length, refl, arith}
+use Rattle.std.proofs.Common.{◌≡◌, ◌+◌, ◌%◌, ◌<◌, cond, List, [], ◌∷◌, ◌++◌, length, refl, ap, arith}
 use Rattle.cards.specs.declared.suits.Trump.{Trump}
 use Rattle.cards.specs.declared.seats.Seat.{Seat}
 use Rattle.cards.specs.declared.seats.Side.{Side}
 use Rattle.cards.specs.declared.pack.Card.{Card}
-use Rattle.cards.specs.Seats.{next_of, side_of, is_same_side}
+use Rattle.cards.specs.Seats.{next_of, seat_in_place, side_of, is_same_side}
 use Rattle.play_rules.specs.Winners.{winner_of}
-use Rattle.play_rules.specs.History.{trick_made, trick_of, leader_after, turn_in_trick, tricks_of}
+use Rattle.play_rules.specs.History.{Opening, trick_made, trick_of, leader_after, suit_of_first, tricks_of}
+use Rattle.play_rules.specs.Legal.{seat_to_play}
 
 pub trick_of-append : (history more : List Card) → trick_of (history ++ more) ≡ trick_of (trick_of history ++ more)
 unfolding trick_of
@@ -42,9 +43,34 @@ length-trick_of (a ∷ b ∷ []) = refl
 length-trick_of (a ∷ b ∷ c ∷ []) = refl
 length-trick_of (a ∷ b ∷ c ∷ d ∷ rest) = omega (arith, length-trick_of rest)
 
-pub turn_in_trick-push : (seat : Seat) (cards : List Card) (card : Card) → turn_in_trick seat (cards ++ card ∷ []) ≡ next_of (turn_in_trick seat cards)
-turn_in_trick-push seat [] card = refl
-turn_in_trick-push seat (first ∷ cards) card = turn_in_trick-push (next_of seat) cards card
+-- the turn after a card more of the trick
+pub seat_in_place-push : (seat : Seat) (cards : List Card) (card : Card) → seat_in_place seat (length (cards ++ card ∷ [])) ≡ next_of (seat_in_place seat (length cards))
+seat_in_place-push seat [] card = refl
+seat_in_place-push seat (first ∷ cards) card = seat_in_place-push (next_of seat) cards card
+
+-- fewer than four cards are the trick in progress, with the first leader
+pub trick_of-short : (cards : List Card) → length cards < 4 → trick_of cards ≡ cards
+unfolding trick_of
+trick_of-short [] short = refl
+trick_of-short (a ∷ []) short = refl
+trick_of-short (a ∷ b ∷ []) short = refl
+trick_of-short (a ∷ b ∷ c ∷ []) short = refl
+trick_of-short (a ∷ b ∷ c ∷ d ∷ rest) short = absurd (omega arith)
+
+pub leader_after-short : (trump : Trump) (leader : Seat) (cards : List Card) → length cards < 4 → leader_after trump leader cards ≡ leader
+unfolding leader_after
+leader_after-short trump leader [] short = refl
+leader_after-short trump leader (a ∷ []) short = refl
+leader_after-short trump leader (a ∷ b ∷ []) short = refl
+leader_after-short trump leader (a ∷ b ∷ c ∷ []) short = refl
+leader_after-short trump leader (a ∷ b ∷ c ∷ d ∷ rest) short = absurd (omega arith)
+
+pub seat_to_play-short : (opening : Opening) (cards : List Card) → length cards < 4 → seat_to_play opening cards ≡ seat_in_place opening.leader (length cards)
+seat_to_play-short opening cards short =
+    rw (leader_after-short opening.trump opening.leader cards short, trick_of-short cards short) refl
+
+pub suit_of_first-short : (cards : List Card) → length cards < 4 → suit_of_first (trick_of cards) ≡ suit_of_first cards
+suit_of_first-short cards short = ap suit_of_first (trick_of-short cards short)
 
 -- a card that does not end its trick
 pub record GoesOn (trump : Trump) (leader : Seat) (trick : List Card) (card : Card) : Type 0 where

@@ -6,16 +6,16 @@ use Rattle.cards.specs.declared.seats.Seat.{Seat}
 use Rattle.cards.specs.declared.seats.Side.{Side}
 use Rattle.cards.specs.declared.seats.Side.TheVariants.{NorthSouth, EastWest}
 use Rattle.cards.specs.declared.pack.Card.{Card}
-use Rattle.cards.specs.Seats.{next_of, side_of, is_same_side}
+use Rattle.cards.specs.Seats.{next_of, seat_in_place, side_of, is_same_side}
 use Rattle.std.proofs.lemmas.Bool.{cases_eq}
 use Rattle.cards.specs.Pack.{suit_number}
 use Rattle.cards.proofs.PackLaws.{same_from_suit_numbers}
 use Rattle.cards.specs.Deal.{holder_of, count_of, IsLayout}
 use Rattle.play_rules.specs.Winners.{winner_of}
-use Rattle.play_rules.specs.History.{Opening, trick_made, trick_of, leader_after, turn_in_trick, tricks_of}
+use Rattle.play_rules.specs.History.{Opening, trick_made, trick_of, leader_after, tricks_of}
 use Rattle.play_rules.specs.Left.{left_of, without}
 use Rattle.play_rules.proofs.LeftLaws.{still_held, left_when_held, left_of-push, count_of-left_of-le}
-use Rattle.play_rules.proofs.HistoryLaws.{trick_of-append, leader_after-append, tricks_of-append, turn_in_trick-push, GoesOn-from_short, Ends-from_four}
+use Rattle.play_rules.proofs.HistoryLaws.{trick_of-append, leader_after-append, tricks_of-append, seat_in_place-push, GoesOn-from_short, Ends-from_four}
 use Rattle.play_rules.specs.Legal.{StillHolds, CanFollow, CanPlay, IsLegalAfter, IsLegalHistory, IsUnfinished, seat_to_play}
 use Rattle.play_rules.specs.Position.{Position, IsReached, AreLegalCards, with_card}
 use Rattle.play_rules.specs.Holdings.{HoldsSuit, MayBePlayed, IsToBeFollowed, Revokes, AreListedTo}
@@ -70,7 +70,7 @@ tricks_of-le side trump leader (a ∷ b ∷ c ∷ d ∷ rest) =
 -- the player kept is the seat to play
 pub player-is : (position : Position) (s : Summary) → Summarizes position s → s.player ≡ seat_to_play position.opening position.history
 player-is position s kept =
-    kept.player_is ∙ (ap (λ seat. turn_in_trick seat s.trick) kept.trick_leader_is ∙ ap (turn_in_trick (leader_after position.opening.trump position.opening.leader position.history)) kept.trick_is)
+    kept.player_is ∙ (ap (λ seat. seat_in_place seat (length s.trick)) kept.trick_leader_is ∙ ap (λ trick. seat_in_place (leader_after position.opening.trump position.opening.leader position.history) (length trick)) kept.trick_is)
 
 IsReached-push : (position : Position) (card : Card) → IsReached position → IsUnfinished position.opening position.history → CanPlay position.opening position.history card → IsReached (with_card position card)
 IsReached-push position card reached more can = record {
@@ -93,7 +93,7 @@ Summarizes-goes_on position s card kept more can short =
       left_is = ap (λ d. without d card) kept.left_is ∙ sym (left_of-push position.opening.deal history card);
       trick_is = sym (trick_of-append history (card ∷ []) ∙ rw (← kept.trick_is) on.trick_is);
       trick_leader_is = sym (leader_after-append trump leader history (card ∷ []) ∙ rw (← kept.trick_is, ← kept.trick_leader_is) on.leader_is);
-      player_is = ap next_of kept.player_is ∙ sym (turn_in_trick-push s.trick_leader s.trick card);
+      player_is = ap next_of kept.player_is ∙ sym (seat_in_place-push s.trick_leader s.trick card);
       north_south_is = kept.north_south_is ∙ omega (arith, tricks NorthSouth);
       east_west_is = kept.east_west_is ∙ omega (arith, tricks EastWest);
     }

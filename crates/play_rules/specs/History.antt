@@ -1,12 +1,12 @@
 -- A history of play: the cards in the order in which they were played. It is cut into fours from the front; the
 -- leader leads the first four, and the winner of each four leads the next (Law 44G).
-use Rattle.std.specs.Prelude.{ℕ, ◌+◌, List, [], ◌∷◌, Option, None, Some, if◌then◌else◌}
+use Rattle.std.specs.Prelude.{ℕ, ◌+◌, List, [], ◌∷◌, length, Option, None, Some, if◌then◌else◌}
 use Rattle.cards.specs.declared.suits.Suit.{Suit}
 use Rattle.cards.specs.declared.suits.Trump.{Trump}
 use Rattle.cards.specs.declared.seats.Seat.{Seat}
 use Rattle.cards.specs.declared.seats.Side.{Side}
 use Rattle.cards.specs.declared.pack.Card.{Card}
-use Rattle.cards.specs.Seats.{next_of, side_of, is_same_side}
+use Rattle.cards.specs.Seats.{seat_in_place, side_of, is_same_side}
 use Rattle.cards.specs.Deal.{Deal}
 use Rattle.play_rules.specs.Tricks.{Trick}
 use Rattle.play_rules.specs.Winners.{winner_of}
@@ -36,14 +36,9 @@ leader_after trump leader (a ∷ b ∷ []) = leader
 leader_after trump leader (a ∷ b ∷ c ∷ []) = leader
 leader_after trump leader (a ∷ b ∷ c ∷ d ∷ rest) = leader_after trump (winner_of trump leader (trick_made a b c d)) rest
 
--- the seat whose turn it is in a trick that this seat led
-abbrev pub turn_in_trick : Seat → List Card → Seat
-turn_in_trick seat [] = seat
-turn_in_trick seat (card ∷ cards) = turn_in_trick (next_of seat) cards
-
--- the seat to play
+-- the seat to play: as many places from the leader of the trick in progress as it has cards
 abbrev pub turn_after : Trump → Seat → List Card → Seat
-turn_after trump leader history = turn_in_trick (leader_after trump leader history) (trick_of history)
+turn_after trump leader history = seat_in_place (leader_after trump leader history) (length (trick_of history))
 
 -- how many of a history's fours a side has won
 unfoldable pub tricks_of : Side → Trump → Seat → List Card → ℕ

@@ -1,10 +1,11 @@
 -- After whole tricks, play goes on as it would begin with the layout left and the last winner leading.
-use Rattle.std.proofs.Common.{◌≡◌, ◌+◌, List, [], ◌∷◌, ◌++◌, sym, ◌∙◌, ap, subst, append_assoc}
+use Rattle.std.proofs.Common.{◌≡◌, ◌+◌, List, [], ◌∷◌, ◌++◌, length, sym, ◌∙◌, ap, subst, append_assoc}
 use Rattle.cards.specs.declared.seats.Seat.{Seat}
 use Rattle.cards.specs.declared.seats.Side.{Side}
 use Rattle.cards.specs.declared.pack.Card.{Card}
+use Rattle.cards.specs.Seats.{seat_in_place}
 use Rattle.cards.specs.Deal.{Deal}
-use Rattle.play_rules.specs.History.{Opening, trick_of, leader_after, turn_in_trick, tricks_of}
+use Rattle.play_rules.specs.History.{Opening, trick_of, leader_after, tricks_of}
 use Rattle.play_rules.proofs.HistoryLaws.{trick_of-append, leader_after-append, tricks_of-append}
 use Rattle.play_rules.proofs.LeftLaws.{left_of-append}
 use Rattle.play_rules.specs.Legal.{CanPlay, IsLegalAfter, seat_to_play}
@@ -21,8 +22,8 @@ leader-after opening history more e =
 
 pub seat_to_play-after : (opening : Opening) (history more : List Card) → trick_of history ≡ [] → seat_to_play opening (history ++ more) ≡ seat_to_play (opening_after opening history) more
 seat_to_play-after opening history more e =
-    ap (λ (s : Seat). turn_in_trick s (trick_of (history ++ more))) (leader-after opening history more e)
-    ∙ ap (turn_in_trick (leader_after opening.trump (leader_after opening.trump opening.leader history) more)) (trick-after history more e)
+    ap (λ (s : Seat). seat_in_place s (length (trick_of (history ++ more)))) (leader-after opening history more e)
+    ∙ ap (λ (t : List Card). seat_in_place (leader_after opening.trump (leader_after opening.trump opening.leader history) more) (length t)) (trick-after history more e)
 
 pub tricks_of-after : (opening : Opening) (side : Side) (history more : List Card) → trick_of history ≡ [] → tricks_of side opening.trump opening.leader (history ++ more) ≡ tricks_of side opening.trump opening.leader history + tricks_of side opening.trump (leader_after opening.trump opening.leader history) more
 tricks_of-after opening side history more e =
