@@ -34,7 +34,8 @@ leader_after trump leader [] = leader
 leader_after trump leader (a ∷ []) = leader
 leader_after trump leader (a ∷ b ∷ []) = leader
 leader_after trump leader (a ∷ b ∷ c ∷ []) = leader
-leader_after trump leader (a ∷ b ∷ c ∷ d ∷ rest) = leader_after trump (winner_of trump leader (trick_made a b c d)) rest
+leader_after trump leader (a ∷ b ∷ c ∷ d ∷ rest) =
+    leader_after trump (winner_of trump leader (trick_made a b c d)) rest
 
 -- the seat to play: as many places from the leader of the trick in progress as it has cards
 abbrev pub turn_after : Trump → Seat → List Card → Seat

@@ -10,7 +10,8 @@ use Rattle.play_rules.specs.Left.{left_of}
 
 -- the winner's card is the highest of the suit that decides the trick
 abbrev pub WinsByHighestCard : Type 0
-WinsByHighestCard = (trump : Trump) (trick : Trick) → IsHighest trick (deciding_suit trump trick) (winning_place trump trick)
+WinsByHighestCard =
+    (trump : Trump) (trick : Trick) → IsHighest trick (deciding_suit trump trick) (winning_place trump trick)
 
 -- of a deal is left: no holder of a card that was played, and of every other card the holder to whom it was dealt
 abbrev pub LeavesTheUnplayed : Type 0

@@ -22,7 +22,8 @@ seat_to_play opening history = turn_after opening.trump opening.leader history
 
 -- the seat to play still holds a card of the suit
 abbrev pub CanFollow : Opening → List Card → Suit → Type 0
-CanFollow opening history suit = (card : Card) × StillHolds opening.deal history (seat_to_play opening history) card × (card.suit ≡ suit)
+CanFollow opening history suit =
+    (card : Card) × StillHolds opening.deal history (seat_to_play opening history) card × (card.suit ≡ suit)
 
 -- The card may be played after the history: the seat to play still holds it, and it is of the suit led if that seat
 -- still holds a card of that suit.
@@ -33,7 +34,8 @@ pub record CanPlay (opening : Opening) (history : List Card) (card : Card) : Typ
 -- each of these cards, played in turn after the history, may be played
 abbrev pub IsLegalAfter : Opening → List Card → List Card → Type 0
 IsLegalAfter opening history [] = Unit {0}
-IsLegalAfter opening history (card ∷ cards) = CanPlay opening history card × IsLegalAfter opening (history ++ card ∷ []) cards
+IsLegalAfter opening history (card ∷ cards) =
+    CanPlay opening history card × IsLegalAfter opening (history ++ card ∷ []) cards
 
 -- a legal history of the opening
 abbrev pub IsLegalHistory : Opening → List Card → Type 0

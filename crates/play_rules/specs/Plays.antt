@@ -10,7 +10,8 @@ use Rattle.play_rules.specs.Position.{Position}
 
 -- the seat to play does not hold the card, or no longer
 abbrev pub LacksCard : Position → Card → Type 0
-LacksCard position card = StillHolds position.opening.deal position.history (seat_to_play position.opening position.history) card → ⊥
+LacksCard position card =
+    StillHolds position.opening.deal position.history (seat_to_play position.opening position.history) card → ⊥
 
 -- the seat to play holds the card, which is of another suit than the one led, of which it has a card
 pub record FailsToFollow (position : Position) (card : Card) : Type 0 where
@@ -25,5 +26,7 @@ abbrev pub PlaysOrRefuses : Position → Card → Result (Unit {0}) PlayFault �
 PlaysOrRefuses position card (Ok done) =
     IsUnfinished position.opening position.history × CanPlay position.opening position.history card
 PlaysOrRefuses position card (Err Over) = length position.history ≡ cards_in_play position.opening
-PlaysOrRefuses position card (Err NotHeld) = IsUnfinished position.opening position.history × LacksCard position card
-PlaysOrRefuses position card (Err MustFollow) = IsUnfinished position.opening position.history × FailsToFollow position card
+PlaysOrRefuses position card (Err NotHeld) =
+    IsUnfinished position.opening position.history × LacksCard position card
+PlaysOrRefuses position card (Err MustFollow) =
+    IsUnfinished position.opening position.history × FailsToFollow position card

@@ -21,7 +21,9 @@ pub record IsReached (position : Position) : Type 0 where
 -- the seat to play, where a card is still to be played
 abbrev pub turn_of : Position → Option Seat
 turn_of position =
-    if nat_lt (length position.history) (cards_in_play position.opening) then Some (seat_to_play position.opening position.history) else None
+    if nat_lt (length position.history) (cards_in_play position.opening)
+    then Some (seat_to_play position.opening position.history)
+    else None
 
 -- the place of a card where suits are listed in their order and ranks falling
 abbrev pub listed_place : Card → ℕ
@@ -30,7 +32,8 @@ listed_place card = 13 * suit_number card.suit + (12 - rank_number card.rank)
 -- each card stands before those of later suits, and of its suit before those of lower rank
 abbrev pub AreInOrder : List Card → Type 0
 AreInOrder [] = Unit {0}
-AreInOrder (first ∷ rest) = ((card : Card) → IsAmong rest card → listed_place first < listed_place card) × AreInOrder rest
+AreInOrder (first ∷ rest) =
+    ((card : Card) → IsAmong rest card → listed_place first < listed_place card) × AreInOrder rest
 
 -- these are the cards that may be played, by suit and ranks falling, each once
 pub record AreLegalCards (position : Position) (cards : List Card) : Type 0 where

@@ -24,5 +24,7 @@ pub record Summarizes (position : Position) (s : Summary) : Type 0 where
   pub trick_is : s.trick ≡ trick_of position.history
   pub trick_leader_is : s.trick_leader ≡ leader_after position.opening.trump position.opening.leader position.history
   pub player_is : s.player ≡ seat_in_place s.trick_leader (length s.trick)
-  pub north_south_is : s.north_south ≡ tricks_of NorthSouth position.opening.trump position.opening.leader position.history
-  pub east_west_is : s.east_west ≡ tricks_of EastWest position.opening.trump position.opening.leader position.history
+  pub north_south_is :
+      s.north_south ≡ tricks_of NorthSouth position.opening.trump position.opening.leader position.history
+  pub east_west_is :
+      s.east_west ≡ tricks_of EastWest position.opening.trump position.opening.leader position.history

@@ -24,7 +24,8 @@ card_in_place trick (suc (suc (suc n))) = trick.fourth
 pub record IsHighest (trick : Trick) (suit : Suit) (place : ℕ) : Type 0 where
   pub of_suit : (card_in_place trick place).suit ≡ suit
   pub highest :
-      (other : ℕ) → (card_in_place trick other).suit ≡ suit → rank_number (card_in_place trick other).rank ≤ rank_number (card_in_place trick place).rank
+      (other : ℕ) → (card_in_place trick other).suit ≡ suit
+      → rank_number (card_in_place trick other).rank ≤ rank_number (card_in_place trick place).rank
 
 -- a card of the suit was played to the trick
 abbrev pub HasSuit : Trick → Suit → Type 0
@@ -34,8 +35,10 @@ HasSuit trick suit = (place : ℕ) × ((card_in_place trick place).suit ≡ suit
 abbrev pub WinsAt : Trump → Trick → ℕ → Type 0
 WinsAt trump.Nt trick place = IsHighest trick trick.first.suit place
 WinsAt (trump.Suit suit) trick place =
-    (HasSuit trick suit → IsHighest trick suit place) × ((HasSuit trick suit → ⊥) → IsHighest trick trick.first.suit place)
+    (HasSuit trick suit → IsHighest trick suit place)
+    × ((HasSuit trick suit → ⊥) → IsHighest trick trick.first.suit place)
 
 -- no card was played twice to the trick
 abbrev pub AreFourCards : Trick → Type 0
-AreFourCards trick = (one other : ℕ) → one ≤ 3 → other ≤ 3 → card_in_place trick one ≡ card_in_place trick other → one ≡ other
+AreFourCards trick =
+    (one other : ℕ) → one ≤ 3 → other ≤ 3 → card_in_place trick one ≡ card_in_place trick other → one ≡ other

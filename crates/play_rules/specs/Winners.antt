@@ -17,7 +17,9 @@ is_of suit card = suit_number card.suit == suit_number suit
 abbrev pub deciding_suit : Trump → Trick → Suit
 deciding_suit trump.Nt trick = trick.first.suit
 deciding_suit (trump.Suit suit) trick =
-    if is_of suit trick.first || (is_of suit trick.second || (is_of suit trick.third || is_of suit trick.fourth)) then suit else trick.first.suit
+    if is_of suit trick.first || (is_of suit trick.second || (is_of suit trick.third || is_of suit trick.fourth))
+    then suit
+    else trick.first.suit
 
 -- how high a card stands in the suit: 0 for a card of another suit
 abbrev pub height : Suit → Card → ℕ
@@ -33,7 +35,8 @@ highest_place a b c d =
 abbrev pub winning_place : Trump → Trick → ℕ
 winning_place trump trick =
     let suit = deciding_suit trump trick in
-    highest_place (height suit trick.first) (height suit trick.second) (height suit trick.third) (height suit trick.fourth)
+    let high : Card → ℕ = height suit in
+    highest_place (high trick.first) (high trick.second) (high trick.third) (high trick.fourth)
 
 -- the seat that wins the trick
 unfoldable pub winner_of : Trump → Seat → Trick → Seat

@@ -29,4 +29,8 @@ pub record IsPlainValue (opening : Opening) (tricks : ℕ) : Type 0 where
 -- what is still to be played after whole tricks: the layout left, the last winner leading
 abbrev pub opening_after : Opening → List Card → Opening
 opening_after opening history =
-    record { deal = left_of opening.deal history; leader = leader_after opening.trump opening.leader history; trump = opening.trump }
+    record {
+      deal = left_of opening.deal history;
+      leader = leader_after opening.trump opening.leader history;
+      trump = opening.trump;
+    }
