@@ -1,5 +1,5 @@
 -- Lists of cards that a player holds.
-use Rattle.std.proofs.Common.{◌≡◌, ℕ, ◌+◌, ◌-◌, ◌/◌, ◌%◌, ◌<◌, ◌≤◌, List, [], ◌∷◌, ◌++◌, length, Option, None, Some, refl, sym, ◌∙◌, ap, arith, inl, inr, ◌⊎◌, cond, get_or, set, get_or-set_same, get_or-set_other}
+use Rattle.std.proofs.Common.{◌≡◌, ℕ, ◌+◌, ◌-◌, ◌/◌, ◌%◌, ◌<◌, ◌≤◌, List, [], ◌∷◌, ◌++◌, length, Contains, Option, None, Some, refl, sym, ◌∙◌, ap, arith, inl, inr, ◌⊎◌, cond, get_or, set, get_or-set_same, get_or-set_other}
 use Rattle.std.proofs.lemmas.Bool.{cases_eq}
 use Rattle.cards.specs.declared.suits.Suit.{Suit}
 use Rattle.cards.specs.declared.seats.Seat.{Seat}
@@ -9,44 +9,29 @@ use Rattle.cards.proofs.PackLaws.{same_from_numbers, suit_number-lt, rank_number
 use Rattle.cards.specs.SameDeal.{is_same_seat-refl}
 use Rattle.cards.specs.Seats.{is_same_seat}
 use Rattle.cards.specs.Deal.{Deal, holder_of, count_of}
-use Rattle.play_rules.specs.Legal.{IsAmong}
+use Rattle.std.proofs.lemmas.List.Elements.{Contains-push, Contains-push_cases, Contains-append_left, Contains-append_right}
 use Rattle.play_rules.specs.Left.{without}
 use Rattle.play_rules.proofs.LeftLaws.{holder_of-without_other, count_of-without}
 use Rattle.play_rules.specs.Position.{AreInOrder, listed_place}
 use Rattle.play_rules.specs.Holdings.{HoldsSuit, MayBePlayed, IsSuitToFollow, IsOf, AreListedTo}
 
-pub IsAmong-push : (cards : List Card) (card : Card) → IsAmong (cards ++ card ∷ []) card
-IsAmong-push [] card = inl refl
-IsAmong-push (first ∷ rest) card = inr (IsAmong-push rest card)
-
-pub IsAmong-push_before : (cards : List Card) (card other : Card) → IsAmong cards other → IsAmong (cards ++ card ∷ []) other
-IsAmong-push_before [] card other h = absurd h
-IsAmong-push_before (first ∷ rest) card other (inl e) = inl e
-IsAmong-push_before (first ∷ rest) card other (inr h) = inr (IsAmong-push_before rest card other h)
-
-pub IsAmong-push_cases : (cards : List Card) (card other : Card) → IsAmong (cards ++ card ∷ []) other → IsAmong cards other ⊎ (card ≡ other)
-IsAmong-push_cases [] card other (inl e) = inr e
-IsAmong-push_cases [] card other (inr h) = absurd h
-IsAmong-push_cases (first ∷ rest) card other (inl e) = inl (inl e)
-IsAmong-push_cases (first ∷ rest) card other (inr h) = elim (IsAmong-push_cases rest card other h) [ inl a ↦ inl (inr a) | inr e ↦ inr e ]
-
-pub AreInOrder-push : (cards : List Card) (card : Card) → AreInOrder cards → ((other : Card) → IsAmong cards other → listed_place other < listed_place card) → AreInOrder (cards ++ card ∷ [])
-AreInOrder-push [] card order below = (λ other h. absurd h, tt)
+pub AreInOrder-push : (cards : List Card) (card : Card) → AreInOrder cards → ((other : Card) → Contains cards other → listed_place other < listed_place card) → AreInOrder (cards ++ card ∷ [])
+AreInOrder-push [] card order below = (λ other h. absurd (omega (arith, h.1)), tt)
 AreInOrder-push (first ∷ rest) card order below = (
-  λ other h. elim (IsAmong-push_cases rest card other h) [
+  λ other h. elim (Contains-push_cases rest card other h) [
     | inl a ↦ order.0 other a
-    | inr e ↦ let lt : listed_place first < listed_place card = below first (inl refl) in omega (arith, ap listed_place e)
+    | inr e ↦ let lt : listed_place first < listed_place card = below first (0, omega arith, refl) in omega (arith, ap listed_place e)
   ],
-  AreInOrder-push rest card order.1 (λ other h. below other (inr h)),
+  AreInOrder-push rest card order.1 (λ other h. below other (Contains-append_right (first ∷ []) rest other h)),
 )
 
 -- a player's cards are no fewer than those of a list of them
-pub length-le-count_of : (left : Deal) (player : Seat) (cards : List Card) → AreInOrder cards → ((card : Card) → IsAmong cards card → holder_of left card ≡ Some player) → length cards ≤ count_of left player
+pub length-le-count_of : (left : Deal) (player : Seat) (cards : List Card) → AreInOrder cards → ((card : Card) → Contains cards card → holder_of left card ≡ Some player) → length cards ≤ count_of left player
 length-le-count_of left player [] order held = omega arith
 length-le-count_of left player (first ∷ rest) order held =
     let fewer = length-le-count_of (without left first) player rest order.1
-    (λ card h. holder_of-without_other left first card (λ e. let lt : listed_place first < listed_place card = order.0 card h in absurd (omega (arith, ap listed_place e))) ∙ held card (inr h)) in
-    let one : count_of (without left first) player + cond (is_same_seat player player) 1 0 ≡ count_of left player = count_of-without left first player player (held first (inl refl)) in
+    (λ card h. holder_of-without_other left first card (λ e. let lt : listed_place first < listed_place card = order.0 card h in absurd (omega (arith, ap listed_place e))) ∙ held card (Contains-append_right (first ∷ []) rest card h)) in
+    let one : count_of (without left first) player + cond (is_same_seat player player) 1 0 ≡ count_of left player = count_of-without left first player player (held first (0, omega arith, refl)) in
     let one' : count_of (without left first) player + 1 ≡ count_of left player = rw (is_same_seat-refl player) at one in
     omega arith
 
@@ -86,14 +71,14 @@ IsOf-from_MayBePlayed left player trick (Some suit) card must may = may.follows 
 -- one more place of the list
 pub AreListedTo-more : (left : Deal) (player : Seat) (trick : List Card) (place : ℕ) (cards : List Card) (card : Card) → listed_place card ≡ place → AreListedTo left player trick place cards → MayBePlayed left player trick card → AreListedTo left player trick (place + 1) (cards ++ card ∷ [])
 AreListedTo-more left player trick place cards card at listed may = record {
-  legal = λ other h. elim (IsAmong-push_cases cards card other h) [ inl a ↦ listed.legal other a | inr e ↦ rw e at may ];
-  before = λ other h. elim (IsAmong-push_cases cards card other h) [
+  legal = λ other h. elim (Contains-push_cases cards card other h) [ inl a ↦ listed.legal other a | inr e ↦ rw e at may ];
+  before = λ other h. elim (Contains-push_cases cards card other h) [
     | inl a ↦ let lt : listed_place other < place = listed.before other a in omega arith
     | inr e ↦ omega (arith, ap listed_place e)
   ];
   all = λ other lt m. elim (cases_place other place lt) [
-    | inl l ↦ IsAmong-push_before cards card other (listed.all other l m)
-    | inr e ↦ let same : card ≡ other = same_from_places card other (at ∙ sym e) in rw same (rw same at (IsAmong-push cards card))
+    | inl l ↦ Contains-append_left cards (card ∷ []) other (listed.all other l m)
+    | inr e ↦ let same : card ≡ other = same_from_places card other (at ∙ sym e) in rw same (rw same at (Contains-push cards card))
   ];
   in_order = AreInOrder-push cards card listed.in_order (λ other h. let lt : listed_place other < place = listed.before other h in omega arith);
 }

@@ -1,7 +1,8 @@
 -- What is left of a deal: who still holds what, and how many cards.
-use Rattle.std.proofs.Common.{◌≡◌, ℕ, ◌+◌, ◌<◌, ◌≤◌, cond, List, [], ◌∷◌, ◌++◌, length, get_or, Option, None, Some, refl, sym, ◌∙◌, ap, arith, inl, inr, ◌⊎◌, length-set, get_or-set_same, get_or-set_other}
+use Rattle.std.proofs.Common.{◌≡◌, ℕ, zero, suc, ◌+◌, ◌<◌, ◌≤◌, cond, List, [], ◌∷◌, ◌++◌, length, Contains, get_or, Option, None, Some, refl, sym, ◌∙◌, ap, arith, inl, inr, ◌⊎◌, length-set, get_or-set_same, get_or-set_other}
 use Rattle.std.proofs.lemmas.Bool.{cases_eq, cases_lt}
 use Rattle.std.proofs.lemmas.List.{get_or_past}
+use Rattle.std.proofs.lemmas.List.Elements.{Contains-append_right}
 use Rattle.std.proofs.lemmas.List.Sums.{sum_by-set}
 use Rattle.cards.specs.declared.seats.Seat.{Seat}
 use Rattle.cards.specs.declared.pack.Card.{Card}
@@ -10,7 +11,7 @@ use Rattle.cards.proofs.PackLaws.{card_number-lt, same_from_numbers}
 use Rattle.cards.specs.Seats.{is_same_seat}
 use Rattle.cards.specs.Deal.{Deal, holder_of, is_held_by, count_of}
 use Rattle.play_rules.specs.Left.{without, left_of}
-use Rattle.play_rules.specs.Legal.{IsAmong, StillHolds}
+use Rattle.play_rules.specs.Legal.{StillHolds}
 use Rattle.play_rules.specs.Laws.{LeavesTheUnplayed}
 
 pub cases_card : (one other : Card) → (one ≡ other) ⊎ (one ≡ other → ⊥)
@@ -60,17 +61,17 @@ None-left_of deal (first ∷ rest) card h =
       | inr n ↦ holder_of-without_other deal first card n ∙ h
     ])
 
-pub left_of-played : (deal : Deal) (history : List Card) (card : Card) → IsAmong history card → holder_of (left_of deal history) card ≡ None
+pub left_of-played : (deal : Deal) (history : List Card) (card : Card) → Contains history card → holder_of (left_of deal history) card ≡ None
 unfolding left_of
-left_of-played deal [] card h = absurd h
-left_of-played deal (first ∷ rest) card (inl e) = None-left_of (without deal first) rest card (rw (← e) (holder_of-without_same deal first))
-left_of-played deal (first ∷ rest) card (inr h) = left_of-played (without deal first) rest card h
+left_of-played deal [] card h = absurd (omega (arith, h.1))
+left_of-played deal (first ∷ rest) card (zero, lt, e) = None-left_of (without deal first) rest card (rw (← e) (holder_of-without_same deal first))
+left_of-played deal (first ∷ rest) card (suc k, lt, e) = left_of-played (without deal first) rest card (k, omega arith, e)
 
-pub left_of-unplayed : (deal : Deal) (history : List Card) (card : Card) → (IsAmong history card → ⊥) → holder_of (left_of deal history) card ≡ holder_of deal card
+pub left_of-unplayed : (deal : Deal) (history : List Card) (card : Card) → (Contains history card → ⊥) → holder_of (left_of deal history) card ≡ holder_of deal card
 unfolding left_of
 left_of-unplayed deal [] card not = refl
 left_of-unplayed deal (first ∷ rest) card not =
-    left_of-unplayed (without deal first) rest card (λ h. not (inr h)) ∙ holder_of-without_other deal first card (λ e. not (inl (sym e)))
+    left_of-unplayed (without deal first) rest card (λ h. not (Contains-append_right (first ∷ []) rest card h)) ∙ holder_of-without_other deal first card (λ e. not (0, omega arith, sym e))
 
 pub leaves_the_unplayed : LeavesTheUnplayed
 leaves_the_unplayed deal history card = (left_of-played deal history card, left_of-unplayed deal history card)
@@ -78,7 +79,7 @@ leaves_the_unplayed deal history card = (left_of-played deal history card, left_
 -- what is left shows who still holds a card
 pub still_held : (deal : Deal) (history : List Card) (seat : Seat) (card : Card) → holder_of (left_of deal history) card ≡ Some seat → StillHolds deal history seat card
 still_held deal history seat card h =
-    let not : IsAmong history card → ⊥ = λ p. None≢Some seat (sym (left_of-played deal history card p) ∙ h) in
+    let not : Contains history card → ⊥ = λ p. None≢Some seat (sym (left_of-played deal history card p) ∙ h) in
     record { dealt = sym (left_of-unplayed deal history card not) ∙ h; unplayed = not }
 
 pub left_when_held : (deal : Deal) (history : List Card) (seat : Seat) (card : Card) → StillHolds deal history seat card → holder_of (left_of deal history) card ≡ Some seat

@@ -1,11 +1,10 @@
 -- What a player may play of the cards that are left, over a trick in progress.
-use Rattle.std.specs.Prelude.{◌≡◌, ◌≢◌, ℕ, ◌<◌, ⊤, List, Option, None, Some}
+use Rattle.std.specs.Prelude.{◌≡◌, ◌≢◌, ℕ, ◌<◌, ⊤, List, Contains, Option, None, Some}
 use Rattle.cards.specs.declared.suits.Suit.{Suit}
 use Rattle.cards.specs.declared.seats.Seat.{Seat}
 use Rattle.cards.specs.declared.pack.Card.{Card}
 use Rattle.cards.specs.Deal.{Deal, holder_of}
 use Rattle.play_rules.specs.History.{suit_of_first}
-use Rattle.play_rules.specs.Legal.{IsAmong}
 use Rattle.play_rules.specs.Position.{AreInOrder, listed_place}
 
 -- the player has a card of the suit left
@@ -44,7 +43,7 @@ pub record Revokes (left : Deal) (player : Seat) (trick : List Card) (card : Car
 
 -- these are the cards that may be played, as far as this place of the list of all cards
 pub record AreListedTo (left : Deal) (player : Seat) (trick : List Card) (place : ℕ) (cards : List Card) : Type 0 where
-  pub legal : (card : Card) → IsAmong cards card → MayBePlayed left player trick card
-  pub before : (card : Card) → IsAmong cards card → listed_place card < place
-  pub all : (card : Card) → listed_place card < place → MayBePlayed left player trick card → IsAmong cards card
+  pub legal : (card : Card) → Contains cards card → MayBePlayed left player trick card
+  pub before : (card : Card) → Contains cards card → listed_place card < place
+  pub all : (card : Card) → listed_place card < place → MayBePlayed left player trick card → Contains cards card
   pub in_order : AreInOrder cards

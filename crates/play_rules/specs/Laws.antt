@@ -1,11 +1,10 @@
 -- What follows from the definitions of a trick and of the cards left.
-use Rattle.std.specs.Prelude.{◌≡◌, List, None}
+use Rattle.std.specs.Prelude.{◌≡◌, List, Contains, None}
 use Rattle.cards.specs.declared.suits.Trump.{Trump}
 use Rattle.cards.specs.declared.pack.Card.{Card}
 use Rattle.cards.specs.Deal.{Deal, holder_of}
 use Rattle.play_rules.specs.Tricks.{Trick, IsHighest}
 use Rattle.play_rules.specs.Winners.{deciding_suit, winning_place}
-use Rattle.play_rules.specs.Legal.{IsAmong}
 use Rattle.play_rules.specs.Left.{left_of}
 
 -- the winner's card is the highest of the suit that decides the trick
@@ -17,5 +16,5 @@ WinsByHighestCard =
 abbrev pub LeavesTheUnplayed : Type 0
 LeavesTheUnplayed =
     (deal : Deal) (history : List Card) (card : Card)
-    → (IsAmong history card → holder_of (left_of deal history) card ≡ None)
-    × ((IsAmong history card → ⊥) → holder_of (left_of deal history) card ≡ holder_of deal card)
+    → (Contains history card → holder_of (left_of deal history) card ≡ None)
+    × ((Contains history card → ⊥) → holder_of (left_of deal history) card ≡ holder_of deal card)

@@ -1,20 +1,15 @@
 -- Legal play (Law 44A, 44C and 44D).
-use Rattle.std.specs.Prelude.{◌≡◌, ℕ, ◌*◌, ◌<◌, List, [], ◌∷◌, ◌++◌, length, Some, ◌⊎◌}
+use Rattle.std.specs.Prelude.{◌≡◌, ℕ, ◌*◌, ◌<◌, List, [], ◌∷◌, ◌++◌, length, Contains, Some}
 use Rattle.cards.specs.declared.suits.Suit.{Suit}
 use Rattle.cards.specs.declared.seats.Seat.{Seat}
 use Rattle.cards.specs.declared.pack.Card.{Card}
 use Rattle.cards.specs.Deal.{Deal, holder_of, size_of}
 use Rattle.play_rules.specs.History.{Opening, turn_after, suit_led}
 
--- the card is one of these
-abbrev pub IsAmong : List Card → Card → Type 0
-IsAmong [] card = ⊥
-IsAmong (first ∷ rest) card = (first ≡ card) ⊎ IsAmong rest card
-
 -- the card was dealt to the seat and not yet played
 pub record StillHolds (deal : Deal) (history : List Card) (seat : Seat) (card : Card) : Type 0 where
   pub dealt : holder_of deal card ≡ Some seat
-  pub unplayed : IsAmong history card → ⊥
+  pub unplayed : Contains history card → ⊥
 
 -- the seat whose turn it is after a history
 abbrev pub seat_to_play : Opening → List Card → Seat

@@ -1,11 +1,11 @@
 -- A table in play, and what its calls answer.
-use Rattle.std.specs.Prelude.{ℕ, ◌+◌, ◌*◌, ◌-◌, ◌≤◌, ◌<◌, List, ◌∷◌, [], ◌++◌, length, Option, None, Some, if◌then◌else◌, nat_lt}
+use Rattle.std.specs.Prelude.{ℕ, ◌+◌, ◌*◌, ◌-◌, ◌≤◌, ◌<◌, List, ◌∷◌, [], ◌++◌, length, Contains, Option, None, Some, if◌then◌else◌, nat_lt}
 use Rattle.cards.specs.declared.seats.Seat.{Seat}
 use Rattle.cards.specs.declared.pack.Card.{Card}
 use Rattle.cards.specs.Pack.{suit_number, rank_number}
 use Rattle.cards.specs.Deal.{IsLayout}
 use Rattle.play_rules.specs.History.{Opening}
-use Rattle.play_rules.specs.Legal.{IsAmong, CanPlay, IsLegalHistory, cards_in_play, seat_to_play}
+use Rattle.play_rules.specs.Legal.{CanPlay, IsLegalHistory, cards_in_play, seat_to_play}
 
 -- what play began with, and the cards played since
 pub record Position : Type 0 where
@@ -33,12 +33,12 @@ listed_place card = 13 * suit_number card.suit + (12 - rank_number card.rank)
 abbrev pub AreInOrder : List Card → Type 0
 AreInOrder [] = Unit {0}
 AreInOrder (first ∷ rest) =
-    ((card : Card) → IsAmong rest card → listed_place first < listed_place card) × AreInOrder rest
+    ((card : Card) → Contains rest card → listed_place first < listed_place card) × AreInOrder rest
 
 -- these are the cards that may be played, by suit and ranks falling, each once
 pub record AreLegalCards (position : Position) (cards : List Card) : Type 0 where
-  pub legal : (card : Card) → IsAmong cards card → CanPlay position.opening position.history card
-  pub all : (card : Card) → CanPlay position.opening position.history card → IsAmong cards card
+  pub legal : (card : Card) → Contains cards card → CanPlay position.opening position.history card
+  pub all : (card : Card) → CanPlay position.opening position.history card → Contains cards card
   pub in_order : AreInOrder cards
 
 -- the position after a card more

@@ -1,5 +1,5 @@
 -- What one turn of the search may answer.
-use Rattle.std.proofs.Common.{◌≡◌, ℕ, zero, suc, ◌+◌, ◌-◌, ◌<◌, ◌≤◌, Bool, true, false, not, List, [], ◌∷◌, ◌++◌, length, take, get_or, refl, sym, ◌∙◌, ap, subst, arith, inl, inr, MatchBool, None, Some, ltb}
+use Rattle.std.proofs.Common.{◌≡◌, ℕ, ◌+◌, ◌-◌, ◌<◌, ◌≤◌, Bool, true, false, not, List, [], ◌∷◌, ◌++◌, length, Contains, take, get_or, refl, sym, ◌∙◌, ap, subst, arith, inl, inr, MatchBool, None, Some, ltb}
 use mathlib.Core.Bool.{beq}
 use denote.Enum.Bare.{sameb}
 use Rattle.cards.specs.contracts.seats.Side.{the_type}
@@ -13,8 +13,8 @@ use Rattle.cards.specs.declared.pack.Card.{Card}
 use Rattle.cards.specs.Deal.{size_of}
 use Rattle.play_rules.specs.History.{Opening, tricks_of}
 use Rattle.play_rules.proofs.HistoryLaws.{length-trick_of}
-use Rattle.play_rules.proofs.HoldingLaws.{IsAmong-push_cases}
-use Rattle.play_rules.specs.Legal.{IsAmong, CanPlay, IsUnfinished, cards_in_play, seat_to_play}
+use Rattle.std.proofs.lemmas.List.Elements.{Contains-get_or, Contains-push_cases}
+use Rattle.play_rules.specs.Legal.{CanPlay, IsUnfinished, cards_in_play, seat_to_play}
 use Rattle.play_rules.specs.Position.{Position, IsReached, AreLegalCards, turn_of, with_card}
 use Rattle.strategies.specs.Strategies.{CanWin, IsTurnOf}
 use Rattle.strategies.specs.Values.{IsPlainValue}
@@ -82,18 +82,12 @@ pub won_by : (position : Position) (side : Side) (wanted : ℕ) → IsReached po
 won_by position side wanted reached won = what_is_won position.opening side wanted position.history reached.layout reached.legal won
 
 -- one card more was tried
-pub IsNoHelp-more : (position : Position) (wanted : ℕ) (cards : List Card) (i : ℕ) (d : Card) → i < length cards → ((card : Card) → IsAmong (take i cards) card → IsNoHelp position wanted card) → IsNoHelp position wanted (get_or cards i d) → (card : Card) → IsAmong (take (i + 1) cards) card → IsNoHelp position wanted card
+pub IsNoHelp-more : (position : Position) (wanted : ℕ) (cards : List Card) (i : ℕ) (d : Card) → i < length cards → ((card : Card) → Contains (take i cards) card → IsNoHelp position wanted card) → IsNoHelp position wanted (get_or cards i d) → (card : Card) → Contains (take (i + 1) cards) card → IsNoHelp position wanted card
 IsNoHelp-more position wanted cards i d lt before here card h =
-    elim (IsAmong-push_cases (take i cards) (get_or cards i d) card (rw (take_more cards i d lt) at h)) [
+    elim (Contains-push_cases (take i cards) (get_or cards i d) card (rw (take_more cards i d lt) at h)) [
       | inl a ↦ before card a
       | inr e ↦ subst (λ (c : Card). IsNoHelp position wanted c) e here
     ]
-
--- the card at an index is one of the cards
-pub IsAmong-at : (cards : List Card) (i : ℕ) (d : Card) → i < length cards → IsAmong cards (get_or cards i d)
-IsAmong-at [] i d h = absurd (omega arith)
-IsAmong-at (first ∷ rest) zero d h = inl refl
-IsAmong-at (first ∷ rest) (suc i) d h = inr (IsAmong-at rest i d (omega arith))
 
 -- a turn tells that cards are left
 pub turn-unfinished : (position : Position) (seat : Seat) → turn_of position ≡ Some seat → IsUnfinished position.opening position.history × (seat_to_play position.opening position.history ≡ seat)
@@ -145,7 +139,7 @@ IsOwn-from_test position seat side own turn plays test =
 
 -- a card of the list of legal cards may be played
 pub CanPlay-at : (position : Position) (cards : List Card) (i : ℕ) (d : Card) → AreLegalCards position cards → i < length cards → CanPlay position.opening position.history (get_or cards i d)
-CanPlay-at position cards i d legal lt = legal.legal (get_or cards i d) (IsAmong-at cards i d lt)
+CanPlay-at position cards i d legal lt = legal.legal (get_or cards i d) (Contains-get_or cards i d lt)
 
 -- the answer after a card, in terms of the position before it
 pub IsAnswer-from_after : (position after : Position) (wanted : ℕ) (card : Card) (answer : Bool) → after ≡ with_card position card → MatchBool answer (CanTake after wanted) (IsHeldBelow after wanted) → IsAnswer position wanted card answer
