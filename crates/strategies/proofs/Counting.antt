@@ -1,5 +1,5 @@
 -- How many cards each seat has left, and how many tricks there are.
-use Rattle.std.proofs.Common.{◌≡◌, ℕ, suc, ◌+◌, ◌-◌, ◌*◌, ◌<◌, Bool, true, false, cond, List, [], ◌∷◌, length, get_or, Option, None, Some, refl, ◌∙◌, ap, arith}
+use Rattle.std.proofs.Common.{◌≡◌, ℕ, suc, ◌+◌, ◌-◌, ◌*◌, ◌<◌, ◌≤◌, Bool, true, false, cond, List, [], ◌∷◌, length, get_or, Option, None, Some, refl, ◌∙◌, ap, arith}
 use Rattle.std.proofs.lemmas.List.Sums.{sum_by-cons}
 use Rattle.std.specs.Prelude.{count_by}
 use Rattle.cards.specs.declared.suits.Trump.{Trump}
@@ -10,6 +10,7 @@ use Rattle.cards.specs.declared.pack.Card.{Card}
 use Rattle.cards.specs.Pack.{card_at}
 use Rattle.cards.proofs.PackLaws.{card_number-card_at}
 use Rattle.cards.proofs.HandLaws.{held-is}
+use Rattle.cards.specs.SameDeal.{is_same_seat-refl}
 use Rattle.cards.specs.Seats.{next_of, side_of, is_same_seat, is_same_side}
 use Rattle.cards.specs.Deal.{Deal, holder_of, is_held_by, count_of, size_of, IsLayout}
 use Rattle.play_rules.specs.Winners.{winner_of}
@@ -148,6 +149,23 @@ count_of-left_of trump deal leader (a ∷ b ∷ c ∷ d ∷ rest) legal e seat =
     let one = count_of-trick trump deal leader a b c d rest legal seat in
     let more = count_of-left_of trump left (winner_of trump leader (trick_made a b c d)) rest (rest-legal trump deal leader a b c d rest legal) e seat in
     omega (arith, one, more)
+
+-- a first card is one of its leader's
+some_card_dealt : (trump : Trump) (deal : Deal) (leader : Seat) (a : Card) → CanPlay (at_start trump deal leader) [] a → 0 < count_of deal leader
+some_card_dealt trump deal leader a can =
+    let fewer : count_of (without deal a) leader + 1 ≡ count_of deal leader =
+    rw (is_same_seat-refl leader) at (count_of-without deal a leader leader (held_1 trump deal leader a can)) in
+    omega arith
+
+-- a legal history has no more cards than there are in play
+pub legal-within : (trump : Trump) (deal : Deal) (leader : Seat) (history : List Card) (n : ℕ) → ((seat : Seat) → count_of deal seat ≡ n) → IsLegalHistory (at_start trump deal leader) history → length history ≤ 4 * n
+legal-within trump deal leader [] n count legal = omega arith
+legal-within trump deal leader (a ∷ []) n count legal = omega (arith, some_card_dealt trump deal leader a legal.0, count leader)
+legal-within trump deal leader (a ∷ b ∷ []) n count legal = omega (arith, some_card_dealt trump deal leader a legal.0, count leader)
+legal-within trump deal leader (a ∷ b ∷ c ∷ []) n count legal = omega (arith, some_card_dealt trump deal leader a legal.0, count leader)
+legal-within trump deal leader (a ∷ b ∷ c ∷ d ∷ rest) n count legal =
+    let one : (seat : Seat) → count_of (left_of deal (a ∷ b ∷ c ∷ d ∷ [])) seat + 1 ≡ n = λ seat. count_of-trick trump deal leader a b c d rest legal seat ∙ count seat in
+    omega (arith, one North, legal-within trump (left_of deal (a ∷ b ∷ c ∷ d ∷ [])) (winner_of trump leader (trick_made a b c d)) rest (n - 1) (λ seat. omega (arith, one seat)) (rest-legal trump deal leader a b c d rest legal))
 
 -- the layout left after whole tricks, while cards are left
 pub IsLayout-after : (opening : Opening) (history : List Card) → IsLayout opening.deal → IsLegalHistory opening history → trick_of history ≡ [] → length history < 4 * size_of opening.deal → IsLayout (left_of opening.deal history)

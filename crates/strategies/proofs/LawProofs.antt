@@ -1,6 +1,5 @@
 -- The laws of "can win".
-use Rattle.std.proofs.Common.{◌≡◌, ℕ, zero, suc, ◌+◌, ◌-◌, ◌<◌, ◌≤◌, List, [], ◌∷◌, ◌++◌, length, sym, ◌∙◌, ap, subst, arith, append_assoc, append-nil, length-append, inl, inr}
-use Rattle.std.proofs.lemmas.Bool.{cases_lt}
+use Rattle.std.proofs.Common.{◌≡◌, ℕ, zero, suc, ◌+◌, ◌-◌, ◌≤◌, List, [], ◌∷◌, ◌++◌, length, sym, ◌∙◌, ap, subst, arith, append_assoc, append-nil, length-append}
 use Rattle.cards.specs.declared.seats.Seat.TheVariants.{North}
 use Rattle.cards.specs.declared.seats.Side.{Side}
 use Rattle.cards.specs.declared.pack.Card.{Card}
@@ -14,7 +13,7 @@ use Rattle.strategies.specs.Strategies.{CanWin}
 use Rattle.strategies.specs.Values.{opening_after}
 use Rattle.strategies.specs.Laws.{WinsByOwnCard, WinsAgainstEachCard, WinsTheRest, WinsNothing, WinsWhatIsWon, WinsFewer, ShareTheTricks}
 use Rattle.strategies.proofs.Shifting.{seat_to_play-after, tricks_of-after, CanPlay-after, CanPlay-before}
-use Rattle.strategies.proofs.Counting.{tricks-add_up, count_of-left_of, IsLayout-after, some_card_to_play}
+use Rattle.strategies.proofs.Counting.{legal-within, tricks-add_up, count_of-left_of, IsLayout-after, some_card_to_play}
 use Rattle.strategies.proofs.Deciding.{some_legal_card}
 use Rattle.strategies.proofs.Minimax.{Gets, Gets-from_CanWin, CanWin-follow, own_choice}
 use Rattle.strategies.proofs.Planning.{CanWin-from_Gets}
@@ -117,23 +116,12 @@ Gets-won opening side tricks (suc left) history layout whole legal won =
       λ not card can. next card can,
     )
 
--- a history too long has no play that goes on from it, so that nothing is asked of a strategy
-CanWin-too_long : (opening : Opening) (side : Side) (tricks : ℕ) (history : List Card) → cards_in_play opening < length history → CanWin opening side tricks history
-CanWin-too_long opening side tricks history long = record {
-  strategy = [];
-  lawful = λ cards legal more. absurd (omega (arith, length-append history cards));
-  enough = λ cards play. absurd (omega (arith, play.whole, length-append history cards));
-}
-
 pub what_is_won : WinsWhatIsWon
 what_is_won opening side tricks history layout legal won =
-    elim (cases_lt (cards_in_play opening) (length history)) [
-      | inl long ↦ CanWin-too_long opening side tricks history long
-      | inr within ↦
-          let left = cards_in_play opening - length history in
-          let whole : length history + left ≡ cards_in_play opening = omega arith in
-          CanWin-from_Gets opening side tricks left history whole legal (Gets-won opening side tricks left history layout whole legal won)
-    ]
+    let within = legal-within opening.trump opening.deal opening.leader history (size_of opening.deal) layout.equal_hands legal in
+    let left = cards_in_play opening - length history in
+    let whole : length history + left ≡ cards_in_play opening = omega arith in
+    CanWin-from_Gets opening side tricks left history whole legal (Gets-won opening side tricks left history layout whole legal won)
 
 pub nothing : WinsNothing
 nothing opening side layout = what_is_won opening side 0 [] layout tt (omega arith)

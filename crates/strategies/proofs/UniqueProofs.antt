@@ -13,7 +13,7 @@ use Rattle.play_rules.proofs.PositionLaws.{IsLegalHistory-push}
 use Rattle.strategies.specs.Strategies.{CanWin}
 use Rattle.strategies.specs.Values.{IsPlainValue, opening_of}
 use Rattle.strategies.specs.Laws.{WinNoMoreThanAll, HasOneValue, HasOnePlainValue, PlainValueIsValue}
-use Rattle.strategies.proofs.Counting.{tricks-add_up}
+use Rattle.strategies.proofs.Counting.{legal-within, tricks-add_up}
 use Rattle.strategies.proofs.Deciding.{decide_side}
 use Rattle.strategies.proofs.Minimax.{Gets, Gets-from_CanWin}
 
@@ -40,37 +40,38 @@ together opening one other (suc left) history whole legal a b =
     ]
 
 pub no_more_than_all : WinNoMoreThanAll
-no_more_than_all opening one other history layout legal within a b =
+no_more_than_all opening one other history layout legal a b =
+    let within = legal-within opening.trump opening.deal opening.leader history (size_of opening.deal) layout.equal_hands legal in
     let left = cards_in_play opening - length history in
     let whole : length history + left ≡ cards_in_play opening = omega arith in
     together opening one other left history whole legal (Gets-from_CanWin opening NorthSouth one left history whole legal a) (Gets-from_CanWin opening EastWest other left history whole legal b)
 
 pub one_plain_value : HasOnePlainValue
 one_plain_value opening one other layout a b =
-    let at_most = no_more_than_all opening one (size_of opening.deal - other) [] layout tt (omega arith) a.north_south b.east_west in
-    let at_least = no_more_than_all opening other (size_of opening.deal - one) [] layout tt (omega arith) b.north_south a.east_west in
+    let at_most = no_more_than_all opening one (size_of opening.deal - other) [] layout tt a.north_south b.east_west in
+    let at_least = no_more_than_all opening other (size_of opening.deal - one) [] layout tt b.north_south a.east_west in
     omega (arith, a.within, b.within)
 
 pub one_value : HasOneValue
 one_value deal North trump one other layout a b =
     let o = opening_of deal North trump in
-    let at_most = no_more_than_all o one (size_of deal - other) [] layout tt (omega arith) a.declarer_wins b.defenders_win in
-    let at_least = no_more_than_all o other (size_of deal - one) [] layout tt (omega arith) b.declarer_wins a.defenders_win in
+    let at_most = no_more_than_all o one (size_of deal - other) [] layout tt a.declarer_wins b.defenders_win in
+    let at_least = no_more_than_all o other (size_of deal - one) [] layout tt b.declarer_wins a.defenders_win in
     omega (arith, a.within, b.within)
 one_value deal South trump one other layout a b =
     let o = opening_of deal South trump in
-    let at_most = no_more_than_all o one (size_of deal - other) [] layout tt (omega arith) a.declarer_wins b.defenders_win in
-    let at_least = no_more_than_all o other (size_of deal - one) [] layout tt (omega arith) b.declarer_wins a.defenders_win in
+    let at_most = no_more_than_all o one (size_of deal - other) [] layout tt a.declarer_wins b.defenders_win in
+    let at_least = no_more_than_all o other (size_of deal - one) [] layout tt b.declarer_wins a.defenders_win in
     omega (arith, a.within, b.within)
 one_value deal East trump one other layout a b =
     let o = opening_of deal East trump in
-    let at_most = no_more_than_all o (size_of deal - other) one [] layout tt (omega arith) b.defenders_win a.declarer_wins in
-    let at_least = no_more_than_all o (size_of deal - one) other [] layout tt (omega arith) a.defenders_win b.declarer_wins in
+    let at_most = no_more_than_all o (size_of deal - other) one [] layout tt b.defenders_win a.declarer_wins in
+    let at_least = no_more_than_all o (size_of deal - one) other [] layout tt a.defenders_win b.declarer_wins in
     omega (arith, a.within, b.within)
 one_value deal West trump one other layout a b =
     let o = opening_of deal West trump in
-    let at_most = no_more_than_all o (size_of deal - other) one [] layout tt (omega arith) b.defenders_win a.declarer_wins in
-    let at_least = no_more_than_all o (size_of deal - one) other [] layout tt (omega arith) a.defenders_win b.declarer_wins in
+    let at_most = no_more_than_all o (size_of deal - other) one [] layout tt b.defenders_win a.declarer_wins in
+    let at_least = no_more_than_all o (size_of deal - one) other [] layout tt a.defenders_win b.declarer_wins in
     omega (arith, a.within, b.within)
 
 -- of a contract that East or West declares the two sides change places

@@ -1,5 +1,5 @@
 -- What follows from the definitions of a strategy and of "can win", for every layout.
-use Rattle.std.specs.Prelude.{◌≡◌, ℕ, ◌+◌, ◌-◌, ◌≤◌, ◌↔◌, List, [], ◌∷◌, ◌++◌, length}
+use Rattle.std.specs.Prelude.{◌≡◌, ℕ, ◌+◌, ◌-◌, ◌≤◌, ◌↔◌, List, [], ◌∷◌, ◌++◌}
 use Rattle.cards.specs.declared.suits.Trump.{Trump}
 use Rattle.cards.specs.declared.seats.Seat.{Seat}
 use Rattle.cards.specs.declared.seats.Side.{Side}
@@ -8,7 +8,7 @@ use Rattle.cards.specs.declared.pack.Card.{Card}
 use Rattle.cards.specs.Seats.{side_of}
 use Rattle.cards.specs.Deal.{Deal, IsLayout, size_of}
 use Rattle.play_rules.specs.History.{Opening, trick_of, tricks_of}
-use Rattle.play_rules.specs.Legal.{CanPlay, IsLegalHistory, IsPlay, IsUnfinished, cards_in_play}
+use Rattle.play_rules.specs.Legal.{CanPlay, IsLegalHistory, IsPlay, IsUnfinished}
 use Rattle.strategies.specs.Strategies.{CanWin, IsTurnOf}
 use Rattle.strategies.specs.Values.{opening_of, opening_after, IsValue, IsPlainValue}
 
@@ -81,7 +81,7 @@ ShareTheTricks =
 abbrev pub WinNoMoreThanAll : Type 0
 WinNoMoreThanAll =
     (opening : Opening) (north_south east_west : ℕ) (history : List Card)
-    → IsLayout opening.deal → IsLegalHistory opening history → length history ≤ cards_in_play opening
+    → IsLayout opening.deal → IsLegalHistory opening history
     → CanWin opening NorthSouth north_south history → CanWin opening EastWest east_west history
     → north_south + east_west ≤ size_of opening.deal
 
