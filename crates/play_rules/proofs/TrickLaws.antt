@@ -127,7 +127,7 @@ deciding_suit-played (trump.Suit suit) trick =
     ]
 
 pub wins_by_highest_card : WinsByHighestCard
-wins_by_highest_card trump trick = IsHighest-from_place trick (deciding_suit trump trick) (deciding_suit-played trump trick)
+wins_by_highest_card trump trick = (winning_place-le trump trick, IsHighest-from_place trick (deciding_suit trump trick) (deciding_suit-played trump trick))
 
 -- two highest cards of one suit are one card
 same_highest : (trick : Trick) (suit : Suit) (one other : ℕ) → IsHighest trick suit one → IsHighest trick suit other → card_in_place trick one ≡ card_in_place trick other
