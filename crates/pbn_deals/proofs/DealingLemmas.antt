@@ -18,7 +18,7 @@ use Rattle.cards.proofs.PackLaws.{card_number-lt, same_from_numbers}
 use Rattle.cards.specs.Seats.{seat_number, is_same_seat}
 use Rattle.cards.specs.Hands.{word_of, HasBit}
 use Rattle.pbn_deals.specs.declared.dealings.Dealing.{Dealing}
-use Rattle.pbn_deals.specs.Dealing.{Holding, held_by, hand_size, times_named, NamesTwice}
+use Rattle.pbn_deals.specs.Dealing.{Holding, held_by, cards_named, times_named, NamesTwice}
 use Rattle.pbn_deals.specs.Words.{Represents, IsOnce, TellsTwice, HasCardsAlone}
 
 -- ---- seats
@@ -106,8 +106,8 @@ times_named-pos held card seat h = times_named-pos_at held card seat h.0 h.1 h.2
 pub times_named-push : (held : List Holding) (one : Holding) (card : Card) → times_named (held ++ one ∷ []) card ≡ times_named held card + cond (eqb (card_number one.card) (card_number card)) 1 0
 times_named-push held one card = sum_by_push (λ (x : Holding). cond (eqb (card_number x.card) (card_number card)) 1 0) held one
 
-pub hand_size-push : (held : List Holding) (one : Holding) (seat : Seat) → hand_size (held ++ one ∷ []) seat ≡ hand_size held seat + cond (is_same_seat seat one.seat) 1 0
-hand_size-push held one seat = sum_by_push (λ (x : Holding). cond (is_same_seat seat x.seat) 1 0) held one
+pub cards_named-push : (held : List Holding) (one : Holding) (seat : Seat) → cards_named (held ++ one ∷ []) seat ≡ cards_named held seat + cond (is_same_seat seat one.seat) 1 0
+cards_named-push held one seat = sum_by_push (λ (x : Holding). cond (is_same_seat seat x.seat) 1 0) held one
 
 -- ---- bits
 -- an even number with its lowest bit set
@@ -212,12 +212,12 @@ module _ (hands : List ℕ) (four : length hands ≡ 4) (seat : Seat) (card : Ca
   word_of-other other ne = get_or-set_other hands (seat_number seat) (seat_number other) _ 0 (λ e. ne (sym e))
 
   -- the card's bit is set
-  HasBit-put_same : HasBit (with_card hands seat card) seat card
-  HasBit-put_same = ap (λ w. bit_at w (card_number card)) word_of-same ∙ bit_at_set_same w64 (word_of hands seat) (card_number card) (omega (arith, card_number-lt card))
+  HasBit-add_same : HasBit (with_card hands seat card) seat card
+  HasBit-add_same = ap (λ w. bit_at w (card_number card)) word_of-same ∙ bit_at_set_same w64 (word_of hands seat) (card_number card) (omega (arith, card_number-lt card))
 
   -- each other bit is as it was
-  bit_at-put_other : (other : Seat) (one : Card) → ((seat_number seat ≡ seat_number other) × (card_number card ≡ card_number one) → ⊥) → bit_at (word_of (with_card hands seat card) other) (card_number one) ≡ bit_at (word_of hands other) (card_number one)
-  bit_at-put_other other one ne =
+  bit_at-add_other : (other : Seat) (one : Card) → ((seat_number seat ≡ seat_number other) × (card_number card ≡ card_number one) → ⊥) → bit_at (word_of (with_card hands seat card) other) (card_number one) ≡ bit_at (word_of hands other) (card_number one)
+  bit_at-add_other other one ne =
       elim (cases_eq (seat_number seat) (seat_number other)) [
         | inl e ↦
             let same : seat ≡ other = same_from_seat_numbers seat other e in
@@ -228,8 +228,8 @@ module _ (hands : List ℕ) (four : length hands ≡ 4) (seat : Seat) (card : Ca
         | inr n ↦ ap (λ w. bit_at w (card_number one)) (word_of-other other n)
       ]
 
-  HasCardsAlone-put : ((other : Seat) → HasCardsAlone (word_of hands other)) → (other : Seat) → HasCardsAlone (word_of (with_card hands seat card) other)
-  HasCardsAlone-put before other =
+  HasCardsAlone-add : ((other : Seat) → HasCardsAlone (word_of hands other)) → (other : Seat) → HasCardsAlone (word_of (with_card hands seat card) other)
+  HasCardsAlone-add before other =
       elim (cases_eq (seat_number seat) (seat_number other)) [
         | inl e ↦
             let same : seat ≡ other = same_from_seat_numbers seat other e in
@@ -243,47 +243,47 @@ module _ (hands : List ℕ) (four : length hands ≡ 4) (seat : Seat) (card : Ca
   abbrev after : List Holding → List Holding
   after held = held ++ held_by seat card ∷ []
 
-  HasBit-put : (held : List Holding) → ((one : Card) (other : Seat) → Contains held (held_by other one) → HasBit hands other one) → (one : Card) (other : Seat) → Contains (after held) (held_by other one) → HasBit (with_card hands seat card) other one
-  HasBit-put held has one other h =
+  HasBit-add : (held : List Holding) → ((one : Card) (other : Seat) → Contains held (held_by other one) → HasBit hands other one) → (one : Card) (other : Seat) → Contains (after held) (held_by other one) → HasBit (with_card hands seat card) other one
+  HasBit-add held has one other h =
       elim (cases_both (seat_number seat) (seat_number other) (card_number card) (card_number one)) [
         | inl e ↦
-            let at_card : bit_at (word_of (with_card hands seat card) seat) (card_number one) ≡ 1 = subst (λ n. bit_at (word_of (with_card hands seat card) seat) n ≡ 1) e.1 HasBit-put_same in
+            let at_card : bit_at (word_of (with_card hands seat card) seat) (card_number one) ≡ 1 = subst (λ n. bit_at (word_of (with_card hands seat card) seat) n ≡ 1) e.1 HasBit-add_same in
             subst (λ s. bit_at (word_of (with_card hands seat card) s) (card_number one) ≡ 1) (same_from_seat_numbers seat other e.0) at_card
         | inr n ↦
             elim (Contains-push_cases held (held_by seat card) (held_by other one) h) [
-              | inl old ↦ bit_at-put_other other one n ∙ has one other old
+              | inl old ↦ bit_at-add_other other one n ∙ has one other old
               | inr e ↦ absurd (n (ap (λ (x : Holding). seat_number x.seat) e, ap (λ (x : Holding). card_number x.card) e))
             ]
       ]
 
-  Contains-put : (held : List Holding) → ((one : Card) (other : Seat) → HasBit hands other one → Contains held (held_by other one)) → (one : Card) (other : Seat) → HasBit (with_card hands seat card) other one → Contains (after held) (held_by other one)
-  Contains-put held named one other h =
+  Contains-add : (held : List Holding) → ((one : Card) (other : Seat) → HasBit hands other one → Contains held (held_by other one)) → (one : Card) (other : Seat) → HasBit (with_card hands seat card) other one → Contains (after held) (held_by other one)
+  Contains-add held named one other h =
       elim (cases_both (seat_number seat) (seat_number other) (card_number card) (card_number one)) [
         | inl e ↦
             let same : held_by seat card ≡ held_by other one = ap (λ s. held_by s card) (same_from_seat_numbers seat other e.0) ∙ ap (held_by other) (same_from_numbers card one e.1) in
             subst (λ x. Contains (after held) x) same (Contains-push held (held_by seat card))
-        | inr n ↦ Contains-append_left held (held_by seat card ∷ []) (held_by other one) (named one other (sym (bit_at-put_other other one n) ∙ h))
+        | inr n ↦ Contains-append_left held (held_by seat card ∷ []) (held_by other one) (named one other (sym (bit_at-add_other other one n) ∙ h))
       ]
 
   -- a card named once more than before
-  times_named-put : (held : List Holding) → times_named (after held) card ≡ times_named held card + 1
-  times_named-put held = omega (arith, times_named-push held (held_by seat card) card, one_if _ (eq-eqb (card_number card) (card_number card) refl))
+  times_named-add : (held : List Holding) → times_named (after held) card ≡ times_named held card + 1
+  times_named-add held = omega (arith, times_named-push held (held_by seat card) card, one_if _ (eq-eqb (card_number card) (card_number card) refl))
 
-  NamesTwice-put : (held : List Holding) → NamesTwice held → NamesTwice (after held)
-  NamesTwice-put held h = (h.0, omega (arith, h.1, times_named-push held (held_by seat card) h.0))
+  NamesTwice-add : (held : List Holding) → NamesTwice held → NamesTwice (after held)
+  NamesTwice-add held h = (h.0, omega (arith, h.1, times_named-push held (held_by seat card) h.0))
 
   -- a card that some hand has is named twice
-  NamesTwice-put_again : (held : List Holding) → ((one : Card) (other : Seat) → HasBit hands other one → Contains held (held_by other one)) → (bit_and (all_of hands) (bit_of (card_number card)) ≡ 0 → ⊥) → NamesTwice (after held)
-  NamesTwice-put_again held named some =
+  NamesTwice-add_again : (held : List Holding) → ((one : Card) (other : Seat) → HasBit hands other one → Contains held (held_by other one)) → (bit_and (all_of hands) (bit_of (card_number card)) ≡ 0 → ⊥) → NamesTwice (after held)
+  NamesTwice-add_again held named some =
       let k = card_number card in
       let some' : bit_and (all_of hands) (2 ^ k) ≡ 0 → ⊥ = λ e. some (ap (bit_and (all_of hands)) (bit_of-pow k (card_number-lt card)) ∙ e) in
       let holder = some_set hands k (bit_at-and_pow_some (all_of hands) k some') in
       let before = times_named-pos held card holder.0 (named card holder.0 holder.1) in
-      (card, omega (arith, before, times_named-put held))
+      (card, omega (arith, before, times_named-add held))
 
   -- a card that no hand has
-  IsOnce-put : (held : List Holding) → ((one : Card) (other : Seat) → Contains held (held_by other one) → HasBit hands other one) → bit_and (all_of hands) (bit_of (card_number card)) ≡ 0 → IsOnce hands held → IsOnce (with_card hands seat card) (after held)
-  IsOnce-put held has none old =
+  IsOnce-add : (held : List Holding) → ((one : Card) (other : Seat) → Contains held (held_by other one) → HasBit hands other one) → bit_and (all_of hands) (bit_of (card_number card)) ≡ 0 → IsOnce hands held → IsOnce (with_card hands seat card) (after held)
+  IsOnce-add held has none old =
       let k = card_number card in
       let none' : bit_and (all_of hands) (2 ^ k) ≡ 0 = ap (bit_and (all_of hands)) (sym (bit_of-pow k (card_number-lt card))) ∙ none in
       let clear : (s : Seat) → bit_at (word_of hands s) k ≡ 0 = all_clear hands k (bit_at-and_pow (all_of hands) k none') in
@@ -306,19 +306,19 @@ module _ (hands : List ℕ) (four : length hands ≡ 4) (seat : Seat) (card : Ca
                 | inl q ↦ same_from_seat_numbers seat s q
                 | inr n ↦
                     let cleared : bit_at (word_of hands s) (card_number one) ≡ 0 = subst (λ n. bit_at (word_of hands s) n ≡ 0) e (clear s) in
-                    absurd (omega (arith, cleared, bit_at-put_other s one (λ p. n p.0), h))
+                    absurd (omega (arith, cleared, bit_at-add_other s one (λ p. n p.0), h))
               ] in
               sym (is_seat first a) ∙ is_seat other b
-          | inr n ↦ old.apart one first other (sym (bit_at-put_other first one (λ p. n p.1)) ∙ a) (sym (bit_at-put_other other one (λ p. n p.1)) ∙ b)
+          | inr n ↦ old.apart one first other (sym (bit_at-add_other first one (λ p. n p.1)) ∙ a) (sym (bit_at-add_other other one (λ p. n p.1)) ∙ b)
         ];
         sizes = λ s. elim (cases_eq (seat_number seat) (seat_number s)) [
           | inl e ↦
               let grown : count_ones (word_of (with_card hands seat card) seat) ≡ count_ones (word_of hands seat) + 1 =
               ap count_ones word_of-same ∙ (ap (λ x. count_ones (bit_or (word_of hands seat) x)) (bit_of-pow k (card_number-lt card)) ∙ ones-set (word_of hands seat) k (clear seat)) in
-              let at_seat : count_ones (word_of (with_card hands seat card) seat) ≡ hand_size (after held) seat =
-              omega (arith, grown, old.sizes seat, hand_size-push held (held_by seat card) seat, one_if _ (is_same_seat-same seat)) in
-              subst (λ x. count_ones (word_of (with_card hands seat card) x) ≡ hand_size (after held) x) (same_from_seat_numbers seat s e) at_seat
-          | inr n ↦ omega (arith, ap count_ones (word_of-other s n), old.sizes s, hand_size-push held (held_by seat card) s, none_if _ (is_same_seat-other s seat (λ e. n (sym e))))
+              let at_seat : count_ones (word_of (with_card hands seat card) seat) ≡ cards_named (after held) seat =
+              omega (arith, grown, old.sizes seat, cards_named-push held (held_by seat card) seat, one_if _ (is_same_seat-same seat)) in
+              subst (λ x. count_ones (word_of (with_card hands seat card) x) ≡ cards_named (after held) x) (same_from_seat_numbers seat s e) at_seat
+          | inr n ↦ omega (arith, ap count_ones (word_of-other s n), old.sizes s, cards_named-push held (held_by seat card) s, none_if _ (is_same_seat-other s seat (λ e. n (sym e))))
         ];
       }
 
@@ -329,16 +329,16 @@ tells false true hands hands' held held' t f g h = f refl t
 tells false false hands hands' held held' t f g h = g refl
 
 -- what the words say of one card more
-pub Represents-put : (dealing : Dealing) (held : List Holding) (seat : Seat) (card : Card) → Represents dealing held → Represents (record { hands = with_card dealing.hands seat card; is_twice = dealing.is_twice || not (eqb (bit_and (all_of dealing.hands) (bit_of (card_number card))) 0); is_partial = dealing.is_partial }) (held ++ held_by seat card ∷ [])
-Represents-put dealing held seat card rep =
+pub Represents-add : (dealing : Dealing) (held : List Holding) (seat : Seat) (card : Card) → Represents dealing held → Represents (record { hands = with_card dealing.hands seat card; is_twice = dealing.is_twice || not (eqb (bit_and (all_of dealing.hands) (bit_of (card_number card))) 0); is_partial = dealing.is_partial }) (held ++ held_by seat card ∷ [])
+Represents-add dealing held seat card rep =
     let hands = dealing.hands in
     record {
       four = omega (arith, rep.four, length-set hands (seat_number seat) (bit_or (get_or hands (seat_number seat) 0) (bit_of (card_number card))));
-      cards_alone = HasCardsAlone-put hands rep.four seat card rep.cards_alone;
-      named = Contains-put hands rep.four seat card held rep.named;
-      has = HasBit-put hands rep.four seat card held rep.has;
+      cards_alone = HasCardsAlone-add hands rep.four seat card rep.cards_alone;
+      named = Contains-add hands rep.four seat card held rep.named;
+      has = HasBit-add hands rep.four seat card held rep.has;
       twice = tells dealing.is_twice (eqb (bit_and (all_of hands) (bit_of (card_number card))) 0) hands (with_card hands seat card) held (held ++ held_by seat card ∷ []) rep.twice
-          (λ e. IsOnce-put hands rep.four seat card held rep.has (eqb-true _ _ e))
-          (λ e. NamesTwice-put_again hands rep.four seat card held rep.named (eqb-false _ _ e))
-          (NamesTwice-put hands rep.four seat card held);
+          (λ e. IsOnce-add hands rep.four seat card held rep.has (eqb-true _ _ e))
+          (λ e. NamesTwice-add_again hands rep.four seat card held rep.named (eqb-false _ _ e))
+          (NamesTwice-add hands rep.four seat card held);
     }

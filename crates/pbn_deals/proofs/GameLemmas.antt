@@ -11,7 +11,7 @@ use Rattle.pbn_deals.specs.declared.dealings.Dealing.{Dealing}
 use Rattle.pbn_deals.specs.declared.games.GameTags.{GameTags}
 use Rattle.pbn_deals.specs.declared.faults.PbnFault.{PbnFault}
 use Rattle.pbn_deals.specs.declared.faults.PbnFault.TheVariants.{TagForm, OpenComment, SecondDeal, DealForm, CardTwice, HandSize, Inherited, TooManyBoards, OutOfMemory}
-use Rattle.pbn_deals.specs.Dealing.{Holding, hand_size, AreMissized}
+use Rattle.pbn_deals.specs.Dealing.{Holding, cards_named, AreMissized}
 use Rattle.pbn_deals.specs.DealValue.{Naming, naming_of}
 use Rattle.pbn_deals.specs.Words.{ReadsNaming}
 use Rattle.pbn_deals.specs.Games.{SaysDeal, HasOtherSize, says_part, says_twice, says_size, says_deal, Tags}
@@ -58,13 +58,13 @@ part_named line value dealing reads partial =
     named (Some naming) h = (naming, refl, h.1)
     named None h = absurd h
 
-other_size : (held : List Holding) → AreMissized held → HasOtherSize held
+pub other_size : (held : List Holding) → AreMissized held → HasOtherSize held
 other_size held h =
     elim h [
       | inl none ↦ (North, λ e. absurd (omega (arith, none, e)))
       | inr more ↦ elim more [
         | inl over ↦ (North, λ e. absurd (omega (arith, over, e)))
-        | inr apart ↦ elim (cases_eq (hand_size held North) 13) [
+        | inr apart ↦ elim (cases_eq (cards_named held North) 13) [
           | inl e ↦ (apart.0, λ q. apart.1 (q ∙ sym e))
           | inr ne ↦ (North, ne)
         ]

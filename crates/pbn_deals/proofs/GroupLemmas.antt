@@ -10,7 +10,7 @@ use Rattle.cards.specs.Pack.{suit_at, card_of}
 use Rattle.cards.specs.declared.seats.Seat.{Seat}
 use Rattle.pbn_deals.specs.declared.dealings.Dealing.{Dealing}
 use Rattle.pbn_deals.specs.Dealing.{Holding, held_by}
-use Rattle.pbn_deals.specs.Words.{Represents, PutsCards, ReadsHand}
+use Rattle.pbn_deals.specs.Words.{Represents, AddsCards, ReadsHand}
 use Rattle.pbn_deals.specs.Letters.{is_dot, rank_of_letter}
 use Rattle.pbn_deals.specs.DealValue.{put_card, put_all, group_cards, groups_cards, suits_in_order}
 
@@ -113,20 +113,20 @@ pub reads_none : (named : Option (List Card)) (seat : Seat) (old new : Dealing) 
 reads_none (Some cards) seat old new e = absurd (cc)
 reads_none None seat old new e = tt
 
-pub reads_some : (named : Option (List Card)) (cards : List Card) (seat : Seat) (old new : Dealing) → named ≡ Some cards → PutsCards old new seat cards → ReadsHand true named seat old new
-reads_some (Some others) cards seat old new e puts = let same : others ≡ cards = cc in subst (λ x. PutsCards old new seat x) (sym same) puts
+pub reads_some : (named : Option (List Card)) (cards : List Card) (seat : Seat) (old new : Dealing) → named ≡ Some cards → AddsCards old new seat cards → ReadsHand true named seat old new
+reads_some (Some others) cards seat old new e puts = let same : others ≡ cards = cc in subst (λ x. AddsCards old new seat x) (sym same) puts
 reads_some None cards seat old new e puts = absurd (cc)
 
-pub puts_none : (old : Dealing) (seat : Seat) → PutsCards old old seat []
+pub puts_none : (old : Dealing) (seat : Seat) → AddsCards old old seat []
 puts_none old seat = λ held r. rw append-nil r
 
-pub puts_more : (old mid new : Dealing) (seat : Seat) (cards : List Card) (card : Card) → PutsCards old mid seat cards → ((held : List Holding) → Represents mid held → Represents new (held ++ held_by seat card ∷ [])) → PutsCards old new seat (cards ++ card ∷ [])
+pub puts_more : (old mid new : Dealing) (seat : Seat) (cards : List Card) (card : Card) → AddsCards old mid seat cards → ((held : List Holding) → Represents mid held → Represents new (held ++ held_by seat card ∷ [])) → AddsCards old new seat (cards ++ card ∷ [])
 puts_more old mid new seat cards card puts adds = λ held r.
     let same : (held ++ map (held_by seat) cards) ++ held_by seat card ∷ [] ≡ held ++ map (held_by seat) (cards ++ card ∷ []) =
     append_assoc held (map (held_by seat) cards) (held_by seat card ∷ []) ∙ ap (λ x. held ++ x) (sym (map_push (held_by seat) cards card)) in
     subst (Represents new) same (adds (held ++ map (held_by seat) cards) (puts held r))
 
-pub reads_at_end : (n : ℕ) (cards : List Card) (named : Option (List Card)) (seat : Seat) (old new : Dealing) → n < 4 → put_all (Some cards) (cards_from n []) ≡ named → PutsCards old new seat cards → ReadsHand (eqb n 3) named seat old new
+pub reads_at_end : (n : ℕ) (cards : List Card) (named : Option (List Card)) (seat : Seat) (old new : Dealing) → n < 4 → put_all (Some cards) (cards_from n []) ≡ named → AddsCards old new seat cards → ReadsHand (eqb n 3) named seat old new
 reads_at_end zero cards named seat old new h e puts = reads_none named seat old new (sym e)
 reads_at_end (suc zero) cards named seat old new h e puts = reads_none named seat old new (sym e)
 reads_at_end (suc (suc zero)) cards named seat old new h e puts = reads_none named seat old new (sym e)

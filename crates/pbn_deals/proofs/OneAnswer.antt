@@ -5,7 +5,7 @@ use Rattle.pbn_deals.specs.declared.boards.Board.{Board}
 use Rattle.pbn_deals.specs.declared.faults.PbnFault.{PbnFault}
 use Rattle.pbn_deals.specs.Tags.{Tag}
 use Rattle.pbn_deals.specs.Games.{Tags, TakesTag}
-use Rattle.pbn_deals.specs.Reading.{Lacks, LineEnd, Ends, Stops, Reads, at_end, at_blank, at_line_comment, at_comment, at_open_comment, at_tag, at_faulty_tag, at_no_tag, at_quoted, at_unended, at_plain, at_bracket, Answers, no_line, unclosed, escaped_line, blank_line, whole_line, opening_line, faulty_line, inner_line, closing_line, reopening_line, faulty_closing_line, put_boards}
+use Rattle.pbn_deals.specs.Reading.{Lacks, LineEnd, Ends, Stops, Scans, at_end, at_blank, at_line_comment, at_comment, at_open_comment, at_tag, at_faulty_tag, at_no_tag, at_quoted, at_unended, at_plain, at_bracket, Answers, no_line, unclosed, escaped_line, blank_line, whole_line, opening_line, faulty_line, inner_line, closing_line, reopening_line, faulty_closing_line, put_boards}
 use Rattle.pbn_deals.proofs.OneTag.{one_taking}
 
 -- ---- a text that is cut at the first such byte
@@ -37,8 +37,8 @@ some_inj : {A : Type 0} {x y : A} → Some x ≡ Some y → x ≡ y
 some_inj e = cc
 
 module _ (number count : ℕ) where
-  moved : (in_data : Bool) (tags : Tags) (rest rest' : List ℕ) (last : LineEnd) → rest ≡ rest' → Reads number count in_data tags rest last → Reads number count in_data tags rest' last
-  moved in_data tags rest rest' last e h = subst (λ t. Reads number count in_data tags t last) e h
+  moved : (in_data : Bool) (tags : Tags) (rest rest' : List ℕ) (last : LineEnd) → rest ≡ rest' → Scans number count in_data tags rest last → Scans number count in_data tags rest' last
+  moved in_data tags rest rest' last e h = subst (λ t. Scans number count in_data tags t last) e h
 
   taking_at : {tags : Tags} {tag tag' : Tag} {taken : Result Tags PbnFault} → tag' ≡ tag → TakesTag number count tags tag'.name tag'.value taken → TakesTag number count tags tag.name tag.value taken
   taking_at {tags} {taken = taken} e k = subst (λ (t : Tag). TakesTag number count tags t.name t.value taken) e k
@@ -52,10 +52,10 @@ module _ (number count : ℕ) where
   tag_or_fault : {tags one : Tags} {tag tag' : Tag} {fault : PbnFault} → tag' ≡ tag → TakesTag number count tags tag.name tag.value (Ok one) → TakesTag number count tags tag'.name tag'.value (Err fault) → ⊥
   tag_or_fault e k k' = ok_or_err (one_taking k (taking_at e k'))
 
-  moved_after : {tags tags' : Tags} {tag tag' : Tag} {last : LineEnd} → tag' ≡ tag → tags' ≡ tags → Reads number count false tags' tag'.rest last → Reads number count false tags tag.rest last
-  moved_after {tags} {tags'} {tag} {tag'} {last} e t r = subst (λ x. Reads number count false x tag.rest last) t (subst (λ (x : Tag). Reads number count false tags' x.rest last) e r)
+  moved_after : {tags tags' : Tags} {tag tag' : Tag} {last : LineEnd} → tag' ≡ tag → tags' ≡ tags → Scans number count false tags' tag'.rest last → Scans number count false tags tag.rest last
+  moved_after {tags} {tags'} {tag} {tag'} {last} e t r = subst (λ x. Scans number count false x tag.rest last) t (subst (λ (x : Tag). Scans number count false tags' x.rest last) e r)
 
-  pub one_line : {in_data : Bool} {tags : Tags} {line : List ℕ} {last last' : LineEnd} → Reads number count in_data tags line last → Reads number count in_data tags line last' → last ≡ last'
+  pub one_line : {in_data : Bool} {tags : Tags} {line : List ℕ} {last last' : LineEnd} → Scans number count in_data tags line last → Scans number count in_data tags line last' → last ≡ last'
   one_line at_end at_end = refl
   one_line (at_blank p r) (at_blank p' r') = one_line r r'
   one_line (at_blank p r) (at_line_comment p') = absurd (cc)
@@ -183,7 +183,7 @@ stops_inj e = cc
 tags_moved : {number count : ℕ} {opened : Option ℕ} {tags tags' : Tags} {lines : List (List ℕ)} {answer : Result (List Board) PbnFault} → tags ≡ tags' → Answers number opened tags count lines answer → Answers number opened tags' count lines answer
 tags_moved {number} {count} {opened} {lines = lines} {answer = answer} e h = subst (λ t. Answers number opened t count lines answer) e h
 
-behind_moved : {number count : ℕ} {tags : Tags} (text text' : List ℕ) {line rest rest' : List ℕ} {last : LineEnd} → line ≡ text ++ 125 ∷ rest → Lacks 125 text → line ≡ text' ++ 125 ∷ rest' → Lacks 125 text' → Reads number count false tags rest' last → Reads number count false tags rest last
+behind_moved : {number count : ℕ} {tags : Tags} (text text' : List ℕ) {line rest rest' : List ℕ} {last : LineEnd} → line ≡ text ++ 125 ∷ rest → Lacks 125 text → line ≡ text' ++ 125 ∷ rest' → Lacks 125 text' → Scans number count false tags rest' last → Scans number count false tags rest last
 behind_moved {number} {count} {tags} text text' {rest = rest} {rest' = rest'} {last = last} e l e' l' q = moved number count false tags rest' rest last (one_cut 125 text' text rest' rest (sym e' ∙ e) l' l) q
 
 pub one_answer : {number count : ℕ} {opened : Option ℕ} {tags : Tags} {lines : List (List ℕ)} {one other : Result (List Board) PbnFault} → Answers number opened tags count lines one → Answers number opened tags count lines other → one ≡ other

@@ -1,9 +1,9 @@
 -- A Deal value alone says one thing at most.
-use Rattle.std.proofs.Common.{◌≡◌, ℕ, List, Result, Ok, Err, refl, sym, ◌∙◌, ap, subst, arith, inl, inr}
+use Rattle.std.proofs.Common.{◌≡◌, ℕ, List, Result, Ok, Err, sym, ◌∙◌, ap, subst, arith, inl, inr}
 use Rattle.cards.specs.Deal.{Deal}
 use Rattle.pbn_deals.specs.declared.faults.PbnFault.{PbnFault}
 use Rattle.pbn_deals.specs.declared.faults.PbnFault.TheVariants.{TagForm, OpenComment, SecondDeal, DealForm, CardTwice, HandSize, Inherited, TooManyBoards, OutOfMemory}
-use Rattle.pbn_deals.specs.Dealing.{Holding, IsDealOf, AreSized, AreMissized}
+use Rattle.pbn_deals.specs.Dealing.{Holding, AreSized, AreMissized}
 use Rattle.pbn_deals.specs.DealValue.{naming_of}
 use Rattle.pbn_deals.specs.LayoutValue.{SaysLayout}
 use Rattle.pbn_deals.proofs.OneTag.{one_deal, one_held, held_moved, once_or_twice}

@@ -11,7 +11,7 @@ use Rattle.std.proofs.lemmas.List.Splits.{slice_split-cons_no}
 use Rattle.pbn_deals.specs.Letters.{is_blank, seat_of_letter}
 use Rattle.pbn_deals.proofs.WordLemmas.{after_blanks-front, words_of-after_blanks}
 use Rattle.pbn_deals.specs.declared.faults.PbnFault.{PbnFault}
-use Rattle.pbn_deals.specs.Dealing.{Holding, IsDealOf, NamesOnce, NamesTwice, hand_size}
+use Rattle.pbn_deals.specs.Dealing.{Holding, IsDealOf, NamesOnce, NamesTwice, cards_named}
 use Rattle.pbn_deals.specs.DealValue.{Naming, full, naming_of, naming_at, naming_from, after_blanks, words_of, is_word}
 use Rattle.pbn_deals.specs.Tags.{is_inherited}
 use Rattle.pbn_deals.specs.Games.{Tags, SaysDeal, says_inherited, says_nothing, says_other_form, says_part, says_twice, says_size, says_deal, IsNoDeal, HasOtherSize, TakesBoard, inherited_board, first_board, later_board, TakesDeal, second_deal, faulty_deal, deal_too_many, only_deal, TakesTag, board_tag, deal_tag, other_tag}
@@ -47,10 +47,10 @@ held_moved held held' deal e d = subst (λ h. IsDealOf h deal) e d
 pub once_or_twice : (held held' : List Holding) → held' ≡ held → NamesOnce held → NamesTwice held' → ⊥
 once_or_twice held held' e once twice = let twice' = subst NamesTwice e twice in absurd (omega (arith, once twice'.0, twice'.1))
 
-size_or_thirteen : (held held' : List Holding) → held' ≡ held → HasOtherSize held' → ((seat : Seat) → hand_size held seat ≡ 13) → ⊥
+size_or_thirteen : (held held' : List Holding) → held' ≡ held → HasOtherSize held' → ((seat : Seat) → cards_named held seat ≡ 13) → ⊥
 size_or_thirteen held held' e other all = let other' = subst HasOtherSize e other in other'.1 (all other'.0)
 
-part_or_full : (said : Option Naming) (naming : Naming) (held : List Holding) → said ≡ Some naming → naming.is_partial ≡ true → said ≡ full held → ⊥
+pub part_or_full : (said : Option Naming) (naming : Naming) (held : List Holding) → said ≡ Some naming → naming.is_partial ≡ true → said ≡ full held → ⊥
 part_or_full said naming held e p f =
     let same : Some naming ≡ full held = sym e ∙ f in
     let inside : naming ≡ record { held = held; is_partial = false } = cc in

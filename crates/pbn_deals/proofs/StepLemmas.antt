@@ -4,7 +4,7 @@ use Rattle.pbn_deals.specs.declared.boards.Board.{Board}
 use Rattle.pbn_deals.specs.declared.readers.Reader.{Reader}
 use Rattle.pbn_deals.specs.declared.faults.PbnFault.{PbnFault}
 use Rattle.pbn_deals.specs.Games.{Tags, no_tags, boards_of}
-use Rattle.pbn_deals.specs.Reading.{Lacks, Reads, Ends, Stops, Answers, no_line, unclosed, escaped_line, blank_line, whole_line, opening_line, faulty_line, inner_line, closing_line, reopening_line, faulty_closing_line, put_boards, is_escaped, is_blank_line, lines_of, TextAnswers, SaysBoards}
+use Rattle.pbn_deals.specs.Reading.{Lacks, Scans, Ends, Stops, Answers, no_line, unclosed, escaped_line, blank_line, whole_line, opening_line, faulty_line, inner_line, closing_line, reopening_line, faulty_closing_line, put_boards, is_escaped, is_blank_line, lines_of, TextAnswers, SaysBoards}
 use Rattle.std.specs.Borrow.{Bor}
 use Rattle.pbn_deals.specs.declared.faults.PbnFault.TheVariants.{TagForm, OpenComment, SecondDeal, DealForm, CardTwice, HandSize, Inherited, TooManyBoards, OutOfMemory}
 use Rattle.pbn_deals.specs.Views.{tags_seen, UnlessMemory, CutsLine}
@@ -30,13 +30,13 @@ pub data Begins (line : List ℕ) : List ℕ → Option ℕ → Type 0 where
   outside : is_escaped line ≡ false → is_blank_line line ≡ false → Begins line line None
   behind_comment : {opened : ℕ} (text : List ℕ) {rest : List ℕ} → line ≡ text ++ 125 ∷ rest → Lacks 125 text → Begins line rest (Some opened)
 
-goes_rest : (number count : ℕ) (opened : Option ℕ) (tags tags' : Tags) (line rest : List ℕ) (is_open : Bool) (lines : List (List ℕ)) (answer : Result (List Board) PbnFault) → Begins line rest opened → Reads number count false tags rest (Ends tags' is_open) → Answers (number + 1) (opened_at is_open number) tags' count lines answer → Answers number opened tags count (line ∷ lines) answer
+goes_rest : (number count : ℕ) (opened : Option ℕ) (tags tags' : Tags) (line rest : List ℕ) (is_open : Bool) (lines : List (List ℕ)) (answer : Result (List Board) PbnFault) → Begins line rest opened → Scans number count false tags rest (Ends tags' is_open) → Answers (number + 1) (opened_at is_open number) tags' count lines answer → Answers number opened tags count (line ∷ lines) answer
 goes_rest number count _ tags tags' line _ false lines answer (outside e b) reads h = whole_line e b reads h
 goes_rest number count _ tags tags' line _ true lines answer (outside e b) reads h = opening_line e b reads h
 goes_rest number count _ tags tags' line _ false lines answer (behind_comment text e l) reads h = closing_line text e l reads h
 goes_rest number count _ tags tags' line _ true lines answer (behind_comment text e l) reads h = reopening_line text e l reads h
 
-stops_rest : (number count : ℕ) (opened : Option ℕ) (tags : Tags) (line rest : List ℕ) (fault : PbnFault) (lines : List (List ℕ)) → Begins line rest opened → Reads number count false tags rest (Stops fault) → Answers number opened tags count (line ∷ lines) (Err fault)
+stops_rest : (number count : ℕ) (opened : Option ℕ) (tags : Tags) (line rest : List ℕ) (fault : PbnFault) (lines : List (List ℕ)) → Begins line rest opened → Scans number count false tags rest (Stops fault) → Answers number opened tags count (line ∷ lines) (Err fault)
 stops_rest number count _ tags line _ fault lines (outside e b) reads = faulty_line e b reads
 stops_rest number count _ tags line _ fault lines (behind_comment text e l) reads = faulty_closing_line text e l reads
 
@@ -50,7 +50,7 @@ takes_rest (Ok done) number line rest old new begins reads = record {
       (goes_rest number (length old.boards.items) old.opened (tags_seen old.tags) (tags_seen new.tags) line rest reads.is_open lines answer begins reads.reads h');
 }
 takes_rest (Err fault) number line rest old new begins reads =
-    unless_memory-weaker fault (Reads number (length old.boards.items) false (tags_seen old.tags) rest (Stops fault)) ((lines : List (List ℕ)) → AnswersFrom number old (line ∷ lines) (Err fault))
+    unless_memory-weaker fault (Scans number (length old.boards.items) false (tags_seen old.tags) rest (Stops fault)) ((lines : List (List ℕ)) → AnswersFrom number old (line ∷ lines) (Err fault))
     (λ h lines. stops_rest number (length old.boards.items) old.opened (tags_seen old.tags) line rest fault lines begins h) reads
 
 -- a line that leaves all as it is

@@ -20,8 +20,8 @@ abbrev pub times_named : List Holding → Card → ℕ
 times_named held card = count_by (λ one. card_number one.card == card_number card) held
 
 -- how many cards the text names in the seat's hand
-abbrev pub hand_size : List Holding → Seat → ℕ
-hand_size held seat = count_by (λ one. is_same_seat seat one.seat) held
+abbrev pub cards_named : List Holding → Seat → ℕ
+cards_named held seat = count_by (λ one. is_same_seat seat one.seat) held
 
 -- no card is named twice
 abbrev pub NamesOnce : List Holding → Type 0
@@ -33,13 +33,13 @@ NamesTwice held = (card : Card) × (2 ≤ times_named held card)
 
 -- the hands are of one size, 1 to 13
 pub record AreSized (held : List Holding) : Type 0 where
-  pub some_cards : 1 ≤ hand_size held North
-  pub at_most_13 : hand_size held North ≤ 13
-  pub equal : (seat : Seat) → hand_size held seat ≡ hand_size held North
+  pub some_cards : 1 ≤ cards_named held North
+  pub at_most_13 : cards_named held North ≤ 13
+  pub equal : (seat : Seat) → cards_named held seat ≡ cards_named held North
 
 -- a hand is empty, or of over 13 cards, or two are of unequal size
 abbrev pub AreMissized : List Holding → Type 0
-AreMissized held = (hand_size held North ≡ 0) ⊎ ((13 < hand_size held North) ⊎ ((seat : Seat) × (hand_size held seat ≢ hand_size held North)))
+AreMissized held = (cards_named held North ≡ 0) ⊎ ((13 < cards_named held North) ⊎ ((seat : Seat) × (cards_named held seat ≢ cards_named held North)))
 
 -- the deal in which each seat holds what the text names in its hand, and no other card
 pub record IsDealOf (held : List Holding) (deal : Deal) : Type 0 where

@@ -6,7 +6,7 @@ use Rattle.cards.specs.Deal.{Deal}
 use Rattle.pbn_deals.specs.declared.boards.Board.{Board}
 use Rattle.pbn_deals.specs.declared.faults.PbnFault.{PbnFault}
 use Rattle.pbn_deals.specs.declared.faults.PbnFault.TheVariants.{SecondDeal, DealForm, CardTwice, HandSize, Inherited, TooManyBoards}
-use Rattle.pbn_deals.specs.Dealing.{Holding, hand_size, NamesOnce, NamesTwice, IsDealOf}
+use Rattle.pbn_deals.specs.Dealing.{Holding, cards_named, NamesOnce, NamesTwice, IsDealOf}
 use Rattle.pbn_deals.specs.DealValue.{Naming, naming_of, words_of, after_blanks, full}
 use Rattle.pbn_deals.specs.Tags.{is_board, is_deal, is_inherited}
 
@@ -25,7 +25,7 @@ IsNoDeal value = (words_of value ≡ []) ⊎ (words_of value ≡ (63 ∷ []) ∷
 
 -- a hand is not of 13 cards
 abbrev pub HasOtherSize : List Holding → Type 0
-HasOtherSize held = (seat : Seat) × (hand_size held seat ≢ 13)
+HasOtherSize held = (seat : Seat) × (cards_named held seat ≢ 13)
 
 -- The deal that a value says, or its fault: `#`, another form, a card twice, a hand of another size than 13. A hand
 -- that is not known leaves the board without a deal.
@@ -36,7 +36,7 @@ pub data SaysDeal (line : ℕ) (value : List ℕ) : Result (Option Deal) PbnFaul
   says_part : {naming : Naming} → naming_of value ≡ Some naming → naming.is_partial ≡ true → SaysDeal line value (Ok None)
   says_twice : {held : List Holding} → naming_of value ≡ full held → NamesTwice held → SaysDeal line value (Err (CardTwice line))
   says_size : {held : List Holding} → naming_of value ≡ full held → NamesOnce held → HasOtherSize held → SaysDeal line value (Err (HandSize line))
-  says_deal : {held : List Holding} {dealt : Deal} → naming_of value ≡ full held → IsDealOf held dealt → ((seat : Seat) → hand_size held seat ≡ 13) → SaysDeal line value (Ok (Some dealt))
+  says_deal : {held : List Holding} {dealt : Deal} → naming_of value ≡ full held → IsDealOf held dealt → ((seat : Seat) → cards_named held seat ≡ 13) → SaysDeal line value (Ok (Some dealt))
 
 -- ---- one tag more
 -- how many boards a text may have

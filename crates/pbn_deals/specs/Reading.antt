@@ -75,19 +75,19 @@ pub data LineEnd : Type 0 where
 -- What a line does, from one of its places on, to a game that follows so many boards. The flag tells that section
 -- data stands before the place. Comments and quoted texts go as far as their ends; a tag pair stands before all
 -- section data; section data goes to the end of the line.
-pub data Reads (number count : ℕ) : Bool → Tags → List ℕ → LineEnd → Type 0 where
-  at_end : {in_data : Bool} {tags : Tags} → Reads number count in_data tags [] (Ends tags false)
-  at_blank : {in_data : Bool} {tags : Tags} {byte : ℕ} {rest : List ℕ} {last : LineEnd} → meaning_of byte ≡ IsSpace → Reads number count in_data tags rest last → Reads number count in_data tags (byte ∷ rest) last
-  at_line_comment : {in_data : Bool} {tags : Tags} {byte : ℕ} {rest : List ℕ} → meaning_of byte ≡ EndsLine → Reads number count in_data tags (byte ∷ rest) (Ends tags false)
-  at_comment : {in_data : Bool} {tags : Tags} {byte : ℕ} (text : List ℕ) {rest behind : List ℕ} {last : LineEnd} → meaning_of byte ≡ OpensComment → rest ≡ text ++ 125 ∷ behind → Lacks 125 text → Reads number count in_data tags behind last → Reads number count in_data tags (byte ∷ rest) last
-  at_open_comment : {in_data : Bool} {tags : Tags} {byte : ℕ} {rest : List ℕ} → meaning_of byte ≡ OpensComment → Lacks 125 rest → Reads number count in_data tags (byte ∷ rest) (Ends tags true)
-  at_tag : {tags tags' : Tags} {byte : ℕ} {rest : List ℕ} {tag : Tag} {last : LineEnd} → meaning_of byte ≡ OpensTag → tag_of rest ≡ Some tag → TakesTag number count tags tag.name tag.value (Ok tags') → Reads number count false tags' tag.rest last → Reads number count false tags (byte ∷ rest) last
-  at_faulty_tag : {tags : Tags} {byte : ℕ} {rest : List ℕ} {tag : Tag} {fault : PbnFault} → meaning_of byte ≡ OpensTag → tag_of rest ≡ Some tag → TakesTag number count tags tag.name tag.value (Err fault) → Reads number count false tags (byte ∷ rest) (Stops fault)
-  at_no_tag : {tags : Tags} {byte : ℕ} {rest : List ℕ} → meaning_of byte ≡ OpensTag → tag_of rest ≡ None → Reads number count false tags (byte ∷ rest) (Stops (TagForm number))
-  at_quoted : {in_data : Bool} {tags : Tags} {byte : ℕ} (text : List ℕ) {rest behind : List ℕ} {last : LineEnd} → meaning_of byte ≡ OpensText → rest ≡ text ++ 34 ∷ behind → Lacks 34 text → Reads number count true tags behind last → Reads number count in_data tags (byte ∷ rest) last
-  at_unended : {in_data : Bool} {tags : Tags} {byte : ℕ} {rest : List ℕ} → meaning_of byte ≡ OpensText → Lacks 34 rest → Reads number count in_data tags (byte ∷ rest) (Ends tags false)
-  at_plain : {in_data : Bool} {tags : Tags} {byte : ℕ} {rest : List ℕ} {last : LineEnd} → meaning_of byte ≡ IsData → Reads number count true tags rest last → Reads number count in_data tags (byte ∷ rest) last
-  at_bracket : {tags : Tags} {byte : ℕ} {rest : List ℕ} {last : LineEnd} → meaning_of byte ≡ OpensTag → Reads number count true tags rest last → Reads number count true tags (byte ∷ rest) last
+pub data Scans (number count : ℕ) : Bool → Tags → List ℕ → LineEnd → Type 0 where
+  at_end : {in_data : Bool} {tags : Tags} → Scans number count in_data tags [] (Ends tags false)
+  at_blank : {in_data : Bool} {tags : Tags} {byte : ℕ} {rest : List ℕ} {last : LineEnd} → meaning_of byte ≡ IsSpace → Scans number count in_data tags rest last → Scans number count in_data tags (byte ∷ rest) last
+  at_line_comment : {in_data : Bool} {tags : Tags} {byte : ℕ} {rest : List ℕ} → meaning_of byte ≡ EndsLine → Scans number count in_data tags (byte ∷ rest) (Ends tags false)
+  at_comment : {in_data : Bool} {tags : Tags} {byte : ℕ} (text : List ℕ) {rest behind : List ℕ} {last : LineEnd} → meaning_of byte ≡ OpensComment → rest ≡ text ++ 125 ∷ behind → Lacks 125 text → Scans number count in_data tags behind last → Scans number count in_data tags (byte ∷ rest) last
+  at_open_comment : {in_data : Bool} {tags : Tags} {byte : ℕ} {rest : List ℕ} → meaning_of byte ≡ OpensComment → Lacks 125 rest → Scans number count in_data tags (byte ∷ rest) (Ends tags true)
+  at_tag : {tags tags' : Tags} {byte : ℕ} {rest : List ℕ} {tag : Tag} {last : LineEnd} → meaning_of byte ≡ OpensTag → tag_of rest ≡ Some tag → TakesTag number count tags tag.name tag.value (Ok tags') → Scans number count false tags' tag.rest last → Scans number count false tags (byte ∷ rest) last
+  at_faulty_tag : {tags : Tags} {byte : ℕ} {rest : List ℕ} {tag : Tag} {fault : PbnFault} → meaning_of byte ≡ OpensTag → tag_of rest ≡ Some tag → TakesTag number count tags tag.name tag.value (Err fault) → Scans number count false tags (byte ∷ rest) (Stops fault)
+  at_no_tag : {tags : Tags} {byte : ℕ} {rest : List ℕ} → meaning_of byte ≡ OpensTag → tag_of rest ≡ None → Scans number count false tags (byte ∷ rest) (Stops (TagForm number))
+  at_quoted : {in_data : Bool} {tags : Tags} {byte : ℕ} (text : List ℕ) {rest behind : List ℕ} {last : LineEnd} → meaning_of byte ≡ OpensText → rest ≡ text ++ 34 ∷ behind → Lacks 34 text → Scans number count true tags behind last → Scans number count in_data tags (byte ∷ rest) last
+  at_unended : {in_data : Bool} {tags : Tags} {byte : ℕ} {rest : List ℕ} → meaning_of byte ≡ OpensText → Lacks 34 rest → Scans number count in_data tags (byte ∷ rest) (Ends tags false)
+  at_plain : {in_data : Bool} {tags : Tags} {byte : ℕ} {rest : List ℕ} {last : LineEnd} → meaning_of byte ≡ IsData → Scans number count true tags rest last → Scans number count in_data tags (byte ∷ rest) last
+  at_bracket : {tags : Tags} {byte : ℕ} {rest : List ℕ} {last : LineEnd} → meaning_of byte ≡ OpensTag → Scans number count true tags rest last → Scans number count true tags (byte ∷ rest) last
 
 -- ---- the lines of a text
 -- boards before those of a reading that went well
@@ -102,13 +102,13 @@ pub data Answers : ℕ → Option ℕ → Tags → ℕ → List (List ℕ) → R
   unclosed : {number opened count : ℕ} {tags : Tags} → Answers number (Some opened) tags count [] (Err (OpenComment opened))
   escaped_line : {number count : ℕ} {tags : Tags} {line : List ℕ} {lines : List (List ℕ)} {answer : Result (List Board) PbnFault} → is_escaped line ≡ true → Answers (number + 1) None tags count lines answer → Answers number None tags count (line ∷ lines) answer
   blank_line : {number count : ℕ} {tags : Tags} {line : List ℕ} {lines : List (List ℕ)} {answer : Result (List Board) PbnFault} → is_escaped line ≡ false → is_blank_line line ≡ true → Answers (number + 1) None no_tags (count + length (boards_of tags)) lines answer → Answers number None tags count (line ∷ lines) (put_boards (boards_of tags) answer)
-  whole_line : {number count : ℕ} {tags tags' : Tags} {line : List ℕ} {lines : List (List ℕ)} {answer : Result (List Board) PbnFault} → is_escaped line ≡ false → is_blank_line line ≡ false → Reads number count false tags line (Ends tags' false) → Answers (number + 1) None tags' count lines answer → Answers number None tags count (line ∷ lines) answer
-  opening_line : {number count : ℕ} {tags tags' : Tags} {line : List ℕ} {lines : List (List ℕ)} {answer : Result (List Board) PbnFault} → is_escaped line ≡ false → is_blank_line line ≡ false → Reads number count false tags line (Ends tags' true) → Answers (number + 1) (Some number) tags' count lines answer → Answers number None tags count (line ∷ lines) answer
-  faulty_line : {number count : ℕ} {tags : Tags} {line : List ℕ} {lines : List (List ℕ)} {fault : PbnFault} → is_escaped line ≡ false → is_blank_line line ≡ false → Reads number count false tags line (Stops fault) → Answers number None tags count (line ∷ lines) (Err fault)
+  whole_line : {number count : ℕ} {tags tags' : Tags} {line : List ℕ} {lines : List (List ℕ)} {answer : Result (List Board) PbnFault} → is_escaped line ≡ false → is_blank_line line ≡ false → Scans number count false tags line (Ends tags' false) → Answers (number + 1) None tags' count lines answer → Answers number None tags count (line ∷ lines) answer
+  opening_line : {number count : ℕ} {tags tags' : Tags} {line : List ℕ} {lines : List (List ℕ)} {answer : Result (List Board) PbnFault} → is_escaped line ≡ false → is_blank_line line ≡ false → Scans number count false tags line (Ends tags' true) → Answers (number + 1) (Some number) tags' count lines answer → Answers number None tags count (line ∷ lines) answer
+  faulty_line : {number count : ℕ} {tags : Tags} {line : List ℕ} {lines : List (List ℕ)} {fault : PbnFault} → is_escaped line ≡ false → is_blank_line line ≡ false → Scans number count false tags line (Stops fault) → Answers number None tags count (line ∷ lines) (Err fault)
   inner_line : {number opened count : ℕ} {tags : Tags} {line : List ℕ} {lines : List (List ℕ)} {answer : Result (List Board) PbnFault} → Lacks 125 line → Answers (number + 1) (Some opened) tags count lines answer → Answers number (Some opened) tags count (line ∷ lines) answer
-  closing_line : {number opened count : ℕ} {tags tags' : Tags} (text : List ℕ) {line rest : List ℕ} {lines : List (List ℕ)} {answer : Result (List Board) PbnFault} → line ≡ text ++ 125 ∷ rest → Lacks 125 text → Reads number count false tags rest (Ends tags' false) → Answers (number + 1) None tags' count lines answer → Answers number (Some opened) tags count (line ∷ lines) answer
-  reopening_line : {number opened count : ℕ} {tags tags' : Tags} (text : List ℕ) {line rest : List ℕ} {lines : List (List ℕ)} {answer : Result (List Board) PbnFault} → line ≡ text ++ 125 ∷ rest → Lacks 125 text → Reads number count false tags rest (Ends tags' true) → Answers (number + 1) (Some number) tags' count lines answer → Answers number (Some opened) tags count (line ∷ lines) answer
-  faulty_closing_line : {number opened count : ℕ} {tags : Tags} (text : List ℕ) {line rest : List ℕ} {lines : List (List ℕ)} {fault : PbnFault} → line ≡ text ++ 125 ∷ rest → Lacks 125 text → Reads number count false tags rest (Stops fault) → Answers number (Some opened) tags count (line ∷ lines) (Err fault)
+  closing_line : {number opened count : ℕ} {tags tags' : Tags} (text : List ℕ) {line rest : List ℕ} {lines : List (List ℕ)} {answer : Result (List Board) PbnFault} → line ≡ text ++ 125 ∷ rest → Lacks 125 text → Scans number count false tags rest (Ends tags' false) → Answers (number + 1) None tags' count lines answer → Answers number (Some opened) tags count (line ∷ lines) answer
+  reopening_line : {number opened count : ℕ} {tags tags' : Tags} (text : List ℕ) {line rest : List ℕ} {lines : List (List ℕ)} {answer : Result (List Board) PbnFault} → line ≡ text ++ 125 ∷ rest → Lacks 125 text → Scans number count false tags rest (Ends tags' true) → Answers (number + 1) (Some number) tags' count lines answer → Answers number (Some opened) tags count (line ∷ lines) answer
+  faulty_closing_line : {number opened count : ℕ} {tags : Tags} (text : List ℕ) {line rest : List ℕ} {lines : List (List ℕ)} {fault : PbnFault} → line ≡ text ++ 125 ∷ rest → Lacks 125 text → Scans number count false tags rest (Stops fault) → Answers number (Some opened) tags count (line ∷ lines) (Err fault)
 
 -- the answer for a whole text
 abbrev pub TextAnswers : List ℕ → Result (List Board) PbnFault → Type 0
@@ -123,3 +123,7 @@ SaysBoards text (Err fault) = TextAnswers text (Err fault)
 -- a text has one answer at most
 abbrev pub HasOneAnswer : Type 0
 HasOneAnswer = (text : List ℕ) (one other : Result (List Board) PbnFault) → TextAnswers text one → TextAnswers text other → one ≡ other
+
+-- a text has an answer, and it is not want of memory
+abbrev pub HasSomeAnswer : Type 0
+HasSomeAnswer = (text : List ℕ) → (answer : Result (List Board) PbnFault) × (answer ≢ Err OutOfMemory) × TextAnswers text answer

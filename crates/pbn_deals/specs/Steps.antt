@@ -4,7 +4,7 @@ use Rattle.pbn_deals.specs.declared.boards.Board.{Board}
 use Rattle.pbn_deals.specs.declared.readers.Reader.{Reader}
 use Rattle.pbn_deals.specs.declared.faults.PbnFault.{PbnFault}
 use Rattle.pbn_deals.specs.Games.{no_tags, boards_of}
-use Rattle.pbn_deals.specs.Reading.{Reads, Ends, Stops, Answers, put_boards}
+use Rattle.pbn_deals.specs.Reading.{Scans, Ends, Stops, Answers, put_boards}
 use Rattle.pbn_deals.specs.Views.{tags_seen, UnlessMemory}
 
 -- the answer for the lines from this number on, by what has been read
@@ -31,11 +31,11 @@ pub record ReadsRest (number : ℕ) (rest : List ℕ) (old new : Reader) : Type 
   pub is_open : Bool
   pub boards : new.boards.items ≡ old.boards.items
   pub opened : new.opened ≡ opened_at is_open number
-  pub reads : Reads number (length old.boards.items) false (tags_seen old.tags) rest (Ends (tags_seen new.tags) is_open)
+  pub reads : Scans number (length old.boards.items) false (tags_seen old.tags) rest (Ends (tags_seen new.tags) is_open)
 
 abbrev pub TakesRest : {X : Type 0} → Result X PbnFault → ℕ → List ℕ → Reader → Reader → Type 0
 TakesRest (Ok done) number rest old new = ReadsRest number rest old new
-TakesRest (Err fault) number rest old new = UnlessMemory fault (Reads number (length old.boards.items) false (tags_seen old.tags) rest (Stops fault))
+TakesRest (Err fault) number rest old new = UnlessMemory fault (Scans number (length old.boards.items) false (tags_seen old.tags) rest (Stops fault))
 
 -- a line was read: the answer for it and what follows is that for what follows, behind the board that it ends
 pub record ReadsWhole (number : ℕ) (line : List ℕ) (old new : Reader) : Type 0 where

@@ -5,7 +5,7 @@ use Rattle.cards.specs.declared.pack.Card.{Card}
 use Rattle.cards.specs.Hands.{word_of, HasBit}
 use Rattle.pbn_deals.specs.declared.dealings.Dealing.{Dealing}
 use Rattle.pbn_deals.specs.DealValue.{Naming}
-use Rattle.pbn_deals.specs.Dealing.{Holding, held_by, hand_size, NamesOnce, NamesTwice}
+use Rattle.pbn_deals.specs.Dealing.{Holding, held_by, cards_named, NamesOnce, NamesTwice}
 
 -- a word has no bit from 52 up
 abbrev pub HasCardsAlone : ℕ → Type 0
@@ -15,7 +15,7 @@ HasCardsAlone word = word < 2 ^ 52
 pub record IsOnce (hands : List ℕ) (held : List Holding) : Type 0 where
   pub once : NamesOnce held
   pub apart : (card : Card) (one other : Seat) → HasBit hands one card → HasBit hands other card → one ≡ other
-  pub sizes : (seat : Seat) → count_ones (word_of hands seat) ≡ hand_size held seat
+  pub sizes : (seat : Seat) → count_ones (word_of hands seat) ≡ cards_named held seat
 
 abbrev pub TellsTwice : Bool → List ℕ → List Holding → Type 0
 TellsTwice false hands held = IsOnce hands held
@@ -29,12 +29,12 @@ pub record Represents (dealing : Dealing) (held : List Holding) : Type 0 where
   pub twice : TellsTwice dealing.is_twice dealing.hands held
 
 -- the cards were put to those named before
-abbrev pub PutsCards : Dealing → Dealing → Seat → List Card → Type 0
-PutsCards old new seat cards = (held : List Holding) → Represents old held → Represents new (held ++ map (held_by seat) cards)
+abbrev pub AddsCards : Dealing → Dealing → Seat → List Card → Type 0
+AddsCards old new seat cards = (held : List Holding) → Represents old held → Represents new (held ++ map (held_by seat) cards)
 
 -- what was read of a hand: its cards are put where it is of the form, and only there
 abbrev pub ReadsHand : Bool → Option (List Card) → Seat → Dealing → Dealing → Type 0
-ReadsHand true (Some cards) seat old new = PutsCards old new seat cards
+ReadsHand true (Some cards) seat old new = AddsCards old new seat cards
 ReadsHand true None seat old new = ⊥
 ReadsHand false (Some cards) seat old new = ⊥
 ReadsHand false None seat old new = Unit {0}

@@ -57,7 +57,7 @@ fn read_hands(first: Seat, text: &[u8]) -> Option<Dealing>
         let Some((word, behind)) = first_word(rest) else {
             return None;
         };
-        if !dealing.put_hand(seat, word) {
+        if !dealing.add_hand(seat, word) {
             return None;
         }
         seat = seat.next();

@@ -37,7 +37,7 @@ impl Dealing {
     }
 
     /// Names one card more.
-    fn put(&mut self, seat: Seat, card: Card)
+    fn add_card(&mut self, seat: Seat, card: Card)
         ensures adds { (held : List Holding) → Represents self.old held → Represents self.new (held ++ held_by seat card ∷ []) }
         ensures partial { self.new.is_partial ≡ self.old.is_partial }
     {
@@ -48,7 +48,7 @@ impl Dealing {
     }
 
     /// Names the cards of the four groups of a hand, spades first. `false` says that they are not of the form.
-    fn put_groups(&mut self, seat: Seat, word: &[u8]) -> bool
+    fn add_groups(&mut self, seat: Seat, word: &[u8]) -> bool
         ensures reads { ReadsHand result (groups_cards suits_in_order (slice_split is_dot word.now)) seat self.old self.new }
         ensures partial { self.new.is_partial ≡ self.old.is_partial }
     {
@@ -63,7 +63,7 @@ impl Dealing {
                 let Some(rank) = rank_of_letter(*byte) else {
                     return false;
                 };
-                self.put(
+                self.add_card(
                     seat,
                     Card {
                         suit: Suit::at(suit),
@@ -76,7 +76,7 @@ impl Dealing {
     }
 
     /// Names the cards of a hand. `false` says that it is not of the form.
-    pub(crate) fn put_hand(&mut self, seat: Seat, word: &[u8]) -> bool
+    pub(crate) fn add_hand(&mut self, seat: Seat, word: &[u8]) -> bool
         ensures reads { ReadsHand result (hand_cards word.now) seat self.old self.new }
         ensures partial { self.new.is_partial ≡ (self.old.is_partial || is_unknown word.now) }
     {
@@ -84,6 +84,6 @@ impl Dealing {
             self.is_partial = true;
             return true;
         }
-        self.put_groups(seat, word)
+        self.add_groups(seat, word)
     }
 }

@@ -16,12 +16,12 @@ use Rattle.pbn_deals.specs.declared.boards.Board.{Board}
 use Rattle.pbn_deals.specs.declared.faults.PbnFault.{PbnFault}
 use Rattle.pbn_deals.specs.Tags.{Tag, tag_of, value_front, after_value, is_inherited}
 use Rattle.pbn_deals.specs.Games.{Tags, no_tags, boards_of, SaysDeal, board_tag, deal_tag, other_tag, first_board, only_deal, greatest_count, says_nothing}
-use Rattle.pbn_deals.specs.Reading.{is_line_feed, without_return, lines_of, is_escaped, is_blank_line, Ends, Reads, at_end, at_tag, at_line_comment, Answers, no_line, escaped_line, blank_line, whole_line, put_boards}
+use Rattle.pbn_deals.specs.Reading.{is_line_feed, without_return, lines_of, is_escaped, is_blank_line, Ends, Scans, at_end, at_tag, at_line_comment, Answers, no_line, escaped_line, blank_line, whole_line, put_boards}
 use Rattle.tables.specs.DealText.{deal_text}
 use Rattle.tables.specs.TablesText.{Results, tag_line, deal_value, row_text, result_row, entry_row, rows_text, entries, right_in_two, is_complete, published_count, table_tag, incomplete_line, table_text, board_text, numbered_text, tables_text, line}
 use Rattle.tables.specs.ReadBack.{IsBoardDeal, IsPrintable, AreTricks, AreReadBack}
 use Rattle.tables.proofs.DealsBack.{reads_back}
-use Rattle.tables.proofs.LinesBack.{IsLine, lines_of-line, IsTame, IsLine-from_tame, IsTame-append, Reads-quiet}
+use Rattle.tables.proofs.LinesBack.{IsLine, lines_of-line, IsTame, IsLine-from_tame, IsTame-append, Scans-quiet}
 use Rattle.tables.proofs.CalmTexts.{is_calm, IsTame-from_calm, IsQuiet-from_calm, is_calm-append, NoQuote, seat_letter-calm, denomination-calm, right_in_two-calm, decimal-calm}
 
 -- the answer for the lines of a text, whatever the number of its first line
@@ -33,7 +33,7 @@ record IsIdle (line : List ℕ) : Type 0 where
   as_line : IsLine line
   not_escaped : is_escaped line ≡ false
   not_blank : is_blank_line line ≡ false
-  read : (number count : ℕ) (tags : Tags) → Reads number count false tags line (Ends tags false)
+  read : (number count : ℕ) (tags : Tags) → Scans number count false tags line (Ends tags false)
 
 idle_step : (line rest : List ℕ) (tags : Tags) (count : ℕ) (answer : Result (List Board) PbnFault) → IsIdle line → AnswersText tags count rest answer → AnswersText tags count (line ++ 10 ∷ rest) answer
 idle_step line rest tags count answer idle more = λ number.
@@ -72,7 +72,7 @@ row-idle declarer denomination tricks h =
       as_line = IsLine-from_tame _ (IsTame-from_calm _ calm);
       not_escaped = row_body-not_escaped declarer denomination tricks;
       not_blank = row_body-not_blank declarer denomination tricks;
-      read = λ number count tags. Reads-quiet number count false tags _ (IsQuiet-from_calm _ calm);
+      read = λ number count tags. Scans-quiet number count false tags _ (IsQuiet-from_calm _ calm);
     }
 
 row_text-is : (declarer : Seat) (denomination : Trump) (tricks : ℕ) (rest : List ℕ) → row_text declarer denomination tricks ++ rest ≡ row_body declarer denomination tricks ++ 10 ∷ rest
@@ -103,7 +103,7 @@ table_tag-is = refl
 table_tag_tag : Tag
 table_tag_tag = record { name = codes "OptimumResultTable"; value = codes "Declarer;Denomination" ++ (92 ∷ codes "2R;Result") ++ (92 ∷ codes "2R"); rest = [] }
 
-table_tag-read : (number count : ℕ) (tags : Tags) → Reads number count false tags table_tag_body (Ends tags false)
+table_tag-read : (number count : ℕ) (tags : Tags) → Scans number count false tags table_tag_body (Ends tags false)
 unfolding table_tag_body table_tag_tag
 table_tag-read number count tags = at_tag {tag = table_tag_tag} refl refl (other_tag refl refl) at_end
 
@@ -216,7 +216,7 @@ no_quote (byte ∷ bytes) h = (h.0, no_quote bytes h.1)
 name_tags : List ℕ → Tags
 name_tags name = record { name = Some name; deal = None }
 
-board_line-read : (number count : ℕ) (name : List ℕ) → NoQuote name → is_inherited name ≡ false → Reads number count false no_tags (tag_body (codes "Board") name) (Ends (name_tags name) false)
+board_line-read : (number count : ℕ) (name : List ℕ) → NoQuote name → is_inherited name ≡ false → Scans number count false no_tags (tag_body (codes "Board") name) (Ends (name_tags name) false)
 unfolding tag_body name_tags
 board_line-read number count name h own = at_tag refl (board_tag_of name h) (board_tag refl (first_board own refl)) at_end
 
@@ -224,7 +224,7 @@ board_line-read number count name h own = at_tag refl (board_tag_of name h) (boa
 both_tags : List ℕ → Option Deal → Tags
 both_tags name deal = record { name = Some name; deal = Some deal }
 
-deal_line-read : (number count : ℕ) (name value : List ℕ) (deal : Option Deal) → NoQuote value → ((line : ℕ) → SaysDeal line value (Ok deal)) → count < greatest_count → Reads number count false (name_tags name) (tag_body (codes "Deal") value) (Ends (both_tags name deal) false)
+deal_line-read : (number count : ℕ) (name value : List ℕ) (deal : Option Deal) → NoQuote value → ((line : ℕ) → SaysDeal line value (Ok deal)) → count < greatest_count → Scans number count false (name_tags name) (tag_body (codes "Deal") value) (Ends (both_tags name deal) false)
 unfolding tag_body name_tags both_tags
 deal_line-read number count name value deal h says room = at_tag refl (deal_tag_of value h) (deal_tag refl refl (only_deal refl (says number) room)) at_end
 

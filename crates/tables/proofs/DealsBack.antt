@@ -15,7 +15,7 @@ use Rattle.pbn_deals.specs.Games.{SaysDeal, says_deal}
 use Rattle.pbn_deals.specs.Reading.{Lacks}
 use Rattle.tables.specs.DealText.{ranks_falling, deal_text}
 use Rattle.tables.specs.ReadBack.{IsWholeDeal}
-use Rattle.tables.proofs.Dealt.{keep, cards_in, IsDealOf-held_of, hand_size-held_of}
+use Rattle.tables.proofs.Dealt.{keep, cards_in, IsDealOf-held_of, cards_named-held_of}
 use Rattle.tables.proofs.Dealt as dealt
 use Rattle.tables.proofs.DealWords.{suit_cards, deal-named, deal-one_line, deal-no_quote}
 use Rattle.tables.proofs.DealWords as printed
@@ -57,5 +57,5 @@ reads_back deal whole = record {
   one_line = deal-one_line deal;
   no_quote = deal-no_quote deal;
   says = λ line. says_deal (deal-named deal ∙ ap full (same_held deal)) (IsDealOf-held_of deal whole.layout)
-      (λ seat. hand_size-held_of deal seat whole.layout.whole_pack ∙ (whole.layout.equal_hands seat ∙ whole.size));
+      (λ seat. cards_named-held_of deal seat whole.layout.whole_pack ∙ (whole.layout.equal_hands seat ∙ whole.size));
 }

@@ -20,7 +20,7 @@ use Rattle.cards.specs.SameDeal.{is_same_seat-refl}
 use Rattle.cards.proofs.HandLaws.{held-is}
 use Rattle.cards.specs.Seats.{is_same_seat}
 use Rattle.cards.specs.Deal.{Deal, holder_of, is_held_by, count_of, IsLayout}
-use Rattle.pbn_deals.specs.Dealing.{Holding, held_by, times_named, hand_size, NamesOnce, IsDealOf}
+use Rattle.pbn_deals.specs.Dealing.{Holding, held_by, times_named, cards_named, NamesOnce, IsDealOf}
 use Rattle.tables.specs.DealText.{ranks_falling}
 
 -- a card before others, where it is kept
@@ -42,15 +42,15 @@ abbrev pub held_of : Deal → List Holding
 held_of deal = map (held_by North) (hand_of deal North) ++ (map (held_by East) (hand_of deal East) ++ (map (held_by South) (hand_of deal South) ++ (map (held_by West) (hand_of deal West) ++ [])))
 
 -- ---- how many cards a hand has
-hand_size-map : (seat other : Seat) (cards : List Card) → hand_size (map (held_by other) cards) seat ≡ cond (is_same_seat seat other) (length cards) 0
-hand_size-map seat other [] = go (is_same_seat seat other)
+cards_named-map : (seat other : Seat) (cards : List Card) → cards_named (map (held_by other) cards) seat ≡ cond (is_same_seat seat other) (length cards) 0
+cards_named-map seat other [] = go (is_same_seat seat other)
   where
     go : (b : Bool) → zero ≡ cond {A = ℕ} b 0 0
     go true = refl
     go false = refl
-hand_size-map seat other (card ∷ cards) =
+cards_named-map seat other (card ∷ cards) =
     sum_by-cons (λ (one : Holding). cond (is_same_seat seat one.seat) 1 0) (held_by other card) (map (held_by other) cards)
-    ∙ go (is_same_seat seat other) (hand_size (map (held_by other) cards) seat) (hand_size-map seat other cards)
+    ∙ go (is_same_seat seat other) (cards_named (map (held_by other) cards) seat) (cards_named-map seat other cards)
   where
     go : (b : Bool) (n : ℕ) → n ≡ cond b (length cards) 0 → cond b 1 0 + n ≡ cond b (suc (length cards)) 0
     go true n e = omega (arith, e)
@@ -124,8 +124,8 @@ length-hand_of deal seat whole =
     let hand = four_lengths (cards_in deal seat Spades ranks_falling) (cards_in deal seat Hearts ranks_falling) (cards_in deal seat Diamonds ranks_falling) (cards_in deal seat Clubs ranks_falling) in
     sum_of_four _ _ _ _ _ _ _ _ _ _ _ _ (suit_length deal seat Spades) (suit_length deal seat Hearts) (suit_length deal seat Diamonds) (suit_length deal seat Clubs) hand (all ∙ one) two three
 
-hand_size-four : (seat : Seat) (a b c d : List Holding) → hand_size (a ++ (b ++ (c ++ (d ++ [])))) seat ≡ hand_size a seat + (hand_size b seat + (hand_size c seat + hand_size d seat))
-hand_size-four seat a b c d =
+cards_named-four : (seat : Seat) (a b c d : List Holding) → cards_named (a ++ (b ++ (c ++ (d ++ [])))) seat ≡ cards_named a seat + (cards_named b seat + (cards_named c seat + cards_named d seat))
+cards_named-four seat a b c d =
     let f : Holding → ℕ = λ one. cond (is_same_seat seat one.seat) 1 0 in
     sum_by-append f a (b ++ (c ++ (d ++ [])))
     ∙ ap (λ n. sum_by f a + n) (sum_by-append f b (c ++ (d ++ []))
@@ -135,13 +135,13 @@ hand_size-four seat a b c d =
     nothing_more : (n : ℕ) → n + 0 ≡ n
     nothing_more n = omega arith
 
-pub hand_size-held_of : (deal : Deal) (seat : Seat) → length deal ≡ 52 → hand_size (held_of deal) seat ≡ count_of deal seat
-hand_size-held_of deal seat whole =
-    let four = hand_size-four seat (map (held_by North) (hand_of deal North)) (map (held_by East) (hand_of deal East)) (map (held_by South) (hand_of deal South)) (map (held_by West) (hand_of deal West)) in
-    let n = hand_size-map seat North (hand_of deal North) in
-    let e = hand_size-map seat East (hand_of deal East) in
-    let s = hand_size-map seat South (hand_of deal South) in
-    let w = hand_size-map seat West (hand_of deal West) in
+pub cards_named-held_of : (deal : Deal) (seat : Seat) → length deal ≡ 52 → cards_named (held_of deal) seat ≡ count_of deal seat
+cards_named-held_of deal seat whole =
+    let four = cards_named-four seat (map (held_by North) (hand_of deal North)) (map (held_by East) (hand_of deal East)) (map (held_by South) (hand_of deal South)) (map (held_by West) (hand_of deal West)) in
+    let n = cards_named-map seat North (hand_of deal North) in
+    let e = cards_named-map seat East (hand_of deal East) in
+    let s = cards_named-map seat South (hand_of deal South) in
+    let w = cards_named-map seat West (hand_of deal West) in
     go seat _ _ _ _ _ four n e s w (length-hand_of deal seat whole)
   where
     go : (one : Seat) (all a b c d : ℕ) → all ≡ a + (b + (c + d)) → a ≡ cond (is_same_seat one North) (length (hand_of deal North)) 0 → b ≡ cond (is_same_seat one East) (length (hand_of deal East)) 0 → c ≡ cond (is_same_seat one South) (length (hand_of deal South)) 0 → d ≡ cond (is_same_seat one West) (length (hand_of deal West)) 0 → length (hand_of deal one) ≡ count_of deal one → all ≡ count_of deal one
@@ -446,9 +446,9 @@ pub IsDealOf-held_of : (deal : Deal) → IsLayout deal → IsDealOf (held_of dea
 IsDealOf-held_of deal layout = record {
   once = NamesOnce-held_of deal;
   sized = record {
-    some_cards = omega (arith, layout.some_cards, hand_size-held_of deal North layout.whole_pack);
-    at_most_13 = omega (arith, layout.at_most_13, hand_size-held_of deal North layout.whole_pack);
-    equal = λ seat. hand_size-held_of deal seat layout.whole_pack ∙ (layout.equal_hands seat ∙ sym (hand_size-held_of deal North layout.whole_pack));
+    some_cards = omega (arith, layout.some_cards, cards_named-held_of deal North layout.whole_pack);
+    at_most_13 = omega (arith, layout.at_most_13, cards_named-held_of deal North layout.whole_pack);
+    equal = λ seat. cards_named-held_of deal seat layout.whole_pack ∙ (layout.equal_hands seat ∙ sym (cards_named-held_of deal North layout.whole_pack));
   };
   holders = λ card seat. (holder_is_named deal card seat, named_is_holder deal card seat);
   layout = layout;

@@ -4,7 +4,7 @@ use Rattle.std.specs.List.{slice_split, AllByRecursion, All}
 use Rattle.std.proofs.lemmas.List.Elements.{All-from_recursion}
 use Rattle.std.proofs.lemmas.List.Splits.{slice_split_at}
 use Rattle.std.proofs.lemmas.Bool.{cases_Bool, ne_eqb}
-use Rattle.pbn_deals.specs.Reading.{is_line_feed, without_return, ended, lines_of, meaning_of, IsSpace, IsData, Ends, Reads, at_end, at_blank, at_plain}
+use Rattle.pbn_deals.specs.Reading.{is_line_feed, without_return, ended, lines_of, meaning_of, IsSpace, IsData, Ends, Scans, at_end, at_blank, at_plain}
 use Rattle.pbn_deals.specs.Games.{Tags}
 
 -- a line that is read as it was printed
@@ -53,10 +53,10 @@ IsQuiet [] = Unit {0}
 IsQuiet (byte ∷ bytes) = ((meaning_of byte ≡ IsSpace) ⊎ (meaning_of byte ≡ IsData)) × IsQuiet bytes
 
 -- they read to the end of the line and change nothing
-pub Reads-quiet : (number count : ℕ) (in_data : Bool) (tags : Tags) (line : List ℕ) → IsQuiet line → Reads number count in_data tags line (Ends tags false)
-Reads-quiet number count in_data tags [] h = at_end
-Reads-quiet number count in_data tags (byte ∷ bytes) (inl blank, rest) = at_blank blank (Reads-quiet number count in_data tags bytes rest)
-Reads-quiet number count in_data tags (byte ∷ bytes) (inr plain, rest) = at_plain plain (Reads-quiet number count true tags bytes rest)
+pub Scans-quiet : (number count : ℕ) (in_data : Bool) (tags : Tags) (line : List ℕ) → IsQuiet line → Scans number count in_data tags line (Ends tags false)
+Scans-quiet number count in_data tags [] h = at_end
+Scans-quiet number count in_data tags (byte ∷ bytes) (inl blank, rest) = at_blank blank (Scans-quiet number count in_data tags bytes rest)
+Scans-quiet number count in_data tags (byte ∷ bytes) (inr plain, rest) = at_plain plain (Scans-quiet number count true tags bytes rest)
 
 pub IsTame-append : (one other : List ℕ) → IsTame one → IsTame other → IsTame (one ++ other)
 IsTame-append [] other a b = b

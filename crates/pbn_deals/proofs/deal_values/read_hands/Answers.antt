@@ -2,7 +2,7 @@ use Rattle.std.proofs.Common.{◌≡◌, ◌+◌, ◌-◌, ◌||◌, [], refl, a
 use Rattle.std.specs.List.{list_any}
 use Rattle.pbn_deals.specs.DealValue.{words_of, is_unknown, hands_held, seats_from}
 use Rattle.pbn_deals.proofs.GroupLemmas.{put_all-nil}
-use Rattle.pbn_deals.proofs.HandLemmas.{Reads-more, Reads-few, Reads-bad, Reads-many, Reads-all}
+use Rattle.pbn_deals.proofs.HandLemmas.{HandsRead-more, HandsRead-few, HandsRead-bad, HandsRead-many, HandsRead-all}
 use Rattle.pbn_deals.proofs.deal_values.read_hands.Goals as goal
 
 pub loop-hand-init : goal.loop-hand-init
@@ -19,27 +19,27 @@ pub returns-in_default : goal.returns-in_default
 returns-in_default c =
     let text = c.args.text.now in
     let now = c.loop-hand in
-    Reads-few now.dealing now.seat c.args.first (words_of text) (4 - now._hand) (4 - (now._hand + 1)) (words_of now.rest.now) text refl now.invariant (omega arith) c.in_default.ensures
+    HandsRead-few now.dealing now.seat c.args.first (words_of text) (4 - now._hand) (4 - (now._hand + 1)) (words_of now.rest.now) text refl now.invariant (omega arith) c.in_default.ensures
 
-pub returns-then-not-put_hand : goal.returns-then-not-put_hand
-returns-then-not-put_hand c =
+pub returns-then-not-add_hand : goal.returns-then-not-add_hand
+returns-then-not-add_hand c =
     let text = c.args.text.now in
     let now = c.loop-hand in
     let found = c.in-Some in
-    Reads-bad now.dealing now.seat c.args.first (words_of text) c.put_hand.new.self (4 - now._hand) (4 - (now._hand + 1)) found.word.now (words_of now.rest.now) (words_of found.behind.now) text refl now.invariant (omega arith) found.ensures c.if-not-put_hand.ensures.reads
+    HandsRead-bad now.dealing now.seat c.args.first (words_of text) c.add_hand.new.self (4 - now._hand) (4 - (now._hand + 1)) found.word.now (words_of now.rest.now) (words_of found.behind.now) text refl now.invariant (omega arith) found.ensures c.if-not-add_hand.ensures.reads
 
 pub loop-hand-preserved : goal.loop-hand-preserved
 loop-hand-preserved c =
     let now = c.loop-hand in
     let found = c.in-Some in
-    rw c.next-seat.ensures (Reads-more now.dealing now.seat c.args.first (words_of c.args.text.now) c.put_hand.new.self (4 - now._hand) (4 - (now._hand + 1)) found.word.now (words_of now.rest.now) (words_of found.behind.now) now.invariant (omega arith) found.ensures c.if-not-put_hand.ensures.reads c.if-not-put_hand.ensures.partial)
+    rw c.next-seat.ensures (HandsRead-more now.dealing now.seat c.args.first (words_of c.args.text.now) c.add_hand.new.self (4 - now._hand) (4 - (now._hand + 1)) found.word.now (words_of now.rest.now) (words_of found.behind.now) now.invariant (omega arith) found.ensures c.if-not-add_hand.ensures.reads c.if-not-add_hand.ensures.partial)
 
 pub returns-in-None : goal.returns-in-None
 returns-in-None c =
     let text = c.args.text.now in
     let now = c.loop-hand in
     let done : 4 - now._hand ≡ 0 = omega arith in
-    Reads-all now.dealing now.seat c.args.first (words_of text) (words_of now.rest.now) text refl (rw done at now.invariant) c.in-None.ensures
+    HandsRead-all now.dealing now.seat c.args.first (words_of text) (words_of now.rest.now) text refl (rw done at now.invariant) c.in-None.ensures
 
 pub returns-in-Some-first_word : goal.returns-in-Some-first_word
 returns-in-Some-first_word c =
@@ -47,4 +47,4 @@ returns-in-Some-first_word c =
     let now = c.loop-hand in
     let done : 4 - now._hand ≡ 0 = omega arith in
     let found = c.in-Some-first_word in
-    Reads-many now.dealing now.seat c.args.first (words_of text) found.field-0.0.now (words_of now.rest.now) (words_of found.field-0.1.now) text refl (rw done at now.invariant) found.ensures
+    HandsRead-many now.dealing now.seat c.args.first (words_of text) found.field-0.0.now (words_of now.rest.now) (words_of found.field-0.1.now) text refl (rw done at now.invariant) found.ensures

@@ -4,8 +4,8 @@ use Rattle.std.proofs.lemmas.Bool.{eq-eqb, ne_eqb}
 use Rattle.cards.specs.Pack.{suit_at, card_of}
 use Rattle.pbn_deals.specs.DealValue.{put_all}
 use Rattle.pbn_deals.proofs.GroupLemmas.{put_all-nil, put_all-twice, cards_from, cards_from-dot, cards_from-past, cards_from-letter, cards_from-stray, reads_none, reads_at_end, puts_none, puts_more}
-use Rattle.pbn_deals.proofs.dealings.Dealing.put_groups.Goals as goal
-use Rattle.pbn_deals.proofs.dealings.Dealing.put_groups.Goals.{then-byte-eq46+else-suit-eq3, else-byte-eq46+in-Some}
+use Rattle.pbn_deals.proofs.dealings.Dealing.add_groups.Goals as goal
+use Rattle.pbn_deals.proofs.dealings.Dealing.add_groups.Goals.{then-byte-eq46+else-suit-eq3, else-byte-eq46+in-Some}
 
 pub loop-byte-init : goal.loop-byte-init
 loop-byte-init c = record {
@@ -61,13 +61,13 @@ loop-byte-preserved c =
       | else-byte-eq46+in-Some w ↦
           let card = card_of (suit_at suit) w.in-Some.rank in
           let step = cards_from-letter suit byte rest w.in-Some.rank inv.suit_in (ne_eqb byte 46 w.if-byte-eq46.false) (sym w.rank_of_letter.ensures ∙ w.in-Some.is) in
-          let adds = rw w.at.ensures at w.put.ensures.adds in
+          let adds = rw w.at.ensures at w.add_card.ensures.adds in
           record {
             cards = inv.cards ++ card ∷ [];
             suit_in = omega arith;
             so_far = rw w.suit-is (sym (put_all-twice inv.cards (card ∷ []) (cards_from suit rest)) ∙ (ap (put_all (Some inv.cards)) (sym (here ∙ step)) ∙ inv.so_far));
-            puts = rw w.self-is (puts_more c.args.self.now c.loop-byte.self w.put.new.self c.args.seat inv.cards card inv.puts adds);
-            partial = rw w.self-is (w.put.ensures.partial ∙ inv.partial);
+            puts = rw w.self-is (puts_more c.args.self.now c.loop-byte.self w.add_card.new.self c.args.seat inv.cards card inv.puts adds);
+            partial = rw w.self-is (w.add_card.ensures.partial ∙ inv.partial);
           }
     ]
 
