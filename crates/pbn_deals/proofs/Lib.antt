@@ -11,3 +11,8 @@ pub mod StepLemmas
 pub mod OneTag
 pub mod OneAnswer
 pub mod OneLayout
+pub mod SomeDeal
+pub mod SomeLayout
+pub mod TagParts
+pub mod SomeTag
+pub mod SomeAnswer

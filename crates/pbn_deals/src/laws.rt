@@ -1,7 +1,7 @@
 //! What holds of the rules alone.
 
-ghost use Rattle.pbn_deals.specs.LayoutValue.{HasOneLayout};
-ghost use Rattle.pbn_deals.specs.Reading.{HasOneAnswer};
+ghost use Rattle.pbn_deals.specs.LayoutValue.{HasOneLayout, HasSomeLayout};
+ghost use Rattle.pbn_deals.specs.Reading.{HasOneAnswer, HasSomeAnswer};
 
 /// A text has one list of boards, or one first fault, and never two answers: so what
 /// [`read_boards`](crate::read_boards) answers is the text's answer, unless memory runs out.
@@ -9,8 +9,19 @@ pub fn one_answer()
     ensures { HasOneAnswer }
 {}
 
+/// Every text has an answer, its boards or its first fault, and want of memory is none: a reader that refuses a text for
+/// want of memory leaves an answer out.
+pub fn some_answer()
+    ensures { HasSomeAnswer }
+{}
+
 /// A Deal value alone says one layout, or has one fault, and never two: so what
 /// [`read_layout`](crate::read_layout) answers is the value's answer.
 pub fn one_layout()
     ensures { HasOneLayout }
+{}
+
+/// Every Deal value alone says a layout, or has a fault.
+pub fn some_layout()
+    ensures { HasSomeLayout }
 {}
