@@ -16,3 +16,5 @@ pub mod SomeLayout
 pub mod TagParts
 pub mod SomeTag
 pub mod SomeAnswer
+pub mod LineParts
+pub mod PrintableBoards

@@ -9,7 +9,8 @@ use Rattle.cards.specs.declared.seats.Seat.{Seat}
 use Rattle.cards.specs.declared.seats.Seat.TheVariants.{North, East, South, West}
 use Rattle.cards.specs.declared.pack.Card.{Card}
 use Rattle.cards.specs.Pack.{card_number}
-use Rattle.cards.specs.Deal.{Deal}
+use Rattle.cards.specs.Deal.{Deal, count_of}
+use Rattle.cards.specs.SameDeal.{count_of-deal_of_words}
 use Rattle.cards.specs.Hands.{word_of, HasBit, IsDealt, deal_of_words}
 use Rattle.cards.proofs.HandLaws.{Deals-from_words, AreDisjoint-from_dealt, IsLayout-from_words, at_most_one, some_card_twice, shared_of}
 use Rattle.pbn_deals.specs.declared.dealings.Dealing.{Dealing}
@@ -17,6 +18,7 @@ use Rattle.pbn_deals.specs.Dealing.{Holding, held_by, cards_named, NamesOnce, Na
 use Rattle.pbn_deals.specs.Words.{Represents, IsOnce, TellsTwice}
 use Rattle.pbn_deals.proofs.DealingLemmas.{Represents-add}
 use Rattle.pbn_deals.proofs.LayoutLemmas.{IsDealOf-from_words}
+use Rattle.pbn_deals.proofs.OneTag.{one_deal, once_or_twice}
 
 -- ---- any cards stand in words of bits
 abbrev no_words : List ℕ
@@ -131,3 +133,12 @@ judged_by dealing held rep false once =
 
 pub judged : (held : List Holding) → Judged held
 judged held = let words = worded held in judged_by words.0 held words.1 words.0.is_twice words.1.twice
+
+-- ---- how many cards a seat of the deal holds
+pub count_of_deal : (held : List Holding) (deal : Deal) → IsDealOf held deal → (seat : Seat) → count_of deal seat ≡ cards_named held seat
+count_of_deal held deal is seat = let words = worded held in by_words words.0 words.1 words.0.is_twice words.1.twice where
+  by_words : (dealing : Dealing) → Represents dealing held → (twice : Bool) → TellsTwice twice dealing.hands held → count_of deal seat ≡ cards_named held seat
+  by_words dealing rep true twice = absurd (once_or_twice held held refl is.once twice)
+  by_words dealing rep false once =
+      let same : deal ≡ deal_of_words dealing.hands = one_deal held deal (deal_of_words dealing.hands) is (their_deal dealing held rep once is.sized) in
+      ap (λ (d : Deal). count_of d seat) same ∙ (count_of-deal_of_words dealing.hands (are_dealt dealing held rep once is.sized) seat ∙ once.sizes seat)

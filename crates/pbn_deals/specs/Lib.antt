@@ -7,5 +7,6 @@ pub mod LayoutValue
 pub mod Tags
 pub mod Games
 pub mod Reading
+pub mod Printable
 pub mod Views
 pub mod Steps

@@ -1,6 +1,7 @@
 //! What holds of the rules alone.
 
 ghost use Rattle.pbn_deals.specs.LayoutValue.{HasOneLayout, HasSomeLayout};
+ghost use Rattle.pbn_deals.specs.Printable.{BoardsArePrintable};
 ghost use Rattle.pbn_deals.specs.Reading.{HasOneAnswer, HasSomeAnswer};
 
 /// A text has one list of boards, or one first fault, and never two answers: so what
@@ -13,6 +14,12 @@ pub fn one_answer()
 /// want of memory leaves an answer out.
 pub fn some_answer()
     ensures { HasSomeAnswer }
+{}
+
+/// The boards of a text can stand in tags again: they are at most 4,096, each has no deal or one of 13 cards a hand, and
+/// each name is one that a Board tag can hold (no line feed, no quote, no `#` at its beginning).
+pub fn boards_are_printable()
+    ensures { BoardsArePrintable }
 {}
 
 /// A Deal value alone says one layout, or has one fault, and never two: so what

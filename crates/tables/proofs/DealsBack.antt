@@ -14,7 +14,7 @@ use Rattle.pbn_deals.specs.DealValue.{full}
 use Rattle.pbn_deals.specs.Games.{SaysDeal, says_deal}
 use Rattle.pbn_deals.specs.Reading.{Lacks}
 use Rattle.tables.specs.DealText.{ranks_falling, deal_text}
-use Rattle.tables.specs.ReadBack.{IsWholeDeal}
+use Rattle.pbn_deals.specs.Printable.{IsWholeDeal}
 use Rattle.tables.proofs.Dealt.{keep, cards_in, IsDealOf-held_of, cards_named-held_of}
 use Rattle.tables.proofs.Dealt as dealt
 use Rattle.tables.proofs.DealWords.{suit_cards, deal-named, deal-one_line, deal-no_quote}

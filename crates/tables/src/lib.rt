@@ -12,7 +12,7 @@ mod sheet_text;
 mod sheets;
 mod tables;
 
-pub use laws::boards_are_read_back;
+pub use laws::{boards_are_read_back, said_boards_are_read_back};
 pub use sheet_text::write_sheet;
 pub use sheets::{Report, Sheet};
 
