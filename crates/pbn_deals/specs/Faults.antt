@@ -1,5 +1,6 @@
--- What is printed of a fault, and the line that it names.
-use Rattle.std.specs.Prelude.{ℕ, List, codes, Option, Some, None}
+-- The number and the name of a fault, what is printed of it, and the line that it names.
+use Rattle.std.specs.Prelude.{ℕ, List, ◌∷◌, ◌++◌, codes, Option, Some, None}
+use Rattle.std.specs.Fmt.{decimal}
 use Rattle.pbn_deals.specs.declared.faults.PbnFault.{PbnFault}
 use Rattle.pbn_deals.specs.declared.faults.PbnFault.TheVariants.{TagForm, OpenComment, SecondDeal, DealForm, CardTwice, HandSize, Inherited, TooManyBoards, OutOfMemory}
 
@@ -24,6 +25,10 @@ fault_name (HandSize line) = codes "HandSize"
 fault_name (Inherited line) = codes "Inherited"
 fault_name (TooManyBoards line) = codes "TooManyBoards"
 fault_name OutOfMemory = codes "OutOfMemory"
+
+-- the number and the name, as in `5 CardTwice`
+abbrev pub fault_text : PbnFault → List ℕ
+fault_text fault = decimal (fault_number fault) ++ 32 ∷ fault_name fault
 
 abbrev pub fault_line : PbnFault → Option ℕ
 fault_line (TagForm line) = Some line

@@ -1,39 +1,31 @@
 //! Why a PBN text is refused.
 
-ghost use Rattle.std.specs.Prelude.{◌≡◌};
-ghost use Rattle.pbn_deals.specs.Faults.{fault_number, fault_name, fault_line};
+ghost use Rattle.std.specs.Prelude.{◌≡◌, Some};
+ghost use Rattle.pbn_deals.specs.Faults.{fault_number, fault_name, fault_line, fault_text};
 
-use thiserror::Error;
+use std::error::Error;
+use std::fmt;
 
 /// Why a PBN text, or a Deal value alone, is refused. All but want of memory name the line, counted from 1.
-#[derive(Clone, Copy, Debug, PartialEq, Eq, Hash, Error)]
+#[derive(Clone, Copy, Debug, PartialEq, Eq, Hash)]
 pub enum PbnFault {
     /// A `[` that should begin a tag pair does not.
-    #[error("1 TagForm")]
     TagForm { line: usize },
     /// A brace comment is never closed.
-    #[error("2 OpenComment")]
     OpenComment { line: usize },
     /// A game has two Deal tags.
-    #[error("3 SecondDeal")]
     SecondDeal { line: usize },
     /// A Deal value is not of the form.
-    #[error("4 DealForm")]
     DealForm { line: usize },
     /// A Deal value names a card twice.
-    #[error("5 CardTwice")]
     CardTwice { line: usize },
     /// The hands of a Deal value are not of the size that is wanted.
-    #[error("6 HandSize")]
     HandSize { line: usize },
     /// A Board or Deal value is handed on from another game (`#`).
-    #[error("7 Inherited")]
     Inherited { line: usize },
     /// The text has more boards than are taken.
-    #[error("8 TooManyBoards")]
     TooManyBoards { line: usize },
     /// A growth was refused.
-    #[error("9 OutOfMemory")]
     OutOfMemory,
 }
 
@@ -89,3 +81,13 @@ impl PbnFault {
         }
     }
 }
+
+impl fmt::Display for PbnFault {
+    ghost output = { λ fault. Some (fault_text fault) };
+
+    fn fmt<W: fmt::Write>(&self, f: &mut fmt::Formatter<W>) -> fmt::Result {
+        write!(f, "{} {}", self.number(), self.name())
+    }
+}
+
+impl Error for PbnFault {}
