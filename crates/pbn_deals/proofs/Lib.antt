@@ -18,3 +18,6 @@ pub mod SomeTag
 pub mod SomeAnswer
 pub mod LineParts
 pub mod PrintableBoards
+pub mod CountedOn
+pub mod TrailingReturn
+pub mod TextsInTurn

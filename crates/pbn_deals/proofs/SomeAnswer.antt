@@ -62,7 +62,7 @@ module _ (number count : ℕ) where
   scanned in_data tags line = scanned_within (length line) in_data tags line (omega arith)
 
 -- ---- a text
-abbrev Answered : ℕ → Option ℕ → Tags → ℕ → List (List ℕ) → Type 0
+abbrev pub Answered : ℕ → Option ℕ → Tags → ℕ → List (List ℕ) → Type 0
 Answered number opened tags count lines = Given (Answers number opened tags count lines)
 
 put_boards-no_want : (boards : List Board) (answer : Result (List Board) PbnFault) → answer ≢ Err OutOfMemory → put_boards boards answer ≢ Err OutOfMemory
@@ -100,7 +100,7 @@ module _ (line : List ℕ) (lines : List (List ℕ)) (later : (number : ℕ) (op
       record { what = put_boards (boards_of tags) rest.what; no_want = put_boards-no_want (boards_of tags) rest.what rest.no_want; is_given = blank_line e b rest.is_given }
   at_line None false e false b = let scan = scanned number count false tags line in outside e b scan.last scan.no_want scan.scans
 
-answered : (lines : List (List ℕ)) (number : ℕ) (opened : Option ℕ) (tags : Tags) (count : ℕ) → Answered number opened tags count lines
+pub answered : (lines : List (List ℕ)) (number : ℕ) (opened : Option ℕ) (tags : Tags) (count : ℕ) → Answered number opened tags count lines
 answered [] number None tags count = good (Answers number None tags count []) (boards_of tags) no_line
 answered [] number (Some opened) tags count = record { what = Err (OpenComment opened); no_want = λ e. cc; is_given = unclosed }
 answered (line ∷ lines) number opened tags count = at_line line lines (answered lines) number tags count opened (is_escaped line) refl (is_blank_line line) refl

@@ -8,5 +8,6 @@ pub mod Tags
 pub mod Games
 pub mod Reading
 pub mod Printable
+pub mod TwoTexts
 pub mod Views
 pub mod Steps

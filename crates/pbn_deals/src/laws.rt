@@ -3,6 +3,7 @@
 ghost use Rattle.pbn_deals.specs.LayoutValue.{HasOneLayout, HasSomeLayout};
 ghost use Rattle.pbn_deals.specs.Printable.{BoardsArePrintable};
 ghost use Rattle.pbn_deals.specs.Reading.{HasOneAnswer, HasSomeAnswer};
+ghost use Rattle.pbn_deals.specs.TwoTexts.{TextsAreReadInTurn};
 
 /// A text has one list of boards, or one first fault, and never two answers: so what
 /// [`read_boards`](crate::read_boards) answers is the text's answer, unless memory runs out.
@@ -20,6 +21,12 @@ pub fn some_answer()
 /// each name is one that a Board tag can hold (no line feed, no quote, no `#` at its beginning).
 pub fn boards_are_printable()
     ensures { BoardsArePrintable }
+{}
+
+/// Two texts with a blank line between them, the first of which ends outside a comment, have the boards of the first
+/// and then those of the second, or the fault that comes first, its line counted on.
+pub fn texts_are_read_in_turn()
+    ensures { TextsAreReadInTurn }
 {}
 
 /// A Deal value alone says one layout, or has one fault, and never two: so what

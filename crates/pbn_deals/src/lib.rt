@@ -18,7 +18,9 @@ mod tags;
 pub use boards::{Board, BoardName};
 pub use deal_values::read_layout;
 pub use faults::PbnFault;
-pub use laws::{boards_are_printable, one_answer, one_layout, some_answer, some_layout};
+pub use laws::{
+    boards_are_printable, one_answer, one_layout, some_answer, some_layout, texts_are_read_in_turn,
+};
 pub use readers::read_boards;
 
 #[cfg(test)]
