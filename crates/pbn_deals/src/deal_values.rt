@@ -54,9 +54,7 @@ fn read_hands(first: Seat, text: &[u8]) -> Option<Dealing>
     let mut seat = first;
     let mut rest = text;
     for _hand in 0..4u8 {
-        let Some((word, behind)) = first_word(rest) else {
-            return None;
-        };
+        let (word, behind) = first_word(rest)?;
         if !dealing.add_hand(seat, word) {
             return None;
         }

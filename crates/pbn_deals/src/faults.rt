@@ -1,8 +1,10 @@
 //! Why a PBN text is refused.
 
 ghost use Rattle.std.specs.Prelude.{◌≡◌, Some};
+ghost use Rattle.pbn_deals.specs.declared.faults.PbnFault.TheVariants as faults;
 ghost use Rattle.pbn_deals.specs.Faults.{fault_number, fault_name, fault_line, fault_text};
 
+use std::alloc::{AllocError, AllocFailed};
 use std::error::Error;
 use std::fmt;
 
@@ -91,3 +93,19 @@ impl fmt::Display for PbnFault {
 }
 
 impl Error for PbnFault {}
+
+impl From<AllocError> for PbnFault {
+    ghost from_gives = { λ _ fault. fault ≡ faults.OutOfMemory };
+
+    fn from(_refused: AllocError) -> PbnFault {
+        PbnFault::OutOfMemory
+    }
+}
+
+impl<T: Drop> From<AllocFailed<T>> for PbnFault {
+    ghost from_gives = { λ _ fault. fault ≡ faults.OutOfMemory };
+
+    fn from(_refused: AllocFailed<T>) -> PbnFault {
+        PbnFault::OutOfMemory
+    }
+}

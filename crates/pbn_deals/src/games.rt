@@ -83,10 +83,7 @@ impl GameTags {
             return Err(PbnFault::Inherited { line });
         }
         if self.name.is_none() {
-            let Ok(bytes) = Vec::from_slice(alloc, value) else {
-                return Err(PbnFault::OutOfMemory);
-            };
-            self.name = Some(BoardName::new(bytes));
+            self.name = Some(BoardName::new(Vec::from_slice(alloc, value)?));
         }
         Ok(())
     }
@@ -98,10 +95,7 @@ impl GameTags {
         if self.deal.is_some() {
             return Err(PbnFault::SecondDeal { line });
         }
-        let deal = match read_deal(value, line) {
-            Ok(deal) => deal,
-            Err(fault) => return Err(fault),
-        };
+        let deal = read_deal(value, line)?;
         if count >= MOST_BOARDS {
             return Err(PbnFault::TooManyBoards { line });
         }

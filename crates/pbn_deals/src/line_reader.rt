@@ -24,10 +24,8 @@ fn take_tag<'a>(
     let Some(tag) = read_tag(text) else {
         return Err(PbnFault::TagForm { line: number });
     };
-    match tags.take(alloc, tag.name, tag.value, number, count) {
-        Ok(()) => Ok(tag.rest),
-        Err(fault) => Err(fault),
-    }
+    tags.take(alloc, tag.name, tag.value, number, count)?;
+    Ok(tag.rest)
 }
 
 /// Reads a line, from one of its places outside comments on, that follows `count` boards. Answers whether a brace

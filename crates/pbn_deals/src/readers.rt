@@ -46,9 +46,7 @@ impl Reader {
     {
         let tags = mem::replace(&mut self.tags, GameTags::new());
         if let Some(board) = tags.into_board(alloc) {
-            if self.boards.push(board).is_err() {
-                return Err(PbnFault::OutOfMemory);
-            }
+            self.boards.push(board)?;
         }
         Ok(())
     }
@@ -58,11 +56,8 @@ impl Reader {
         ensures { TakesRest result number rest.now self.old self.new }
     {
         let count = self.boards.len();
-        match read_line(&mut self.tags, alloc, rest, number, count) {
-            Ok(true) => self.opened = Some(number),
-            Ok(false) => self.opened = None,
-            Err(fault) => return Err(fault),
-        }
+        let is_open = read_line(&mut self.tags, alloc, rest, number, count)?;
+        self.opened = is_open.then_some(number);
         Ok(())
     }
 
@@ -95,9 +90,7 @@ pub fn read_boards(alloc: Global, text: &[u8]) -> Result<Vec<Board>, PbnFault>
     let mut number = 1;
     'lines: loop {
         let (line, behind) = cut_line(rest);
-        if let Err(fault) = reader.take_line(alloc, line, number) {
-            return Err(fault);
-        }
+        reader.take_line(alloc, line, number)?;
         let Some(next) = behind else {
             break 'lines;
         };
@@ -107,13 +100,6 @@ pub fn read_boards(alloc: Global, text: &[u8]) -> Result<Vec<Board>, PbnFault>
     if let Some(line) = reader.opened {
         return Err(PbnFault::OpenComment { line });
     }
-    if let Err(fault) = reader.end_game(alloc) {
-        return Err(fault);
-    }
-    let Reader {
-        boards,
-        tags: _,
-        opened: _,
-    } = reader;
-    Ok(boards)
+    reader.end_game(alloc)?;
+    Ok(reader.boards)
 }
