@@ -4,7 +4,8 @@ use Rattle.std.specs.List.{slice_split}
 use Rattle.std.proofs.lemmas.Bool.{eq-eqb, ne_eqb}
 use Rattle.std.proofs.lemmas.List.Elements.{All-weaker}
 use Rattle.std.proofs.lemmas.List.Splits.{slice_split_none, slice_split_at, length-slice_split}
-use Rattle.pbn_deals.specs.Reading.{Lacks, is_line_feed, without_return, ended, lines_of}
+use Rattle.pbn_deals.specs.Lines.{is_line_feed, without_return, ended, lines_of}
+use Rattle.pbn_deals.specs.Reading.{Lacks}
 
 pub return_goes : (line : List ℕ) (i : ℕ) → length line ≡ suc i → get_or line i 0 ≡ 13 → take i line ≡ without_return line
 return_goes [] i h e = absurd (omega arith)

@@ -1,7 +1,8 @@
 -- The lines of a text have no line feed, and what a text lacks its parts lack.
 use Rattle.std.proofs.Common.{◌≡◌, ◌≢◌, ℕ, zero, suc, ◌≤◌, Bool, true, false, cond, eqb, List, [], ◌∷◌, ◌++◌, length, subst, arith, All}
 use Rattle.std.proofs.lemmas.List.Elements.{All-nil, All-cons, All-head, All-tail, All-same}
-use Rattle.pbn_deals.specs.Reading.{Lacks, without_return, lines_of}
+use Rattle.pbn_deals.specs.Lines.{without_return, lines_of}
+use Rattle.pbn_deals.specs.Reading.{Lacks}
 use Rattle.pbn_deals.proofs.CutLemmas.{lines_of-cut, lines_of-last, behind_shorter}
 use Rattle.pbn_deals.proofs.TagParts.{split, split_nowhere, split_at}
 

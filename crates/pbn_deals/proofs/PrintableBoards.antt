@@ -7,7 +7,8 @@ use Rattle.pbn_deals.specs.declared.boards.Board.{Board}
 use Rattle.pbn_deals.specs.declared.faults.PbnFault.{PbnFault}
 use Rattle.pbn_deals.specs.Tags.{is_inherited}
 use Rattle.pbn_deals.specs.Games.{Tags, no_tags, boards_of, greatest_count, SaysDeal, says_nothing, says_part, says_deal, TakesBoard, first_board, later_board, TakesDeal, only_deal, TakesTag, board_tag, deal_tag, other_tag}
-use Rattle.pbn_deals.specs.Reading.{Lacks, LineEnd, Ends, Stops, Scans, at_end, at_blank, at_line_comment, at_comment, at_open_comment, at_tag, at_faulty_tag, at_no_tag, at_quoted, at_unended, at_plain, at_bracket, Answers, no_line, unclosed, escaped_line, blank_line, whole_line, opening_line, faulty_line, inner_line, closing_line, reopening_line, faulty_closing_line, put_boards, without_mark}
+use Rattle.pbn_deals.specs.Lines.{without_mark}
+use Rattle.pbn_deals.specs.Reading.{Lacks, LineEnd, Ends, Stops, Scans, at_end, at_blank, at_line_comment, at_comment, at_open_comment, at_tag, at_faulty_tag, at_no_tag, at_quoted, at_unended, at_plain, at_bracket, Answers, no_line, unclosed, escaped_line, blank_line, whole_line, opening_line, faulty_line, inner_line, closing_line, reopening_line, faulty_closing_line, put_boards}
 use Rattle.pbn_deals.specs.Printable.{IsBoardDeal, IsPrintable, BoardsArePrintable}
 use Rattle.pbn_deals.proofs.SomeDeal.{count_of_deal}
 use Rattle.pbn_deals.proofs.TagParts.{tag_parts}

@@ -5,7 +5,8 @@ use Rattle.pbn_deals.specs.declared.faults.PbnFault.{PbnFault}
 use Rattle.pbn_deals.specs.declared.faults.PbnFault.TheVariants.{TagForm, OpenComment, OutOfMemory}
 use Rattle.pbn_deals.specs.Tags.{Tag, tag_of}
 use Rattle.pbn_deals.specs.Games.{Tags, TakesTag, boards_of, no_tags}
-use Rattle.pbn_deals.specs.Reading.{Lacks, Meaning, EndsLine, OpensComment, OpensText, OpensTag, IsSpace, IsData, meaning_of, LineEnd, Ends, Stops, Scans, at_end, at_blank, at_line_comment, at_comment, at_open_comment, at_tag, at_faulty_tag, at_no_tag, at_quoted, at_unended, at_plain, at_bracket, is_escaped, is_blank_line, lines_of, without_mark, TextAnswers, Answers, no_line, unclosed, escaped_line, blank_line, whole_line, opening_line, faulty_line, inner_line, closing_line, reopening_line, faulty_closing_line, put_boards}
+use Rattle.pbn_deals.specs.Lines.{is_escaped, is_blank_line, lines_of, without_mark}
+use Rattle.pbn_deals.specs.Reading.{Lacks, Meaning, EndsLine, OpensComment, OpensText, OpensTag, IsSpace, IsData, meaning_of, LineEnd, Ends, Stops, Scans, at_end, at_blank, at_line_comment, at_comment, at_open_comment, at_tag, at_faulty_tag, at_no_tag, at_quoted, at_unended, at_plain, at_bracket, TextAnswers, Answers, no_line, unclosed, escaped_line, blank_line, whole_line, opening_line, faulty_line, inner_line, closing_line, reopening_line, faulty_closing_line, put_boards}
 use Rattle.pbn_deals.proofs.TagParts.{Split, split, split_nowhere, split_at, tag_shorter}
 use Rattle.pbn_deals.proofs.SomeTag.{Given, good, some_taking}
 

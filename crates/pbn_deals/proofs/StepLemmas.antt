@@ -4,7 +4,8 @@ use Rattle.pbn_deals.specs.declared.boards.Board.{Board}
 use Rattle.pbn_deals.specs.declared.readers.Reader.{Reader}
 use Rattle.pbn_deals.specs.declared.faults.PbnFault.{PbnFault}
 use Rattle.pbn_deals.specs.Games.{Tags, no_tags, boards_of}
-use Rattle.pbn_deals.specs.Reading.{Lacks, Scans, Ends, Stops, Answers, no_line, unclosed, escaped_line, blank_line, whole_line, opening_line, faulty_line, inner_line, closing_line, reopening_line, faulty_closing_line, put_boards, is_escaped, is_blank_line, lines_of, TextAnswers, SaysBoards}
+use Rattle.pbn_deals.specs.Lines.{is_escaped, is_blank_line, lines_of}
+use Rattle.pbn_deals.specs.Reading.{Lacks, Scans, Ends, Stops, Answers, no_line, unclosed, escaped_line, blank_line, whole_line, opening_line, faulty_line, inner_line, closing_line, reopening_line, faulty_closing_line, put_boards, TextAnswers, SaysBoards}
 use Rattle.std.specs.Borrow.{Bor}
 use Rattle.pbn_deals.specs.declared.faults.PbnFault.TheVariants.{TagForm, OpenComment, SecondDeal, DealForm, CardTwice, HandSize, Inherited, TooManyBoards, OutOfMemory}
 use Rattle.pbn_deals.specs.Views.{tags_seen, UnlessMemory, CutsLine}

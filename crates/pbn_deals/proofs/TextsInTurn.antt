@@ -1,11 +1,12 @@
 -- Two texts, one after another, are read in turn.
-use Rattle.std.proofs.Common.{◌≡◌, ◌≢◌, ℕ, ◌+◌, ◌<◌, Bool, true, false, cond, eqb, List, [], ◌∷◌, ◌++◌, length, Option, None, Result, Ok, Err, refl, sym, ◌∙◌, ap, subst, arith, append_assoc, length-append, zero-add}
+use Rattle.std.proofs.Common.{◌≡◌, ◌≢◌, ℕ, ◌+◌, ◌<◌, Bool, true, false, cond, eqb, ◌&&◌, List, [], ◌∷◌, ◌++◌, length, Option, None, Result, Ok, Err, refl, sym, ◌∙◌, ap, subst, arith, append_assoc, length-append, zero-add}
 use Rattle.std.proofs.lemmas.List.Elements.{All-nil}
 use Rattle.pbn_deals.specs.declared.boards.Board.{Board}
 use Rattle.pbn_deals.specs.declared.faults.PbnFault.{PbnFault}
 use Rattle.pbn_deals.specs.declared.faults.PbnFault.TheVariants.{OpenComment}
 use Rattle.pbn_deals.specs.Games.{Tags, no_tags, boards_of}
-use Rattle.pbn_deals.specs.Reading.{without_mark, without_return, lines_of, Answers, no_line, unclosed, escaped_line, blank_line, whole_line, opening_line, faulty_line, inner_line, closing_line, reopening_line, faulty_closing_line, put_boards, TextAnswers}
+use Rattle.pbn_deals.specs.Lines.{without_mark, without_return, lines_of}
+use Rattle.pbn_deals.specs.Reading.{Answers, no_line, unclosed, escaped_line, blank_line, whole_line, opening_line, faulty_line, inner_line, closing_line, reopening_line, faulty_closing_line, put_boards, TextAnswers}
 use Rattle.pbn_deals.specs.TwoTexts.{EndsOutside, joined, lines_before, counted_on, AreReadInTurn, TextsAreReadInTurn}
 use Rattle.pbn_deals.proofs.CutLemmas.{lines_of-cut, lines_of-last}
 use Rattle.pbn_deals.proofs.StepLemmas.{put_boards-twice}
@@ -21,26 +22,21 @@ without_mark-before (a ∷ []) behind = go (eqb a 239) where
   whole : List ℕ
   whole = a ∷ 10 ∷ 10 ∷ behind
 
-  go : (one : Bool) → cond one whole whole ≡ whole
+  go : (one : Bool) → cond (one && false) behind whole ≡ whole
   go true = refl
   go false = refl
 without_mark-before (a ∷ b ∷ []) behind = go (eqb a 239) (eqb b 187) where
   whole : List ℕ
   whole = a ∷ b ∷ 10 ∷ 10 ∷ behind
 
-  go : (one two : Bool) → cond one (cond two whole whole) whole ≡ whole
+  go : (one two : Bool) → cond (one && (two && false)) (10 ∷ behind) whole ≡ whole
   go true true = refl
   go true false = refl
   go false two = refl
-without_mark-before (a ∷ b ∷ c ∷ text) behind = go (eqb a 239) (eqb b 187) (eqb c 191) where
-  more : List ℕ → List ℕ
-  more t = t ++ 10 ∷ 10 ∷ behind
-
-  go : (one two three : Bool) → cond one (cond two (cond three (text ++ 10 ∷ 10 ∷ behind) (a ∷ b ∷ c ∷ text ++ 10 ∷ 10 ∷ behind)) (a ∷ b ∷ c ∷ text ++ 10 ∷ 10 ∷ behind)) (a ∷ b ∷ c ∷ text ++ 10 ∷ 10 ∷ behind) ≡ cond one (cond two (cond three text (a ∷ b ∷ c ∷ text)) (a ∷ b ∷ c ∷ text)) (a ∷ b ∷ c ∷ text) ++ 10 ∷ 10 ∷ behind
-  go true true true = refl
-  go true true false = refl
-  go true false three = refl
-  go false two three = refl
+without_mark-before (a ∷ b ∷ c ∷ text) behind = go (eqb a 239 && (eqb b 187 && eqb c 191)) where
+  go : (marked : Bool) → cond marked (text ++ 10 ∷ 10 ∷ behind) (a ∷ b ∷ c ∷ text ++ 10 ∷ 10 ∷ behind) ≡ cond marked text (a ∷ b ∷ c ∷ text) ++ 10 ∷ 10 ∷ behind
+  go true = refl
+  go false = refl
 
 some_line : (text : List ℕ) → Lined text → 0 < length (lines_of text)
 some_line text (last_line lacks) = omega (arith, ap length (lines_of-last text lacks))

@@ -8,7 +8,8 @@ use Rattle.pbn_deals.specs.Letters.{is_blank}
 use Rattle.pbn_deals.specs.DealValue.{after_blanks, is_word}
 use Rattle.pbn_deals.specs.Tags.{Tag, is_name_byte, name_front, after_name, value_front, after_value, closed_tag, tag_with_value, tag_with_name, named_tag, tag_of}
 use Rattle.pbn_deals.specs.Games.{Tags, boards_of}
-use Rattle.pbn_deals.specs.Reading.{Lacks, IsSpace, meaning_of, LineEnd, Ends, Scans, at_end, at_blank, at_line_comment, at_comment, at_open_comment, at_tag, at_faulty_tag, at_no_tag, at_quoted, at_unended, at_plain, at_bracket, without_return, is_escaped, is_blank_line, Answers, no_line, escaped_line, blank_line, whole_line, opening_line, faulty_line, inner_line, closing_line, reopening_line, faulty_closing_line, put_boards}
+use Rattle.pbn_deals.specs.Lines.{without_return, is_escaped, is_blank_line}
+use Rattle.pbn_deals.specs.Reading.{Lacks, IsSpace, meaning_of, LineEnd, Ends, Scans, at_end, at_blank, at_line_comment, at_comment, at_open_comment, at_tag, at_faulty_tag, at_no_tag, at_quoted, at_unended, at_plain, at_bracket, Answers, no_line, escaped_line, blank_line, whole_line, opening_line, faulty_line, inner_line, closing_line, reopening_line, faulty_closing_line, put_boards}
 use Rattle.pbn_deals.proofs.OneAnswer.{one_answer}
 use Rattle.pbn_deals.proofs.SomeAnswer.{answered}
 

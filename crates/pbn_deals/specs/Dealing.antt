@@ -39,7 +39,10 @@ pub record AreSized (held : List Holding) : Type 0 where
 
 -- a hand is empty, or of over 13 cards, or two are of unequal size
 abbrev pub AreMissized : List Holding → Type 0
-AreMissized held = (cards_named held North ≡ 0) ⊎ ((13 < cards_named held North) ⊎ ((seat : Seat) × (cards_named held seat ≢ cards_named held North)))
+AreMissized held =
+    (cards_named held North ≡ 0) ⊎
+    ((13 < cards_named held North) ⊎
+    ((seat : Seat) × (cards_named held seat ≢ cards_named held North)))
 
 -- the deal in which each seat holds what the text names in its hand, and no other card
 pub record IsDealOf (held : List Holding) (deal : Deal) : Type 0 where

@@ -32,11 +32,25 @@ HasOtherSize held = (seat : Seat) × (cards_named held seat ≢ 13)
 pub data SaysDeal (line : ℕ) (value : List ℕ) : Result (Option Deal) PbnFault → Type 0 where
   says_inherited : is_inherited (after_blanks value) ≡ true → SaysDeal line value (Err (Inherited line))
   says_nothing : is_inherited (after_blanks value) ≡ false → IsNoDeal value → SaysDeal line value (Ok None)
-  says_other_form : is_inherited (after_blanks value) ≡ false → (IsNoDeal value → ⊥) → naming_of value ≡ None → SaysDeal line value (Err (DealForm line))
-  says_part : {naming : Naming} → naming_of value ≡ Some naming → naming.is_partial ≡ true → SaysDeal line value (Ok None)
-  says_twice : {held : List Holding} → naming_of value ≡ full held → NamesTwice held → SaysDeal line value (Err (CardTwice line))
-  says_size : {held : List Holding} → naming_of value ≡ full held → NamesOnce held → HasOtherSize held → SaysDeal line value (Err (HandSize line))
-  says_deal : {held : List Holding} {dealt : Deal} → naming_of value ≡ full held → IsDealOf held dealt → ((seat : Seat) → cards_named held seat ≡ 13) → SaysDeal line value (Ok (Some dealt))
+  says_other_form :
+      is_inherited (after_blanks value) ≡ false → (IsNoDeal value → ⊥) → naming_of value ≡ None →
+      SaysDeal line value (Err (DealForm line))
+  says_part :
+      {naming : Naming} →
+      naming_of value ≡ Some naming → naming.is_partial ≡ true →
+      SaysDeal line value (Ok None)
+  says_twice :
+      {held : List Holding} →
+      naming_of value ≡ full held → NamesTwice held →
+      SaysDeal line value (Err (CardTwice line))
+  says_size :
+      {held : List Holding} →
+      naming_of value ≡ full held → NamesOnce held → HasOtherSize held →
+      SaysDeal line value (Err (HandSize line))
+  says_deal :
+      {held : List Holding} {dealt : Deal} →
+      naming_of value ≡ full held → IsDealOf held dealt → ((seat : Seat) → cards_named held seat ≡ 13) →
+      SaysDeal line value (Ok (Some dealt))
 
 -- ---- one tag more
 -- how many boards a text may have
@@ -46,20 +60,43 @@ greatest_count = 4096
 -- the Board tag at a line: the game's first one gives the name
 pub data TakesBoard (line : ℕ) (tags : Tags) (value : List ℕ) : Result Tags PbnFault → Type 0 where
   inherited_board : is_inherited value ≡ true → TakesBoard line tags value (Err (Inherited line))
-  first_board : is_inherited value ≡ false → tags.name ≡ None → TakesBoard line tags value (Ok (record { name = Some value; deal = tags.deal }))
-  later_board : {first : List ℕ} → is_inherited value ≡ false → tags.name ≡ Some first → TakesBoard line tags value (Ok tags)
+  first_board :
+      is_inherited value ≡ false → tags.name ≡ None →
+      TakesBoard line tags value (Ok (record { name = Some value; deal = tags.deal }))
+  later_board :
+      {first : List ℕ} →
+      is_inherited value ≡ false → tags.name ≡ Some first →
+      TakesBoard line tags value (Ok tags)
 
 -- the Deal tag at a line, of a game that follows this many boards: the game's only one gives the deal
 pub data TakesDeal (line count : ℕ) (tags : Tags) (value : List ℕ) : Result Tags PbnFault → Type 0 where
-  second_deal : {before : Option Deal} → tags.deal ≡ Some before → TakesDeal line count tags value (Err (SecondDeal line))
-  faulty_deal : {fault : PbnFault} → tags.deal ≡ None → SaysDeal line value (Err fault) → TakesDeal line count tags value (Err fault)
-  deal_too_many : {deal : Option Deal} → tags.deal ≡ None → SaysDeal line value (Ok deal) → greatest_count ≤ count → TakesDeal line count tags value (Err (TooManyBoards line))
-  only_deal : {deal : Option Deal} → tags.deal ≡ None → SaysDeal line value (Ok deal) → count < greatest_count → TakesDeal line count tags value (Ok (record { name = tags.name; deal = Some deal }))
+  second_deal :
+      {before : Option Deal} →
+      tags.deal ≡ Some before →
+      TakesDeal line count tags value (Err (SecondDeal line))
+  faulty_deal :
+      {fault : PbnFault} →
+      tags.deal ≡ None → SaysDeal line value (Err fault) →
+      TakesDeal line count tags value (Err fault)
+  deal_too_many :
+      {deal : Option Deal} →
+      tags.deal ≡ None → SaysDeal line value (Ok deal) → greatest_count ≤ count →
+      TakesDeal line count tags value (Err (TooManyBoards line))
+  only_deal :
+      {deal : Option Deal} →
+      tags.deal ≡ None → SaysDeal line value (Ok deal) → count < greatest_count →
+      TakesDeal line count tags value (Ok (record { name = tags.name; deal = Some deal }))
 
 -- what the tag at a line makes of a game: tags of other names have no meaning
 pub data TakesTag (line count : ℕ) (tags : Tags) (name value : List ℕ) : Result Tags PbnFault → Type 0 where
-  board_tag : {taken : Result Tags PbnFault} → is_board name ≡ true → TakesBoard line tags value taken → TakesTag line count tags name value taken
-  deal_tag : {taken : Result Tags PbnFault} → is_board name ≡ false → is_deal name ≡ true → TakesDeal line count tags value taken → TakesTag line count tags name value taken
+  board_tag :
+      {taken : Result Tags PbnFault} →
+      is_board name ≡ true → TakesBoard line tags value taken →
+      TakesTag line count tags name value taken
+  deal_tag :
+      {taken : Result Tags PbnFault} →
+      is_board name ≡ false → is_deal name ≡ true → TakesDeal line count tags value taken →
+      TakesTag line count tags name value taken
   other_tag : is_board name ≡ false → is_deal name ≡ false → TakesTag line count tags name value (Ok tags)
 
 -- the board of a game that has a Deal tag

@@ -23,7 +23,9 @@ SaysLayout value (Err OutOfMemory) = ⊥
 
 -- a value says one layout at most, or one fault
 abbrev pub HasOneLayout : Type 0
-HasOneLayout = (value : List ℕ) (one other : Result Deal PbnFault) → SaysLayout value one → SaysLayout value other → one ≡ other
+HasOneLayout =
+    (value : List ℕ) (one other : Result Deal PbnFault) →
+    SaysLayout value one → SaysLayout value other → one ≡ other
 
 -- a value says a layout, or has a fault
 abbrev pub HasSomeLayout : Type 0

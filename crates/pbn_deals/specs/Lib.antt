@@ -6,6 +6,7 @@ pub mod Faults
 pub mod LayoutValue
 pub mod Tags
 pub mod Games
+pub mod Lines
 pub mod Reading
 pub mod Printable
 pub mod TwoTexts

@@ -26,4 +26,5 @@ pub record IsPrintable (board : Board) : Type 0 where
 -- the boards of a text are printable, and no more than a text may have
 abbrev pub BoardsArePrintable : Type 0
 BoardsArePrintable =
-    (text : List ℕ) (boards : List Board) → TextAnswers text (Ok boards) → All IsPrintable boards × (length boards ≤ greatest_count)
+    (text : List ℕ) (boards : List Board) →
+    TextAnswers text (Ok boards) → All IsPrintable boards × (length boards ≤ greatest_count)

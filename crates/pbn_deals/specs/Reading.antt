@@ -1,49 +1,13 @@
--- How a PBN text is read (PBN 2.1, sections 2.2 to 3.2; docs/FORMATS.md has what the standard leaves open): lines, the
--- pieces of a line, and games between blank lines. Reading stops at the fault that stands first.
-use Rattle.std.specs.Prelude.{◌≡◌, ◌≢◌, ℕ, ◌+◌, ◌==◌, Bool, true, false, not, List, [], ◌∷◌, ◌++◌, length, Option, Some, None, Result, Ok, Err, All, if◌then◌else◌}
-use Rattle.std.specs.List.{slice_split}
+-- How a PBN text is read (PBN 2.1, sections 2.3 to 3.2; docs/FORMATS.md has what the standard leaves open): the pieces
+-- of a line, and games between blank lines. Reading stops at the fault that stands first.
+use Rattle.std.specs.Prelude.{◌≡◌, ◌≢◌, ℕ, ◌+◌, ◌==◌, Bool, true, false, List, [], ◌∷◌, ◌++◌, length, Option, Some, None, Result, Ok, Err, All, if◌then◌else◌}
 use Rattle.pbn_deals.specs.declared.boards.Board.{Board}
 use Rattle.pbn_deals.specs.declared.faults.PbnFault.{PbnFault}
 use Rattle.pbn_deals.specs.declared.faults.PbnFault.TheVariants.{TagForm, OpenComment, OutOfMemory}
 use Rattle.pbn_deals.specs.Letters.{is_blank}
-use Rattle.pbn_deals.specs.DealValue.{after_blanks, is_word}
+use Rattle.pbn_deals.specs.Lines.{without_mark, lines_of, is_escaped, is_blank_line}
 use Rattle.pbn_deals.specs.Tags.{Tag, tag_of}
 use Rattle.pbn_deals.specs.Games.{Tags, no_tags, TakesTag, boards_of}
-
--- ---- lines
--- the byte order mark at the very start is skipped
-abbrev pub without_mark : List ℕ → List ℕ
-without_mark [] = []
-without_mark (a ∷ []) = a ∷ []
-without_mark (a ∷ b ∷ []) = a ∷ b ∷ []
-without_mark (a ∷ b ∷ c ∷ text) = if a == 239 then (if b == 187 then (if c == 191 then text else (a ∷ b ∷ c ∷ text)) else (a ∷ b ∷ c ∷ text)) else (a ∷ b ∷ c ∷ text)
-
-abbrev pub is_line_feed : ℕ → Bool
-is_line_feed byte = byte == 10
-
--- a carriage return directly before the line feed belongs to the end of the line
-abbrev pub without_return : List ℕ → List ℕ
-without_return [] = []
-without_return (byte ∷ []) = if byte == 13 then [] else (byte ∷ [])
-without_return (byte ∷ other ∷ bytes) = byte ∷ without_return (other ∷ bytes)
-
--- what is left of the parts between line feeds: the last part has no line feed behind it
-abbrev pub ended : List (List ℕ) → List (List ℕ)
-ended [] = []
-ended (part ∷ []) = part ∷ []
-ended (part ∷ next ∷ parts) = without_return part ∷ ended (next ∷ parts)
-
-abbrev pub lines_of : List ℕ → List (List ℕ)
-lines_of text = ended (slice_split is_line_feed text)
-
--- a line with `%` in its first column
-abbrev pub is_escaped : List ℕ → Bool
-is_escaped [] = false
-is_escaped (byte ∷ bytes) = byte == 37
-
--- a line that holds only blanks
-abbrev pub is_blank_line : List ℕ → Bool
-is_blank_line line = not (is_word (after_blanks line))
 
 -- ---- the pieces of a line
 abbrev pub Lacks : ℕ → List ℕ → Type 0
@@ -77,17 +41,54 @@ pub data LineEnd : Type 0 where
 -- section data; section data goes to the end of the line.
 pub data Scans (number count : ℕ) : Bool → Tags → List ℕ → LineEnd → Type 0 where
   at_end : {in_data : Bool} {tags : Tags} → Scans number count in_data tags [] (Ends tags false)
-  at_blank : {in_data : Bool} {tags : Tags} {byte : ℕ} {rest : List ℕ} {last : LineEnd} → meaning_of byte ≡ IsSpace → Scans number count in_data tags rest last → Scans number count in_data tags (byte ∷ rest) last
-  at_line_comment : {in_data : Bool} {tags : Tags} {byte : ℕ} {rest : List ℕ} → meaning_of byte ≡ EndsLine → Scans number count in_data tags (byte ∷ rest) (Ends tags false)
-  at_comment : {in_data : Bool} {tags : Tags} {byte : ℕ} (text : List ℕ) {rest behind : List ℕ} {last : LineEnd} → meaning_of byte ≡ OpensComment → rest ≡ text ++ 125 ∷ behind → Lacks 125 text → Scans number count in_data tags behind last → Scans number count in_data tags (byte ∷ rest) last
-  at_open_comment : {in_data : Bool} {tags : Tags} {byte : ℕ} {rest : List ℕ} → meaning_of byte ≡ OpensComment → Lacks 125 rest → Scans number count in_data tags (byte ∷ rest) (Ends tags true)
-  at_tag : {tags tags' : Tags} {byte : ℕ} {rest : List ℕ} {tag : Tag} {last : LineEnd} → meaning_of byte ≡ OpensTag → tag_of rest ≡ Some tag → TakesTag number count tags tag.name tag.value (Ok tags') → Scans number count false tags' tag.rest last → Scans number count false tags (byte ∷ rest) last
-  at_faulty_tag : {tags : Tags} {byte : ℕ} {rest : List ℕ} {tag : Tag} {fault : PbnFault} → meaning_of byte ≡ OpensTag → tag_of rest ≡ Some tag → TakesTag number count tags tag.name tag.value (Err fault) → Scans number count false tags (byte ∷ rest) (Stops fault)
-  at_no_tag : {tags : Tags} {byte : ℕ} {rest : List ℕ} → meaning_of byte ≡ OpensTag → tag_of rest ≡ None → Scans number count false tags (byte ∷ rest) (Stops (TagForm number))
-  at_quoted : {in_data : Bool} {tags : Tags} {byte : ℕ} (text : List ℕ) {rest behind : List ℕ} {last : LineEnd} → meaning_of byte ≡ OpensText → rest ≡ text ++ 34 ∷ behind → Lacks 34 text → Scans number count true tags behind last → Scans number count in_data tags (byte ∷ rest) last
-  at_unended : {in_data : Bool} {tags : Tags} {byte : ℕ} {rest : List ℕ} → meaning_of byte ≡ OpensText → Lacks 34 rest → Scans number count in_data tags (byte ∷ rest) (Ends tags false)
-  at_plain : {in_data : Bool} {tags : Tags} {byte : ℕ} {rest : List ℕ} {last : LineEnd} → meaning_of byte ≡ IsData → Scans number count true tags rest last → Scans number count in_data tags (byte ∷ rest) last
-  at_bracket : {tags : Tags} {byte : ℕ} {rest : List ℕ} {last : LineEnd} → meaning_of byte ≡ OpensTag → Scans number count true tags rest last → Scans number count true tags (byte ∷ rest) last
+  at_blank :
+      {in_data : Bool} {tags : Tags} {byte : ℕ} {rest : List ℕ} {last : LineEnd} →
+      meaning_of byte ≡ IsSpace → Scans number count in_data tags rest last →
+      Scans number count in_data tags (byte ∷ rest) last
+  at_line_comment :
+      {in_data : Bool} {tags : Tags} {byte : ℕ} {rest : List ℕ} →
+      meaning_of byte ≡ EndsLine →
+      Scans number count in_data tags (byte ∷ rest) (Ends tags false)
+  at_comment :
+      {in_data : Bool} {tags : Tags} {byte : ℕ} (text : List ℕ) {rest behind : List ℕ} {last : LineEnd} →
+      meaning_of byte ≡ OpensComment → rest ≡ text ++ 125 ∷ behind → Lacks 125 text →
+      Scans number count in_data tags behind last →
+      Scans number count in_data tags (byte ∷ rest) last
+  at_open_comment :
+      {in_data : Bool} {tags : Tags} {byte : ℕ} {rest : List ℕ} →
+      meaning_of byte ≡ OpensComment → Lacks 125 rest →
+      Scans number count in_data tags (byte ∷ rest) (Ends tags true)
+  at_tag :
+      {tags tags' : Tags} {byte : ℕ} {rest : List ℕ} {tag : Tag} {last : LineEnd} →
+      meaning_of byte ≡ OpensTag → tag_of rest ≡ Some tag →
+      TakesTag number count tags tag.name tag.value (Ok tags') → Scans number count false tags' tag.rest last →
+      Scans number count false tags (byte ∷ rest) last
+  at_faulty_tag :
+      {tags : Tags} {byte : ℕ} {rest : List ℕ} {tag : Tag} {fault : PbnFault} →
+      meaning_of byte ≡ OpensTag → tag_of rest ≡ Some tag →
+      TakesTag number count tags tag.name tag.value (Err fault) →
+      Scans number count false tags (byte ∷ rest) (Stops fault)
+  at_no_tag :
+      {tags : Tags} {byte : ℕ} {rest : List ℕ} →
+      meaning_of byte ≡ OpensTag → tag_of rest ≡ None →
+      Scans number count false tags (byte ∷ rest) (Stops (TagForm number))
+  at_quoted :
+      {in_data : Bool} {tags : Tags} {byte : ℕ} (text : List ℕ) {rest behind : List ℕ} {last : LineEnd} →
+      meaning_of byte ≡ OpensText → rest ≡ text ++ 34 ∷ behind → Lacks 34 text →
+      Scans number count true tags behind last →
+      Scans number count in_data tags (byte ∷ rest) last
+  at_unended :
+      {in_data : Bool} {tags : Tags} {byte : ℕ} {rest : List ℕ} →
+      meaning_of byte ≡ OpensText → Lacks 34 rest →
+      Scans number count in_data tags (byte ∷ rest) (Ends tags false)
+  at_plain :
+      {in_data : Bool} {tags : Tags} {byte : ℕ} {rest : List ℕ} {last : LineEnd} →
+      meaning_of byte ≡ IsData → Scans number count true tags rest last →
+      Scans number count in_data tags (byte ∷ rest) last
+  at_bracket :
+      {tags : Tags} {byte : ℕ} {rest : List ℕ} {last : LineEnd} →
+      meaning_of byte ≡ OpensTag → Scans number count true tags rest last →
+      Scans number count true tags (byte ∷ rest) last
 
 -- ---- the lines of a text
 -- boards before those of a reading that went well
@@ -99,16 +100,50 @@ put_boards boards (Err fault) = Err fault
 -- game's tags so far are these, and so many boards came before the game.
 pub data Answers : ℕ → Option ℕ → Tags → ℕ → List (List ℕ) → Result (List Board) PbnFault → Type 0 where
   no_line : {number count : ℕ} {tags : Tags} → Answers number None tags count [] (Ok (boards_of tags))
-  unclosed : {number opened count : ℕ} {tags : Tags} → Answers number (Some opened) tags count [] (Err (OpenComment opened))
-  escaped_line : {number count : ℕ} {tags : Tags} {line : List ℕ} {lines : List (List ℕ)} {answer : Result (List Board) PbnFault} → is_escaped line ≡ true → Answers (number + 1) None tags count lines answer → Answers number None tags count (line ∷ lines) answer
-  blank_line : {number count : ℕ} {tags : Tags} {line : List ℕ} {lines : List (List ℕ)} {answer : Result (List Board) PbnFault} → is_escaped line ≡ false → is_blank_line line ≡ true → Answers (number + 1) None no_tags (count + length (boards_of tags)) lines answer → Answers number None tags count (line ∷ lines) (put_boards (boards_of tags) answer)
-  whole_line : {number count : ℕ} {tags tags' : Tags} {line : List ℕ} {lines : List (List ℕ)} {answer : Result (List Board) PbnFault} → is_escaped line ≡ false → is_blank_line line ≡ false → Scans number count false tags line (Ends tags' false) → Answers (number + 1) None tags' count lines answer → Answers number None tags count (line ∷ lines) answer
-  opening_line : {number count : ℕ} {tags tags' : Tags} {line : List ℕ} {lines : List (List ℕ)} {answer : Result (List Board) PbnFault} → is_escaped line ≡ false → is_blank_line line ≡ false → Scans number count false tags line (Ends tags' true) → Answers (number + 1) (Some number) tags' count lines answer → Answers number None tags count (line ∷ lines) answer
-  faulty_line : {number count : ℕ} {tags : Tags} {line : List ℕ} {lines : List (List ℕ)} {fault : PbnFault} → is_escaped line ≡ false → is_blank_line line ≡ false → Scans number count false tags line (Stops fault) → Answers number None tags count (line ∷ lines) (Err fault)
-  inner_line : {number opened count : ℕ} {tags : Tags} {line : List ℕ} {lines : List (List ℕ)} {answer : Result (List Board) PbnFault} → Lacks 125 line → Answers (number + 1) (Some opened) tags count lines answer → Answers number (Some opened) tags count (line ∷ lines) answer
-  closing_line : {number opened count : ℕ} {tags tags' : Tags} (text : List ℕ) {line rest : List ℕ} {lines : List (List ℕ)} {answer : Result (List Board) PbnFault} → line ≡ text ++ 125 ∷ rest → Lacks 125 text → Scans number count false tags rest (Ends tags' false) → Answers (number + 1) None tags' count lines answer → Answers number (Some opened) tags count (line ∷ lines) answer
-  reopening_line : {number opened count : ℕ} {tags tags' : Tags} (text : List ℕ) {line rest : List ℕ} {lines : List (List ℕ)} {answer : Result (List Board) PbnFault} → line ≡ text ++ 125 ∷ rest → Lacks 125 text → Scans number count false tags rest (Ends tags' true) → Answers (number + 1) (Some number) tags' count lines answer → Answers number (Some opened) tags count (line ∷ lines) answer
-  faulty_closing_line : {number opened count : ℕ} {tags : Tags} (text : List ℕ) {line rest : List ℕ} {lines : List (List ℕ)} {fault : PbnFault} → line ≡ text ++ 125 ∷ rest → Lacks 125 text → Scans number count false tags rest (Stops fault) → Answers number (Some opened) tags count (line ∷ lines) (Err fault)
+  unclosed :
+      {number opened count : ℕ} {tags : Tags} →
+      Answers number (Some opened) tags count [] (Err (OpenComment opened))
+  escaped_line :
+      {number count : ℕ} {tags : Tags} {line : List ℕ} {lines : List (List ℕ)} {answer : Result (List Board) PbnFault} →
+      is_escaped line ≡ true → Answers (number + 1) None tags count lines answer →
+      Answers number None tags count (line ∷ lines) answer
+  blank_line :
+      {number count : ℕ} {tags : Tags} {line : List ℕ} {lines : List (List ℕ)} {answer : Result (List Board) PbnFault} →
+      is_escaped line ≡ false → is_blank_line line ≡ true →
+      Answers (number + 1) None no_tags (count + length (boards_of tags)) lines answer →
+      Answers number None tags count (line ∷ lines) (put_boards (boards_of tags) answer)
+  whole_line :
+      {number count : ℕ} {tags tags' : Tags} {line : List ℕ} {lines : List (List ℕ)} {answer : Result (List Board) PbnFault} →
+      is_escaped line ≡ false → is_blank_line line ≡ false → Scans number count false tags line (Ends tags' false) →
+      Answers (number + 1) None tags' count lines answer →
+      Answers number None tags count (line ∷ lines) answer
+  opening_line :
+      {number count : ℕ} {tags tags' : Tags} {line : List ℕ} {lines : List (List ℕ)} {answer : Result (List Board) PbnFault} →
+      is_escaped line ≡ false → is_blank_line line ≡ false → Scans number count false tags line (Ends tags' true) →
+      Answers (number + 1) (Some number) tags' count lines answer →
+      Answers number None tags count (line ∷ lines) answer
+  faulty_line :
+      {number count : ℕ} {tags : Tags} {line : List ℕ} {lines : List (List ℕ)} {fault : PbnFault} →
+      is_escaped line ≡ false → is_blank_line line ≡ false → Scans number count false tags line (Stops fault) →
+      Answers number None tags count (line ∷ lines) (Err fault)
+  inner_line :
+      {number opened count : ℕ} {tags : Tags} {line : List ℕ} {lines : List (List ℕ)} {answer : Result (List Board) PbnFault} →
+      Lacks 125 line → Answers (number + 1) (Some opened) tags count lines answer →
+      Answers number (Some opened) tags count (line ∷ lines) answer
+  closing_line :
+      {number opened count : ℕ} {tags tags' : Tags} (text : List ℕ) {line rest : List ℕ} {lines : List (List ℕ)} {answer : Result (List Board) PbnFault} →
+      line ≡ text ++ 125 ∷ rest → Lacks 125 text → Scans number count false tags rest (Ends tags' false) →
+      Answers (number + 1) None tags' count lines answer →
+      Answers number (Some opened) tags count (line ∷ lines) answer
+  reopening_line :
+      {number opened count : ℕ} {tags tags' : Tags} (text : List ℕ) {line rest : List ℕ} {lines : List (List ℕ)} {answer : Result (List Board) PbnFault} →
+      line ≡ text ++ 125 ∷ rest → Lacks 125 text → Scans number count false tags rest (Ends tags' true) →
+      Answers (number + 1) (Some number) tags' count lines answer →
+      Answers number (Some opened) tags count (line ∷ lines) answer
+  faulty_closing_line :
+      {number opened count : ℕ} {tags : Tags} (text : List ℕ) {line rest : List ℕ} {lines : List (List ℕ)} {fault : PbnFault} →
+      line ≡ text ++ 125 ∷ rest → Lacks 125 text → Scans number count false tags rest (Stops fault) →
+      Answers number (Some opened) tags count (line ∷ lines) (Err fault)
 
 -- the answer for a whole text
 abbrev pub TextAnswers : List ℕ → Result (List Board) PbnFault → Type 0
@@ -122,8 +157,12 @@ SaysBoards text (Err fault) = TextAnswers text (Err fault)
 
 -- a text has one answer at most
 abbrev pub HasOneAnswer : Type 0
-HasOneAnswer = (text : List ℕ) (one other : Result (List Board) PbnFault) → TextAnswers text one → TextAnswers text other → one ≡ other
+HasOneAnswer =
+    (text : List ℕ) (one other : Result (List Board) PbnFault) →
+    TextAnswers text one → TextAnswers text other → one ≡ other
 
 -- a text has an answer, and it is not want of memory
 abbrev pub HasSomeAnswer : Type 0
-HasSomeAnswer = (text : List ℕ) → (answer : Result (List Board) PbnFault) × (answer ≢ Err OutOfMemory) × TextAnswers text answer
+HasSomeAnswer =
+    (text : List ℕ) →
+    (answer : Result (List Board) PbnFault) × (answer ≢ Err OutOfMemory) × TextAnswers text answer

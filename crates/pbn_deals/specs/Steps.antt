@@ -9,7 +9,8 @@ use Rattle.pbn_deals.specs.Views.{tags_seen, UnlessMemory}
 
 -- the answer for the lines from this number on, by what has been read
 abbrev pub AnswersFrom : ℕ → Reader → List (List ℕ) → Result (List Board) PbnFault → Type 0
-AnswersFrom number reader lines answer = Answers number reader.opened (tags_seen reader.tags) (length reader.boards.items) lines answer
+AnswersFrom number reader lines answer =
+    Answers number reader.opened (tags_seen reader.tags) (length reader.boards.items) lines answer
 
 -- the game's board was added, and no tag has come of the next
 pub record AddsBoard (old new : Reader) : Type 0 where
@@ -31,18 +32,24 @@ pub record ReadsRest (number : ℕ) (rest : List ℕ) (old new : Reader) : Type 
   pub is_open : Bool
   pub boards : new.boards.items ≡ old.boards.items
   pub opened : new.opened ≡ opened_at is_open number
-  pub reads : Scans number (length old.boards.items) false (tags_seen old.tags) rest (Ends (tags_seen new.tags) is_open)
+  pub reads :
+      Scans number (length old.boards.items) false (tags_seen old.tags) rest (Ends (tags_seen new.tags) is_open)
 
 abbrev pub TakesRest : {X : Type 0} → Result X PbnFault → ℕ → List ℕ → Reader → Reader → Type 0
 TakesRest (Ok done) number rest old new = ReadsRest number rest old new
-TakesRest (Err fault) number rest old new = UnlessMemory fault (Scans number (length old.boards.items) false (tags_seen old.tags) rest (Stops fault))
+TakesRest (Err fault) number rest old new =
+    UnlessMemory fault (Scans number (length old.boards.items) false (tags_seen old.tags) rest (Stops fault))
 
 -- a line was read: the answer for it and what follows is that for what follows, behind the board that it ends
 pub record ReadsWhole (number : ℕ) (line : List ℕ) (old new : Reader) : Type 0 where
   pub added : List Board
   pub boards : new.boards.items ≡ old.boards.items ++ added
-  pub goes : (lines : List (List ℕ)) (answer : Result (List Board) PbnFault) → AnswersFrom (number + 1) new lines answer → AnswersFrom number old (line ∷ lines) (put_boards added answer)
+  pub goes :
+      (lines : List (List ℕ)) (answer : Result (List Board) PbnFault) →
+      AnswersFrom (number + 1) new lines answer →
+      AnswersFrom number old (line ∷ lines) (put_boards added answer)
 
 abbrev pub TakesLine : {X : Type 0} → Result X PbnFault → ℕ → List ℕ → Reader → Reader → Type 0
 TakesLine (Ok done) number line old new = ReadsWhole number line old new
-TakesLine (Err fault) number line old new = UnlessMemory fault ((lines : List (List ℕ)) → AnswersFrom number old (line ∷ lines) (Err fault))
+TakesLine (Err fault) number line old new =
+    UnlessMemory fault ((lines : List (List ℕ)) → AnswersFrom number old (line ∷ lines) (Err fault))

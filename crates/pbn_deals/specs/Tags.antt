@@ -6,7 +6,9 @@ use Rattle.pbn_deals.specs.DealValue.{after_blanks}
 -- a letter, a digit or `_`
 abbrev pub is_name_byte : ℕ → Bool
 is_name_byte byte =
-    (nat_le 65 byte && nat_le byte 90) || ((nat_le 97 byte && nat_le byte 122) || ((nat_le 48 byte && nat_le byte 57) || (byte == 95)))
+    (nat_le 65 byte && nat_le byte 90) ||
+    ((nat_le 97 byte && nat_le byte 122) ||
+    ((nat_le 48 byte && nat_le byte 57) || (byte == 95)))
 
 -- a tag pair, and what stands behind it in its line
 pub record Tag : Type 0 where
@@ -35,7 +37,8 @@ after_value (byte ∷ bytes) = if byte == 34 then Some bytes else after_value by
 -- the closing bracket
 abbrev pub closed_tag : List ℕ → List ℕ → List ℕ → Option Tag
 closed_tag name value [] = None
-closed_tag name value (byte ∷ bytes) = if byte == 93 then Some (record { name = name; value = value; rest = bytes }) else None
+closed_tag name value (byte ∷ bytes) =
+    if byte == 93 then Some (record { name = name; value = value; rest = bytes }) else None
 
 abbrev pub tag_with_value : List ℕ → List ℕ → Option (List ℕ) → Option Tag
 tag_with_value name value (Some behind) = closed_tag name value (after_blanks behind)
@@ -44,7 +47,8 @@ tag_with_value name value None = None
 -- the opening quote, and the value up to the next quote
 abbrev pub tag_with_name : List ℕ → List ℕ → Option Tag
 tag_with_name name [] = None
-tag_with_name name (byte ∷ bytes) = if byte == 34 then tag_with_value name (value_front bytes) (after_value bytes) else None
+tag_with_name name (byte ∷ bytes) =
+    if byte == 34 then tag_with_value name (value_front bytes) (after_value bytes) else None
 
 -- a name of one byte at least
 abbrev pub named_tag : List ℕ → List ℕ → Option Tag
@@ -57,7 +61,8 @@ tag_of text = named_tag (name_front (after_blanks text)) (after_name (after_blan
 
 -- names are compared without regard to case
 abbrev pub is_board : List ℕ → Bool
-is_board (b ∷ o ∷ a ∷ r ∷ d ∷ []) = is_letter 66 b && (is_letter 79 o && (is_letter 65 a && (is_letter 82 r && is_letter 68 d)))
+is_board (b ∷ o ∷ a ∷ r ∷ d ∷ []) =
+    is_letter 66 b && (is_letter 79 o && (is_letter 65 a && (is_letter 82 r && is_letter 68 d)))
 is_board name = false
 
 abbrev pub is_deal : List ℕ → Bool

@@ -4,7 +4,8 @@ use Rattle.pbn_deals.specs.declared.boards.Board.{Board}
 use Rattle.pbn_deals.specs.declared.faults.PbnFault.{PbnFault}
 use Rattle.pbn_deals.specs.declared.faults.PbnFault.TheVariants.{TagForm, OpenComment, SecondDeal, DealForm, CardTwice, HandSize, Inherited, TooManyBoards, OutOfMemory}
 use Rattle.pbn_deals.specs.Games.{no_tags, greatest_count}
-use Rattle.pbn_deals.specs.Reading.{lines_of, without_mark, Answers, TextAnswers}
+use Rattle.pbn_deals.specs.Lines.{lines_of, without_mark}
+use Rattle.pbn_deals.specs.Reading.{Answers, TextAnswers}
 
 -- the text ends outside a comment, or has a fault before its end
 abbrev pub EndsOutside : List ℕ → Type 0

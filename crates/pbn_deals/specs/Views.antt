@@ -3,7 +3,8 @@ use Rattle.std.specs.Prelude.{◌≡◌, ◌<◌, ℕ, List, [], ◌∷◌, leng
 use Rattle.std.specs.Borrow.{Bor}
 use Rattle.std.proofs.Common.{Vec, Global}
 use Rattle.pbn_deals.specs.declared.boards.Board.{Board}
-use Rattle.pbn_deals.specs.Reading.{LineEnd, Scans, Ends, Stops, lines_of}
+use Rattle.pbn_deals.specs.Lines.{lines_of}
+use Rattle.pbn_deals.specs.Reading.{LineEnd, Scans, Ends, Stops}
 use Rattle.pbn_deals.specs.declared.tags.Tag as code
 use Rattle.pbn_deals.specs.declared.games.GameTags.{GameTags}
 use Rattle.pbn_deals.specs.declared.faults.PbnFault.{PbnFault}
@@ -31,13 +32,18 @@ Steps takes (Err fault) tags = UnlessMemory fault (takes (Err fault))
 -- What a tag pair does, unless memory runs out: from its bracket on the line does what it does from behind the pair on.
 abbrev pub ReadsTag : ℕ → ℕ → GameTags → GameTags → List ℕ → Result (Bor (List ℕ)) PbnFault → Type 0
 ReadsTag number count old new text (Ok behind) =
-    (last : LineEnd) → Scans number count false (tags_seen new) behind.now last → Scans number count false (tags_seen old) (91 ∷ text) last
-ReadsTag number count old new text (Err fault) = UnlessMemory fault (Scans number count false (tags_seen old) (91 ∷ text) (Stops fault))
+    (last : LineEnd) →
+    Scans number count false (tags_seen new) behind.now last →
+    Scans number count false (tags_seen old) (91 ∷ text) last
+ReadsTag number count old new text (Err fault) =
+    UnlessMemory fault (Scans number count false (tags_seen old) (91 ∷ text) (Stops fault))
 
 -- what a line does, unless memory runs out
 abbrev pub ReadsLine : ℕ → ℕ → GameTags → GameTags → List ℕ → Result Bool PbnFault → Type 0
-ReadsLine number count old new line (Ok is_open) = Scans number count false (tags_seen old) line (Ends (tags_seen new) is_open)
-ReadsLine number count old new line (Err fault) = UnlessMemory fault (Scans number count false (tags_seen old) line (Stops fault))
+ReadsLine number count old new line (Ok is_open) =
+    Scans number count false (tags_seen old) line (Ends (tags_seen new) is_open)
+ReadsLine number count old new line (Err fault) =
+    UnlessMemory fault (Scans number count false (tags_seen old) line (Stops fault))
 
 -- the first line of a text, and what stands behind its line feed
 abbrev pub CutsLine : List ℕ → Bor (List ℕ) × Option (Bor (List ℕ)) → Type 0

@@ -30,7 +30,8 @@ pub record Represents (dealing : Dealing) (held : List Holding) : Type 0 where
 
 -- the cards were put to those named before
 abbrev pub AddsCards : Dealing → Dealing → Seat → List Card → Type 0
-AddsCards old new seat cards = (held : List Holding) → Represents old held → Represents new (held ++ map (held_by seat) cards)
+AddsCards old new seat cards =
+    (held : List Holding) → Represents old held → Represents new (held ++ map (held_by seat) cards)
 
 -- what was read of a hand: its cards are put where it is of the form, and only there
 abbrev pub ReadsHand : Bool → Option (List Card) → Seat → Dealing → Dealing → Type 0

@@ -1,7 +1,7 @@
 //! The lines of a text.
 
 ghost use Rattle.std.specs.Prelude.{◌≡◌, ◌≤◌, ◌∷◌, [], length};
-ghost use Rattle.pbn_deals.specs.Reading.{without_mark, without_return, is_escaped, is_blank_line};
+ghost use Rattle.pbn_deals.specs.Lines.{without_mark, without_return, is_escaped, is_blank_line};
 ghost use Rattle.pbn_deals.specs.Views.{CutsLine};
 
 use crate::hands::after_blanks;

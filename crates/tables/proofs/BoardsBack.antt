@@ -16,7 +16,8 @@ use Rattle.pbn_deals.specs.declared.boards.Board.{Board}
 use Rattle.pbn_deals.specs.declared.faults.PbnFault.{PbnFault}
 use Rattle.pbn_deals.specs.Tags.{Tag, tag_of, value_front, after_value, is_inherited}
 use Rattle.pbn_deals.specs.Games.{Tags, no_tags, boards_of, SaysDeal, board_tag, deal_tag, other_tag, first_board, only_deal, greatest_count, says_nothing}
-use Rattle.pbn_deals.specs.Reading.{is_line_feed, without_return, lines_of, is_escaped, is_blank_line, Ends, Scans, at_end, at_tag, at_line_comment, Answers, no_line, escaped_line, blank_line, whole_line, put_boards}
+use Rattle.pbn_deals.specs.Lines.{is_line_feed, without_return, lines_of, is_escaped, is_blank_line}
+use Rattle.pbn_deals.specs.Reading.{Ends, Scans, at_end, at_tag, at_line_comment, Answers, no_line, escaped_line, blank_line, whole_line, put_boards}
 use Rattle.tables.specs.DealText.{deal_text}
 use Rattle.tables.specs.TablesText.{Results, tag_line, deal_value, row_text, result_row, entry_row, rows_text, entries, right_in_two, is_complete, published_count, table_tag, incomplete_line, table_text, board_text, numbered_text, tables_text, line}
 use Rattle.pbn_deals.specs.Printable.{IsBoardDeal, IsPrintable}

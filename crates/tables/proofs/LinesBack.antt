@@ -4,7 +4,8 @@ use Rattle.std.specs.List.{slice_split, AllByRecursion, All}
 use Rattle.std.proofs.lemmas.List.Elements.{All-from_recursion}
 use Rattle.std.proofs.lemmas.List.Splits.{slice_split_at}
 use Rattle.std.proofs.lemmas.Bool.{cases_Bool, ne_eqb}
-use Rattle.pbn_deals.specs.Reading.{is_line_feed, without_return, ended, lines_of, meaning_of, IsSpace, IsData, Ends, Scans, at_end, at_blank, at_plain}
+use Rattle.pbn_deals.specs.Lines.{is_line_feed, without_return, ended, lines_of}
+use Rattle.pbn_deals.specs.Reading.{meaning_of, IsSpace, IsData, Ends, Scans, at_end, at_blank, at_plain}
 use Rattle.pbn_deals.specs.Games.{Tags}
 
 -- a line that is read as it was printed

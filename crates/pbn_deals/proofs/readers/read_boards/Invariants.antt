@@ -2,7 +2,8 @@
 use Rattle.std.proofs.Common.{◌+◌, ◌≤◌, List, length, Result}
 use Rattle.pbn_deals.specs.declared.boards.Board.{Board}
 use Rattle.pbn_deals.specs.declared.faults.PbnFault.{PbnFault}
-use Rattle.pbn_deals.specs.Reading.{TextAnswers, lines_of, put_boards}
+use Rattle.pbn_deals.specs.Lines.{lines_of}
+use Rattle.pbn_deals.specs.Reading.{TextAnswers, put_boards}
 use Rattle.pbn_deals.specs.Steps.{AnswersFrom}
 use Rattle.pbn_deals.proofs.readers.read_boards.Given as goal
 
