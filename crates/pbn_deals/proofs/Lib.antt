@@ -21,3 +21,4 @@ pub mod PrintableBoards
 pub mod CountedOn
 pub mod TrailingReturn
 pub mod TextsInTurn
+pub mod NoRoom

@@ -1,17 +1,18 @@
 -- Two texts, one after another, are read in turn.
-use Rattle.std.proofs.Common.{◌≡◌, ◌≢◌, ℕ, ◌+◌, ◌<◌, Bool, true, false, cond, eqb, ◌&&◌, List, [], ◌∷◌, ◌++◌, length, Option, None, Result, Ok, Err, refl, sym, ◌∙◌, ap, subst, arith, append_assoc, length-append, zero-add}
+use Rattle.std.proofs.Common.{◌≡◌, ◌≢◌, ℕ, ◌+◌, ◌<◌, Bool, true, false, cond, eqb, ◌&&◌, List, [], ◌∷◌, ◌++◌, length, Option, None, Result, Ok, Err, refl, sym, ◌∙◌, ap, subst, arith, append_assoc, length-append, zero-add, inl, inr}
 use Rattle.std.proofs.lemmas.List.Elements.{All-nil}
 use Rattle.pbn_deals.specs.declared.boards.Board.{Board}
 use Rattle.pbn_deals.specs.declared.faults.PbnFault.{PbnFault}
-use Rattle.pbn_deals.specs.declared.faults.PbnFault.TheVariants.{OpenComment}
+use Rattle.pbn_deals.specs.declared.faults.PbnFault.TheVariants.{OpenComment, TooManyBoards}
 use Rattle.pbn_deals.specs.Games.{Tags, no_tags, boards_of}
 use Rattle.pbn_deals.specs.Lines.{without_mark, without_return, lines_of}
 use Rattle.pbn_deals.specs.Reading.{Answers, no_line, unclosed, escaped_line, blank_line, whole_line, opening_line, faulty_line, inner_line, closing_line, reopening_line, faulty_closing_line, put_boards, TextAnswers}
-use Rattle.pbn_deals.specs.TwoTexts.{EndsOutside, joined, lines_before, counted_on, AreReadInTurn, TextsAreReadInTurn}
+use Rattle.pbn_deals.specs.TwoTexts.{EndsOutside, joined, lines_before, counted_on, AnswersAfter, AreReadInTurn, TextsAreReadInTurn}
 use Rattle.pbn_deals.proofs.CutLemmas.{lines_of-cut, lines_of-last}
 use Rattle.pbn_deals.proofs.StepLemmas.{put_boards-twice}
 use Rattle.pbn_deals.proofs.LineParts.{Lined, lined, last_line, more_lines}
 use Rattle.pbn_deals.proofs.CountedOn.{answers_on, answers_fit}
+use Rattle.pbn_deals.proofs.NoRoom.{same, too_many, answers_full}
 use Rattle.pbn_deals.proofs.TrailingReturn.{last_ended, answers_ended}
 
 -- ---- the lines of both texts
@@ -135,14 +136,22 @@ module _ (first second : List ℕ) (outside : EndsOutside first) where
       subst (λ c. Answers (1 + lines_before first) None no_tags c (lines_of (without_mark second)) other) (sym (zero-add (length boards)))
       (subst (λ m. Answers m None no_tags (length boards) (lines_of (without_mark second)) other) n h)
 
+  after_boards : (boards : List Board) (fault : PbnFault) → TextAnswers first (Ok boards) → AnswersAfter (length boards) second (Err fault) → TextAnswers (joined first second) (Err (counted_on (lines_before first) fault))
+  after_boards boards fault h g =
+      in_turn (Ok boards) (Err (counted_on (lines_before first) fault)) h
+      (follows_boards boards (Err (counted_on (lines_before first) fault)) (answers_on (lines_before first) g))
+
   read_in_turn : AreReadInTurn first second
   read_in_turn = record {
     both_read = λ boards others h g few.
         in_turn (Ok boards) (Ok others) h (follows_boards boards (Ok others) (answers_on (lines_before first) (answers_fit g (length boards) few)));
     first_refused = λ fault h. in_turn (Err fault) (Err fault) h tt;
     second_refused = λ boards fault h g.
-        in_turn (Ok boards) (Err (counted_on (lines_before first) fault)) h
-        (follows_boards boards (Err (counted_on (lines_before first) fault)) (answers_on (lines_before first) g));
+        elim (answers_full g (length boards) (omega arith)) [
+          | same r ↦ inl (after_boards boards fault h r)
+          | too_many line r ↦ inr (lines_before first + line, after_boards boards (TooManyBoards line) h r)
+        ];
+    second_after = after_boards;
   }
 
 pub texts_are_read_in_turn : TextsAreReadInTurn

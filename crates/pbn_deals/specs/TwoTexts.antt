@@ -1,5 +1,5 @@
 -- Two PBN texts, one after another: what a blank line keeps apart is read apart.
-use Rattle.std.specs.Prelude.{◌≤◌, ℕ, ◌+◌, List, ◌∷◌, ◌++◌, length, None, Result, Ok, Err}
+use Rattle.std.specs.Prelude.{◌≤◌, ℕ, ◌+◌, List, ◌∷◌, ◌++◌, length, None, ◌⊎◌, Result, Ok, Err}
 use Rattle.pbn_deals.specs.declared.boards.Board.{Board}
 use Rattle.pbn_deals.specs.declared.faults.PbnFault.{PbnFault}
 use Rattle.pbn_deals.specs.declared.faults.PbnFault.TheVariants.{TagForm, OpenComment, SecondDeal, DealForm, CardTwice, HandSize, Inherited, TooManyBoards, OutOfMemory}
@@ -35,6 +35,10 @@ counted_on lines OutOfMemory = OutOfMemory
 abbrev pub AnswersAfter : ℕ → List ℕ → Result (List Board) PbnFault → Type 0
 AnswersAfter count text answer = Answers 1 None no_tags count (lines_of (without_mark text)) answer
 
+-- the text has more boards than a text may have
+abbrev pub HasTooMany : List ℕ → Type 0
+HasTooMany text = (line : ℕ) × TextAnswers text (Err (TooManyBoards line))
+
 -- The boards of the first text and then those of the second, or the fault that comes first, its line counted on.
 pub record AreReadInTurn (first second : List ℕ) : Type 0 where
   pub both_read :
@@ -43,6 +47,10 @@ pub record AreReadInTurn (first second : List ℕ) : Type 0 where
       TextAnswers (joined first second) (Ok (boards ++ others))
   pub first_refused : (fault : PbnFault) → TextAnswers first (Err fault) → TextAnswers (joined first second) (Err fault)
   pub second_refused :
+      (boards : List Board) (fault : PbnFault) →
+      TextAnswers first (Ok boards) → TextAnswers second (Err fault) →
+      TextAnswers (joined first second) (Err (counted_on (lines_before first) fault)) ⊎ HasTooMany (joined first second)
+  pub second_after :
       (boards : List Board) (fault : PbnFault) →
       TextAnswers first (Ok boards) → AnswersAfter (length boards) second (Err fault) →
       TextAnswers (joined first second) (Err (counted_on (lines_before first) fault))
