@@ -1,5 +1,5 @@
 -- Tag pairs (PBN 2.1, section 3.2): a name and a value in quotes between brackets, on one line.
-use Rattle.std.specs.Prelude.{ℕ, ◌==◌, ◌&&◌, ◌||◌, Bool, false, List, [], ◌∷◌, Option, Some, None, if◌then◌else◌, nat_le}
+use Rattle.std.specs.Prelude.{ℕ, ◌==◌, ◌&&◌, ◌||◌, Bool, true, false, List, [], ◌∷◌, Option, Some, None, if◌then◌else◌, nat_le, codes}
 use Rattle.pbn_deals.specs.Letters.{is_letter}
 use Rattle.pbn_deals.specs.DealValue.{after_blanks}
 
@@ -59,15 +59,18 @@ named_tag (byte ∷ bytes) behind = tag_with_name (byte ∷ bytes) (after_blanks
 abbrev pub tag_of : List ℕ → Option Tag
 tag_of text = named_tag (name_front (after_blanks text)) (after_name (after_blanks text))
 
--- names are compared without regard to case
+-- names are compared without regard to case: the first is in capitals
+abbrev pub is_same_name : List ℕ → List ℕ → Bool
+is_same_name [] [] = true
+is_same_name [] (byte ∷ bytes) = false
+is_same_name (capital ∷ capitals) [] = false
+is_same_name (capital ∷ capitals) (byte ∷ bytes) = is_letter capital byte && is_same_name capitals bytes
+
 abbrev pub is_board : List ℕ → Bool
-is_board (b ∷ o ∷ a ∷ r ∷ d ∷ []) =
-    is_letter 66 b && (is_letter 79 o && (is_letter 65 a && (is_letter 82 r && is_letter 68 d)))
-is_board name = false
+is_board = is_same_name (codes "BOARD")
 
 abbrev pub is_deal : List ℕ → Bool
-is_deal (d ∷ e ∷ a ∷ l ∷ []) = is_letter 68 d && (is_letter 69 e && (is_letter 65 a && is_letter 76 l))
-is_deal name = false
+is_deal = is_same_name (codes "DEAL")
 
 -- the value is handed on from another game
 abbrev pub is_inherited : List ℕ → Bool

@@ -24,7 +24,8 @@ pub fn boards_are_printable()
 {}
 
 /// Two texts with a blank line between them, the first of which ends outside a comment, have the boards of the first
-/// and then those of the second, or the fault that comes first, its line counted on.
+/// and then those of the second, or the fault that comes first, its line counted on. At most 4,096 boards are those of
+/// both.
 pub fn texts_are_read_in_turn()
     ensures { TextsAreReadInTurn }
 {}
