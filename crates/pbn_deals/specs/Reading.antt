@@ -104,21 +104,25 @@ pub data Answers : ℕ → Option ℕ → Tags → ℕ → List (List ℕ) → R
       {number opened count : ℕ} {tags : Tags} →
       Answers number (Some opened) tags count [] (Err (OpenComment opened))
   escaped_line :
-      {number count : ℕ} {tags : Tags} {line : List ℕ} {lines : List (List ℕ)} {answer : Result (List Board) PbnFault} →
+      {number count : ℕ} {tags : Tags} {line : List ℕ}
+      {lines : List (List ℕ)} {answer : Result (List Board) PbnFault} →
       is_escaped line ≡ true → Answers (number + 1) None tags count lines answer →
       Answers number None tags count (line ∷ lines) answer
   blank_line :
-      {number count : ℕ} {tags : Tags} {line : List ℕ} {lines : List (List ℕ)} {answer : Result (List Board) PbnFault} →
+      {number count : ℕ} {tags : Tags} {line : List ℕ}
+      {lines : List (List ℕ)} {answer : Result (List Board) PbnFault} →
       is_escaped line ≡ false → is_blank_line line ≡ true →
       Answers (number + 1) None no_tags (count + length (boards_of tags)) lines answer →
       Answers number None tags count (line ∷ lines) (put_boards (boards_of tags) answer)
   whole_line :
-      {number count : ℕ} {tags tags' : Tags} {line : List ℕ} {lines : List (List ℕ)} {answer : Result (List Board) PbnFault} →
+      {number count : ℕ} {tags tags' : Tags} {line : List ℕ}
+      {lines : List (List ℕ)} {answer : Result (List Board) PbnFault} →
       is_escaped line ≡ false → is_blank_line line ≡ false → Scans number count false tags line (Ends tags' false) →
       Answers (number + 1) None tags' count lines answer →
       Answers number None tags count (line ∷ lines) answer
   opening_line :
-      {number count : ℕ} {tags tags' : Tags} {line : List ℕ} {lines : List (List ℕ)} {answer : Result (List Board) PbnFault} →
+      {number count : ℕ} {tags tags' : Tags} {line : List ℕ}
+      {lines : List (List ℕ)} {answer : Result (List Board) PbnFault} →
       is_escaped line ≡ false → is_blank_line line ≡ false → Scans number count false tags line (Ends tags' true) →
       Answers (number + 1) (Some number) tags' count lines answer →
       Answers number None tags count (line ∷ lines) answer
@@ -127,21 +131,25 @@ pub data Answers : ℕ → Option ℕ → Tags → ℕ → List (List ℕ) → R
       is_escaped line ≡ false → is_blank_line line ≡ false → Scans number count false tags line (Stops fault) →
       Answers number None tags count (line ∷ lines) (Err fault)
   inner_line :
-      {number opened count : ℕ} {tags : Tags} {line : List ℕ} {lines : List (List ℕ)} {answer : Result (List Board) PbnFault} →
+      {number opened count : ℕ} {tags : Tags} {line : List ℕ}
+      {lines : List (List ℕ)} {answer : Result (List Board) PbnFault} →
       Lacks 125 line → Answers (number + 1) (Some opened) tags count lines answer →
       Answers number (Some opened) tags count (line ∷ lines) answer
   closing_line :
-      {number opened count : ℕ} {tags tags' : Tags} (text : List ℕ) {line rest : List ℕ} {lines : List (List ℕ)} {answer : Result (List Board) PbnFault} →
+      {number opened count : ℕ} {tags tags' : Tags} (text : List ℕ) {line rest : List ℕ}
+      {lines : List (List ℕ)} {answer : Result (List Board) PbnFault} →
       line ≡ text ++ 125 ∷ rest → Lacks 125 text → Scans number count false tags rest (Ends tags' false) →
       Answers (number + 1) None tags' count lines answer →
       Answers number (Some opened) tags count (line ∷ lines) answer
   reopening_line :
-      {number opened count : ℕ} {tags tags' : Tags} (text : List ℕ) {line rest : List ℕ} {lines : List (List ℕ)} {answer : Result (List Board) PbnFault} →
+      {number opened count : ℕ} {tags tags' : Tags} (text : List ℕ) {line rest : List ℕ}
+      {lines : List (List ℕ)} {answer : Result (List Board) PbnFault} →
       line ≡ text ++ 125 ∷ rest → Lacks 125 text → Scans number count false tags rest (Ends tags' true) →
       Answers (number + 1) (Some number) tags' count lines answer →
       Answers number (Some opened) tags count (line ∷ lines) answer
   faulty_closing_line :
-      {number opened count : ℕ} {tags : Tags} (text : List ℕ) {line rest : List ℕ} {lines : List (List ℕ)} {fault : PbnFault} →
+      {number opened count : ℕ} {tags : Tags} (text : List ℕ) {line rest : List ℕ}
+      {lines : List (List ℕ)} {fault : PbnFault} →
       line ≡ text ++ 125 ∷ rest → Lacks 125 text → Scans number count false tags rest (Stops fault) →
       Answers number (Some opened) tags count (line ∷ lines) (Err fault)
 

@@ -11,14 +11,14 @@ pub fn one_answer()
     ensures { HasOneAnswer }
 {}
 
-/// Every text has an answer, its boards or its first fault, and want of memory is none: a reader that refuses a text for
-/// want of memory leaves an answer out.
+/// Every text has an answer, its boards or its first fault, and want of memory is none: a reader that refuses a text
+/// for want of memory leaves an answer out.
 pub fn some_answer()
     ensures { HasSomeAnswer }
 {}
 
-/// The boards of a text can stand in tags again: they are at most 4,096, each has no deal or one of 13 cards a hand, and
-/// each name is one that a Board tag can hold (no line feed, no quote, no `#` at its beginning).
+/// The boards of a text can stand in tags again: they are at most 4,096, each has no deal or one of 13 cards a hand,
+/// and each name is one that a Board tag can hold (no line feed, no quote, no `#` at its beginning).
 pub fn boards_are_printable()
     ensures { BoardsArePrintable }
 {}
