@@ -40,18 +40,18 @@ abbrev pub AreDisjoint : List ℕ → Type 0
 AreDisjoint hands = (card : Card) (one other : Seat) → HasBit hands one card → HasBit hands other card → one ≡ other
 
 -- how many cards a seat's word names
-abbrev pub hand_size : List ℕ → Seat → ℕ
-hand_size hands seat = count_ones (word_of hands seat)
+abbrev pub word_size : List ℕ → Seat → ℕ
+word_size hands seat = count_ones (word_of hands seat)
 
 -- the hands are of one size, 1 to 13
 pub record AreSized (hands : List ℕ) : Type 0 where
-  pub some_cards : 1 ≤ hand_size hands North
-  pub at_most_13 : hand_size hands North ≤ 13
-  pub equal : (seat : Seat) → hand_size hands seat ≡ hand_size hands North
+  pub some_cards : 1 ≤ word_size hands North
+  pub at_most_13 : word_size hands North ≤ 13
+  pub equal : (seat : Seat) → word_size hands seat ≡ word_size hands North
 
 -- a hand is empty, or of over 13 cards, or two are of unequal size
 abbrev pub AreMissized : List ℕ → Type 0
-AreMissized hands = (hand_size hands North ≡ 0) ⊎ ((13 < hand_size hands North) ⊎ ((seat : Seat) × (hand_size hands seat ≢ hand_size hands North)))
+AreMissized hands = (word_size hands North ≡ 0) ⊎ ((13 < word_size hands North) ⊎ ((seat : Seat) × (word_size hands seat ≢ word_size hands North)))
 
 -- each seat holds the cards of its word, and no others
 pub record Deals (hands : List ℕ) (deal : Deal) : Type 0 where

@@ -5,4 +5,5 @@ pub mod Hands
 pub mod Devices
 pub mod Memory
 pub mod FromHands
+pub mod Orders
 pub mod SameDeal

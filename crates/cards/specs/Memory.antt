@@ -1,6 +1,7 @@
 -- What a source and a sink over memory are to a contract, and what each call does to them.
-use Rattle.std.specs.Prelude.{◌≡◌, ◌≢◌, ℕ, ◌+◌, ◌-◌, ◌^◌, ◌<◌, List, ◌++◌, length, take, drop, min, max, Option, None, Some, Result, Ok, Err, ◌⊎◌}
+use Rattle.std.specs.Prelude.{◌≡◌, ◌≢◌, ℕ, ◌-◌, ◌<◌, List, ◌++◌, length, take, drop, min, max, Option, None, Some, Result, Ok, Err, ◌⊎◌}
 use Rattle.cards.specs.declared.devices.DeviceFault.{DeviceFault}
+use Rattle.cards.specs.Devices.{Device, one_more}
 
 -- A source: the bytes that are left, the greatest piece of a call, how many calls come before the one that fails
 -- (`None` where none does), and how many have failed.
@@ -10,6 +11,10 @@ pub record Supply : Type 0 where
   pub calls_before_failure : Option ℕ
   pub failed : ℕ
 
+-- what such a source tells
+abbrev pub supply_device : Supply → Device
+supply_device supply = record { bytes = Some supply.left; failed = supply.failed }
+
 -- A sink: the bytes that it holds, how many it can hold, the greatest piece of a call, and how many calls have failed.
 pub record Store : Type 0 where
   pub bytes : List ℕ
@@ -17,9 +22,9 @@ pub record Store : Type 0 where
   pub greatest_piece : ℕ
   pub failed : ℕ
 
--- a count of failed calls after one more of them: it stops at its greatest value
-abbrev pub one_more : ℕ → ℕ
-one_more n = min (n + 1) (2 ^ 64 - 1)
+-- what such a sink tells
+abbrev pub store_device : Store → Device
+store_device store = record { bytes = Some store.bytes; failed = store.failed }
 
 -- how many calls come before the one that fails, after a call that did not fail
 abbrev pub one_call_less : Option ℕ → Option ℕ
@@ -30,15 +35,17 @@ one_call_less (Some calls) = Some (calls - 1)
 abbrev pub piece_of : ℕ → ℕ
 piece_of greatest_piece = max greatest_piece 1
 
--- A read into this much room: the set call fails and no other; each other call hands out as much as is there, has room
--- and is no more than the greatest piece.
-abbrev pub ReadsSupply : Supply → Supply → ℕ → Result ℕ DeviceFault → Type 0
-ReadsSupply old new room (Ok n) =
+-- A read into a buffer: the set call fails and no other; each other call hands out as much as is there, has room and is
+-- no more than the greatest piece.
+abbrev pub ReadsSupply : Supply → Supply → List ℕ → List ℕ → Result ℕ DeviceFault → Type 0
+ReadsSupply old new buffer buffer' (Ok n) =
     (old.calls_before_failure ≢ Some 0) ×
-    (n ≡ min (min (length old.left) room) (piece_of old.greatest_piece)) ×
+    (n ≡ min (min (length old.left) (length buffer)) (piece_of old.greatest_piece)) ×
+    (buffer' ≡ take n old.left ++ drop n buffer) ×
     (new ≡ record old { left = drop n old.left; calls_before_failure = one_call_less old.calls_before_failure })
-ReadsSupply old new room (Err fault) =
+ReadsSupply old new buffer buffer' (Err fault) =
     (old.calls_before_failure ≡ Some 0) ×
+    (buffer' ≡ buffer) ×
     (new ≡ record old { calls_before_failure = None; failed = one_more old.failed })
 
 -- A write of a piece: it fails where the piece has a byte and no room is left, and nowhere else; each other call takes

@@ -1,24 +1,18 @@
 -- What a layout is stored as and its deal name each other, and `==` says whether two layouts are one: the proofs that
 -- the model of a layout and its `==` have to cite.
-use Rattle.std.proofs.Common.{◌≡◌, ◌≢◌, ℕ, zero, suc, ◌+◌, ◌<◌, ◌≤◌, ◌^◌, Bool, true, false, cond, eqb, List, [], ◌∷◌, length, map, get_or, Option, None, Some, refl, sym, ◌∙◌, ap, arith, inl, inr, ◌⊎◌, bit_and, bit_or, min, max, ◌/◌, ◌%◌, ◌*◌, ◌↔◌, w64, IsTrue}
+use Rattle.std.proofs.Common.{◌≡◌, ℕ, zero, suc, ◌+◌, ◌<◌, ◌≤◌, ◌^◌, true, false, cond, List, [], ◌∷◌, length, map, get_or, Option, None, Some, refl, sym, ◌∙◌, ap, arith}
 use Rattle.std.specs.Prelude.{count_ones, slice_index, nat_eq}
-use Rattle.std.specs.Int.{bit_at, trailing_zeros}
-use Rattle.std.proofs.lemmas.Nat.Bits.{bit_at-lt, bit_at_and, bit_at_or, bit_at-zero, bit_at_above, same_from_bits_below, bit_at-trailing_zeros, bit_at_ones}
+use Rattle.std.specs.Int.{bit_at}
+use Rattle.std.proofs.lemmas.Nat.Bits.{same_from_bits_below}
 use Rattle.std.proofs.lemmas.Simd.{bit_mask_l, mask_l-lt, ones-mask_l}
 use Rattle.std.proofs.lemmas.List.FromFn.{get_or-map-range_with_len, length-map-range_with_len}
 use Rattle.std.proofs.lemmas.List.{get_or-map, length-map}
-use Rattle.std.proofs.lemmas.Bool.{eqb-true, eq-eqb, cases_lt}
-use Rattle.std.proofs.lemmas.Nat.{or_lt, le_or_l, le_or_r, and_le_l, shr-shr}
 use lib.Lanes.{mask_l}
 use Rattle.cards.specs.declared.seats.Seat.{Seat}
 use Rattle.cards.specs.declared.seats.Seat.TheVariants.{North, East, South, West}
-use Rattle.cards.specs.declared.pack.Card.{Card}
-use Rattle.cards.specs.declared.pack.Rank.{Rank}
-use Rattle.cards.specs.declared.suits.Suit.{Suit}
-use Rattle.cards.specs.Pack.{card_number, card_at, card_of, rank_number, suit_number}
 use Rattle.cards.specs.Seats.{is_same_seat}
-use Rattle.cards.specs.Deal.{Deal, IsLayout, holder_of, is_held_by, count_of, is_same_holder, is_same_deal}
-use Rattle.cards.specs.Hands.{word_of, holder_by_bits, holder_by_words, deal_of_words, IsDealt, word_of_deal, words_of_deal, Deals, AreDisjoint, HaveStrayBit, HaveCardsAlone, HaveCardTwice}
+use Rattle.cards.specs.Deal.{Deal, is_held_by, count_of, is_same_holder, is_same_deal}
+use Rattle.cards.specs.Hands.{word_of, holder_by_bits, holder_by_words, deal_of_words, IsDealt, word_of_deal, words_of_deal}
 use Rattle.std.specs.Bool.{Decides}
 use Rattle.std.specs.Cmp.{IsEquivalence, IsPartialEquivalence, decided, partial_equiv_from_equiv}
 use Rattle.std.specs.Cmp.Lexicographic.{pointwise}

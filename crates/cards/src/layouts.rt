@@ -19,13 +19,13 @@ use thiserror::Error;
 pub enum LayoutFault {
     /// A word has a bit from 52 up.
     #[error("a bit stands for no card")]
-    StrayBit = 1,
+    StrayBit,
     /// Two words have the same card.
     #[error("a card is in two hands")]
-    CardTwice = 2,
+    CardTwice,
     /// The hands are of unequal size, or empty, or of over 13 cards.
     #[error("the hands are not of one size from 1 to 13")]
-    HandSize = 3,
+    HandSize,
 }
 
 /// Four hands of equally many cards, 1 to 13, no card twice.

@@ -9,6 +9,7 @@
 mod devices;
 mod layouts;
 mod memory;
+mod orders;
 mod pack;
 mod seats;
 mod suits;
@@ -16,6 +17,7 @@ mod suits;
 pub use devices::{DeviceFault, Sink, Source, write_all};
 pub use layouts::{Layout, LayoutFault};
 pub use memory::{Buffer, Bytes};
+pub use orders::{compare_by_number, lists_are_in_order};
 pub use pack::{Card, Rank};
 pub use seats::{Seat, Side};
 pub use suits::{Suit, Trump};

@@ -1,8 +1,8 @@
 //! A source and a sink over memory, for tests and for callers that hold their bytes.
 
-ghost use Rattle.std.specs.Prelude.{◌≡◌, ◌≤◌, IfOk, OnErr, None, Some, [], length};
-ghost use Rattle.cards.specs.Devices.{FailureIsCounted, ReadsWhereTold, StaysWhereTold, Takes};
-ghost use Rattle.cards.specs.Memory.{Supply, Store, ReadsSupply, WritesStore};
+ghost use Rattle.std.specs.Prelude.{◌≡◌, IfOk, None, Some, []};
+ghost use Rattle.cards.specs.Devices.{Reads, WritesPiece};
+ghost use Rattle.cards.specs.Memory.{Supply, Store, ReadsSupply, WritesStore, supply_device, store_device};
 
 use crate::devices::{DeviceFault, Sink, Source};
 use std::alloc::{AllocError, Global};
@@ -27,8 +27,7 @@ impl<'a> Bytes<'a> {
     /// A source of these bytes, in pieces of at most `greatest_piece` (of 1 where that is 0). It never fails.
     pub fn new(bytes: &'a [u8], greatest_piece: usize) -> Bytes<'a>
         ensures supply { result ≡ record { left = bytes.entry.now; greatest_piece = greatest_piece; calls_before_failure = None; failed = 0 } }
-        ensures bytes { ⟦<Bytes<'a> as Source>⟧.left result ≡ Some bytes.entry.now }
-        ensures failures { ⟦<Bytes<'a> as Source>⟧.read_failures result ≡ 0 }
+        ensures device { ⟦<Bytes<'a> as Source>⟧.state result ≡ record { bytes = Some bytes.entry.now; failed = 0 } }
     {
         Bytes {
             rest: bytes,
@@ -41,8 +40,7 @@ impl<'a> Bytes<'a> {
     /// The same, but the call after `calls` calls fails, and no other.
     pub fn failing_after(bytes: &'a [u8], greatest_piece: usize, calls: u64) -> Bytes<'a>
         ensures supply { result ≡ record { left = bytes.entry.now; greatest_piece = greatest_piece; calls_before_failure = Some calls; failed = 0 } }
-        ensures bytes { ⟦<Bytes<'a> as Source>⟧.left result ≡ Some bytes.entry.now }
-        ensures failures { ⟦<Bytes<'a> as Source>⟧.read_failures result ≡ 0 }
+        ensures device { ⟦<Bytes<'a> as Source>⟧.state result ≡ record { bytes = Some bytes.entry.now; failed = 0 } }
     {
         Bytes {
             rest: bytes,
@@ -54,16 +52,11 @@ impl<'a> Bytes<'a> {
 }
 
 impl Source for Bytes<'_> {
-    ghost left = { λ bytes. Some bytes.left };
-
-    ghost read_failures = { λ bytes. bytes.failed };
+    ghost state = { supply_device };
 
     fn read(&mut self, buffer: &mut [u8]) -> Result<usize, DeviceFault>
-        ensures supply { ReadsSupply self.old self.new (length buffer.old) result }
-        ensures ok { IfOk result (ReadsWhereTold (Some self.old.left) (Some self.new.left) buffer.old buffer.new) }
-        ensures fault { OnErr result (FailureIsCounted self.old.failed self.new.failed) }
-        ensures stays { OnErr result (StaysWhereTold (Some self.old.left) (Some self.new.left)) }
-        ensures grows { self.old.failed ≤ self.new.failed }
+        ensures supply { ReadsSupply self.old self.new buffer.old buffer.new result }
+        ensures device { Reads (supply_device self.old) (supply_device self.new) buffer.old buffer.new result }
     {
         match self.calls_before_failure {
             Some(0) => {
@@ -111,8 +104,7 @@ impl Buffer {
     /// An empty sink with room for this many bytes, in pieces of at most `greatest_piece` (of 1 where that is 0).
     pub fn new(alloc: Global, room: usize, greatest_piece: usize) -> Result<Buffer, AllocError>
         ensures store { IfOk result (λ buffer. buffer ≡ record { bytes = []; room = room; greatest_piece = greatest_piece; failed = 0 }) }
-        ensures empty { IfOk result (λ buffer. ⟦<Buffer as Sink>⟧.held buffer ≡ Some []) }
-        ensures failures { IfOk result (λ buffer. ⟦<Buffer as Sink>⟧.write_failures buffer ≡ 0) }
+        ensures device { IfOk result (λ buffer. ⟦<Buffer as Sink>⟧.state buffer ≡ record { bytes = Some []; failed = 0 }) }
     {
         Ok(Buffer {
             bytes: Vec::with_capacity(alloc, room)?,
@@ -124,23 +116,18 @@ impl Buffer {
 
     /// The bytes that were taken so far.
     pub fn bytes(&self) -> &[u8]
-        ensures { ⟦<Buffer as Sink>⟧.held self.now ≡ Some result.now }
+        ensures { result.now ≡ self.now.bytes }
     {
         self.bytes.as_slice()
     }
 }
 
 impl Sink for Buffer {
-    ghost held = { λ buffer. Some buffer.bytes };
-
-    ghost write_failures = { λ buffer. buffer.failed };
+    ghost state = { store_device };
 
     fn write(&mut self, piece: &[u8]) -> Result<usize, DeviceFault>
         ensures store { WritesStore self.old self.new piece.now result }
-        ensures ok { IfOk result (Takes (Some self.old.bytes) (Some self.new.bytes) piece.now) }
-        ensures fault { OnErr result (FailureIsCounted self.old.failed self.new.failed) }
-        ensures stays { OnErr result (StaysWhereTold (Some self.old.bytes) (Some self.new.bytes)) }
-        ensures grows { self.old.failed ≤ self.new.failed }
+        ensures device { WritesPiece (store_device self.old) (store_device self.new) piece.now result }
     {
         let count = piece
             .len()

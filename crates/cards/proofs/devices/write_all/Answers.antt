@@ -1,14 +1,13 @@
 use Rattle.std.proofs.Common.{arith, length-drop}
-use Rattle.cards.proofs.DeviceLemmas.{adds_more, take-drop_rest}
+use Rattle.cards.proofs.DeviceLemmas.{Adds-more, take-drop_rest}
 use Rattle.cards.proofs.devices.write_all.Goals as goal
 
 pub loop-gone-preserved : goal.loop-gone-preserved
 loop-gone-preserved g c =
     let text = c.args.text.now in
     let gone = c.loop-gone.gone in
-    let taken = rw (take-drop_rest text gone) at c.in_ok-gone.ensures.ok in
+    let taken = rw (take-drop_rest text gone) at c.in_ok-gone.ensures in
     record {
       within = omega (arith, taken.within, length-drop gone text);
-      adds = adds_more _ _ _ text gone c.in_ok-gone.field-0 c.loop-gone.invariant.adds taken.adds;
-      grows = omega arith;
+      adds = Adds-more text gone c.in_ok-gone.field-0 c.loop-gone.invariant.adds taken.adds;
     }

@@ -1,0 +1,16 @@
+-- The numbers by which things are listed and compared.
+use Rattle.std.specs.Prelude.{◌≡◌, ℕ, ◌+◌}
+use Rattle.std.specs.Ordering.{nat_cmp}
+use Rattle.std.specs.declared.cmp.Ordering.{Ordering}
+use Rattle.cards.specs.declared.suits.Trump.{Trump}
+use Rattle.cards.specs.declared.suits.Trump.TheVariants as trump
+use Rattle.cards.specs.Pack.{suit_number}
+
+-- the place of a denomination: no-trump first, and then the suits in their order
+abbrev pub trump_number : Trump → ℕ
+trump_number trump.Nt = 0
+trump_number (trump.Suit suit) = suit_number suit + 1
+
+-- things compare as their numbers do
+abbrev pub ComparesBy : {A : Type 0} → (A → ℕ) → (A → A → Ordering) → Type 0
+ComparesBy {A} number order = (one other : A) → order one other ≡ nat_cmp (number one) (number other)
