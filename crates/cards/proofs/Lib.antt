@@ -1,3 +1,4 @@
 pub mod DeviceLemmas
+pub mod WriteLemmas
 pub mod PackLaws
 pub mod HandLaws

@@ -9,6 +9,7 @@
 mod devices;
 mod layouts;
 mod memory;
+mod numbers;
 mod orders;
 mod pack;
 mod seats;
@@ -17,6 +18,7 @@ mod suits;
 pub use devices::{DeviceFault, Sink, Source, write_all};
 pub use layouts::{Layout, LayoutFault};
 pub use memory::{Buffer, Bytes};
+pub use numbers::write_number;
 pub use orders::{compare_by_number, lists_are_in_order};
 pub use pack::{Card, Rank};
 pub use seats::{Seat, Side};

@@ -59,13 +59,12 @@ impl Rank {
     {
         Rank::FALLING[12 - number]
     }
-}
 
-impl fmt::Display for Rank {
-    ghost output = { λ rank. Some (rank_letter rank) };
-
-    fn fmt<W: fmt::Write>(&self, f: &mut fmt::Formatter<W>) -> fmt::Result {
-        f.write_str(match self {
+    /// The letter or digit that is printed, `T` for the ten.
+    pub fn letter(self) -> &'static str
+        ensures { result.now ≡ rank_letter self }
+    {
+        match self {
             Rank::Two => "2",
             Rank::Three => "3",
             Rank::Four => "4",
@@ -79,7 +78,15 @@ impl fmt::Display for Rank {
             Rank::Queen => "Q",
             Rank::King => "K",
             Rank::Ace => "A",
-        })
+        }
+    }
+}
+
+impl fmt::Display for Rank {
+    ghost output = { λ rank. Some (rank_letter rank) };
+
+    fn fmt<W: fmt::Write>(&self, f: &mut fmt::Formatter<W>) -> fmt::Result {
+        f.write_str(self.letter())
     }
 }
 

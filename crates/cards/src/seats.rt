@@ -1,6 +1,6 @@
 //! The seats of the table and the two sides.
 
-ghost use Rattle.std.specs.Prelude.{◌≡◌, ◌<◌, Some};
+ghost use Rattle.std.specs.Prelude.{◌≡◌, ◌<◌, ◌↔◌, Some};
 ghost use Rattle.cards.specs.Seats.{next_of, seat_number, side_of, other_side, seat_letter, side_letters};
 
 use std::fmt;
@@ -60,18 +60,38 @@ impl Seat {
             Seat::East | Seat::West => Side::EastWest,
         }
     }
+
+    /// The letter that is printed: `N`, `E`, `S` or `W`.
+    pub fn letter(self) -> &'static str
+        ensures { result.now ≡ seat_letter self }
+    {
+        match self {
+            Seat::North => "N",
+            Seat::East => "E",
+            Seat::South => "S",
+            Seat::West => "W",
+        }
+    }
+
+    /// The seat that this letter names, where it names one.
+    pub fn of_letter(letter: &str) -> Option<Seat>
+        ensures { (seat : Seat) → (result ≡ Some seat) ↔ (letter.now ≡ seat_letter seat) }
+    {
+        match letter {
+            "N" => Some(Seat::North),
+            "E" => Some(Seat::East),
+            "S" => Some(Seat::South),
+            "W" => Some(Seat::West),
+            _ => None,
+        }
+    }
 }
 
 impl fmt::Display for Seat {
     ghost output = { λ seat. Some (seat_letter seat) };
 
     fn fmt<W: fmt::Write>(&self, f: &mut fmt::Formatter<W>) -> fmt::Result {
-        f.write_str(match self {
-            Seat::North => "N",
-            Seat::East => "E",
-            Seat::South => "S",
-            Seat::West => "W",
-        })
+        f.write_str(self.letter())
     }
 }
 
@@ -85,15 +105,22 @@ impl Side {
             Side::EastWest => Side::NorthSouth,
         }
     }
+
+    /// The letters that are printed: `NS` or `EW`.
+    pub fn letters(self) -> &'static str
+        ensures { result.now ≡ side_letters self }
+    {
+        match self {
+            Side::NorthSouth => "NS",
+            Side::EastWest => "EW",
+        }
+    }
 }
 
 impl fmt::Display for Side {
     ghost output = { λ side. Some (side_letters side) };
 
     fn fmt<W: fmt::Write>(&self, f: &mut fmt::Formatter<W>) -> fmt::Result {
-        f.write_str(match self {
-            Side::NorthSouth => "NS",
-            Side::EastWest => "EW",
-        })
+        f.write_str(self.letters())
     }
 }

@@ -1,6 +1,6 @@
 //! Suits and trumps.
 
-ghost use Rattle.std.specs.Prelude.{◌≡◌, ◌<◌, Some};
+ghost use Rattle.std.specs.Prelude.{◌≡◌, ◌<◌, ◌↔◌, Some};
 ghost use Rattle.cards.specs.Pack.{suit_at, suit_number, suit_letter, trump_letters};
 
 use std::fmt;
@@ -39,18 +39,25 @@ impl Suit {
     {
         Suit::ALL[number]
     }
+
+    /// The letter that is printed: `S`, `H`, `D` or `C`.
+    pub fn letter(self) -> &'static str
+        ensures { result.now ≡ suit_letter self }
+    {
+        match self {
+            Suit::Spades => "S",
+            Suit::Hearts => "H",
+            Suit::Diamonds => "D",
+            Suit::Clubs => "C",
+        }
+    }
 }
 
 impl fmt::Display for Suit {
     ghost output = { λ suit. Some (suit_letter suit) };
 
     fn fmt<W: fmt::Write>(&self, f: &mut fmt::Formatter<W>) -> fmt::Result {
-        f.write_str(match self {
-            Suit::Spades => "S",
-            Suit::Hearts => "H",
-            Suit::Diamonds => "D",
-            Suit::Clubs => "C",
-        })
+        f.write_str(self.letter())
     }
 }
 
@@ -72,15 +79,36 @@ impl Trump {
         Trump::Suit(Suit::Diamonds),
         Trump::Suit(Suit::Clubs),
     ];
+
+    /// The letters that are printed: `NT`, or the letter of the trump suit.
+    pub fn letters(self) -> &'static str
+        ensures { result.now ≡ trump_letters self }
+    {
+        match self {
+            Trump::Nt => "NT",
+            Trump::Suit(suit) => suit.letter(),
+        }
+    }
+
+    /// The denomination that these letters name, where they name one.
+    pub fn of_letters(letters: &str) -> Option<Trump>
+        ensures { (trump : Trump) → (result ≡ Some trump) ↔ (letters.now ≡ trump_letters trump) }
+    {
+        match letters {
+            "NT" => Some(Trump::Nt),
+            "S" => Some(Trump::Suit(Suit::Spades)),
+            "H" => Some(Trump::Suit(Suit::Hearts)),
+            "D" => Some(Trump::Suit(Suit::Diamonds)),
+            "C" => Some(Trump::Suit(Suit::Clubs)),
+            _ => None,
+        }
+    }
 }
 
 impl fmt::Display for Trump {
     ghost output = { λ trump. Some (trump_letters trump) };
 
     fn fmt<W: fmt::Write>(&self, f: &mut fmt::Formatter<W>) -> fmt::Result {
-        match self {
-            Trump::Nt => f.write_str("NT"),
-            Trump::Suit(suit) => suit.fmt(f),
-        }
+        f.write_str(self.letters())
     }
 }

@@ -1,7 +1,7 @@
 //! What no clause says: that the letters, the numbers and the refusals are those that a bridge player expects.
 use crate::{
     Buffer, Bytes, Card, DeviceFault, Layout, LayoutFault, Rank, Seat, Side, Sink, Source, Suit,
-    Trump, write_all,
+    Trump, write_all, write_number,
 };
 use std::test::Fail;
 
@@ -137,5 +137,21 @@ fn writes_in_pieces(rt: HostRuntime) -> Result<(), Fail> {
     let mut beginning = Buffer::new(rt.alloc(), 7, 0)?;
     assert_eq!(rt; write_all(&mut beginning, b"0123456789"), Err(DeviceFault));
     assert_eq!(rt; beginning.bytes(), b"0123456".as_slice());
+    Ok(())
+}
+
+#[test]
+fn numbers(rt: HostRuntime) -> Result<(), Fail> {
+    for (number, digits) in [
+        (0, b"0".as_slice()),
+        (9, b"9"),
+        (10, b"10"),
+        (1009, b"1009"),
+        (u64::MAX, b"18446744073709551615"),
+    ] {
+        let mut sink = Buffer::new(rt.alloc(), 20, 20)?;
+        assert_eq!(rt; write_number(&mut sink, number), Ok(()));
+        assert_eq!(rt; sink.bytes(), digits);
+    }
     Ok(())
 }

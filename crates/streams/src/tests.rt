@@ -1,0 +1,90 @@
+//! Readers and writers that tell their bytes, and such as fail.
+
+use crate::{InputFault, ReaderSource, WriterSink, read_all};
+use cards::{Bytes, DeviceFault, Sink, Source};
+use std::io;
+use std::io::BufWriter;
+use std::test::Fail;
+
+/// A writer that takes no byte, or a reader and a writer that fail.
+#[derive(Drop)]
+struct Broken {
+    takes_none: bool,
+}
+
+impl io::Write for Broken {
+    fn write(&mut self, _buf: &[u8]) -> io::Result<usize> {
+        if self.takes_none {
+            return Ok(0);
+        }
+        Err(io::Error::from(io::ErrorKind::BrokenPipe))
+    }
+
+    fn flush(&mut self) -> io::Result<()> {
+        Ok(())
+    }
+}
+
+impl io::Read for Broken {
+    fn read(&mut self, _buf: &mut [u8]) -> io::Result<usize> {
+        Err(io::Error::from(io::ErrorKind::BrokenPipe))
+    }
+}
+
+#[test]
+fn readers(rt: HostRuntime) {
+    let mut buffer = [0; 4];
+    let mut source = ReaderSource::new(b"abcdef".as_slice());
+    assert_eq!(rt; source.read(&mut buffer), Ok(4));
+    assert_eq!(rt; &buffer, b"abcd");
+    assert_eq!(rt; source.read(&mut buffer), Ok(2));
+    assert_eq!(rt; &buffer, b"efcd");
+    assert_eq!(rt; source.read(&mut buffer), Ok(0));
+    let mut broken = ReaderSource::new(Broken { takes_none: false });
+    assert_eq!(rt; broken.read(&mut buffer), Err(DeviceFault));
+    assert_eq!(rt; &buffer, b"efcd");
+}
+
+#[test]
+fn writers(rt: HostRuntime) {
+    let mut sink = WriterSink::new(Vec::new(rt.alloc()));
+    assert_eq!(rt; sink.write(b"abc"), Ok(3));
+    assert_eq!(rt; sink.write(b""), Ok(0));
+    for takes_none in [false, true] {
+        let mut broken = WriterSink::new(Broken { takes_none });
+        assert_eq!(rt; broken.write(b"abc"), Err(DeviceFault));
+    }
+}
+
+/// What the buffer holds back goes out by the flush.
+#[test]
+fn flushes(rt: HostRuntime) -> Result<(), Fail> {
+    let mut sink = WriterSink::new(BufWriter::new(rt.alloc(), Vec::new(rt.alloc()))?);
+    assert_eq!(rt; sink.write(b"NS 1\n"), Ok(5));
+    assert_eq!(rt; sink.writer.get_ref().as_slice(), b"".as_slice());
+    assert_eq!(rt; sink.flush(), Ok(()));
+    assert_eq!(rt; sink.writer.get_ref().as_slice(), b"NS 1\n".as_slice());
+    for takes_none in [false, true] {
+        let mut broken = WriterSink::new(BufWriter::new(rt.alloc(), Broken { takes_none })?);
+        assert_eq!(rt; broken.write(b"NS 1\n"), Ok(5));
+        assert_eq!(rt; broken.flush(), Err(DeviceFault));
+    }
+    Ok(())
+}
+
+/// A text longer than two pieces, and a source that fails in its second call.
+#[test]
+fn whole_inputs(rt: HostRuntime) -> Result<(), Fail> {
+    let text = [b'x'; 40000];
+    let mut source = ReaderSource::new(text.as_slice());
+    assert_eq!(rt;
+        read_all(rt.alloc(), &mut source).map(|all| all.len()),
+        Ok(text.len())
+    );
+    let mut failing = Bytes::failing_after(&text, 100, 1);
+    assert_eq!(rt;
+        read_all(rt.alloc(), &mut failing).map(|all| all.len()),
+        Err(InputFault::Read)
+    );
+    Ok(())
+}

@@ -1,0 +1,60 @@
+//! A writer as a sink for bytes.
+
+ghost use Rattle.std.specs.Prelude.{◌≡◌};
+ghost use Rattle.std.specs.Io.Buffered.{writer_inner};
+ghost use Rattle.cards.specs.Devices.{one_more};
+ghost use Rattle.streams.specs.Flushes.{Flushes};
+
+use cards::{DeviceFault, Sink};
+use std::io::{BufWriter, Write};
+
+/// A writer as a sink for bytes. A writer that takes no byte of a piece has failed.
+#[derive(Drop)]
+pub struct WriterSink<W> {
+    pub(crate) writer: W,
+    failures: u64,
+}
+
+impl<W: Write> WriterSink<W> {
+    /// The writer, with no call failed yet.
+    pub fn new(writer: W) -> WriterSink<W>
+        ensures { ⟦<WriterSink<W> as Sink>⟧.state result ≡ record { bytes = W.contents writer; failed = 0 } }
+    {
+        WriterSink {
+            writer,
+            failures: 0,
+        }
+    }
+
+    /// Counts a call that failed.
+    fn failed(&mut self) -> DeviceFault
+        ensures { self.new ≡ record self.old { failures = one_more self.old.failures } }
+    {
+        self.failures = self.failures.saturating_add(1);
+        DeviceFault
+    }
+}
+
+impl<W: Write + Drop> WriterSink<BufWriter<W>> {
+    /// Hands on all that the buffer holds back: the writer behind it has got everything that the sink took.
+    pub fn flush(&mut self) -> Result<(), DeviceFault>
+        ensures { Flushes (⟦<WriterSink<BufWriter<W>> as Sink>⟧.state self.old) (⟦<WriterSink<BufWriter<W>> as Sink>⟧.state self.new)
+            (W.contents (writer_inner self.new.writer)) result }
+    {
+        match self.writer.flush() {
+            Ok(()) => Ok(()),
+            Err(_) => Err(self.failed()),
+        }
+    }
+}
+
+impl<W: Write> Sink for WriterSink<W> {
+    ghost state = { λ sink. record { bytes = W.contents sink.writer; failed = sink.failures } };
+
+    fn write(&mut self, piece: &[u8]) -> Result<usize, DeviceFault> {
+        match self.writer.write(piece) {
+            Ok(count) if count > 0 || piece.is_empty() => Ok(count),
+            _ => Err(self.failed()),
+        }
+    }
+}
