@@ -1,7 +1,6 @@
-pub mod WriteLemmas
 pub mod NumberLemmas
-pub mod CountLemmas
 pub mod TableLemmas
+pub mod BoardLemmas
 pub mod LinesBack
 pub mod CalmTexts
 pub mod Dealt

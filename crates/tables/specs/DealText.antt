@@ -17,7 +17,8 @@ ranks_falling = Ace ∷ King ∷ Queen ∷ Jack ∷ Ten ∷ Nine ∷ Eight ∷ S
 
 -- the letter of a card that the seat holds, and nothing for another
 abbrev pub held_letter : Deal → Seat → Suit → Rank → List ℕ
-held_letter deal seat suit rank = if is_held_by seat (holder_of deal (card_of suit rank)) then rank_letter rank else []
+held_letter deal seat suit rank =
+    if is_held_by seat (holder_of deal (card_of suit rank)) then rank_letter rank else []
 
 -- the letters of the seat's cards in a suit
 unfoldable pub group_text : Deal → Seat → Suit → List ℕ

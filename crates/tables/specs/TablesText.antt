@@ -17,9 +17,9 @@ use Rattle.tables.specs.DealText.{deal_text}
 abbrev pub Results : Type 0
 Results = Seat → Trump → Option ℕ
 
--- a line ends by LF
-abbrev pub line : List ℕ → List ℕ
-line text = text ++ 10 ∷ []
+-- a text and its line feed
+abbrev pub ended_line : List ℕ → List ℕ
+ended_line text = text ++ 10 ∷ []
 
 -- a tag pair on a line of its own: the opening bracket, the name, a space, the value in quotes, the closing bracket
 abbrev pub tag_line : List ℕ → List ℕ → List ℕ
@@ -34,9 +34,17 @@ deal_value None = codes "?"
 abbrev pub denominations : List Trump
 denominations = trump.Nt ∷ trump.Suit Spades ∷ trump.Suit Hearts ∷ trump.Suit Diamonds ∷ trump.Suit Clubs ∷ []
 
--- the twenty entries of a table: by declarer North, South, East, West, and within that by denomination
+-- the declarers in the order of the rows
+abbrev pub declarers : List Seat
+declarers = North ∷ South ∷ East ∷ West ∷ []
+
+-- the entries of a declarer
+abbrev pub entries_of : Seat → List (Seat × Trump)
+entries_of declarer = map (λ denomination. (declarer, denomination)) denominations
+
+-- the twenty entries of a table: by declarer, and within that by denomination
 abbrev pub entries : List (Seat × Trump)
-entries = flat_map (λ declarer. map (λ denomination. (declarer, denomination)) denominations) (North ∷ South ∷ East ∷ West ∷ [])
+entries = flat_map entries_of declarers
 
 -- a text right in two places
 abbrev pub right_in_two : List ℕ → List ℕ
@@ -45,7 +53,8 @@ right_in_two text = if nat_lt (length text) 2 then 32 ∷ text else text
 -- a row: the declarer, the denomination and the result
 unfoldable pub row_text : Seat → Trump → ℕ → List ℕ
 row_text declarer denomination tricks =
-    (seat_letter declarer ++ (32 ∷ [])) ++ (right_in_two (trump_letters denomination) ++ (32 ∷ (right_in_two (decimal tricks) ++ (10 ∷ []))))
+    (seat_letter declarer ++ (32 ∷ []))
+    ++ (right_in_two (trump_letters denomination) ++ (32 ∷ (right_in_two (decimal tricks) ++ (10 ∷ []))))
 
 -- the row of an entry that has a result
 abbrev pub result_row : Seat → Trump → Option ℕ → List ℕ
@@ -59,20 +68,26 @@ entry_row results entry = result_row entry.0 entry.1 (results entry.0 entry.1)
 unfoldable pub rows_text : Results → List ℕ
 rows_text results = flat_map (entry_row results) entries
 
--- how many of the twenty entries have a result
+-- how many of these entries have a result
+abbrev pub published_among : Results → List (Seat × Trump) → ℕ
+published_among results some = count_by (λ entry. is_some (results entry.0 entry.1)) some
+
+-- how many of the twenty
 unfoldable pub published_count : Results → ℕ
-published_count results = count_by (λ entry. is_some (results entry.0 entry.1)) entries
+published_count results = published_among results entries
 
 unfoldable pub is_complete : Results → Bool
 is_complete results = published_count results == 20
 
 -- the heading of a complete table
 unfoldable pub table_tag : List ℕ
-table_tag = line (codes "[OptimumResultTable " ++ (34 ∷ codes "Declarer;Denomination") ++ (92 ∷ codes "2R;Result") ++ (92 ∷ codes "2R") ++ (34 ∷ 93 ∷ []))
+table_tag =
+    ended_line (codes "[OptimumResultTable " ++ (34 ∷ codes "Declarer;Denomination")
+    ++ (92 ∷ codes "2R;Result") ++ (92 ∷ codes "2R") ++ (34 ∷ 93 ∷ []))
 
 -- what stands in place of an incomplete table
 unfoldable pub incomplete_line : ℕ → List ℕ
-incomplete_line published = codes "; table incomplete: " ++ (decimal published ++ line (codes " of 20"))
+incomplete_line published = codes "; table incomplete: " ++ (decimal published ++ ended_line (codes " of 20"))
 
 -- the table of a board
 unfoldable pub table_text : Results → List ℕ
@@ -82,7 +97,8 @@ table_text results =
 -- one board: its name, its deal, its table, and an empty line
 unfoldable pub board_text : Board → Results → List ℕ
 board_text board results =
-    tag_line (codes "Board") board.name ++ (tag_line (codes "Deal") (deal_value board.deal) ++ (table_text results ++ (10 ∷ [])))
+    tag_line (codes "Board") board.name
+    ++ (tag_line (codes "Deal") (deal_value board.deal) ++ (table_text results ++ (10 ∷ [])))
 
 -- each board with its results, found by its place
 abbrev pub numbered_text : (ℕ → Results) → ℕ × Board → List ℕ
@@ -90,7 +106,8 @@ numbered_text results numbered = board_text numbered.1 (results numbered.0)
 
 -- the whole text
 unfoldable pub tables_text : List Board → (ℕ → Results) → List ℕ
-tables_text boards results = line (codes "% PBN 2.1") ++ flat_map (numbered_text results) (enumerate_from 0 boards)
+tables_text boards results =
+    ended_line (codes "% PBN 2.1") ++ flat_map (numbered_text results) (enumerate_from 0 boards)
 
 -- how many boards have a complete table
 unfoldable pub complete_count : List Board → (ℕ → Results) → ℕ

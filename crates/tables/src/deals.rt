@@ -2,11 +2,10 @@
 
 ghost use Rattle.std.specs.Prelude.{◌≡◌, ◌∷◌, codes};
 ghost use Rattle.cards.specs.Pack.{rank_letter};
+ghost use Rattle.cards.specs.Devices.{Writes};
 ghost use Rattle.tables.specs.DealText.{held_letter, group_text, hand_text, deal_text};
-ghost use Rattle.tables.specs.Writes.{Writes};
 
-use crate::pieces::put;
-use cards::{Card, DeviceFault, Layout, Rank, Seat, Sink, Suit};
+use cards::{Card, DeviceFault, Layout, Rank, Seat, Sink, Suit, write_all};
 
 /// The letter of a rank, in upper case.
 fn letter_of(rank: Rank) -> &'static [u8]
@@ -30,74 +29,74 @@ fn letter_of(rank: Rank) -> &'static [u8]
 }
 
 /// Writes the letter of a card that the seat holds, and nothing for another.
-fn put_card<S: Sink>(
+fn write_card<S: Sink>(
     sink: &mut S,
     layout: &Layout,
     seat: Seat,
     card: Card,
 ) -> Result<(), DeviceFault>
-    ensures { Writes result (S.held sink.old) (S.held sink.new) (S.write_failures sink.old) (S.write_failures sink.new) (held_letter layout.now seat card.suit card.rank) }
+    ensures { Writes (S.state sink.old) (S.state sink.new) (held_letter layout.now seat card.suit card.rank) result }
 {
     if layout.holds(seat, card) {
-        put(sink, letter_of(card.rank))
+        write_all(sink, letter_of(card.rank))
     } else {
         Ok(())
     }
 }
 
 /// Writes the seat's cards of a suit, the ranks falling.
-fn put_group<S: Sink>(
+fn write_group<S: Sink>(
     sink: &mut S,
     layout: &Layout,
     seat: Seat,
     suit: Suit,
 ) -> Result<(), DeviceFault>
-    ensures { Writes result (S.held sink.old) (S.held sink.new) (S.write_failures sink.old) (S.write_failures sink.new) (group_text layout.now seat suit) }
+    ensures { Writes (S.state sink.old) (S.state sink.new) (group_text layout.now seat suit) result }
 {
     for rank in Rank::FALLING {
-        put_card(sink, layout, seat, Card { suit, rank })?;
+        write_card(sink, layout, seat, Card { suit, rank })?;
     }
     Ok(())
 }
 
 /// Writes a dot and the seat's cards of a suit.
-fn put_next_group<S: Sink>(
+fn write_next_group<S: Sink>(
     sink: &mut S,
     layout: &Layout,
     seat: Seat,
     suit: Suit,
 ) -> Result<(), DeviceFault>
-    ensures { Writes result (S.held sink.old) (S.held sink.new) (S.write_failures sink.old) (S.write_failures sink.new) (46 ∷ group_text layout.now seat suit) }
+    ensures { Writes (S.state sink.old) (S.state sink.new) (46 ∷ group_text layout.now seat suit) result }
 {
-    put(sink, b".")?;
-    put_group(sink, layout, seat, suit)
+    write_all(sink, b".")?;
+    write_group(sink, layout, seat, suit)
 }
 
 /// Writes the seat's hand.
-fn put_hand<S: Sink>(sink: &mut S, layout: &Layout, seat: Seat) -> Result<(), DeviceFault>
-    ensures { Writes result (S.held sink.old) (S.held sink.new) (S.write_failures sink.old) (S.write_failures sink.new) (hand_text layout.now seat) }
+fn write_hand<S: Sink>(sink: &mut S, layout: &Layout, seat: Seat) -> Result<(), DeviceFault>
+    ensures { Writes (S.state sink.old) (S.state sink.new) (hand_text layout.now seat) result }
 {
-    put_group(sink, layout, seat, Suit::Spades)?;
-    put_next_group(sink, layout, seat, Suit::Hearts)?;
-    put_next_group(sink, layout, seat, Suit::Diamonds)?;
-    put_next_group(sink, layout, seat, Suit::Clubs)
+    write_group(sink, layout, seat, Suit::Spades)?;
+    write_next_group(sink, layout, seat, Suit::Hearts)?;
+    write_next_group(sink, layout, seat, Suit::Diamonds)?;
+    write_next_group(sink, layout, seat, Suit::Clubs)
 }
 
 /// Writes a space and the seat's hand.
-fn put_next_hand<S: Sink>(sink: &mut S, layout: &Layout, seat: Seat) -> Result<(), DeviceFault>
-    ensures { Writes result (S.held sink.old) (S.held sink.new) (S.write_failures sink.old) (S.write_failures sink.new) (32 ∷ hand_text layout.now seat) }
+fn write_next_hand<S: Sink>(sink: &mut S, layout: &Layout, seat: Seat) -> Result<(), DeviceFault>
+    ensures { Writes (S.state sink.old) (S.state sink.new) (32 ∷ hand_text layout.now seat) result }
 {
-    put(sink, b" ")?;
-    put_hand(sink, layout, seat)
+    write_all(sink, b" ")?;
+    write_hand(sink, layout, seat)
 }
 
 /// Writes the value of the Deal tag for a layout.
-pub(crate) fn put_layout<S: Sink>(sink: &mut S, layout: &Layout) -> Result<(), DeviceFault>
-    ensures { Writes result (S.held sink.old) (S.held sink.new) (S.write_failures sink.old) (S.write_failures sink.new) (deal_text layout.now) }
+pub(crate) fn write_layout<S: Sink>(sink: &mut S, layout: &Layout) -> Result<(), DeviceFault>
+    ensures { Writes (S.state sink.old) (S.state sink.new) (deal_text layout.now) result }
 {
-    put(sink, b"N:")?;
-    put_hand(sink, layout, Seat::North)?;
-    put_next_hand(sink, layout, Seat::East)?;
-    put_next_hand(sink, layout, Seat::South)?;
-    put_next_hand(sink, layout, Seat::West)
+    write_all(sink, b"N:")?;
+    write_hand(sink, layout, Seat::North)?;
+    write_next_hand(sink, layout, Seat::East)?;
+    write_next_hand(sink, layout, Seat::South)?;
+    write_next_hand(sink, layout, Seat::West)
 }

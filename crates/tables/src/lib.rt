@@ -5,9 +5,9 @@
 #![tactic(auto)]
 
 mod deals;
-mod entries;
 mod laws;
 mod pieces;
+mod rows;
 mod sheet_text;
 mod sheets;
 mod tables;

@@ -1,12 +1,16 @@
-//! One piece of the text.
+//! A text of several pieces.
 
-ghost use Rattle.tables.specs.Writes.{Writes};
+ghost use Rattle.std.specs.List.{flat_map};
+ghost use Rattle.cards.specs.Devices.{Writes};
 
 use cards::{DeviceFault, Sink, write_all};
 
-/// Writes a piece.
-pub(crate) fn put<S: Sink>(sink: &mut S, piece: &[u8]) -> Result<(), DeviceFault>
-    ensures { Writes result (S.held sink.old) (S.held sink.new) (S.write_failures sink.old) (S.write_failures sink.new) piece.now }
+/// Writes the pieces, one behind the other.
+pub(crate) fn write_pieces<S: Sink>(sink: &mut S, pieces: &[&[u8]]) -> Result<(), DeviceFault>
+    ensures { Writes (S.state sink.old) (S.state sink.new) (flat_map (λ piece. piece.now) pieces.now) result }
 {
-    write_all(sink, piece)
+    for piece in pieces {
+        write_all(sink, piece)?;
+    }
+    Ok(())
 }

@@ -1,10 +1,10 @@
 //! Texts that are worked out by hand from the format.
 
-ghost use Rattle.std.specs.Prelude.{◌≡◌, ◌≤◌};
-ghost use Rattle.tables.specs.TestSheet.{by_north_south, by_east_west, tricks_of, declarer_place, denomination_place, test_result};
+ghost use Rattle.std.specs.Prelude.{◌≡◌, ◌<◌};
+ghost use Rattle.cards.specs.Orders.{trump_number};
 
 use crate::{Report, Sheet, write_sheet};
-use cards::{Buffer, Layout, Seat, Suit, Trump};
+use cards::{Buffer, Layout, Seat, Trump};
 use pbn_deals::{Board, BoardName, read_layout};
 use std::alloc::{AllocError, Global};
 use std::test::Fail;
@@ -41,81 +41,53 @@ W  C 13
 
 ";
 
-/// Boards of which the first so many rows have the results of four hands of one suit each.
+/// Its results, clockwise from North, and for each seat no-trump first and then the suits in their order.
+const RESULTS: &[u8; 20] = &[
+    0, 13, 0, 13, 0, // North
+    0, 0, 13, 0, 13, // East
+    0, 13, 0, 13, 0, // South
+    0, 0, 13, 0, 13, // West
+];
+
+/// Boards that all have these results, in the order of [`RESULTS`], and no others.
 #[derive(Drop)]
 struct TestSheet {
     boards: Vec<Board>,
-    published: usize,
+    results: &'static [u8],
 }
 
-fn by_north_south(declarer: Seat) -> u8
-    ensures { result ≡ by_north_south declarer }
-{
-    match declarer {
-        Seat::North | Seat::South => 13,
-        Seat::East | Seat::West => 0,
-    }
-}
-
-fn by_east_west(declarer: Seat) -> u8
-    ensures { result ≡ by_east_west declarer }
-{
-    match declarer {
-        Seat::North | Seat::South => 0,
-        Seat::East | Seat::West => 13,
-    }
-}
-
-fn tricks_of(declarer: Seat, trump: Trump) -> u8
-    ensures value { result ≡ tricks_of declarer trump }
-    ensures at_most_13 { result ≤ 13 }
+/// The place of the denomination in [`Trump::ALL`].
+fn number_of(trump: Trump) -> usize
+    ensures place { result ≡ trump_number trump }
+    ensures below { result < 5 }
 {
     match trump {
         Trump::Nt => 0,
-        Trump::Suit(Suit::Spades | Suit::Diamonds) => by_north_south(declarer),
-        Trump::Suit(Suit::Hearts | Suit::Clubs) => by_east_west(declarer),
-    }
-}
-
-fn declarer_place(declarer: Seat) -> usize
-    ensures value { result ≡ declarer_place declarer }
-    ensures below { result ≤ 15 }
-{
-    match declarer {
-        Seat::North => 0,
-        Seat::South => 5,
-        Seat::East => 10,
-        Seat::West => 15,
-    }
-}
-
-fn denomination_place(trump: Trump) -> usize
-    ensures value { result ≡ denomination_place trump }
-    ensures below { result ≤ 4 }
-{
-    match trump {
-        Trump::Nt => 0,
-        Trump::Suit(Suit::Spades) => 1,
-        Trump::Suit(Suit::Hearts) => 2,
-        Trump::Suit(Suit::Diamonds) => 3,
-        Trump::Suit(Suit::Clubs) => 4,
+        Trump::Suit(suit) => 1 + suit.number(),
     }
 }
 
 impl Sheet for TestSheet {
+    ghost use Rattle.std.specs.Prelude.{◌+◌, ◌*◌, min};
+    ghost use Rattle.std.specs.List.{slice_get};
+    ghost use Rattle.std.specs.Option.{option_map};
+    ghost use Rattle.cards.specs.Orders.{trump_number};
+    ghost use Rattle.cards.specs.Seats.{seat_number};
+
     ghost boards_of = { λ sheet. sheet.boards.items };
 
-    ghost results_of = { λ sheet board. test_result sheet.published };
+    ghost results_of = { λ sheet board declarer trump.
+        option_map (λ tricks. min tricks 13)
+        (slice_get sheet.results.now (5 * seat_number declarer + trump_number trump)) };
 
     fn boards(&self) -> &[Board] {
         self.boards.as_slice()
     }
 
     fn result(&self, _board: usize, declarer: Seat, trump: Trump) -> Option<u8> {
-        if declarer_place(declarer) + denomination_place(trump) < self.published {
-            Some(tricks_of(declarer, trump))
-        } else {
-            None
+        match self.results.get(5 * declarer.number() + number_of(trump)) {
+            Some(tricks) => Some((*tricks).min(13)),
+            None => None,
         }
     }
 }
@@ -125,19 +97,19 @@ fn sheet_of(
     alloc: Global,
     name: &[u8],
     deal: Option<Layout>,
-    published: usize,
+    results: &'static [u8],
 ) -> Result<TestSheet, AllocError> {
     let mut boards = Vec::new(alloc);
     boards.push(Board {
         name: BoardName::new(Vec::from_slice(alloc, name)?),
         deal,
     })?;
-    Ok(TestSheet { boards, published })
+    Ok(TestSheet { boards, results })
 }
 
 #[test]
 fn a_complete_table(rt: HostRuntime) -> Result<(), Fail> {
-    let sheet = sheet_of(rt.alloc(), b"1", Some(read_layout(ONE_SUIT_EACH)?), 20)?;
+    let sheet = sheet_of(rt.alloc(), b"1", Some(read_layout(ONE_SUIT_EACH)?), RESULTS)?;
     for greatest_piece in [1, 7, 1000] {
         let mut sink = Buffer::new(rt.alloc(), 400, greatest_piece)?;
         let report = write_sheet(&sheet, &mut sink)?;
@@ -156,7 +128,7 @@ fn a_complete_table(rt: HostRuntime) -> Result<(), Fail> {
 
 #[test]
 fn a_sink_that_is_full(rt: HostRuntime) -> Result<(), Fail> {
-    let sheet = sheet_of(rt.alloc(), b"1", Some(read_layout(ONE_SUIT_EACH)?), 20)?;
+    let sheet = sheet_of(rt.alloc(), b"1", Some(read_layout(ONE_SUIT_EACH)?), RESULTS)?;
     for room in 0..TABLE.len() {
         let mut sink = Buffer::new(rt.alloc(), room, 7)?;
         assert!(rt; write_sheet(&sheet, &mut sink).is_err(), "{room}");
@@ -167,15 +139,15 @@ fn a_sink_that_is_full(rt: HostRuntime) -> Result<(), Fail> {
 
 #[test]
 fn incomplete_tables(rt: HostRuntime) -> Result<(), Fail> {
-    let table: [(usize, &[u8]); 5] = [
-        (0, b"; table incomplete: 0 of 20\n"),
-        (1, b"; table incomplete: 1 of 20\n"),
-        (9, b"; table incomplete: 9 of 20\n"),
-        (10, b"; table incomplete: 10 of 20\n"),
-        (19, b"; table incomplete: 19 of 20\n"),
+    let table: [(&'static [u8], &[u8]); 5] = [
+        (&RESULTS[..0], b"; table incomplete: 0 of 20\n"),
+        (&RESULTS[..1], b"; table incomplete: 1 of 20\n"),
+        (&RESULTS[..9], b"; table incomplete: 9 of 20\n"),
+        (&RESULTS[..10], b"; table incomplete: 10 of 20\n"),
+        (&RESULTS[..19], b"; table incomplete: 19 of 20\n"),
     ];
-    for (published, line) in table {
-        let sheet = sheet_of(rt.alloc(), b"N\xE9 \\ ;", None, published)?;
+    for (results, line) in table {
+        let sheet = sheet_of(rt.alloc(), b"N\xE9 \\ ;", None, results)?;
         let mut sink = Buffer::new(rt.alloc(), 200, 50)?;
         let report = write_sheet(&sheet, &mut sink)?;
         assert_eq!(rt;
@@ -191,7 +163,7 @@ fn incomplete_tables(rt: HostRuntime) -> Result<(), Fail> {
         )?;
         text.extend_from_slice(line)?;
         text.extend_from_slice(b"\n")?;
-        assert_eq!(rt; sink.bytes(), text.as_slice(), "{published}");
+        assert_eq!(rt; sink.bytes(), text.as_slice(), "{}", results.len());
     }
     Ok(())
 }
@@ -202,7 +174,7 @@ fn boards_in_their_order(rt: HostRuntime) -> Result<(), Fail> {
         rt.alloc(),
         b"b",
         Some(read_layout(b"w:K.Q.. A.2.. .43.. ..J.9")?),
-        2,
+        &RESULTS[..2],
     )?;
     sheet.boards.push(Board {
         name: BoardName::new(Vec::new(rt.alloc())),
@@ -230,7 +202,7 @@ fn boards_in_their_order(rt: HostRuntime) -> Result<(), Fail> {
     assert_eq!(rt; sink.bytes(), text);
     let empty = TestSheet {
         boards: Vec::new(rt.alloc()),
-        published: 20,
+        results: RESULTS,
     };
     let mut sink = Buffer::new(rt.alloc(), 10, 1)?;
     assert_eq!(rt;

@@ -1,0 +1,29 @@
+-- The boards with their places, one by one.
+use Rattle.std.proofs.Common.{◌≡◌, ℕ, ◌+◌, ◌<◌, Bool, true, false, List, length, take, get_or, sym, ◌∙◌, ap, arith, count_by}
+use Rattle.std.specs.List.{enumerate_from}
+use Rattle.std.proofs.lemmas.List.FromFn.{get_or-enumerate_from, length-enumerate_from}
+use Rattle.std.proofs.lemmas.List.Sums.{count_by_more_yes, count_by_more_no}
+use Rattle.pbn_deals.specs.declared.boards.Board.{Board}
+use Rattle.tables.specs.TablesText.{Results, is_complete, board_text, numbered_text}
+
+module _ (boards : List Board) (results : ℕ → Results) (place : ℕ) (board : Board) (within : place < length boards) (is : board ≡ get_or boards place board) where
+  pub place-within : place < length (enumerate_from 0 boards)
+  place-within = omega (arith, within, length-enumerate_from 0 boards)
+
+  at-place : get_or (enumerate_from 0 boards) place (0, board) ≡ (place, board)
+  at-place =
+      let same : 0 + place ≡ place = omega arith in
+      get_or-enumerate_from 0 boards place (0, board) within
+      ∙ (ap (λ n. (n, get_or boards place board)) same ∙ ap (λ b. (place, b)) (sym is))
+
+  pub text-at : numbered_text results (get_or (enumerate_from 0 boards) place (0, board)) ≡ board_text board (results place)
+  text-at = ap (numbered_text results) at-place
+
+  is_complete-at : (flag : Bool) → is_complete (results place) ≡ flag → is_complete (results (get_or (enumerate_from 0 boards) place (0, board)).0) ≡ flag
+  is_complete-at flag e = ap (λ (numbered : ℕ × Board). is_complete (results numbered.0)) at-place ∙ e
+
+  pub counts-one : is_complete (results place) ≡ true → count_by (λ numbered. is_complete (results numbered.0)) (take (place + 1) (enumerate_from 0 boards)) ≡ count_by (λ numbered. is_complete (results numbered.0)) (take place (enumerate_from 0 boards)) + 1
+  counts-one e = count_by_more_yes (λ (numbered : ℕ × Board). is_complete (results numbered.0)) (enumerate_from 0 boards) place (0, board) place-within (is_complete-at true e)
+
+  pub counts-none : is_complete (results place) ≡ false → count_by (λ numbered. is_complete (results numbered.0)) (take (place + 1) (enumerate_from 0 boards)) ≡ count_by (λ numbered. is_complete (results numbered.0)) (take place (enumerate_from 0 boards))
+  counts-none e = count_by_more_no (λ (numbered : ℕ × Board). is_complete (results numbered.0)) (enumerate_from 0 boards) place (0, board) place-within (is_complete-at false e)

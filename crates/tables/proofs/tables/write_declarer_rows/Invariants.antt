@@ -1,0 +1,14 @@
+-- The rows of the denominations so far have gone out.
+use Rattle.std.proofs.Common.{◌≡◌, take}
+use Rattle.std.specs.List.{flat_map}
+use Rattle.cards.specs.Devices.{Adds}
+use Rattle.tables.specs.TablesText.{entry_row}
+use Rattle.cards.specs.declared.suits.Trump.{Trump}
+use Rattle.tables.specs.TablesText.{denominations}
+use Rattle.tables.proofs.tables.write_declarer_rows.Given as goal
+
+abbrev pub invariant-loop-trump : goal.invariant-loop-trump
+invariant-loop-trump g l = record {
+  items : l.trump-items ≡ denominations;
+  wrote : Adds (g.S.Sink.state l.fn.sink) (g.S.Sink.state l.sink) (flat_map (λ (denomination : Trump). entry_row (g.T.Sheet.results_of l.sheet l.board) (l.declarer, denomination)) (take l.trump-index denominations));
+}
