@@ -2,9 +2,8 @@
 use Rattle.std.proofs.Common.{◌≡◌, take}
 use Rattle.std.specs.List.{flat_map}
 use Rattle.cards.specs.Devices.{Adds}
-use Rattle.tables.specs.TablesText.{entry_row}
 use Rattle.cards.specs.declared.suits.Trump.{Trump}
-use Rattle.tables.specs.TablesText.{denominations}
+use Rattle.tables.specs.TablesText.{denominations, entry_row}
 use Rattle.tables.proofs.tables.write_declarer_rows.Given as goal
 
 abbrev pub invariant-loop-trump : goal.invariant-loop-trump
