@@ -1,11 +1,11 @@
 -- A sheet without results has no complete table.
-use Rattle.std.proofs.Common.{◌≡◌, ℕ, ◌+◌, List, [], ◌∷◌, false, cond, refl, sym, ◌∙◌, ap, arith}
+use Rattle.std.proofs.Common.{◌≡◌, ℕ, List, [], ◌∷◌, false, cond, refl, arith}
 use Rattle.std.specs.Prelude.{count_by}
 use Rattle.std.specs.List.{enumerate_from}
 use Rattle.std.proofs.lemmas.List.Sums.{sum_by-cons}
 use Rattle.pbn_deals.specs.declared.boards.Board.{Board}
-use Rattle.tables.specs.TablesText.{Results, is_complete, published_count, complete_count}
-use Rattle.ddfarm.specs.BlankSheets.{no_results}
+use Rattle.tables.specs.TablesText.{is_complete, published_count, complete_count}
+use Rattle.ddfarm.specs.Blanks.{no_results}
 
 none_complete : (board : ℕ) → is_complete (no_results board) ≡ false
 unfolding is_complete published_count

@@ -1,3 +1,2 @@
 pub mod BlankLemmas
-pub mod InputLemmas
-pub mod StaysLemmas
+pub mod TellLemmas

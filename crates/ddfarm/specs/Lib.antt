@@ -1,7 +1,5 @@
-pub mod PlainLine
 pub mod Statuses
-pub mod Inputs
-pub mod Faults
-pub mod BlankSheets
+pub mod PlainLine
 pub mod Blanks
 pub mod Runs
+pub mod Commands

@@ -1,13 +1,13 @@
 -- What `plain` writes for the bytes of a layout, and when it refuses them.
-use Rattle.std.specs.Prelude.{ℕ, ◌+◌, ◌<◌, ◌≤◌, List, [], ◌∷◌, ◌++◌, Option, Result, Ok, Err, codes}
+use Rattle.std.specs.Prelude.{◌≡◌, ℕ, ◌+◌, ◌<◌, ◌≤◌, List, [], ◌∷◌, ◌++◌, Result, Ok, Err, codes}
 use Rattle.cards.specs.declared.seats.Seat.{Seat}
 use Rattle.cards.specs.declared.suits.Trump.{Trump}
 use Rattle.cards.specs.Deal.{Deal, size_of}
-use Rattle.cards.specs.Devices.{AddsWhereTold, AddsBeginning, StaysWhereTold}
+use Rattle.cards.specs.Devices.{Device, Adds, AddsBeginning}
 use Rattle.pbn_deals.specs.LayoutValue.{SaysLayout}
 use Rattle.strategies.specs.Values.{IsPlainValue}
-use Rattle.ddfarm.specs.declared.plain.PlainFault.{PlainFault}
-use Rattle.ddfarm.specs.declared.plain.PlainFault.TheVariants.{Layout, TooLarge, Write}
+use Rattle.ddfarm.specs.declared.faults.RunFault.{RunFault}
+use Rattle.ddfarm.specs.declared.faults.RunFault.TheVariants.{OutOfMemory, Read, Write, NotText, Layout, TooLarge, Pbn}
 
 -- the line: `NS `, the digit of the number, LF
 abbrev pub line_of : ℕ → List ℕ
@@ -27,11 +27,15 @@ pub record IsTooLarge (value : List ℕ) : Type 0 where
   pub spelt : SaysLayout value (Ok deal)
   pub large : 4 < size_of deal
 
--- What was answered, and what the sink holds after it and before it, where it tells that.
-abbrev pub MeetsPlainLine : List ℕ → Seat → Trump → Option (List ℕ) → Option (List ℕ) → Result Unit PlainFault → Type 0
-MeetsPlainLine value leader trump told told' (Ok _) =
-    (tricks : ℕ) × HasPlainValue value leader trump tricks × AddsWhereTold told told' (line_of tricks)
-MeetsPlainLine value leader trump told told' (Err (Layout fault)) = SaysLayout value (Err fault) × StaysWhereTold told told'
-MeetsPlainLine value leader trump told told' (Err TooLarge) = IsTooLarge value × StaysWhereTold told told'
-MeetsPlainLine value leader trump told told' (Err Write) =
-    (tricks : ℕ) × HasPlainValue value leader trump tricks × AddsBeginning told told' (line_of tricks)
+-- What was answered, and what the sink has got. With a refusal nothing was written.
+abbrev pub MeetsPlainLine : List ℕ → Seat → Trump → Device → Device → Result Unit RunFault → Type 0
+MeetsPlainLine value leader trump old new (Ok _) =
+    (tricks : ℕ) × HasPlainValue value leader trump tricks × Adds old new (line_of tricks)
+MeetsPlainLine value leader trump old new (Err Write) =
+    (tricks : ℕ) × HasPlainValue value leader trump tricks × AddsBeginning old new (line_of tricks)
+MeetsPlainLine value leader trump old new (Err (Layout fault)) = SaysLayout value (Err fault) × (new ≡ old)
+MeetsPlainLine value leader trump old new (Err TooLarge) = IsTooLarge value × (new ≡ old)
+MeetsPlainLine value leader trump old new (Err OutOfMemory) = ⊥
+MeetsPlainLine value leader trump old new (Err Read) = ⊥
+MeetsPlainLine value leader trump old new (Err NotText) = ⊥
+MeetsPlainLine value leader trump old new (Err (Pbn fault)) = ⊥

@@ -1,27 +1,49 @@
--- What a run does for what was asked, and the exit status that it answers.
-use Rattle.std.specs.Prelude.{◌≡◌, ◌<◌, ℕ, Result, Ok, Err, cond, nat_lt}
+-- What a run does for what was asked, and how it ends.
+use Rattle.std.specs.Prelude.{◌≡◌, Result, Ok, Err, nat_lt, if◌then◌else◌, ◌⊎◌, Option, List, ℕ}
+use Rattle.cards.specs.Devices.{Device}
 use Rattle.tables.specs.declared.sheets.Report.{Report}
-use Rattle.ddfarm.specs.declared.plain.PlainFault.{PlainFault}
-use Rattle.ddfarm.specs.declared.faults.MakeFault.{MakeFault}
+use Rattle.streams.specs.Flushes.{HandsOn}
+use Rattle.cards.specs.Devices.{Fails}
+use Rattle.ddfarm.specs.declared.faults.RunFault.{RunFault}
+use Rattle.ddfarm.specs.declared.faults.RunFault.TheVariants.{Write}
+use Rattle.ddfarm.specs.declared.statuses.Status.{Status}
+use Rattle.ddfarm.specs.declared.statuses.Status.TheVariants.{Done, Failed, Refused, Incomplete}
 use Rattle.ddfarm.specs.declared.requests.Request.{Request}
-use Rattle.ddfarm.specs.declared.requests.Request.TheVariants.{Plain, Table}
-use Rattle.ddfarm.specs.Statuses.{status_of_plain, status_of_make}
+use Rattle.ddfarm.specs.declared.requests.Request.TheVariants.{Plain, Tables}
+use Rattle.ddfarm.specs.Statuses.{fault_status, told_line, IsTold}
 use Rattle.ddfarm.specs.PlainLine.{MeetsPlainLine}
-use Rattle.ddfarm.specs.Blanks.{Told, MakesBlank}
+use Rattle.ddfarm.specs.Blanks.{MakesBlank}
 
--- 0 where the line was written
-abbrev pub status_after_plain : Result Unit PlainFault → ℕ
-status_after_plain (Ok _) = 0
-status_after_plain (Err fault) = status_of_plain fault
+-- a table is incomplete, or all are complete
+abbrev pub report_status : Report → Status
+report_status report = if nat_lt report.complete report.boards then Incomplete else Done
 
--- 0 where all tables are complete, and 3 where one isn't
-abbrev pub status_after_tables : Result Report MakeFault → ℕ
-status_after_tables (Ok report) = cond (nat_lt report.complete report.boards) 3 0
-status_after_tables (Err fault) = status_of_make fault
+-- What came of a request, and what its devices have given and got. A single layout leaves the input as it was.
+abbrev pub Does : Request → Device → Device → Device → Device → Result Status RunFault → Type 0
+Does (Plain layout leader trump) source source' sink sink' (Ok status) =
+    (status ≡ Done) × (source' ≡ source) × MeetsPlainLine layout.now leader trump sink sink' (Ok tt)
+Does (Plain layout leader trump) source source' sink sink' (Err fault) =
+    (source' ≡ source) × MeetsPlainLine layout.now leader trump sink sink' (Err fault)
+Does Tables source source' sink sink' (Ok status) =
+    (report : Report) × (status ≡ report_status report) × MakesBlank source source' sink sink' (Ok report)
+Does Tables source source' sink sink' (Err fault) = MakesBlank source source' sink sink' (Err fault)
 
--- what was written is what the answer to the request says of it, and the status is that answer's
-abbrev pub MeetsRequest : Request → Told → Told → ℕ → Type 0
-MeetsRequest (Plain layout leader trump) source sink status =
-    (answer : Result Unit PlainFault) × MeetsPlainLine layout.now leader trump sink.before sink.after answer × (status ≡ status_after_plain answer)
-MeetsRequest Table source sink status =
-    (answer : Result Report MakeFault) × MakesBlank source sink answer × (status ≡ status_after_tables answer)
+-- how the run ends: a fault is told on the error output, which nothing else touches
+abbrev pub Ends : Result Status RunFault → Device → Device → Status → Type 0
+Ends (Ok answer) errors errors' status = (status ≡ answer) × (errors' ≡ errors)
+Ends (Err fault) errors errors' status = (status ≡ fault_status fault) × IsTold errors errors' (told_line fault)
+
+-- the run of a request
+pub record MeetsRequest (request : Request) (source source' sink sink' errors errors' : Device) (status : Status) : Type 0 where
+  pub answer : Result Status RunFault
+  pub does : Does request source source' sink sink' answer
+  pub ends : Ends answer errors errors' status
+
+-- The end of a run that was done: the writer behind the output's buffer has got all that was written, or that failed and
+-- was told. A run that failed or was refused stays so, and nothing more is done.
+abbrev pub Closes : Device → Device → Option (List ℕ) → Device → Device → Status → Status → Type 0
+Closes sink sink' behind errors errors' Failed ended = (ended ≡ Failed) × (sink' ≡ sink) × (errors' ≡ errors)
+Closes sink sink' behind errors errors' Refused ended = (ended ≡ Refused) × (sink' ≡ sink) × (errors' ≡ errors)
+Closes sink sink' behind errors errors' status ended =
+    ((ended ≡ status) × HandsOn sink sink' behind × (errors' ≡ errors))
+    ⊎ ((ended ≡ Failed) × Fails sink sink' × IsTold errors errors' (told_line Write))

@@ -1,36 +1,56 @@
--- The exit status that goes with each failure or refusal of a run: 1 memory or a device failed, 2 the command line or
--- the input is refused.
-use Rattle.std.specs.Prelude.{◌≡◌, ◌≢◌, ℕ, ◌≤◌, ◌⊎◌}
-use Rattle.clap.specs.declared.error.kind.ErrorKind.{ErrorKind}
-use Rattle.clap.specs.declared.error.kind.ErrorKind.TheVariants as kinds
-use Rattle.ddfarm.specs.declared.plain.PlainFault.{PlainFault}
-use Rattle.ddfarm.specs.declared.plain.PlainFault.TheVariants.{Layout, TooLarge, Write}
-use Rattle.ddfarm.specs.declared.faults.MakeFault.{MakeFault}
-use Rattle.ddfarm.specs.declared.faults.MakeFault.TheVariants as make
-use Rattle.ddfarm.specs.declared.words.WordsFault.{WordsFault}
-use Rattle.ddfarm.specs.declared.words.WordsFault.TheVariants.{OutOfMemory, NotText}
+-- How runs end: the exit status, and the line that tells why a run failed or was refused.
+use Rattle.std.specs.Prelude.{ℕ, List, [], ◌∷◌, ◌++◌, codes, Option, None, Some, ◌⊎◌}
+use Rattle.std.specs.Fmt.{decimal}
+use Rattle.cards.specs.Devices.{Device, Adds, AddsBeginning}
+use Rattle.pbn_deals.specs.Faults.{fault_text, fault_line}
+use Rattle.streams.specs.declared.inputs.InputFault.{InputFault}
+use Rattle.streams.specs.declared.inputs.InputFault.TheVariants as input
+use Rattle.ddfarm.specs.declared.faults.RunFault.{RunFault}
+use Rattle.ddfarm.specs.declared.faults.RunFault.TheVariants as fault
+use Rattle.ddfarm.specs.declared.statuses.Status.{Status}
+use Rattle.ddfarm.specs.declared.statuses.Status.TheVariants.{Done, Failed, Refused, Incomplete}
 
-abbrev pub status_of_plain : PlainFault → ℕ
-status_of_plain (Layout fault) = 2
-status_of_plain TooLarge = 2
-status_of_plain Write = 1
+-- the exit status of the process
+abbrev pub status_code : Status → ℕ
+status_code Done = 0
+status_code Failed = 1
+status_code Refused = 2
+status_code Incomplete = 3
 
-abbrev pub status_of_make : MakeFault → ℕ
-status_of_make make.OutOfMemory = 1
-status_of_make make.Read = 1
-status_of_make (make.Pbn fault) = 2
-status_of_make make.Write = 1
+-- memory or a device has failed, or the words or the input are refused
+abbrev pub fault_status : RunFault → Status
+fault_status fault.OutOfMemory = Failed
+fault_status fault.Read = Failed
+fault_status fault.Write = Failed
+fault_status fault.NotText = Refused
+fault_status (fault.Layout refusal) = Refused
+fault_status fault.TooLarge = Refused
+fault_status (fault.Pbn refusal) = Refused
 
-abbrev pub status_of_words : WordsFault → ℕ
-status_of_words OutOfMemory = 1
-status_of_words NotText = 2
+-- why an input could not be read
+abbrev pub input_fault : InputFault → RunFault
+input_fault input.OutOfMemory = fault.OutOfMemory
+input_fault input.Read = fault.Read
 
--- help and the version are asked for
-abbrev pub IsAsked : ErrorKind → Type 0
-IsAsked kind = (kind ≡ kinds.DisplayHelp) ⊎ (kind ≡ kinds.DisplayVersion)
+-- a place of the input before a text
+abbrev pub behind_line : Option ℕ → List ℕ → List ℕ
+behind_line None text = text
+behind_line (Some line) text = codes "line " ++ decimal line ++ codes ": " ++ text
 
--- Want of memory is 1, what was asked is 0, or 1 where it can't be written, and every other refusal of the words is 2.
-pub record IsStatusOfParse (kind : ErrorKind) (status : ℕ) : Type 0 where
-  pub memory : kind ≡ kinds.OutOfMemory → status ≡ 1
-  pub asked : IsAsked kind → status ≤ 1
-  pub refused : kind ≢ kinds.OutOfMemory → (IsAsked kind → ⊥) → status ≡ 2
+-- what is said of a fault
+abbrev pub words_of : RunFault → List ℕ
+words_of fault.OutOfMemory = codes "out of memory"
+words_of fault.Read = codes "reading failed"
+words_of fault.Write = codes "writing failed"
+words_of fault.NotText = codes "a word of the command line is not UTF-8"
+words_of (fault.Layout refusal) = codes "layout: " ++ fault_text refusal
+words_of fault.TooLarge = codes "plain takes at most 4 cards a hand"
+words_of (fault.Pbn refusal) = behind_line (fault_line refusal) (fault_text refusal)
+
+-- the line that tells it
+abbrev pub told_line : RunFault → List ℕ
+told_line fault = codes "ddfarm: " ++ words_of fault ++ 10 ∷ []
+
+-- the error output has the line, and no call of it failed; or a beginning of the line, before a call failed
+abbrev pub IsTold : Device → Device → List ℕ → Type 0
+IsTold old new line = Adds old new line ⊎ AddsBeginning old new line

@@ -22,12 +22,30 @@ and West.";
 pub const TABLE_ABOUT: &str = "\
 Reads the boards of a tournament in PBN and writes them, so far without tables";
 
+pub const TABLE_USAGE: &str = "ddfarm table <club.pbn >tables.pbn";
+
 pub const TABLE_EXAMPLE: &str = "\
 Example:
   ddfarm table <club.pbn >tables.pbn
 reads a PBN 2.1 text from the standard input and writes one to the standard
 output: of each board its name and its deal. No results are found yet, so in
-place of each table stands `; table incomplete: 0 of 20`, and the exit status is 3.";
+place of each table stands `; table incomplete: 0 of 20`, and the exit status is 3.
+
+What is refused, each with its line:
+  1 TagForm        what begins with `[` is not a tag pair
+  2 OpenComment    a `{` is never closed
+  3 SecondDeal     a game has two Deal tags
+  4 DealForm       a Deal value has another form
+  5 CardTwice      a card is named twice
+  6 HandSize       a hand has not 13 cards
+  7 Inherited      a Board or Deal value begins with `#`
+  8 TooManyBoards  there are more than 4,096 boards
+
+Exit status:
+  0  every table is complete
+  1  memory or a device failed
+  2  the command line or the text is refused
+  3  a table is incomplete";
 
 pub const LAYOUT: &str = "\
 The four hands, in quotes: a seat (N, E, S or W), a colon, its hand, and then

@@ -5,43 +5,46 @@
 #![tactic(auto)]
 
 mod blanks;
-mod closing;
-mod commands;
 mod faults;
 mod help;
-mod inputs;
-mod messages;
 mod plain;
-mod reader_sources;
 mod requests;
 mod runs;
+mod statuses;
 #[cfg(test)]
 mod tests;
-mod words;
-mod writer_sinks;
 
-use reader_sources::StandardInput;
-use std::io::BufWriter;
+use faults::{RunFault, tell};
+use runs::{close_output, run_command};
+use std::io::{BufWriter, ErrorKind};
 use std::process::ExitCode;
-use words::WordsFault;
-use writer_sinks::{StandardErrors, StandardOutput};
+use streams::{ReaderSource, WriterSink};
+
+/// The words that the process was started with.
+fn words_of_process(rt: &HostRuntime) -> Result<Vec<String>, RunFault> {
+    match std::env::args(rt) {
+        Ok(words) => words.collect(rt.alloc()).map_err(|_| RunFault::OutOfMemory),
+        Err(error) if error.kind() == ErrorKind::InvalidData => Err(RunFault::NotText),
+        Err(_) => Err(RunFault::OutOfMemory),
+    }
+}
 
 fn main(rt: HostRuntime) -> ExitCode {
-    let mut input = StandardInput::new(rt.stdin());
-    let mut errors = StandardErrors::new(rt.stderr());
+    let mut input = ReaderSource::new(rt.stdin());
+    let mut errors = WriterSink::new(rt.stderr());
     let Ok(buffered) = BufWriter::new(rt.alloc(), rt.stdout()) else {
-        return ExitCode::from(messages::tell_words(WordsFault::OutOfMemory, &mut errors));
+        return ExitCode::from(tell(RunFault::OutOfMemory, &mut errors).code());
     };
-    let mut output = StandardOutput::new(buffered);
-    let status = match words::words_of_process(&rt) {
-        Ok(words) => commands::run_command(
+    let mut output = WriterSink::new(buffered);
+    let status = match words_of_process(&rt) {
+        Ok(words) => run_command(
             rt.alloc(),
             words.as_slice(),
             &mut input,
             &mut output,
             &mut errors,
         ),
-        Err(fault) => messages::tell_words(fault, &mut errors),
+        Err(fault) => tell(fault, &mut errors),
     };
-    ExitCode::from(closing::close_output(status, &mut output, &mut errors))
+    ExitCode::from(close_output(status, &mut output, &mut errors).code())
 }

@@ -1,13 +1,7 @@
 //! What the words of a command line ask for.
 
-ghost use Rattle.std.specs.Prelude.{◌≡◌, ◌↔◌, Some};
-ghost use Rattle.cards.specs.declared.seats.Seat.{Seat};
-ghost use Rattle.cards.specs.declared.suits.Trump.{Trump};
-ghost use Rattle.cards.specs.Pack.{trump_letters};
-ghost use Rattle.cards.specs.Seats.{seat_letter};
-
 use crate::help;
-use cards::{Seat, Suit, Trump};
+use cards::{Seat, Trump};
 use clap::error::ErrorKind;
 use clap::{Arg, ArgMatches, Command, Error};
 use std::alloc::{AllocError, Global};
@@ -23,7 +17,7 @@ pub enum Request<'a> {
         trump: Trump,
     },
     /// The tables of the boards of the input.
-    Table,
+    Tables,
 }
 
 const LEADERS: [&str; 4] = ["N", "E", "S", "W"];
@@ -64,6 +58,7 @@ fn plain_command<'a>(alloc: Global) -> Result<Command<'a>, AllocError> {
 fn table_command<'a>(alloc: Global) -> Command<'a> {
     Command::new(alloc, "table")
         .about(help::TABLE_ABOUT)
+        .override_usage(help::TABLE_USAGE)
         .after_help(help::TABLE_EXAMPLE)
 }
 
@@ -79,39 +74,12 @@ pub fn request_of<'a, S: AsStr>(alloc: Global, words: &'a [S]) -> Result<Request
 
 fn matched_request<'a>(matches: &ArgMatches<'a>) -> Option<Request<'a>> {
     if matches.subcommand_matches("table").is_some() {
-        return Some(Request::Table);
+        return Some(Request::Tables);
     }
     let plain = matches.subcommand_matches("plain")?;
     Some(Request::Plain {
         layout: plain.get_str("LAYOUT")?,
-        leader: seat_of(plain.get_str("LEADER")?)?,
-        trump: trump_of(plain.get_str("TRUMP")?)?,
+        leader: Seat::of_letter(plain.get_str("LEADER")?)?,
+        trump: Trump::of_letters(plain.get_str("TRUMP")?)?,
     })
-}
-
-/// The seat of a letter.
-fn seat_of(word: &str) -> Option<Seat>
-    ensures { (seat : Seat) → (result ≡ Some seat) ↔ (word.now ≡ seat_letter seat) }
-{
-    match word {
-        "N" => Some(Seat::North),
-        "E" => Some(Seat::East),
-        "S" => Some(Seat::South),
-        "W" => Some(Seat::West),
-        _ => None,
-    }
-}
-
-/// The denomination of its letters.
-fn trump_of(word: &str) -> Option<Trump>
-    ensures { (trump : Trump) → (result ≡ Some trump) ↔ (word.now ≡ trump_letters trump) }
-{
-    match word {
-        "NT" => Some(Trump::Nt),
-        "S" => Some(Trump::Suit(Suit::Spades)),
-        "H" => Some(Trump::Suit(Suit::Hearts)),
-        "D" => Some(Trump::Suit(Suit::Diamonds)),
-        "C" => Some(Trump::Suit(Suit::Clubs)),
-        _ => None,
-    }
 }

@@ -1,17 +1,20 @@
 //! What `ddfarm` prints and with which status it ends, over memory.
 mod endings;
 mod pbn_tables;
-mod streams;
 
-use crate::commands::run_command;
-use crate::messages::{DONE, FAILED, REFUSED};
-use crate::plain::{PlainFault, plain_line};
-use cards::{Buffer, Bytes, Seat, Suit, Trump};
+use crate::faults::RunFault;
+use crate::plain::plain_line;
+use crate::runs::{close_output, run_command};
+use crate::statuses::Status;
+use cards::{Buffer, Bytes, Seat, Sink, Suit, Trump};
 use endings::ENDINGS;
 use pbn_deals::PbnFault;
 use std::alloc::Global;
+use std::io;
+use std::io::BufWriter;
 use std::process::Abort;
 use std::test::Fail;
+use streams::{WriterSink, read_all};
 
 const ROOM: usize = 8192;
 
@@ -24,7 +27,7 @@ fn expect_run(
     alloc: Global,
     words: &[&str],
     room: usize,
-    want: (u8, &str, &str),
+    want: (Status, &str, &str),
 ) -> Result<(), Fail> {
     expect_words(rt, alloc, words, b"", room, want)
 }
@@ -36,7 +39,7 @@ fn expect_words(
     words: &[&str],
     text: &[u8],
     room: usize,
-    want: (u8, &str, &str),
+    want: (Status, &str, &str),
 ) -> Result<(), Fail> {
     let mut input = Bytes::new(text, 7);
     let mut output = Buffer::new(alloc, room, 3)?;
@@ -66,7 +69,13 @@ fn worked_endings(rt: HostRuntime) -> Result<(), Fail> {
         (" s:32...\tk4...  aq... 65... ", "S", "NT", "NS 2\n"),
     ] {
         let words = ["ddfarm", "plain", layout, leader, trump];
-        expect_run(&rt, rt.alloc(), words.as_slice(), ROOM, (DONE, line, ""))?;
+        expect_run(
+            &rt,
+            rt.alloc(),
+            words.as_slice(),
+            ROOM,
+            (Status::Done, line, ""),
+        )?;
     }
     Ok(())
 }
@@ -75,7 +84,13 @@ fn worked_endings(rt: HostRuntime) -> Result<(), Fail> {
 fn endings_from_outside(rt: HostRuntime) -> Result<(), Fail> {
     for (layout, leader, trump, line) in ENDINGS.iter() {
         let words = ["ddfarm", "plain", *layout, *leader, *trump];
-        expect_run(&rt, rt.alloc(), words.as_slice(), ROOM, (DONE, *line, ""))?;
+        expect_run(
+            &rt,
+            rt.alloc(),
+            words.as_slice(),
+            ROOM,
+            (Status::Done, *line, ""),
+        )?;
     }
     Ok(())
 }
@@ -99,7 +114,13 @@ fn refused_layouts(rt: HostRuntime) -> Result<(), Fail> {
         ("N:... ... ... ...", "ddfarm: layout: 6 HandSize\n"),
     ] {
         let words = ["ddfarm", "plain", layout, "E", "NT"];
-        expect_run(&rt, rt.alloc(), words.as_slice(), ROOM, (REFUSED, "", told))?;
+        expect_run(
+            &rt,
+            rt.alloc(),
+            words.as_slice(),
+            ROOM,
+            (Status::Refused, "", told),
+        )?;
     }
     Ok(())
 }
@@ -128,7 +149,7 @@ const REFUSED_WORDS: [(&[&str], &str); 8] = [
     ),
     (
         &["ddfarm", "table", "club.pbn"],
-        "error: unexpected argument 'club.pbn' found\n",
+        "error: unexpected argument 'club.pbn' found\n\nUsage: ddfarm table <club.pbn >tables.pbn\n",
     ),
     (
         &["ddfarm", "--loud"],
@@ -145,7 +166,7 @@ fn refused_words(rt: HostRuntime) -> Result<(), Fail> {
         let mut errors = Buffer::new(rt.alloc(), ROOM, 7)?;
         let status = run_command(rt.alloc(), words, &mut input, &mut output, &mut errors);
         let text = str::from_utf8(errors.bytes())?;
-        assert_eq!(rt; status, REFUSED, "at {words:?}");
+        assert_eq!(rt; status, Status::Refused, "at {words:?}");
         assert!(rt; text.starts_with(told), "at {words:?}: {text}");
         assert!(rt; output.bytes().is_empty(), "at {words:?}");
     }
@@ -162,7 +183,11 @@ fn asked_help(rt: HostRuntime) -> Result<(), Fail> {
         ),
         (
             ["ddfarm", "table", "--help"].as_slice(),
-            "  ddfarm table <club.pbn >tables.pbn\n",
+            "Usage: ddfarm table <club.pbn >tables.pbn\n",
+        ),
+        (
+            ["ddfarm", "table", "--help"].as_slice(),
+            "  5 CardTwice      a card is named twice\n",
         ),
         (
             ["ddfarm", "plain", "-h"].as_slice(),
@@ -178,10 +203,25 @@ fn asked_help(rt: HostRuntime) -> Result<(), Fail> {
         let mut errors = Buffer::new(rt.alloc(), ROOM, 7)?;
         let status = run_command(rt.alloc(), words, &mut input, &mut output, &mut errors);
         let text = str::from_utf8(output.bytes())?;
-        assert_eq!(rt; status, DONE, "at {words:?}");
+        assert_eq!(rt; status, Status::Done, "at {words:?}");
         assert!(rt; text.contains(named), "at {words:?}: {text}");
         assert!(rt; errors.bytes().is_empty(), "at {words:?}");
     }
+    Ok(())
+}
+
+/// A layout is a word, so the input is left for whoever reads it next.
+#[test]
+fn plain_leaves_the_input(rt: HostRuntime) -> Result<(), Fail> {
+    let lines = b"the next line\nand another\n";
+    let mut input = Bytes::new(lines, 7);
+    let mut output = Buffer::new(rt.alloc(), ROOM, 3)?;
+    let mut errors = Buffer::new(rt.alloc(), ROOM, 7)?;
+    let words = FINESSE.as_slice();
+    let status = run_command(rt.alloc(), words, &mut input, &mut output, &mut errors);
+    assert_eq!(rt; status, Status::Done);
+    let left = read_all(rt.alloc(), &mut input).map_err(|_| "nothing is left")?;
+    assert_eq!(rt; left.as_slice(), lines.as_slice());
     Ok(())
 }
 
@@ -193,7 +233,7 @@ fn a_full_output(rt: HostRuntime) -> Result<(), Fail> {
             rt.alloc(),
             FINESSE.as_slice(),
             room,
-            (FAILED, printed, "ddfarm: writing failed\n"),
+            (Status::Failed, printed, "ddfarm: writing failed\n"),
         )?;
     }
     let help = ["ddfarm", "--help"];
@@ -202,7 +242,7 @@ fn a_full_output(rt: HostRuntime) -> Result<(), Fail> {
         rt.alloc(),
         help.as_slice(),
         6,
-        (FAILED, "Double", "ddfarm: writing failed\n"),
+        (Status::Failed, "Double", "ddfarm: writing failed\n"),
     )
 }
 
@@ -219,7 +259,7 @@ fn a_full_error_output_is_not_told(rt: HostRuntime) -> Result<(), Fail> {
         &mut output,
         &mut errors,
     );
-    assert_eq!(rt; status, REFUSED);
+    assert_eq!(rt; status, Status::Refused);
     assert_eq!(rt; errors.bytes(), b"ddfa".as_slice());
     assert!(rt; output.bytes().is_empty());
     Ok(())
@@ -238,7 +278,7 @@ fn plain_lines(rt: HostRuntime) -> Result<(), Fail> {
     let twice = plain_line(b"N:A... A... Q... J...", Seat::East, Trump::Nt, &mut output);
     assert_eq!(rt;
         twice,
-        Err(PlainFault::Layout(PbnFault::CardTwice { line: 1 }))
+        Err(RunFault::Layout(PbnFault::CardTwice { line: 1 }))
     );
     let large = plain_line(
         b"N:AKQJT... 98765... ..AKQJT. ...AKQJT",
@@ -246,9 +286,55 @@ fn plain_lines(rt: HostRuntime) -> Result<(), Fail> {
         Trump::Nt,
         &mut output,
     );
-    assert_eq!(rt; large, Err(PlainFault::TooLarge));
+    assert_eq!(rt; large, Err(RunFault::TooLarge));
     let full = plain_line(b"N:A... K... Q... J...", Seat::East, Trump::Nt, &mut output);
-    assert_eq!(rt; full, Err(PlainFault::Write));
+    assert_eq!(rt; full, Err(RunFault::Write));
     assert_eq!(rt; output.bytes(), b"NS 1\nNS".as_slice());
+    Ok(())
+}
+
+/// A writer that takes no byte, or one that fails.
+#[derive(Drop)]
+struct Broken {
+    takes_none: bool,
+}
+
+impl io::Write for Broken {
+    fn write(&mut self, _buf: &[u8]) -> io::Result<usize> {
+        if self.takes_none {
+            return Ok(0);
+        }
+        Err(io::Error::from(io::ErrorKind::BrokenPipe))
+    }
+
+    fn flush(&mut self) -> io::Result<()> {
+        Ok(())
+    }
+}
+
+/// A run whose last bytes can't go out has failed, and is told so, once.
+#[test]
+fn failed_flush(rt: HostRuntime) -> Result<(), Fail> {
+    let failed = "ddfarm: writing failed\n";
+    for (status, code, ended, told) in [
+        (Status::Done, 0, Status::Failed, failed),
+        (Status::Incomplete, 3, Status::Failed, failed),
+        (Status::Failed, 1, Status::Failed, ""),
+        (Status::Refused, 2, Status::Refused, ""),
+    ] {
+        assert_eq!(rt; status.code(), code);
+        for takes_none in [false, true] {
+            let mut errors = Buffer::new(rt.alloc(), ROOM, ROOM)?;
+            let mut sink = WriterSink::new(BufWriter::new(rt.alloc(), Broken { takes_none })?);
+            assert_eq!(rt; sink.write(b"NS 1\n"), Ok(5));
+            assert_eq!(rt; close_output(status, &mut sink, &mut errors), ended);
+            assert_eq!(rt; errors.bytes(), told.as_bytes());
+        }
+        let mut errors = Buffer::new(rt.alloc(), ROOM, ROOM)?;
+        let mut sink = WriterSink::new(BufWriter::new(rt.alloc(), Vec::new(rt.alloc()))?);
+        assert_eq!(rt; sink.write(b"NS 1\n"), Ok(5));
+        assert_eq!(rt; close_output(status, &mut sink, &mut errors), status);
+        assert!(rt; errors.bytes().is_empty());
+    }
     Ok(())
 }

@@ -1,5 +1,5 @@
 -- One read more.
-use Rattle.std.proofs.Common.{◌≡◌, ℕ, ◌≤◌, ◌<◌, List, [], ◌++◌, length, take, Option, None, Some, refl, sym, ◌∙◌, ap, append_assoc, append-nil}
+use Rattle.std.proofs.Common.{◌≡◌, ℕ, List, [], ◌++◌, Option, None, Some, refl, sym, ◌∙◌, ap, append_assoc, append-nil}
 use Rattle.cards.specs.Devices.{TakesWhereTold, StaysWhereTold, NoneIsLeft}
 use Rattle.streams.specs.Inputs.{IsAllOf}
 

@@ -1,7 +1,14 @@
 -- What the flush of a buffer has done.
+use Rattle.std.specs.declared.io.buffered.BufWriter.{BufWriter}
+use Rattle.std.specs.Io.Buffered.{writer_inner}
+use Rattle.streams.specs.declared.writer_sinks.WriterSink.{WriterSink}
 use Rattle.std.specs.Prelude.{◌≡◌, ℕ, List, Option, Result, Ok, Err}
 use Rattle.cards.specs.Devices.{Device, Fails, StaysWhereTold}
 use Rattle.cards.specs.declared.devices.DeviceFault.{DeviceFault}
+
+-- what the writer behind the buffer has got, where it tells that
+abbrev pub contents_behind : {W A : Type 0} → (W → Option (List ℕ)) → WriterSink (BufWriter W A) → Option (List ℕ)
+contents_behind contents sink = contents (writer_inner sink.writer)
 
 -- the writer behind the buffer has got everything that the sink took, where it tells that
 pub record HandsOn (old new : Device) (behind : Option (List ℕ)) : Type 0 where

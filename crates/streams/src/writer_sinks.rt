@@ -1,9 +1,8 @@
 //! A writer as a sink for bytes.
 
 ghost use Rattle.std.specs.Prelude.{◌≡◌};
-ghost use Rattle.std.specs.Io.Buffered.{writer_inner};
 ghost use Rattle.cards.specs.Devices.{one_more};
-ghost use Rattle.streams.specs.Flushes.{Flushes};
+ghost use Rattle.streams.specs.Flushes.{Flushes, contents_behind};
 
 use cards::{DeviceFault, Sink};
 use std::io::{BufWriter, Write};
@@ -39,7 +38,7 @@ impl<W: Write + Drop> WriterSink<BufWriter<W>> {
     /// Hands on all that the buffer holds back: the writer behind it has got everything that the sink took.
     pub fn flush(&mut self) -> Result<(), DeviceFault>
         ensures { Flushes (⟦<WriterSink<BufWriter<W>> as Sink>⟧.state self.old) (⟦<WriterSink<BufWriter<W>> as Sink>⟧.state self.new)
-            (W.contents (writer_inner self.new.writer)) result }
+            (contents_behind W.contents self.new) result }
     {
         match self.writer.flush() {
             Ok(()) => Ok(()),

@@ -1,4 +1,5 @@
 pub mod NumberLemmas
+pub mod RowLemmas
 pub mod TableLemmas
 pub mod BoardLemmas
 pub mod LinesBack

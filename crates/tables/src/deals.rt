@@ -1,32 +1,10 @@
 //! How a deal is printed.
 
-ghost use Rattle.std.specs.Prelude.{◌≡◌, ◌∷◌, codes};
-ghost use Rattle.cards.specs.Pack.{rank_letter};
+ghost use Rattle.std.specs.Prelude.{◌∷◌};
 ghost use Rattle.cards.specs.Devices.{Writes};
 ghost use Rattle.tables.specs.DealText.{held_letter, group_text, hand_text, deal_text};
 
 use cards::{Card, DeviceFault, Layout, Rank, Seat, Sink, Suit, write_all};
-
-/// The letter of a rank, in upper case.
-fn letter_of(rank: Rank) -> &'static [u8]
-    ensures { result.now ≡ rank_letter rank }
-{
-    match rank {
-        Rank::Two => b"2",
-        Rank::Three => b"3",
-        Rank::Four => b"4",
-        Rank::Five => b"5",
-        Rank::Six => b"6",
-        Rank::Seven => b"7",
-        Rank::Eight => b"8",
-        Rank::Nine => b"9",
-        Rank::Ten => b"T",
-        Rank::Jack => b"J",
-        Rank::Queen => b"Q",
-        Rank::King => b"K",
-        Rank::Ace => b"A",
-    }
-}
 
 /// Writes the letter of a card that the seat holds, and nothing for another.
 fn write_card<S: Sink>(
@@ -38,7 +16,7 @@ fn write_card<S: Sink>(
     ensures { Writes (S.state sink.old) (S.state sink.new) (held_letter layout.now seat card.suit card.rank) result }
 {
     if layout.holds(seat, card) {
-        write_all(sink, letter_of(card.rank))
+        write_all(sink, card.rank.letter().as_bytes())
     } else {
         Ok(())
     }

@@ -1,4 +1,4 @@
-//! Endings with the tricks that North and South take, from outside: docs/ENDINGS.md says how they were made.
+//! Endings with the tricks that North and South take, from outside: bench/dds/README.md says how they were made.
 
 /// A layout, the leader, the denomination and the tricks of North and South.
 pub type Ending = (&'static str, &'static str, &'static str, &'static str);

@@ -2,9 +2,9 @@
 
 use super::{ROOM, expect_words};
 use crate::blanks::make_blank;
-use crate::faults::MakeFault;
-use crate::messages::{DONE, FAILED, INCOMPLETE, REFUSED};
-use cards::{Buffer, Bytes, DeviceFault, Source};
+use crate::faults::RunFault;
+use crate::statuses::Status;
+use cards::{Buffer, Bytes};
 use pbn_deals::PbnFault;
 use std::test::Fail;
 use tables::Report;
@@ -49,21 +49,25 @@ const NO_BOARDS: &str = "% PBN 2.1\n";
 #[test]
 fn boards_without_results(rt: HostRuntime) -> Result<(), Fail> {
     for (text, status, printed) in [
-        (CR_LF, INCOMPLETE, OF_CR_LF),
+        (CR_LF, Status::Incomplete, OF_CR_LF),
         (
             b"[Deal \"?\"] ; [Deal \"?\"]".as_slice(),
-            INCOMPLETE,
+            Status::Incomplete,
             UNNAMED,
         ),
-        (b"x [Deal \"?\"]".as_slice(), DONE, NO_BOARDS),
-        (b"{\n%}\n[Deal \"?\"]".as_slice(), INCOMPLETE, UNNAMED),
+        (b"x [Deal \"?\"]".as_slice(), Status::Done, NO_BOARDS),
+        (
+            b"{\n%}\n[Deal \"?\"]".as_slice(),
+            Status::Incomplete,
+            UNNAMED,
+        ),
         (
             b"[Board \"a\"]\n{\n\n}\n[Deal \"?\"]".as_slice(),
-            INCOMPLETE,
+            Status::Incomplete,
             NAMED_A,
         ),
-        (b"".as_slice(), DONE, NO_BOARDS),
-        (OF_CR_LF.as_bytes(), INCOMPLETE, OF_CR_LF),
+        (b"".as_slice(), Status::Done, NO_BOARDS),
+        (OF_CR_LF.as_bytes(), Status::Incomplete, OF_CR_LF),
     ] {
         expect_words(
             &rt,
@@ -111,7 +115,7 @@ fn refused_texts(rt: HostRuntime) -> Result<(), Fail> {
             TABLE.as_slice(),
             text,
             ROOM,
-            (REFUSED, "", told),
+            (Status::Refused, "", told),
         )?;
     }
     Ok(())
@@ -121,52 +125,23 @@ fn refused_texts(rt: HostRuntime) -> Result<(), Fail> {
 fn a_full_output_of_tables(rt: HostRuntime) -> Result<(), Fail> {
     for room in 0..UNNAMED.len() {
         let printed = UNNAMED.get(..room).unwrap_or("");
-        let want = (FAILED, printed, "ddfarm: writing failed\n");
+        let want = (Status::Failed, printed, "ddfarm: writing failed\n");
         let text = b"[Deal \"?\"]";
         expect_words(&rt, rt.alloc(), TABLE.as_slice(), text, room, want)?;
     }
     Ok(())
 }
 
-/// A source that gives some bytes and then fails.
-#[derive(Drop)]
-struct Torn {
-    given: bool,
-    failures: u64,
-}
-
-impl Source for Torn {
-    ghost use Rattle.std.specs.Prelude.{None};
-
-    ghost left = { λ _. None };
-
-    ghost read_failures = { λ source. source.failures };
-
-    fn read(&mut self, buffer: &mut [u8]) -> Result<usize, DeviceFault> {
-        match buffer.first_mut() {
-            Some(byte) if !self.given => {
-                *byte = b'\n';
-                self.given = true;
-                Ok(1)
-            }
-            _ => {
-                self.failures = self.failures.saturating_add(1);
-                Err(DeviceFault)
-            }
-        }
-    }
-}
-
+/// An input that fails at some call, after any number of bytes.
 #[test]
 fn a_torn_input(rt: HostRuntime) -> Result<(), Fail> {
-    let mut input = Torn {
-        given: false,
-        failures: 0,
-    };
-    let mut output = Buffer::new(rt.alloc(), ROOM, 3)?;
-    let made = make_blank(rt.alloc(), &mut input, &mut output);
-    assert_eq!(rt; made, Err(MakeFault::Read));
-    assert!(rt; output.bytes().is_empty());
+    for calls in 0..CR_LF.len() as u64 {
+        let mut input = Bytes::failing_after(CR_LF, 1, calls);
+        let mut output = Buffer::new(rt.alloc(), ROOM, 3)?;
+        let made = make_blank(rt.alloc(), &mut input, &mut output);
+        assert_eq!(rt; made, Err(RunFault::Read));
+        assert!(rt; output.bytes().is_empty());
+    }
     Ok(())
 }
 
@@ -184,16 +159,8 @@ fn reports(rt: HostRuntime) -> Result<(), Fail> {
     );
     let mut input = Bytes::new(b"\n{", 5);
     let refused = make_blank(rt.alloc(), &mut input, &mut output);
-    let fault = MakeFault::Pbn(PbnFault::OpenComment { line: 2 });
+    let fault = RunFault::Pbn(PbnFault::OpenComment { line: 2 });
     assert_eq!(rt; refused, Err(fault));
     assert_eq!(rt; output.bytes(), OF_CR_LF.as_bytes());
-    for (fault, number) in [
-        (MakeFault::OutOfMemory, 1),
-        (MakeFault::Read, 2),
-        (fault, 3),
-        (MakeFault::Write, 5),
-    ] {
-        assert_eq!(rt; fault.number(), number);
-    }
     Ok(())
 }

@@ -1,4 +1,4 @@
-use Rattle.std.proofs.Common.{◌≡◌, ◌≤◌, ◌∙◌, arith, length, take, length-take}
+use Rattle.std.proofs.Common.{◌≡◌, ◌∙◌, arith, length, length-take}
 use Rattle.streams.proofs.InputLemmas.{takes_twice}
 use Rattle.streams.proofs.inputs.read_all.Goals as goal
 
