@@ -153,17 +153,9 @@ fn are_sized(hands: &[u64; 4]) -> bool
     ensures { MatchBool result (AreSized hands.now) (AreMissized hands.now) }
 {
     let size = hands[0].count_ones();
-    if size == 0 {
-        return false;
-    }
-    if size > 13 {
-        return false;
-    }
-    if hands[1].count_ones() != size {
-        return false;
-    }
-    if hands[2].count_ones() != size {
-        return false;
-    }
-    hands[3].count_ones() == size
+    size != 0
+        && size <= 13
+        && hands[1].count_ones() == size
+        && hands[2].count_ones() == size
+        && hands[3].count_ones() == size
 }

@@ -38,18 +38,18 @@ behind_line None text = text
 behind_line (Some line) text = codes "line " ++ decimal line ++ codes ": " ++ text
 
 -- what is said of a fault
-abbrev pub words_of : RunFault → List ℕ
-words_of fault.OutOfMemory = codes "out of memory"
-words_of fault.Read = codes "reading failed"
-words_of fault.Write = codes "writing failed"
-words_of fault.NotText = codes "a word of the command line is not UTF-8"
-words_of (fault.Layout refusal) = codes "layout: " ++ fault_text refusal
-words_of fault.TooLarge = codes "plain takes at most 4 cards a hand"
-words_of (fault.Pbn refusal) = behind_line (fault_line refusal) (fault_text refusal)
+abbrev pub said_of : RunFault → List ℕ
+said_of fault.OutOfMemory = codes "out of memory"
+said_of fault.Read = codes "reading failed"
+said_of fault.Write = codes "writing failed"
+said_of fault.NotText = codes "a word of the command line is not UTF-8"
+said_of (fault.Layout refusal) = codes "layout: " ++ fault_text refusal
+said_of fault.TooLarge = codes "plain takes at most 4 cards a hand"
+said_of (fault.Pbn refusal) = behind_line (fault_line refusal) (fault_text refusal)
 
 -- the line that tells it
 abbrev pub told_line : RunFault → List ℕ
-told_line fault = codes "ddfarm: " ++ words_of fault ++ 10 ∷ []
+told_line fault = codes "ddfarm: " ++ said_of fault ++ 10 ∷ []
 
 -- the error output has the line, and no call of it failed; or a beginning of the line, before a call failed
 abbrev pub IsTold : Device → Device → List ℕ → Type 0

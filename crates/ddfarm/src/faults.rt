@@ -4,7 +4,7 @@ ghost use Rattle.std.specs.Prelude.{◌≡◌};
 ghost use Rattle.cards.specs.Devices.{Writes};
 ghost use Rattle.pbn_deals.specs.Faults.{fault_text};
 ghost use Rattle.ddfarm.specs.declared.faults.RunFault.TheVariants as faults;
-ghost use Rattle.ddfarm.specs.Statuses.{fault_status, IsTold, told_line, words_of, behind_line};
+ghost use Rattle.ddfarm.specs.Statuses.{fault_status, IsTold, told_line, said_of, behind_line};
 ghost use Rattle.pbn_deals.specs.Faults.{fault_line};
 
 use crate::statuses::Status;
@@ -87,7 +87,7 @@ fn write_line<E: Sink>(fault: RunFault, errors: &mut E) -> Result<(), DeviceFaul
 
 /// Writes what is said of the fault.
 fn write_fault<E: Sink>(fault: RunFault, errors: &mut E) -> Result<(), DeviceFault>
-    ensures { Writes (E.state errors.old) (E.state errors.new) (words_of fault) result }
+    ensures { Writes (E.state errors.old) (E.state errors.new) (said_of fault) result }
 {
     match fault {
         RunFault::OutOfMemory => write_all(errors, b"out of memory"),
@@ -102,7 +102,7 @@ fn write_fault<E: Sink>(fault: RunFault, errors: &mut E) -> Result<(), DeviceFau
 
 /// Writes why the word of a layout is refused.
 fn write_layout_refusal<E: Sink>(refusal: PbnFault, errors: &mut E) -> Result<(), DeviceFault>
-    ensures { Writes (E.state errors.old) (E.state errors.new) (words_of (faults.Layout refusal)) result }
+    ensures { Writes (E.state errors.old) (E.state errors.new) (said_of (faults.Layout refusal)) result }
 {
     write_all(errors, b"layout: ")?;
     write_refusal(refusal, errors)
@@ -110,7 +110,7 @@ fn write_layout_refusal<E: Sink>(refusal: PbnFault, errors: &mut E) -> Result<()
 
 /// Writes why a PBN text is refused, behind its line.
 fn write_text_refusal<E: Sink>(refusal: PbnFault, errors: &mut E) -> Result<(), DeviceFault>
-    ensures { Writes (E.state errors.old) (E.state errors.new) (words_of (faults.Pbn refusal)) result }
+    ensures { Writes (E.state errors.old) (E.state errors.new) (said_of (faults.Pbn refusal)) result }
 {
     let Some(line) = refusal.line() else {
         return write_refusal(refusal, errors);
