@@ -1,0 +1,44 @@
+//! Whether nodes make a graph.
+
+ghost use Rattle.std.specs.Prelude.{◌≡◌, MatchResult, length};
+ghost use Rattle.certificate_graph.specs.Graphs.{IsNode, AreNodes};
+ghost use Rattle.certificate_graph.specs.GraphFaults.{IsNodeFault, IsGraphFault};
+
+use crate::faults::GraphFault;
+use crate::forms::{has_form, names_below};
+use crate::nodes::Node;
+
+/// The greatest number of nodes.
+pub(crate) const GREATEST_COUNT: usize = 1_000_000;
+
+/// Whether this is a node of a graph with so many nodes, else its first fault.
+fn check_node(node: &Node, count: u32) -> Result<(), GraphFault>
+    ensures { MatchResult result (λ _. IsNode count node.now) (IsNodeFault count node.now) }
+{
+    node.pattern.invariant();
+    if node.need < 1 || node.need > 13 {
+        return Err(GraphFault::Need);
+    }
+    let root = node.tree.root();
+    if !has_form(&root, 4) {
+        return Err(GraphFault::TreeForm);
+    }
+    if !names_below(&root, count) {
+        return Err(GraphFault::ChildNumber);
+    }
+    Ok(())
+}
+
+/// Whether these are the nodes of a graph, else the first fault of the first that has one.
+pub(crate) fn check_nodes(nodes: &[Node]) -> Result<(), GraphFault>
+    ensures { MatchResult result (λ _. AreNodes nodes.now) (IsGraphFault nodes.now) }
+{
+    if nodes.len() > GREATEST_COUNT {
+        return Err(GraphFault::TooLarge);
+    }
+    let count = nodes.len() as u32;
+    for node in nodes {
+        check_node(node, count)?;
+    }
+    Ok(())
+}

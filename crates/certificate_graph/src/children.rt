@@ -1,0 +1,12 @@
+//! The nodes that go on after a trick.
+
+use cards::Seat;
+
+/// A seat that may win a trick, and the node that goes on where it does.
+#[derive(Clone, Copy, Debug, PartialEq, Eq, Hash)]
+pub struct Child {
+    /// The seat that may win.
+    pub winner: Seat,
+    /// The number of the node.
+    pub number: u32,
+}

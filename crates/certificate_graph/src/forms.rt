@@ -1,0 +1,101 @@
+//! Whether a tree is of the form, and which nodes it names.
+
+ghost use Rattle.std.specs.Prelude.{◌≡◌, ◌↔◌, IsTrue, All, ◌<◌, ◌^◌};
+ghost use Rattle.certificate_graph.specs.Graphs.{card_place, IsCard, SeatsRise, HasForm, HaveForm, NamesBelow, NameBelow};
+
+use crate::children::Child;
+use crate::places::{Branches, Place, View};
+use pattern_step::PatCard;
+
+/// The place of a card in the order by suit, and in a suit the tops by their places and then the low card.
+pub(crate) fn card_place(card: PatCard) -> u16
+    ensures { result ≡ card_place card }
+{
+    match card {
+        PatCard::Top(suit, place) => 14 * suit.number() as u16 + u16::from(place),
+        PatCard::Low(suit) => 14 * suit.number() as u16 + 13,
+    }
+}
+
+/// Whether a top is one of thirteen.
+fn is_card(card: PatCard) -> bool
+    ensures { IsTrue result ↔ IsCard card }
+{
+    match card {
+        PatCard::Top(_, place) => place < 13,
+        PatCard::Low(_) => true,
+    }
+}
+
+/// Whether the seats rise, from this number on.
+fn seats_rise(children: &[Child], least: usize) -> bool
+    ensures { IsTrue result ↔ SeatsRise least children.now }
+{
+    match children {
+        [] => true,
+        [child, rest @ ..] => {
+            least <= child.winner.number() && seats_rise(rest, child.winner.number() + 1)
+        }
+    }
+}
+
+/// Whether the place and all below it are of the form, with room for so many cards one below another.
+#[cycle(form)]
+pub(crate) fn has_form(place: &Place<'_>, room: u8) -> bool
+    ensures { IsTrue result ↔ HasForm room place.now }
+{
+    match place.view() {
+        View::Own(card, below) => room > 0 && is_card(card) && has_form(&below, room - 1),
+        View::Reply(branches) => room > 0 && have_form(&branches, room - 1, 0),
+        View::Leaf(children) => seats_rise(children, 0),
+    }
+}
+
+/// Whether the branches are of the form, and their cards rise from this place on.
+#[cycle(form)]
+fn have_form(branches: &Branches<'_>, room: u8, least: u16) -> bool
+    ensures { IsTrue result ↔ HaveForm room least branches.now }
+{
+    match branches.split_first() {
+        None => true,
+        Some((card, below, rest)) => {
+            is_card(card)
+                && least <= card_place(card)
+                && has_form(&below, room)
+                && have_form(&rest, room, card_place(card) + 1)
+        }
+    }
+}
+
+/// Whether the leaves name nodes below this number.
+#[cycle(names)]
+pub(crate) fn names_below(place: &Place<'_>, count: u32) -> bool
+    ensures { IsTrue result ↔ NamesBelow count place.now }
+{
+    match place.view() {
+        View::Own(_, below) => names_below(&below, count),
+        View::Reply(branches) => name_below(&branches, count),
+        View::Leaf(children) => are_below(children, count),
+    }
+}
+
+/// Whether the leaves of all branches name nodes below this number.
+#[cycle(names)]
+fn name_below(branches: &Branches<'_>, count: u32) -> bool
+    ensures { IsTrue result ↔ NameBelow count branches.now }
+{
+    match branches.split_first() {
+        None => true,
+        Some((_, below, rest)) => names_below(&below, count) && name_below(&rest, count),
+    }
+}
+
+/// Whether the children are nodes below this number.
+fn are_below(children: &[Child], count: u32) -> bool
+    ensures { IsTrue result ↔ All (λ child. child.number < count) children.now }
+{
+    match children {
+        [] => true,
+        [child, rest @ ..] => child.number < count && are_below(rest, count),
+    }
+}

@@ -1,0 +1,71 @@
+//! Graphs.
+
+ghost use Rattle.std.specs.Prelude.{◌≡◌, length};
+ghost use Rattle.certificate_graph.specs.Graphs.{IsGraph};
+ghost use Rattle.certificate_graph.specs.GraphFaults.{MakesGraph};
+
+use crate::checks::check_nodes;
+use crate::faults::GraphFault;
+use crate::nodes::Node;
+use cards::{Side, Trump};
+use std::marker::Model;
+
+/// A graph of a side, with a trump: at most 1,000,000 nodes, each named by its place.
+#[derive(Drop)]
+pub struct Graph {
+    trump: Trump,
+    side: Side,
+    nodes: Vec<Node>,
+}
+
+impl Model for Graph {
+    ghost use Rattle.certificate_graph.specs.Graphs.{GraphShape, IsGraph};
+    ghost use Rattle.certificate_graph.specs.TreeCodes.{tree_code};
+    ghost use Rattle.std.specs.Coded.{codes};
+
+    ghost Value = { GraphShape };
+
+    ghost coded = { Prim.hlevel (codes, tree_code) };
+
+    ghost view = { λ graph. record { trump = graph.trump; side = graph.side; nodes = graph.nodes.items } };
+
+    ghost invariant = { λ graph. IsGraph (record { trump = graph.trump; side = graph.side; nodes = graph.nodes.items }) };
+}
+
+impl Graph {
+    /// The graph of these nodes, else why there is none. Takes no memory.
+    pub fn new(trump: Trump, side: Side, nodes: Vec<Node>) -> Result<Graph, GraphFault>
+        ensures { MakesGraph trump side nodes.items result }
+    {
+        check_nodes(nodes.as_slice())?;
+        Ok(Graph { trump, side, nodes })
+    }
+
+    /// The trump.
+    pub fn trump(&self) -> Trump
+        ensures { result ≡ self.now.trump }
+    {
+        self.trump
+    }
+
+    /// The side whose tricks the nodes count.
+    pub fn side(&self) -> Side
+        ensures { result ≡ self.now.side }
+    {
+        self.side
+    }
+
+    /// The nodes by their numbers.
+    pub fn nodes(&self) -> &[Node]
+        ensures { result.now ≡ self.now.nodes }
+    {
+        self.nodes.as_slice()
+    }
+
+    /// What every graph keeps.
+    pub fn invariant(&self)
+        ensures { IsGraph self.now }
+    {
+        let _ = &self.nodes;
+    }
+}

@@ -1,0 +1,92 @@
+//! The places of a tree, one after another. What is seen of a tree is seen through them.
+
+ghost use Rattle.std.specs.Prelude.{◌≡◌, MatchOption};
+ghost use Rattle.certificate_graph.specs.Trees.{NoBranch, Branch};
+ghost use Rattle.certificate_graph.specs.Stored.{branches_of};
+ghost use Rattle.certificate_graph.specs.Views.{tree_seen};
+
+use crate::children::Child;
+use crate::trees;
+use crate::trees::{Stored, Tree};
+use pattern_step::PatCard;
+use std::marker::Model;
+
+/// A place of a tree, with all below it.
+#[derive(Drop)]
+pub struct Place<'a> {
+    tree: &'a Tree,
+}
+
+/// Branches of a tree, in their order.
+#[derive(Drop)]
+pub struct Branches<'a> {
+    branches: &'a [trees::Branch],
+}
+
+/// What stands in a place: a card of the side, the cards of the opponents, or the nodes after the trick.
+#[derive(Drop)]
+pub enum View<'a> {
+    Own(PatCard, Place<'a>),
+    Reply(Branches<'a>),
+    Leaf(&'a [Child]),
+}
+
+impl<'a> Model for Place<'a> {
+    ghost use Rattle.certificate_graph.specs.Trees.{TrickTree};
+    ghost use Rattle.certificate_graph.specs.TreeCodes.{tree_code};
+
+    ghost Value = { TrickTree };
+
+    ghost coded = { tree_code };
+
+    ghost view = { λ place. place.tree.now };
+}
+
+impl<'a> Model for Branches<'a> {
+    ghost use Rattle.certificate_graph.specs.Trees.{Branches};
+    ghost use Rattle.certificate_graph.specs.TreeCodes.{branches_code};
+    ghost use Rattle.certificate_graph.specs.Stored.{branches_of};
+
+    ghost Value = { Branches };
+
+    ghost coded = { branches_code };
+
+    ghost view = { λ branches. branches_of branches.branches.now };
+}
+
+impl<'a> Place<'a> {
+    /// The first place of the tree.
+    pub(crate) fn of_tree(tree: &'a Tree) -> Place<'a>
+        ensures { result ≡ tree.now }
+    {
+        Place { tree }
+    }
+
+    /// What stands here.
+    pub fn view(&self) -> View<'a>
+        ensures { tree_seen result ≡ self.now }
+    {
+        let tree = self.tree;
+        match tree.stored() {
+            Stored::Own(card, below) => View::Own(*card, Place::of_tree(below)),
+            Stored::Reply(branches) => View::Reply(Branches {
+                branches: branches.as_slice(),
+            }),
+            Stored::Leaf(children) => View::Leaf(children.as_slice()),
+        }
+    }
+}
+
+impl<'a> Branches<'a> {
+    /// The first branch, its card and what follows it, and the other branches.
+    pub fn split_first(&self) -> Option<(PatCard, Place<'a>, Branches<'a>)>
+        ensures { MatchOption result (self.now ≡ NoBranch) (λ first. self.now ≡ Branch first.0 first.1 first.2) }
+    {
+        let (first, rest) = self.branches.split_first()?;
+        Some((
+            first.card,
+            Place::of_tree(&first.below),
+            Branches { branches: rest },
+        ))
+    }
+}
