@@ -1,1 +1,3 @@
 pub mod NodeLemmas
+pub mod WriteLemmas
+pub mod TextParts

@@ -44,6 +44,13 @@ abbrev mutual
   HaveForm room least (Branch card tree rest) =
       IsCard card × (least ≤ card_place card) × HasForm room tree × HaveForm room (card_place card + 1) rest
 
+-- a tree of some depth, and branches from some card on
+abbrev pub IsTree : TrickTree → Type 0
+IsTree tree = (room : ℕ) × HasForm room tree
+
+abbrev pub AreBranches : Branches → Type 0
+AreBranches branches = (room : ℕ) × (least : ℕ) × HaveForm room least branches
+
 -- the leaves name nodes below this number
 abbrev mutual
   pub NamesBelow : ℕ → TrickTree → Type 0

@@ -5,3 +5,4 @@ pub mod StoredFalls
 pub mod Views
 pub mod Graphs
 pub mod GraphFaults
+pub mod Texts

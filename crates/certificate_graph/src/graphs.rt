@@ -2,12 +2,15 @@
 
 ghost use Rattle.std.specs.Prelude.{◌≡◌, length};
 ghost use Rattle.certificate_graph.specs.Graphs.{IsGraph};
+ghost use Rattle.cards.specs.Devices.{Writes};
 ghost use Rattle.certificate_graph.specs.GraphFaults.{MakesGraph};
+ghost use Rattle.certificate_graph.specs.Texts.{graph_text};
 
 use crate::checks::check_nodes;
 use crate::faults::GraphFault;
+use crate::line_writing::{put_count, put_heading, put_nodes};
 use crate::nodes::Node;
-use cards::{Side, Trump};
+use cards::{DeviceFault, Side, Sink, Trump};
 use std::marker::Model;
 
 /// A graph of a side, with a trump: at most 1,000,000 nodes, each named by its place.
@@ -60,6 +63,17 @@ impl Graph {
         ensures { result.now ≡ self.now.nodes }
     {
         self.nodes.as_slice()
+    }
+
+    /// Writes the text of the graph. After a fault of the sink a beginning of it has gone out. Takes no memory.
+    pub fn write<S: Sink>(&self, sink: &mut S) -> Result<(), DeviceFault>
+        ensures { Writes (S.state sink.old) (S.state sink.new) (graph_text self.now) result }
+    {
+        self.invariant();
+        let nodes = self.nodes();
+        put_heading(sink, self.trump(), self.side())?;
+        put_count(sink, nodes.len() as u32)?;
+        put_nodes(sink, nodes)
     }
 
     /// What every graph keeps.

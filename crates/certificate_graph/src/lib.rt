@@ -6,9 +6,11 @@ mod children;
 mod faults;
 mod forms;
 mod graphs;
+mod line_writing;
 mod nodes;
 mod places;
 mod trees;
+mod writing;
 
 pub use children::Child;
 pub use faults::GraphFault;

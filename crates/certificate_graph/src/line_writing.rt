@@ -1,0 +1,87 @@
+//! The lines of a graph's text, as they are written.
+
+ghost use Rattle.std.specs.Prelude.{◌≡◌, ◌∷◌, ◌++◌, [], length, All};
+ghost use Rattle.std.specs.Fmt.{decimal};
+ghost use Rattle.cards.specs.Devices.{Writes};
+ghost use Rattle.certificate_graph.specs.Graphs.{IsTree};
+ghost use Rattle.certificate_graph.specs.Texts.{claim_text, node_text, nodes_text, title_text, trump_text, side_text, count_text};
+
+use crate::nodes::Node;
+use crate::writing::{put_len, put_number, put_pattern, put_tree, seat_byte};
+use cards::{DeviceFault, Seat, Side, Sink, Suit, Trump, write_all};
+
+/// Writes a lead and a need, with a blank behind each.
+fn put_claim<S: Sink>(sink: &mut S, lead: Seat, need: u8) -> Result<(), DeviceFault>
+    ensures { Writes (S.state sink.old) (S.state sink.new) (claim_text lead need []) result }
+{
+    write_all(sink, &[seat_byte(lead), b' '])?;
+    put_len(sink, need, b' ')
+}
+
+/// Writes a node.
+fn put_node<S: Sink>(sink: &mut S, node: &Node) -> Result<(), DeviceFault>
+    requires { IsTree node.now.tree }
+    ensures { Writes (S.state sink.old) (S.state sink.new) (node_text node.now []) result }
+{
+    put_claim(sink, node.lead, node.need)?;
+    put_pattern(sink, &node.pattern)?;
+    write_all(sink, b" ")?;
+    put_tree(sink, &node.tree.root())?;
+    write_all(sink, b"\n")
+}
+
+/// Writes nodes.
+pub(crate) fn put_nodes<S: Sink>(sink: &mut S, nodes: &[Node]) -> Result<(), DeviceFault>
+    requires { All (λ node. IsTree node.tree) nodes.now }
+    ensures { Writes (S.state sink.old) (S.state sink.new) (nodes_text nodes.now []) result }
+{
+    for node in nodes {
+        put_node(sink, node)?;
+    }
+    Ok(())
+}
+
+/// The line of a trump.
+fn trump_line(trump: Trump) -> &'static [u8]
+    ensures { result.now ≡ trump_text trump [] }
+{
+    match trump {
+        Trump::Nt => b"trump NT\n",
+        Trump::Suit(Suit::Spades) => b"trump S\n",
+        Trump::Suit(Suit::Hearts) => b"trump H\n",
+        Trump::Suit(Suit::Diamonds) => b"trump D\n",
+        Trump::Suit(Suit::Clubs) => b"trump C\n",
+    }
+}
+
+/// The line of a side.
+fn side_line(side: Side) -> &'static [u8]
+    ensures { result.now ≡ side_text side [] }
+{
+    match side {
+        Side::NorthSouth => b"side NS\n",
+        Side::EastWest => b"side EW\n",
+    }
+}
+
+/// Writes the title, the trump and the side.
+pub(crate) fn put_heading<S: Sink>(
+    sink: &mut S,
+    trump: Trump,
+    side: Side,
+) -> Result<(), DeviceFault>
+    ensures { Writes (S.state sink.old) (S.state sink.new) (title_text (trump_text trump (side_text side []))) result }
+{
+    write_all(sink, b"DDC 1\n")?;
+    write_all(sink, trump_line(trump))?;
+    write_all(sink, side_line(side))
+}
+
+/// Writes the number of nodes.
+pub(crate) fn put_count<S: Sink>(sink: &mut S, count: u32) -> Result<(), DeviceFault>
+    ensures { Writes (S.state sink.old) (S.state sink.new) (count_text (decimal count) []) result }
+{
+    write_all(sink, b"nodes ")?;
+    put_number(sink, count)?;
+    write_all(sink, b"\n")
+}

@@ -1,0 +1,188 @@
+//! How the text of a graph is written.
+
+ghost use Rattle.std.specs.Prelude.{◌≡◌, ◌∷◌, ◌++◌, [], ℕ};
+ghost use Rattle.std.specs.Fmt.{decimal};
+ghost use Rattle.cards.specs.Devices.{Writes};
+ghost use Rattle.cards.specs.Seats.{seat_letter};
+ghost use Rattle.cards.specs.Pack.{suit_letter};
+ghost use Rattle.patterns.specs.Shapes.{suit_of};
+ghost use Rattle.certificate_graph.specs.Graphs.{IsCard, IsTree, AreBranches};
+ghost use Rattle.certificate_graph.specs.Texts.{card_text, child_text, more_children_text, children_text, tree_text, branches_text, owners_text, suit_text, pattern_text};
+
+use crate::children::Child;
+use crate::places::{Branches, Place, View};
+use cards::{DeviceFault, Seat, Sink, Suit, write_all};
+use itoa::Buffer;
+use pattern_step::PatCard;
+use patterns::Pattern;
+
+/// The letter of a seat.
+pub(crate) fn seat_byte(seat: Seat) -> u8
+    ensures { seat_letter seat ≡ result ∷ [] }
+{
+    match seat {
+        Seat::North => b'N',
+        Seat::East => b'E',
+        Seat::South => b'S',
+        Seat::West => b'W',
+    }
+}
+
+/// The letter of a suit.
+fn suit_byte(suit: Suit) -> u8
+    ensures { suit_letter suit ≡ result ∷ [] }
+{
+    match suit {
+        Suit::Spades => b'S',
+        Suit::Hearts => b'H',
+        Suit::Diamonds => b'D',
+        Suit::Clubs => b'C',
+    }
+}
+
+/// The two bytes of a card.
+fn card_bytes(card: PatCard) -> [u8; 2]
+    requires { IsCard card }
+    ensures { result ≡ card_text card [] }
+{
+    match card {
+        PatCard::Top(suit, place) => [suit_byte(suit), b'a' + place],
+        PatCard::Low(suit) => [suit_byte(suit), b'x'],
+    }
+}
+
+/// Writes a number.
+pub(crate) fn put_number<S: Sink>(sink: &mut S, number: u32) -> Result<(), DeviceFault>
+    ensures { Writes (S.state sink.old) (S.state sink.new) (decimal number) result }
+{
+    let mut buffer = Buffer::new();
+    write_all(sink, buffer.format(number).as_bytes())
+}
+
+/// Writes a child.
+fn put_child<S: Sink>(sink: &mut S, child: &Child) -> Result<(), DeviceFault>
+    ensures { Writes (S.state sink.old) (S.state sink.new) (child_text child.now []) result }
+{
+    write_all(sink, &[seat_byte(child.winner)])?;
+    put_number(sink, child.number)
+}
+
+/// Writes children behind another one, and the closing brace.
+fn put_more_children<S: Sink>(sink: &mut S, children: &[Child]) -> Result<(), DeviceFault>
+    ensures { Writes (S.state sink.old) (S.state sink.new) (more_children_text children.now []) result }
+{
+    match children.split_first() {
+        None => write_all(sink, b"}"),
+        Some((child, more)) => {
+            write_all(sink, b" ")?;
+            put_child(sink, child)?;
+            put_more_children(sink, more)
+        }
+    }
+}
+
+/// Writes children and the closing brace.
+fn put_children<S: Sink>(sink: &mut S, children: &[Child]) -> Result<(), DeviceFault>
+    ensures { Writes (S.state sink.old) (S.state sink.new) (children_text children.now []) result }
+{
+    match children.split_first() {
+        None => write_all(sink, b"}"),
+        Some((child, more)) => {
+            put_child(sink, child)?;
+            put_more_children(sink, more)
+        }
+    }
+}
+
+/// Writes a place of a tree, and all below it.
+#[cycle(put)]
+pub(crate) fn put_tree<S: Sink>(sink: &mut S, place: &Place<'_>) -> Result<(), DeviceFault>
+    requires { IsTree place.now }
+    ensures { Writes (S.state sink.old) (S.state sink.new) (tree_text place.now []) result }
+{
+    match place.view() {
+        View::Own(card, below) => {
+            write_all(sink, &card_bytes(card))?;
+            put_tree(sink, &below)
+        }
+        View::Reply(branches) => {
+            write_all(sink, b"(")?;
+            put_branches(sink, &branches)
+        }
+        View::Leaf(children) => {
+            write_all(sink, b"{")?;
+            put_children(sink, children)
+        }
+    }
+}
+
+/// Writes branches and the closing parenthesis.
+#[cycle(put)]
+fn put_branches<S: Sink>(sink: &mut S, branches: &Branches<'_>) -> Result<(), DeviceFault>
+    requires { AreBranches branches.now }
+    ensures { Writes (S.state sink.old) (S.state sink.new) (branches_text branches.now []) result }
+{
+    match branches.split_first() {
+        None => write_all(sink, b")"),
+        Some((card, below, more)) => {
+            write_all(sink, &card_bytes(card))?;
+            put_tree(sink, &below)?;
+            put_branches(sink, &more)
+        }
+    }
+}
+
+/// Writes owners.
+fn put_owners<S: Sink>(sink: &mut S, owners: &[Seat]) -> Result<(), DeviceFault>
+    ensures { Writes (S.state sink.old) (S.state sink.new) (owners_text owners.now []) result }
+{
+    match owners.split_first() {
+        None => Ok(()),
+        Some((owner, more)) => {
+            write_all(sink, &[seat_byte(*owner)])?;
+            put_owners(sink, more)
+        }
+    }
+}
+
+/// Writes a length and the byte behind it.
+pub(crate) fn put_len<S: Sink>(sink: &mut S, len: u8, behind: u8) -> Result<(), DeviceFault>
+    ensures { Writes (S.state sink.old) (S.state sink.new) (decimal len ++ (behind ∷ [])) result }
+{
+    put_number(sink, u32::from(len))?;
+    write_all(sink, &[behind])
+}
+
+/// Writes a suit of a pattern.
+fn put_suit<S: Sink>(sink: &mut S, pattern: &Pattern, suit: Suit) -> Result<(), DeviceFault>
+    ensures { Writes (S.state sink.old) (S.state sink.new) (suit_text (suit_of pattern.now suit) []) result }
+{
+    let part = pattern.part(suit);
+    put_len(sink, part.lens[0], b'.')?;
+    put_len(sink, part.lens[1], b'.')?;
+    put_len(sink, part.lens[2], b'.')?;
+    put_len(sink, part.lens[3], b'/')?;
+    put_owners(sink, part.owners.as_slice())
+}
+
+/// Writes a suit of a pattern, and a blank.
+fn put_suit_and_blank<S: Sink>(
+    sink: &mut S,
+    pattern: &Pattern,
+    suit: Suit,
+) -> Result<(), DeviceFault>
+    ensures { Writes (S.state sink.old) (S.state sink.new) (suit_text (suit_of pattern.now suit) (32 ∷ [])) result }
+{
+    put_suit(sink, pattern, suit)?;
+    write_all(sink, b" ")
+}
+
+/// Writes the four suits of a pattern.
+pub(crate) fn put_pattern<S: Sink>(sink: &mut S, pattern: &Pattern) -> Result<(), DeviceFault>
+    ensures { Writes (S.state sink.old) (S.state sink.new) (pattern_text pattern.now []) result }
+{
+    put_suit_and_blank(sink, pattern, Suit::Spades)?;
+    put_suit_and_blank(sink, pattern, Suit::Hearts)?;
+    put_suit_and_blank(sink, pattern, Suit::Diamonds)?;
+    put_suit(sink, pattern, Suit::Clubs)
+}
