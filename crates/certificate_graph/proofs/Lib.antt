@@ -1,3 +1,12 @@
 pub mod NodeLemmas
 pub mod WriteLemmas
 pub mod TextParts
+pub mod OneSpelling
+pub mod NumberLemmas
+pub mod OneNode
+pub mod LeafLemmas
+pub mod TreeLemmas
+pub mod PatternLemmas
+pub mod LineLemmas
+pub mod HeadLemmas
+pub mod ReadLemmas

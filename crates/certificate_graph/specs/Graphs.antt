@@ -1,5 +1,6 @@
 -- What a graph is to every contract: the trump, the side, and the nodes by their numbers.
 use Rattle.std.specs.Prelude.{ℕ, ◌+◌, ◌-◌, ◌*◌, ◌<◌, ◌≤◌, List, [], ◌∷◌, length, All, ⊤}
+use Rattle.std.specs.List.{AllByRecursion}
 use Rattle.cards.specs.declared.suits.Trump.{Trump}
 use Rattle.cards.specs.declared.seats.Side.{Side}
 use Rattle.cards.specs.Seats.{seat_number}
@@ -56,7 +57,7 @@ abbrev mutual
   pub NamesBelow : ℕ → TrickTree → Type 0
   NamesBelow count (Own card tree) = NamesBelow count tree
   NamesBelow count (Reply branches) = NameBelow count branches
-  NamesBelow count (Leaf children) = All (λ child. child.number < count) children
+  NamesBelow count (Leaf children) = AllByRecursion (λ child. child.number < count) children
 
   pub NameBelow : ℕ → Branches → Type 0
   NameBelow count NoBranch = ⊤

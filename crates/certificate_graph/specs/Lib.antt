@@ -6,3 +6,7 @@ pub mod Views
 pub mod Graphs
 pub mod GraphFaults
 pub mod Texts
+pub mod LineForms
+pub mod TextFaults
+pub mod Readings
+pub mod Suits

@@ -19,3 +19,29 @@ pub enum GraphFault {
     #[error("a number of no node")]
     ChildNumber = 4,
 }
+
+/// Why a text is not one of a graph. All but want of memory name the line, counted from 1.
+#[derive(Clone, Copy, Debug, PartialEq, Eq, Hash, Error)]
+pub enum TextFault {
+    /// One of the first four lines is missing, lacks its line feed, or is not of the form.
+    #[error("1 Head")]
+    Head { line: usize },
+    /// The line of a node lacks its line feed, or is not of the form.
+    #[error("2 NodeForm")]
+    NodeForm { line: usize },
+    /// The four suits of a node are no pattern.
+    #[error("3 BadPattern")]
+    BadPattern { line: usize },
+    /// A leaf names a node that is not there.
+    #[error("4 ChildNumber")]
+    ChildNumber { line: usize },
+    /// The text ends before the line of a node, or does not end behind the last one.
+    #[error("5 Count")]
+    Count { line: usize },
+    /// There are to be over 1,000,000 nodes.
+    #[error("6 TooLarge")]
+    TooLarge { line: usize },
+    /// A growth was refused.
+    #[error("7 OutOfMemory")]
+    OutOfMemory,
+}

@@ -1,6 +1,7 @@
 //! Whether a tree is of the form, and which nodes it names.
 
-ghost use Rattle.std.specs.Prelude.{◌≡◌, ◌↔◌, IsTrue, All, ◌<◌, ◌^◌};
+ghost use Rattle.std.specs.Prelude.{◌≡◌, ◌↔◌, IsTrue, ◌<◌};
+ghost use Rattle.std.specs.List.{AllByRecursion};
 ghost use Rattle.certificate_graph.specs.Graphs.{card_place, IsCard, SeatsRise, HasForm, HaveForm, NamesBelow, NameBelow};
 
 use crate::children::Child;
@@ -92,7 +93,7 @@ fn name_below(branches: &Branches<'_>, count: u32) -> bool
 
 /// Whether the children are nodes below this number.
 fn are_below(children: &[Child], count: u32) -> bool
-    ensures { IsTrue result ↔ All (λ child. child.number < count) children.now }
+    ensures { IsTrue result ↔ AllByRecursion (λ child. child.number < count) children.now }
 {
     match children {
         [] => true,

@@ -1,16 +1,21 @@
 //! Graphs.
 
-ghost use Rattle.std.specs.Prelude.{◌≡◌, length};
+ghost use Rattle.std.specs.Prelude.{◌≡◌, ◌⊎◌, Err};
 ghost use Rattle.certificate_graph.specs.Graphs.{IsGraph};
 ghost use Rattle.cards.specs.Devices.{Writes};
 ghost use Rattle.certificate_graph.specs.GraphFaults.{MakesGraph};
+ghost use Rattle.certificate_graph.specs.TextFaults.{TextAnswers};
 ghost use Rattle.certificate_graph.specs.Texts.{graph_text};
+ghost use Rattle.certificate_graph.specs.declared.faults.TextFault.TheVariants.{OutOfMemory};
 
 use crate::checks::check_nodes;
-use crate::faults::GraphFault;
+use crate::faults::{GraphFault, TextFault};
 use crate::line_writing::{put_count, put_heading, put_nodes};
+use crate::node_reading::read_nodes;
 use crate::nodes::Node;
+use crate::reading::{read_count, read_side, read_title, read_trump};
 use cards::{DeviceFault, Side, Sink, Trump};
+use std::alloc::Global;
 use std::marker::Model;
 
 /// A graph of a side, with a trump: at most 1,000,000 nodes, each named by its place.
@@ -63,6 +68,25 @@ impl Graph {
         ensures { result.now ≡ self.now.nodes }
     {
         self.nodes.as_slice()
+    }
+
+    /// The graph that the text tells, else the fault of the first line that has one, in a line the first in the order
+    /// of their numbers, or want of memory.
+    pub fn read(alloc: Global, text: &[u8]) -> Result<Graph, TextFault>
+        ensures { (result ≡ Err OutOfMemory) ⊎ TextAnswers text.now result }
+    {
+        let Some(rest) = read_title(text) else {
+            return Err(TextFault::Head { line: 1 });
+        };
+        let Some((trump, rest)) = read_trump(rest) else {
+            return Err(TextFault::Head { line: 2 });
+        };
+        let Some((side, rest)) = read_side(rest) else {
+            return Err(TextFault::Head { line: 3 });
+        };
+        let (count, rest) = read_count(rest)?;
+        let nodes = read_nodes(alloc, count, rest)?;
+        Ok(Graph { trump, side, nodes })
     }
 
     /// Writes the text of the graph. After a fault of the sink a beginning of it has gone out. Takes no memory.

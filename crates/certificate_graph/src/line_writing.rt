@@ -42,7 +42,7 @@ pub(crate) fn put_nodes<S: Sink>(sink: &mut S, nodes: &[Node]) -> Result<(), Dev
 }
 
 /// The line of a trump.
-fn trump_line(trump: Trump) -> &'static [u8]
+pub(crate) fn trump_line(trump: Trump) -> &'static [u8]
     ensures { result.now ≡ trump_text trump [] }
 {
     match trump {
@@ -55,7 +55,7 @@ fn trump_line(trump: Trump) -> &'static [u8]
 }
 
 /// The line of a side.
-fn side_line(side: Side) -> &'static [u8]
+pub(crate) fn side_line(side: Side) -> &'static [u8]
     ensures { result.now ≡ side_text side [] }
 {
     match side {

@@ -1,0 +1,4 @@
+use Rattle.certificate_graph.proofs.pattern_reading.+read_owners.Given as goal
+
+abbrev pub decreases-read_owners : goal.decreases-read_owners
+decreases-read_owners l = l.room

@@ -1,0 +1,68 @@
+//! The line of a node, as it is read.
+
+ghost use Rattle.std.specs.Prelude.{◌≡◌, ◌∷◌, ℕ, List, MatchOption, IfOk};
+ghost use Rattle.cards.specs.declared.seats.Seat.{Seat};
+ghost use Rattle.certificate_graph.specs.Graphs.{IsNeed};
+ghost use Rattle.certificate_graph.specs.TextFaults.{BeginsNode, LacksNode};
+ghost use Rattle.certificate_graph.specs.Readings.{BeginsClaim, LacksClaim};
+ghost use Rattle.certificate_graph.specs.Suits.{node_read};
+
+use crate::pattern_reading::{Suits, read_suits};
+use crate::scanning::{behind, read_len, read_seat};
+use crate::tree_reading::read_tree;
+use crate::trees::Tree;
+use cards::Seat;
+use std::alloc::{AllocError, Global};
+
+/// What the line of a node says.
+#[derive(Drop)]
+pub(crate) struct Line {
+    pub(crate) lead: Seat,
+    pub(crate) need: u8,
+    pub(crate) suits: Suits,
+    pub(crate) tree: Tree,
+}
+
+/// A lead and a need, and what stands behind the blank after them.
+fn read_claim(text: &[u8]) -> Option<(Seat, u8, &[u8])>
+    ensures { MatchOption result (LacksClaim text.now) (λ p. BeginsClaim text.now p.0 p.1 p.2.now) }
+{
+    let Some((lead, rest)) = read_seat(text) else {
+        return None;
+    };
+    let Some(rest) = behind(rest, b' ') else {
+        return None;
+    };
+    let Some((need, rest)) = read_len(rest, b' ') else {
+        return None;
+    };
+    if need == 0 {
+        return None;
+    }
+    Some((lead, need, rest))
+}
+
+/// The line of a node, and what stands behind it.
+pub(crate) fn read_line(alloc: Global, text: &[u8]) -> Result<Option<(Line, &[u8])>, AllocError>
+    ensures { IfOk result (λ read. MatchOption read (LacksNode text.now) (λ p. BeginsNode text.now (node_read p.0) p.1.now)) }
+{
+    let Some((lead, need, rest)) = read_claim(text) else {
+        return Ok(None);
+    };
+    let Some((suits, rest)) = read_suits(rest) else {
+        return Ok(None);
+    };
+    let Some((tree, rest)) = read_tree(alloc, rest, 4)? else {
+        return Ok(None);
+    };
+    let Some(rest) = behind(rest, b'\n') else {
+        return Ok(None);
+    };
+    let line = Line {
+        lead,
+        need,
+        suits,
+        tree,
+    };
+    Ok(Some((line, rest)))
+}
