@@ -10,3 +10,4 @@ pub mod PatternLemmas
 pub mod LineLemmas
 pub mod HeadLemmas
 pub mod ReadLemmas
+pub mod OneAnswer

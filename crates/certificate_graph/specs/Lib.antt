@@ -8,5 +8,7 @@ pub mod GraphFaults
 pub mod Texts
 pub mod LineForms
 pub mod TextFaults
+pub mod FaultWords
+pub mod Laws
 pub mod Readings
 pub mod Suits

@@ -1,5 +1,8 @@
 //! Why nodes make no graph.
 
+ghost use Rattle.std.specs.Prelude.{◌≡◌};
+ghost use Rattle.certificate_graph.specs.FaultWords.{fault_number, fault_name, fault_line};
+
 use thiserror::Error;
 
 /// Why nodes make no graph.
@@ -44,4 +47,51 @@ pub enum TextFault {
     /// A growth was refused.
     #[error("7 OutOfMemory")]
     OutOfMemory,
+}
+
+impl TextFault {
+    /// The printed number.
+    pub fn number(&self) -> u8
+        ensures { result ≡ fault_number self.now }
+    {
+        match self {
+            TextFault::Head { .. } => 1,
+            TextFault::NodeForm { .. } => 2,
+            TextFault::BadPattern { .. } => 3,
+            TextFault::ChildNumber { .. } => 4,
+            TextFault::Count { .. } => 5,
+            TextFault::TooLarge { .. } => 6,
+            TextFault::OutOfMemory => 7,
+        }
+    }
+
+    /// The printed name.
+    pub fn name(&self) -> &'static str
+        ensures { result.now ≡ fault_name self.now }
+    {
+        match self {
+            TextFault::Head { .. } => "Head",
+            TextFault::NodeForm { .. } => "NodeForm",
+            TextFault::BadPattern { .. } => "BadPattern",
+            TextFault::ChildNumber { .. } => "ChildNumber",
+            TextFault::Count { .. } => "Count",
+            TextFault::TooLarge { .. } => "TooLarge",
+            TextFault::OutOfMemory => "OutOfMemory",
+        }
+    }
+
+    /// The line that is named, counted from 1; none for want of memory.
+    pub fn line(&self) -> Option<usize>
+        ensures { result ≡ fault_line self.now }
+    {
+        match self {
+            TextFault::Head { line }
+            | TextFault::NodeForm { line }
+            | TextFault::BadPattern { line }
+            | TextFault::ChildNumber { line }
+            | TextFault::Count { line }
+            | TextFault::TooLarge { line } => Some(*line),
+            TextFault::OutOfMemory => None,
+        }
+    }
 }

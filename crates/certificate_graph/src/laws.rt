@@ -1,0 +1,24 @@
+//! What holds of graphs and texts alone.
+
+ghost use Rattle.certificate_graph.specs.Laws.{EachGraphHasOneText, NoTextHasTwoGraphs, GraphsAreReadBack, TextsHaveOneAnswer};
+
+/// Each graph has exactly one text.
+pub fn one_text()
+    ensures { EachGraphHasOneText }
+{}
+
+/// No text belongs to two graphs.
+pub fn one_graph()
+    ensures { NoTextHasTwoGraphs }
+{}
+
+/// What [`write`](crate::Graph::write) writes of a graph, [`read`](crate::Graph::read) reads as that graph, where there
+/// is memory.
+pub fn graphs_are_read_back()
+    ensures { GraphsAreReadBack }
+{}
+
+/// A text has one answer at most: its graph, or its fault.
+pub fn one_answer()
+    ensures { TextsHaveOneAnswer }
+{}
