@@ -11,8 +11,7 @@ ghost use Rattle.certificate_graph.specs.Texts.{card_text, child_text, more_chil
 
 use crate::children::Child;
 use crate::places::{Branches, Place, View};
-use cards::{DeviceFault, Seat, Sink, Suit, write_all};
-use itoa::Buffer;
+use cards::{DeviceFault, Seat, Sink, Suit, write_all, write_number};
 use pattern_step::PatCard;
 use patterns::Pattern;
 
@@ -55,8 +54,7 @@ fn card_bytes(card: PatCard) -> [u8; 2]
 pub(crate) fn put_number<S: Sink>(sink: &mut S, number: u32) -> Result<(), DeviceFault>
     ensures { Writes (S.state sink.old) (S.state sink.new) (decimal number) result }
 {
-    let mut buffer = Buffer::new();
-    write_all(sink, buffer.format(number).as_bytes())
+    write_number(sink, u64::from(number))
 }
 
 /// Writes a child.
