@@ -11,3 +11,6 @@ pub mod LineLemmas
 pub mod HeadLemmas
 pub mod ReadLemmas
 pub mod OneAnswer
+pub mod SomeForm
+pub mod SomeTree
+pub mod SomeAnswer

@@ -24,6 +24,8 @@ GraphsAreReadBack =
     (graph : GraphShape) → IsGraph graph
     → TextAnswers (graph_text graph) (Ok graph) × ((answer : Result GraphShape TextFault) → TextAnswers (graph_text graph) answer → answer ≡ Ok graph)
 
--- a text has no two answers
-abbrev pub TextsHaveOneAnswer : Type 0
-TextsHaveOneAnswer = (text : List ℕ) (one other : Result GraphShape TextFault) → TextAnswers text one → TextAnswers text other → one ≡ other
+-- each text has an answer, and no other
+abbrev pub EachTextHasOneAnswer : Type 0
+EachTextHasOneAnswer =
+    (text : List ℕ) → (answer : Result GraphShape TextFault) × TextAnswers text answer
+    × ((other : Result GraphShape TextFault) → TextAnswers text other → other ≡ answer)

@@ -1,6 +1,6 @@
 //! What holds of graphs and texts alone.
 
-ghost use Rattle.certificate_graph.specs.Laws.{EachGraphHasOneText, NoTextHasTwoGraphs, GraphsAreReadBack, TextsHaveOneAnswer};
+ghost use Rattle.certificate_graph.specs.Laws.{EachGraphHasOneText, NoTextHasTwoGraphs, GraphsAreReadBack, EachTextHasOneAnswer};
 
 /// Each graph has exactly one text.
 pub fn one_text()
@@ -18,7 +18,7 @@ pub fn graphs_are_read_back()
     ensures { GraphsAreReadBack }
 {}
 
-/// A text has one answer at most: its graph, or its fault.
+/// Each text has exactly one answer: its graph, or its fault.
 pub fn one_answer()
-    ensures { TextsHaveOneAnswer }
+    ensures { EachTextHasOneAnswer }
 {}

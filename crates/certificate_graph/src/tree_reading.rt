@@ -59,10 +59,11 @@ fn read_own(alloc: Global, text: &[u8], room: u8) -> Result<Option<(Tree, &[u8])
 fn read_reply(alloc: Global, text: &[u8], room: u8) -> Result<Option<(Tree, &[u8])>, AllocError>
     ensures { IfOk result (λ read. MatchOption read (LacksReply room text.now) (λ p. BeginsReply room text.now p.0 p.1.now)) }
 {
-    let mut branches = Vec::new(alloc);
+    let mut branches = Vec::with_capacity(alloc, 1)?;
     let Some(rest) = read_branches(alloc, text, room, 0, &mut branches)? else {
         return Ok(None);
     };
+    branches.shrink_to_fit();
     Ok(Some((Tree::reply(branches), rest)))
 }
 
