@@ -38,21 +38,30 @@ fn command<'a>(alloc: Global) -> Result<Command<'a>, AllocError> {
 }
 
 fn plain_command<'a>(alloc: Global) -> Result<Command<'a>, AllocError> {
-    let layout = Arg::new(alloc, "LAYOUT").required(true).help(help::LAYOUT);
-    let leader = Arg::new(alloc, "LEADER")
-        .required(true)
-        .value_parser(LEADERS.as_slice())
-        .help(help::LEADER);
-    let trump = Arg::new(alloc, "TRUMP")
-        .required(true)
-        .value_parser(TRUMPS.as_slice())
-        .help(help::TRUMP);
     Command::new(alloc, "plain")
         .about(help::PLAIN_ABOUT)
         .after_help(help::PLAIN_EXAMPLE)
-        .arg(layout)?
-        .arg(leader)?
-        .arg(trump)
+        .arg(layout_arg(alloc))?
+        .arg(leader_arg(alloc))?
+        .arg(trump_arg(alloc))
+}
+
+fn layout_arg<'a>(alloc: Global) -> Arg<'a> {
+    Arg::new(alloc, "LAYOUT").required(true).help(help::LAYOUT)
+}
+
+fn leader_arg<'a>(alloc: Global) -> Arg<'a> {
+    Arg::new(alloc, "LEADER")
+        .required(true)
+        .value_parser(LEADERS.as_slice())
+        .help(help::LEADER)
+}
+
+fn trump_arg<'a>(alloc: Global) -> Arg<'a> {
+    Arg::new(alloc, "TRUMP")
+        .required(true)
+        .value_parser(TRUMPS.as_slice())
+        .help(help::TRUMP)
 }
 
 fn table_command<'a>(alloc: Global) -> Command<'a> {

@@ -60,27 +60,3 @@ fn can_take(table: &Table, size: u8, wanted: u8) -> bool
     }
     !own
 }
-
-#[cfg(test)]
-mod tests {
-    use super::*;
-    use cards::LayoutFault;
-    use std::test::Fail;
-
-    /// Spades of the four hands, as bits from the deuce up.
-    fn spades(hands: [u64; 4]) -> Result<Layout, LayoutFault> {
-        Layout::from_hands(hands)
-    }
-
-    #[test]
-    fn finesses(rt: HostRuntime) -> Result<(), Fail> {
-        // AQ over 65, 32 and K4: the king is finessed. AQ over K5: it is not.
-        let onside = spades([0x1400, 0x18, 0x3, 0x804])?;
-        let offside = spades([0x1400, 0x808, 0x3, 0x14])?;
-        assert_eq!(rt; plain_value(&onside, Seat::South, Trump::Nt), Ok(2));
-        assert_eq!(rt; plain_value(&offside, Seat::South, Trump::Nt), Ok(1));
-        let five = spades([0x1f00, 0xf8, 0x1f << 13, 0x1f << 26])?;
-        assert_eq!(rt; plain_value(&five, Seat::North, Trump::Nt), Err(TooLarge));
-        Ok(())
-    }
-}
