@@ -1,0 +1,103 @@
+//! The end of a trick: who may have won it, and the nodes that go on.
+
+ghost use Rattle.std.specs.Prelude.{◌≡◌, ◌<◌, ◌≤◌, ◌≢◌, ◌↔◌, IsTrue, MatchResult, All, length};
+ghost use Rattle.cards.specs.declared.seats.Seat.{Seat};
+ghost use Rattle.pattern_step.specs.SeatSets.{is_in};
+ghost use Rattle.pattern_step.specs.Tricks.{AreLegalInTurn};
+ghost use Rattle.checker.specs.Steps.{need_after, IsListed, ListsWinners, IsRightChild, IsRightLeaf, BeginLine};
+ghost use Rattle.checker.specs.Faults.{IsChildrenFault, IsLeafFault};
+
+use crate::faults::StepFault;
+use crate::played::Played;
+use cards::{Seat, Side};
+use certificate_graph::{Child, Graph, Node};
+use pattern_step::{PatCard, SeatSet, rest, winners};
+
+/// What is still needed when this seat has won the trick.
+fn need_after(side: Side, need: u8, winner: Seat) -> u8
+    ensures { result ≡ need_after side need winner }
+{
+    if winner.side() == side {
+        need.saturating_sub(1)
+    } else {
+        need
+    }
+}
+
+/// Whether the seat is among those listed.
+fn is_listed(children: &[Child], seat: Seat) -> bool
+    ensures { IsTrue result ↔ IsListed children.now seat }
+{
+    children.iter().any(|child| child.winner == seat)
+}
+
+/// Whether the seat is listed just where it is one of the winners and something is needed when it has won.
+fn is_rightly_listed(side: Side, need: u8, winners: SeatSet, children: &[Child], seat: Seat) -> bool
+    ensures { IsTrue result ↔ (IsListed children.now seat ↔ (IsTrue (is_in winners seat) × (0 < need_after side need seat))) }
+{
+    let goes_on = winners.contains(seat) && need_after(side, need, seat) > 0;
+    is_listed(children, seat) == goes_on
+}
+
+/// Whether the seats listed are those that may win and have to go on.
+fn lists_winners(graph: &Graph, node: &Node, trick: &[PatCard; 4], children: &[Child]) -> bool
+    ensures { IsTrue result ↔ ListsWinners graph.now node.now trick.now children.now }
+{
+    let winners = winners(&node.pattern, graph.trump(), node.lead, trick);
+    let side = graph.side();
+    is_rightly_listed(side, node.need, winners, children, Seat::North)
+        && is_rightly_listed(side, node.need, winners, children, Seat::East)
+        && is_rightly_listed(side, node.need, winners, children, Seat::South)
+        && is_rightly_listed(side, node.need, winners, children, Seat::West)
+}
+
+/// Checks, one after another, that the nodes named go on from what the four cards leave.
+fn check_children(
+    graph: &Graph,
+    node: &Node,
+    trick: &[PatCard; 4],
+    children: &[Child],
+) -> Result<(), StepFault>
+    requires legal { AreLegalInTurn node.now.pattern node.now.lead trick.now }
+    requires named { All (λ child. child.number < length graph.now.nodes) children.now }
+    ensures { MatchResult result
+        (λ _. All (IsRightChild graph.now node.now trick.now) children.now)
+        (IsChildrenFault graph.now node.now trick.now children.now) }
+{
+    let left = rest(&node.pattern, node.lead, trick);
+    for child in children {
+        let next = &graph.nodes()[child.number as usize];
+        if next.lead != child.winner {
+            return Err(StepFault::ChildLead);
+        }
+        if next.need < need_after(graph.side(), node.need, child.winner) {
+            return Err(StepFault::ChildNeed);
+        }
+        if !next.pattern.covers(&left) {
+            return Err(StepFault::ChildPattern);
+        }
+    }
+    Ok(())
+}
+
+/// Checks that the trick ends here, and that the children are the right ones.
+pub(crate) fn check_leaf(
+    graph: &Graph,
+    node: &Node,
+    played: &Played,
+    children: &[Child],
+) -> Result<(), StepFault>
+    requires begun { BeginLine node.now played.now }
+    requires named { All (λ child. child.number < length graph.now.nodes) children.now }
+    ensures { MatchResult result
+        (λ _. IsRightLeaf graph.now node.now played.now children.now)
+        (IsLeafFault graph.now node.now played.now children.now) }
+{
+    let Some(trick) = played.whole() else {
+        return Err(StepFault::TreeShape);
+    };
+    if !lists_winners(graph, node, trick, children) {
+        return Err(StepFault::LeafWinners);
+    }
+    check_children(graph, node, trick, children)
+}

@@ -1,0 +1,39 @@
+//! Whether a graph is right.
+
+ghost use Rattle.std.specs.Prelude.{[], MatchResult, length};
+ghost use Rattle.certificate_graph.specs.Graphs.{NamesBelow};
+ghost use Rattle.checker.specs.Steps.{StepHolds, StepsHold};
+ghost use Rattle.checker.specs.Faults.{IsFirstFault, IsGraphFault};
+
+use crate::faults::{NodeFault, StepFault};
+use crate::played::Played;
+use crate::walks::check_place;
+use certificate_graph::{Graph, Node};
+
+/// Checks the step of a node.
+fn check_node(graph: &Graph, node: &Node) -> Result<(), StepFault>
+    requires { NamesBelow (length graph.now.nodes) node.now.tree }
+    ensures { MatchResult result
+        (λ _. StepHolds graph.now node.now)
+        (IsFirstFault graph.now node.now [] node.now.tree) }
+{
+    check_place(graph, node, &Played::none(), &node.tree.root())
+}
+
+/// Checks that the steps of all nodes hold. Else the answer is the first fault: of the least node that has one, the
+/// first that is met where its tree is read from the front.
+pub fn check_graph(graph: &Graph) -> Result<(), NodeFault>
+    ensures { MatchResult result (λ _. StepsHold graph.now) (IsGraphFault graph.now) }
+{
+    graph.invariant();
+    let nodes = graph.nodes();
+    for (number, node) in nodes.iter().enumerate() {
+        if let Err(fault) = check_node(graph, node) {
+            return Err(NodeFault {
+                number: number as u32,
+                fault,
+            });
+        }
+    }
+    Ok(())
+}

@@ -1,0 +1,16 @@
+//! Whether certificates are right.
+//!
+//! A graph is right where the step of each of its nodes holds: one trick on the node's pattern, with the side's choice
+//! at its turns and all that the opponents may play at theirs, and nodes that go on from each end that still needs
+//! tricks. Nothing here plays a card of a deal, searches or takes memory.
+#![tactic(auto)]
+
+mod ends;
+mod faults;
+mod graphs;
+mod played;
+mod turns;
+mod walks;
+
+pub use faults::{NodeFault, StepFault};
+pub use graphs::check_graph;

@@ -1,0 +1,66 @@
+//! The walk over the tree of a node.
+
+ghost use Rattle.std.specs.Prelude.{◌<◌, MatchResult, length};
+ghost use Rattle.pattern_step.specs.declared.pat_cards.PatCard.{PatCard};
+ghost use Rattle.certificate_graph.specs.Graphs.{NamesBelow, NameBelow};
+ghost use Rattle.checker.specs.Places.{HasBranchOf};
+ghost use Rattle.checker.specs.Steps.{MayComeNext, BeginLine};
+ghost use Rattle.checker.specs.Faults.{HoldsFrom, HoldAmong, IsFirstFault, IsFirstFaultAmong};
+
+use crate::ends::check_leaf;
+use crate::faults::StepFault;
+use crate::played::Played;
+use crate::turns::{check_own, check_reply};
+use certificate_graph::{Branches, Graph, Node, Place, View};
+
+/// Checks a place of the tree, which these cards led to, and then all below it.
+#[cycle(walk)]
+pub(crate) fn check_place(
+    graph: &Graph,
+    node: &Node,
+    played: &Played,
+    place: &Place<'_>,
+) -> Result<(), StepFault>
+    requires begun { BeginLine node.now played.now }
+    requires named { NamesBelow (length graph.now.nodes) place.now }
+    ensures { MatchResult result
+        (λ _. HoldsFrom graph.now node.now played.now place.now)
+        (IsFirstFault graph.now node.now played.now place.now) }
+{
+    match place.view() {
+        View::Own(card, below) => {
+            check_own(graph.side(), node, played, card)?;
+            check_place(graph, node, &played.with(card), &below)
+        }
+        View::Reply(branches) => {
+            check_reply(graph.side(), node, played, &branches)?;
+            check_branches(graph, node, played, &branches)
+        }
+        View::Leaf(children) => check_leaf(graph, node, played, children),
+    }
+}
+
+/// Checks what stands below each of the branches, one after another.
+#[cycle(walk)]
+fn check_branches(
+    graph: &Graph,
+    node: &Node,
+    played: &Played,
+    branches: &Branches<'_>,
+) -> Result<(), StepFault>
+    requires begun { BeginLine node.now played.now }
+    requires goes_on { length played.now < 4 }
+    requires legal { (card : PatCard) → HasBranchOf branches.now card → MayComeNext node.now played.now card }
+    requires named { NameBelow (length graph.now.nodes) branches.now }
+    ensures { MatchResult result
+        (λ _. HoldAmong graph.now node.now played.now branches.now)
+        (IsFirstFaultAmong graph.now node.now played.now branches.now) }
+{
+    match branches.split_first() {
+        None => Ok(()),
+        Some((card, below, rest)) => {
+            check_place(graph, node, &played.with(card), &below)?;
+            check_branches(graph, node, played, &rest)
+        }
+    }
+}
