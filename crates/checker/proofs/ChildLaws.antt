@@ -15,7 +15,7 @@ use Rattle.checker.specs.Steps.{need_after, IsRightChild}
 use Rattle.checker.specs.Faults.{IfWrong, NoFault, HasWrongLead, NeedsTooLittle, FailsToCover, IsChildrenFault}
 
 -- one node stands under a number
-same_node : (nodes : List Node) (number : ℕ) (one other : Node) → slice_get nodes number ≡ Some one → slice_get nodes number ≡ Some other → one ≡ other
+pub same_node : (nodes : List Node) (number : ℕ) (one other : Node) → slice_get nodes number ≡ Some one → slice_get nodes number ≡ Some other → one ≡ other
 same_node nodes number one other there there' = let e : Some one ≡ Some other = sym there ∙ there' in cc
 
 pub right_lead : (graph : GraphShape) (child : Child) (next : Node) → slice_get graph.nodes child.number ≡ Some next → next.lead ≡ child.winner → HasWrongLead graph child → ⊥

@@ -4,3 +4,8 @@ pub mod SeatTests
 pub mod ChildLaws
 pub mod WinnerLaws
 pub mod WalkLaws
+pub mod Decisions
+pub mod StepDecisions
+pub mod FaultLaws
+pub mod NoFaultLaws
+pub mod LineLaws

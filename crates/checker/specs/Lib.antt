@@ -1,3 +1,4 @@
 pub mod Places
 pub mod Steps
 pub mod Faults
+pub mod Laws

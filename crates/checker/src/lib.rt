@@ -8,9 +8,14 @@
 mod ends;
 mod faults;
 mod graphs;
+mod laws;
 mod played;
 mod turns;
 mod walks;
 
 pub use faults::{NodeFault, StepFault};
 pub use graphs::check_graph;
+pub use laws::{
+    graph_has_one_first_fault, no_fault_where_steps_hold, place_has_one_first_fault,
+    places_are_on_lines,
+};
