@@ -2,7 +2,7 @@
 use Rattle.std.proofs.Common.{◌≡◌, ◌≢◌, ℕ, zero, suc, ◌<◌, ◌≤◌, List, [], ◌∷◌, ◌++◌, length, get_or, All, Some, inl, inr, refl, sym, ◌∙◌, subst, arith}
 use Rattle.std.specs.Prelude.{slice_get}
 use Rattle.std.proofs.lemmas.Bool.{cases_lt, cases_eq}
-use Rattle.std.proofs.lemmas.List.Elements.{All-head, All-tail, All-cons, All-nil}
+use Rattle.std.proofs.lemmas.List.Elements.{All-head, All-tail, All-cons, All-nil, All-from_recursion}
 use Rattle.cards.specs.declared.seats.Side.{Side}
 use Rattle.cards.specs.Seats.{side_of}
 use Rattle.pattern_step.specs.declared.pat_cards.PatCard.{PatCard}
@@ -171,7 +171,7 @@ mutual
   holds_without graph node cards (Reply branches) named none =
       let right = reply_right graph.side node cards branches (λ fault reply. none fault (inl reply)) in
       reply_holds graph node cards branches right (hold_without graph node cards branches named (λ fault below. none fault (inr (right, below))))
-  holds_without graph node cards (Leaf children) named none = leaf_holds graph node cards children (leaf_right graph node cards children named none)
+  holds_without graph node cards (Leaf children) named none = leaf_holds graph node cards children (leaf_right graph node cards children (All-from_recursion (λ (c : Child). c.number < length graph.nodes) children named) none)
 
   pub hold_without : (graph : GraphShape) (node : Node) (cards : List PatCard) (branches : Branches) → NameBelow (length graph.nodes) branches →
       ((fault : StepFault) → IsFirstFaultAmong graph node cards branches fault → ⊥) → HoldAmong graph node cards branches
