@@ -1,4 +1,10 @@
-//! Certificates: graphs of patterns, and the one text of each.
+//! Certificates as data and as text.
+//!
+//! A graph has a side, a trump and nodes. A node claims that from every layout that matches its pattern, with one
+//! seat to lead, the side can win so many tricks; its tree says how the first of them is played, and names the nodes
+//! that go on after it. The crate says which nodes make a graph, writes the one text of a graph, and reads a text as
+//! its graph or tells the first fault. Whether the claims are shown is not asked here. Contracts see a tree by its
+//! cards and children, and know nothing of how it is stored; it is looked at place by place, without memory.
 #![tactic(auto)]
 
 mod answers;

@@ -10,7 +10,8 @@ use pattern_step::PatCard;
 use std::alloc::{AllocError, Global};
 use std::marker::Model;
 
-/// What is to be played in a trick, and the nodes that go on after it.
+/// What is to be played in a trick, and the nodes that go on after it. The tree of a graph is at most four cards deep;
+/// one that is built far deeper can't be let go without a stack as deep.
 #[cycle(tree)]
 #[derive(Drop)]
 pub struct Tree {
