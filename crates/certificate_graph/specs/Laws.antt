@@ -12,17 +12,20 @@ IsTextOf text graph = IsGraph graph × (text ≡ graph_text graph)
 -- each graph has a text, and no other
 abbrev pub EachGraphHasOneText : Type 0
 EachGraphHasOneText =
-    (graph : GraphShape) → IsGraph graph → (text : List ℕ) × IsTextOf text graph × ((other : List ℕ) → IsTextOf other graph → other ≡ text)
+    (graph : GraphShape) → IsGraph graph
+    → (text : List ℕ) × IsTextOf text graph × ((other : List ℕ) → IsTextOf other graph → other ≡ text)
 
 -- no text is that of two graphs
 abbrev pub NoTextHasTwoGraphs : Type 0
-NoTextHasTwoGraphs = (text : List ℕ) (one other : GraphShape) → IsTextOf text one → IsTextOf text other → one ≡ other
+NoTextHasTwoGraphs =
+    (text : List ℕ) (one other : GraphShape) → IsTextOf text one → IsTextOf text other → one ≡ other
 
 -- what is written of a graph is read back as that graph
 abbrev pub GraphsAreReadBack : Type 0
 GraphsAreReadBack =
     (graph : GraphShape) → IsGraph graph
-    → TextAnswers (graph_text graph) (Ok graph) × ((answer : Result GraphShape TextFault) → TextAnswers (graph_text graph) answer → answer ≡ Ok graph)
+    → TextAnswers (graph_text graph) (Ok graph)
+    × ((answer : Result GraphShape TextFault) → TextAnswers (graph_text graph) answer → answer ≡ Ok graph)
 
 -- each text has an answer, and no other
 abbrev pub EachTextHasOneAnswer : Type 0

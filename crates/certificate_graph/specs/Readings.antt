@@ -28,7 +28,8 @@ abbrev pub IsShort : ℕ → Type 0
 IsShort n = n < 10 ^ 7
 
 -- the text is that of a good thing before the rest
-pub record Begins {X : Type 0} (Good : X → Type 0) (spelled : X → List ℕ → List ℕ) (text : List ℕ) (x : X) (rest : List ℕ) : Type 0 where
+pub record Begins {X : Type 0} (Good : X → Type 0) (spelled : X → List ℕ → List ℕ) (text : List ℕ) (x : X) (rest : List ℕ)
+    : Type 0 where
   pub good : Good x
   pub is : text ≡ spelled x rest
 
@@ -96,7 +97,8 @@ pub record BeginsBranch (room : ℕ) (text : List ℕ) (card : PatCard) (below :
   pub is : text ≡ card_text card (tree_text below rest)
 
 abbrev pub LacksBranch : ℕ → List ℕ → Type 0
-LacksBranch room text = (card : PatCard) (below : TrickTree) (rest : List ℕ) → BeginsBranch room text card below rest → ⊥
+LacksBranch room text =
+    (card : PatCard) (below : TrickTree) (rest : List ℕ) → BeginsBranch room text card below rest → ⊥
 
 -- branches from this card on
 pub record BeginsBranches (room least : ℕ) (text : List ℕ) (branches : Branches) (rest : List ℕ) : Type 0 where
@@ -105,7 +107,8 @@ pub record BeginsBranches (room least : ℕ) (text : List ℕ) (branches : Branc
   pub is : text ≡ branches_text branches rest
 
 abbrev pub LacksBranches : ℕ → ℕ → List ℕ → Type 0
-LacksBranches room least text = (branches : Branches) (rest : List ℕ) → BeginsBranches room least text branches rest → ⊥
+LacksBranches room least text =
+    (branches : Branches) (rest : List ℕ) → BeginsBranches room least text branches rest → ⊥
 
 abbrev pub BeginsTree : ℕ → List ℕ → TrickTree → List ℕ → Type 0
 BeginsTree room text tree rest = Begins (IsTreeForm room) tree_text text tree rest
@@ -140,7 +143,8 @@ LacksReply room text = (tree : TrickTree) (rest : List ℕ) → BeginsReply room
 -- ---- patterns
 -- at most so many owners, and a blank
 abbrev pub LacksOwners : ℕ → List ℕ → Type 0
-LacksOwners room text = (owners : List Seat) (rest : List ℕ) → length owners ≤ room → text ≡ owners_text owners (32 ∷ rest) → ⊥
+LacksOwners room text =
+    (owners : List Seat) (rest : List ℕ) → length owners ≤ room → text ≡ owners_text owners (32 ∷ rest) → ⊥
 
 -- two lengths before these bytes
 pub record BeginsTwo (first second : ℕ) (text : List ℕ) (one other : ℕ) (rest : List ℕ) : Type 0 where
@@ -155,7 +159,8 @@ LacksTwo first second text = (one other : ℕ) (rest : List ℕ) → BeginsTwo f
 pub record BeginsLens (text : List ℕ) (lens : List ℕ) (rest : List ℕ) : Type 0 where
   pub four : length lens ≡ 4
   pub low : (seat : Seat) → slice_index lens (seat_number seat) ≤ 13
-  pub is : text ≡ len_text 46 (slice_index lens 0) (len_text 46 (slice_index lens 1) (len_text 46 (slice_index lens 2) (len_text 47 (slice_index lens 3) rest)))
+  pub is : text ≡ len_text 46 (slice_index lens 0) (len_text 46 (slice_index lens 1)
+      (len_text 46 (slice_index lens 2) (len_text 47 (slice_index lens 3) rest)))
 
 abbrev pub LacksLens : List ℕ → Type 0
 LacksLens text = (lens rest : List ℕ) → BeginsLens text lens rest → ⊥
@@ -223,4 +228,5 @@ pub record ReadsCount (text : List ℕ) (count : ℕ) (rest : List ℕ) : Type 0
 abbrev pub IsCountLineFault : List ℕ → TextFault → Type 0
 IsCountLineFault text fault =
     ((fault ≡ Head 4) × LacksDigits text) ⊎
-    ((digits : List ℕ) × (rest : List ℕ) × BeginsDigits text digits rest × (fault ≡ TooLarge 4) × (greatest_count < digits_value 10 digits))
+    ((digits : List ℕ) × (rest : List ℕ) × BeginsDigits text digits rest ×
+    (fault ≡ TooLarge 4) × (greatest_count < digits_value 10 digits))

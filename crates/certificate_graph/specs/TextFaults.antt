@@ -35,7 +35,8 @@ HasNode Holds text = (node : Node) × (rest : List ℕ) × BeginsNode text node 
 abbrev pub IsLineFault : ℕ → ℕ → List ℕ → TextFault → Type 0
 IsLineFault count line text (NodeForm at) = (at ≡ line) × (text ≢ []) × LacksNode text
 IsLineFault count line text (BadPattern at) = (at ≡ line) × HasNode (λ node. IsPattern node.pattern → ⊥) text
-IsLineFault count line text (ChildNumber at) = (at ≡ line) × HasNode (λ node. IsPattern node.pattern × (NamesBelow count node.tree → ⊥)) text
+IsLineFault count line text (ChildNumber at) =
+    (at ≡ line) × HasNode (λ node. IsPattern node.pattern × (NamesBelow count node.tree → ⊥)) text
 IsLineFault count line text (Count at) = (at ≡ line) × (text ≡ [])
 IsLineFault count line text _ = ⊥
 
@@ -50,7 +51,9 @@ pub record StopsAt (count : ℕ) (text : List ℕ) (fault : TextFault) : Type 0 
   pub rest : List ℕ
   pub is : text ≡ nodes_text nodes rest
   pub each : All (IsNode count) nodes
-  pub wrong : ((length nodes < count) × IsLineFault count (5 + length nodes) rest fault) ⊎ ((length nodes ≡ count) × IsEndFault (5 + count) rest fault)
+  pub wrong :
+      ((length nodes < count) × IsLineFault count (5 + length nodes) rest fault) ⊎
+      ((length nodes ≡ count) × IsEndFault (5 + count) rest fault)
 
 -- ---- the first four lines
 -- what stands from each of them on is at fault
@@ -58,7 +61,8 @@ abbrev pub IsCountFault : List ℕ → TextFault → Type 0
 IsCountFault text fault =
     ((fault ≡ Head 4) × ((digits rest : List ℕ) → IsNumber digits → text ≢ count_text digits rest)) ⊎
     ((digits : List ℕ) × (rest : List ℕ) × IsNumber digits × (text ≡ count_text digits rest) ×
-    (((fault ≡ TooLarge 4) × (greatest_count < digits_value 10 digits)) ⊎ ((digits_value 10 digits ≤ greatest_count) × StopsAt (digits_value 10 digits) rest fault)))
+    (((fault ≡ TooLarge 4) × (greatest_count < digits_value 10 digits)) ⊎
+    ((digits_value 10 digits ≤ greatest_count) × StopsAt (digits_value 10 digits) rest fault)))
 
 abbrev pub IsSideFault : List ℕ → TextFault → Type 0
 IsSideFault text fault =

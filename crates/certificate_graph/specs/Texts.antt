@@ -93,4 +93,5 @@ count_text digits rest = codes "nodes " ++ (digits ++ (10 ∷ rest))
 -- a graph: the title, the trump, the side, the number of nodes, and the nodes
 abbrev pub graph_text : GraphShape → List ℕ
 graph_text graph =
-    title_text (trump_text graph.trump (side_text graph.side (count_text (decimal (length graph.nodes)) (nodes_text graph.nodes []))))
+    title_text (trump_text graph.trump (side_text graph.side
+    (count_text (decimal (length graph.nodes)) (nodes_text graph.nodes []))))
