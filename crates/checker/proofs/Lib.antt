@@ -9,3 +9,5 @@ pub mod StepDecisions
 pub mod FaultLaws
 pub mod NoFaultLaws
 pub mod LineLaws
+pub mod PartLaws
+pub mod EntryLaws

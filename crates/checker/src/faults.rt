@@ -1,4 +1,7 @@
-//! Why certificates are refused.
+//! Why the step of a node doesn't hold.
+
+ghost use Rattle.std.specs.Prelude.{◌≡◌};
+ghost use Rattle.checker.specs.FaultWords.{step_fault_number, step_fault_name};
 
 use thiserror::Error;
 
@@ -6,37 +9,71 @@ use thiserror::Error;
 #[derive(Clone, Copy, Debug, PartialEq, Eq, Hash, Error)]
 pub enum StepFault {
     /// A card of the side is not legal.
-    #[error("a card that is not legal")]
-    CardNotLegal = 1,
+    #[error("1 CardNotLegal")]
+    CardNotLegal,
     /// A legal card of the opponents has no branch.
-    #[error("a legal card without a branch")]
-    BranchMissing = 2,
+    #[error("2 BranchMissing")]
+    BranchMissing,
     /// A branch is of a card that is not legal.
-    #[error("a branch that is not legal")]
-    BranchExtra = 3,
+    #[error("3 BranchExtra")]
+    BranchExtra,
     /// The seats that are listed after a trick are not those that may win it and have to go on.
-    #[error("seats that are not those that may win and go on")]
-    LeafWinners = 4,
+    #[error("4 LeafWinners")]
+    LeafWinners,
     /// A node that goes on has another seat to lead.
-    #[error("a child with another lead")]
-    ChildLead = 5,
+    #[error("5 ChildLead")]
+    ChildLead,
     /// A node that goes on needs less than is still needed.
-    #[error("a child with too little need")]
-    ChildNeed = 6,
+    #[error("6 ChildNeed")]
+    ChildNeed,
     /// The pattern of a node that goes on does not cover what is left.
-    #[error("a child whose pattern does not cover the rest")]
-    ChildPattern = 7,
-    /// There is another thing in the tree than belongs there: a card of the side, the opponents' cards, or the end.
-    #[error("a tree of another shape")]
-    TreeShape = 8,
+    #[error("7 ChildPattern")]
+    ChildPattern,
+    /// Another thing stands in the tree than belongs there: a card of the side, the opponents' cards, or the end.
+    #[error("8 TreeShape")]
+    TreeShape,
 }
 
 /// A node whose step doesn't hold, and why.
 #[derive(Clone, Copy, Debug, PartialEq, Eq, Hash, Error)]
-#[error("node {number}: {fault}")]
+#[error("{number} {fault}")]
 pub struct NodeFault {
     /// The number of the node.
     pub number: u32,
     /// The first fault of its step.
     pub fault: StepFault,
+}
+
+impl StepFault {
+    /// The printed number.
+    pub fn number(&self) -> u8
+        ensures { result ≡ step_fault_number self.now }
+    {
+        match self {
+            StepFault::CardNotLegal => 1,
+            StepFault::BranchMissing => 2,
+            StepFault::BranchExtra => 3,
+            StepFault::LeafWinners => 4,
+            StepFault::ChildLead => 5,
+            StepFault::ChildNeed => 6,
+            StepFault::ChildPattern => 7,
+            StepFault::TreeShape => 8,
+        }
+    }
+
+    /// The printed name.
+    pub fn name(&self) -> &'static str
+        ensures { result.now ≡ step_fault_name self.now }
+    {
+        match self {
+            StepFault::CardNotLegal => "CardNotLegal",
+            StepFault::BranchMissing => "BranchMissing",
+            StepFault::BranchExtra => "BranchExtra",
+            StepFault::LeafWinners => "LeafWinners",
+            StepFault::ChildLead => "ChildLead",
+            StepFault::ChildNeed => "ChildNeed",
+            StepFault::ChildPattern => "ChildPattern",
+            StepFault::TreeShape => "TreeShape",
+        }
+    }
 }

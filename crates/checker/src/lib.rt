@@ -6,15 +6,24 @@
 #![tactic(auto)]
 
 mod ends;
+mod entries;
+mod entry_faults;
 mod faults;
 mod graphs;
+mod hand_faults;
+mod judging;
 mod laws;
+mod parts;
 mod played;
 mod turns;
 mod walks;
 
+pub use entries::{Proven, Shown, check_entry};
+pub use entry_faults::{EntryFault, PartFault};
 pub use faults::{NodeFault, StepFault};
 pub use graphs::check_graph;
+pub use hand_faults::{HandFault, OutOfMemory};
+pub use judging::{Verdict, judge};
 pub use laws::{
     graph_has_one_first_fault, no_fault_where_steps_hold, place_has_one_first_fault,
     places_are_on_lines,

@@ -1,0 +1,105 @@
+//! What two graphs show of a contract on a layout.
+
+ghost use Rattle.std.specs.Prelude.{◌≡◌};
+ghost use Rattle.checker.specs.Claims.{IsShown};
+ghost use Rattle.checker.specs.EntryFaults.{EntryAnswers};
+
+use crate::entry_faults::EntryFault;
+use crate::parts::{Claim, check_part};
+use cards::{Layout, Seat, Trump};
+use certificate_graph::Graph;
+use std::marker::Model;
+
+/// What was shown: that declarer takes so many tricks, no more and no fewer, where both sides play best.
+#[derive(Clone, Copy, Debug, PartialEq)]
+pub struct Shown {
+    /// The four hands.
+    pub layout: Layout,
+    /// Declarer; the seat at the left leads.
+    pub declarer: Seat,
+    /// The trump suit, or none.
+    pub trump: Trump,
+    /// The tricks of declarer's side.
+    pub k: u8,
+}
+
+/// The proof that two graphs showed something. [`check_entry`] alone makes one.
+#[derive(Clone, Copy, Debug, PartialEq)]
+pub struct Proven {
+    shown: Shown,
+}
+
+impl Model for Proven {
+    ghost use Rattle.checker.specs.declared.entries.Shown.{Shown};
+    ghost use Rattle.checker.specs.Claims.{IsShown};
+
+    ghost Value = { Shown };
+
+    ghost view = { λ proven. proven.shown };
+
+    ghost invariant = { λ proven. IsShown proven.shown };
+
+    ghost inverse = { λ shown. record { shown = shown } };
+}
+
+impl Proven {
+    /// What was shown.
+    pub fn shown(&self) -> Shown
+        ensures { result ≡ self.now }
+    {
+        self.shown
+    }
+
+    /// What every proof keeps. It does nothing.
+    pub fn invariant(&self)
+        ensures { IsShown self.now }
+    {
+        let _ = &self.shown;
+    }
+}
+
+/// Checks that the two graphs show that declarer's side takes just this many tricks: the first that it can win them,
+/// the second that the defenders can win the others. Else the answer is the first fault.
+pub fn check_entry(
+    layout: &Layout,
+    declarer: Seat,
+    trump: Trump,
+    k: u8,
+    declarers: &Graph,
+    defenders: &Graph,
+) -> Result<Proven, EntryFault>
+    ensures { EntryAnswers layout.now declarer trump k declarers.now defenders.now result }
+{
+    declarers.invariant();
+    defenders.invariant();
+    let size = layout.len() as u8;
+    if k > size {
+        return Err(EntryFault::KTooLarge);
+    }
+    let leader = declarer.next();
+    let side = declarer.side();
+    let claim = Claim {
+        layout,
+        leader,
+        trump,
+        side,
+        need: k,
+    };
+    check_part(declarers, &claim).map_err(EntryFault::Declarer)?;
+    let claim = Claim {
+        layout,
+        leader,
+        trump,
+        side: side.other(),
+        need: size - k,
+    };
+    check_part(defenders, &claim).map_err(EntryFault::Defenders)?;
+    Ok(Proven {
+        shown: Shown {
+            layout: *layout,
+            declarer,
+            trump,
+            k,
+        },
+    })
+}
