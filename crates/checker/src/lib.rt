@@ -15,6 +15,8 @@ mod judging;
 mod laws;
 mod parts;
 mod played;
+#[cfg(test)]
+mod tests;
 mod turns;
 mod walks;
 
