@@ -27,21 +27,38 @@ bit_of_seat South a b c d = c
 bit_of_seat West a b c d = d
 
 -- where at most one of four bits is 1, the holder is the seat whose bit it is
-held_by_bit : (a b c d : ℕ) (seat : Seat) → a + b + c + d ≤ 1 → cond (is_held_by seat (holder_by_bits a b c d)) 1 0 ≡ bit_of_seat seat a b c d
-held_by_bit zero zero zero zero seat h = elim seat as (λ s. cond (is_held_by s (holder_by_bits 0 0 0 0)) 1 0 ≡ bit_of_seat s 0 0 0 0) [ North ↦ refl | East ↦ refl | South ↦ refl | West ↦ refl ]
-held_by_bit (suc zero) zero zero zero seat h = elim seat as (λ s. cond (is_held_by s (holder_by_bits 1 0 0 0)) 1 0 ≡ bit_of_seat s 1 0 0 0) [ North ↦ refl | East ↦ refl | South ↦ refl | West ↦ refl ]
-held_by_bit zero (suc zero) zero zero seat h = elim seat as (λ s. cond (is_held_by s (holder_by_bits 0 1 0 0)) 1 0 ≡ bit_of_seat s 0 1 0 0) [ North ↦ refl | East ↦ refl | South ↦ refl | West ↦ refl ]
-held_by_bit zero zero (suc zero) zero seat h = elim seat as (λ s. cond (is_held_by s (holder_by_bits 0 0 1 0)) 1 0 ≡ bit_of_seat s 0 0 1 0) [ North ↦ refl | East ↦ refl | South ↦ refl | West ↦ refl ]
-held_by_bit zero zero zero (suc zero) seat h = elim seat as (λ s. cond (is_held_by s (holder_by_bits 0 0 0 1)) 1 0 ≡ bit_of_seat s 0 0 0 1) [ North ↦ refl | East ↦ refl | South ↦ refl | West ↦ refl ]
+held_by_bit :
+    (a b c d : ℕ) (seat : Seat) → a + b + c + d ≤ 1 →
+    cond (is_held_by seat (holder_by_bits a b c d)) 1 0 ≡ bit_of_seat seat a b c d
+held_by_bit zero zero zero zero seat h =
+    elim seat as (λ s. cond (is_held_by s (holder_by_bits 0 0 0 0)) 1 0 ≡ bit_of_seat s 0 0 0 0)
+    [ North ↦ refl | East ↦ refl | South ↦ refl | West ↦ refl ]
+held_by_bit (suc zero) zero zero zero seat h =
+    elim seat as (λ s. cond (is_held_by s (holder_by_bits 1 0 0 0)) 1 0 ≡ bit_of_seat s 1 0 0 0)
+    [ North ↦ refl | East ↦ refl | South ↦ refl | West ↦ refl ]
+held_by_bit zero (suc zero) zero zero seat h =
+    elim seat as (λ s. cond (is_held_by s (holder_by_bits 0 1 0 0)) 1 0 ≡ bit_of_seat s 0 1 0 0)
+    [ North ↦ refl | East ↦ refl | South ↦ refl | West ↦ refl ]
+held_by_bit zero zero (suc zero) zero seat h =
+    elim seat as (λ s. cond (is_held_by s (holder_by_bits 0 0 1 0)) 1 0 ≡ bit_of_seat s 0 0 1 0)
+    [ North ↦ refl | East ↦ refl | South ↦ refl | West ↦ refl ]
+held_by_bit zero zero zero (suc zero) seat h =
+    elim seat as (λ s. cond (is_held_by s (holder_by_bits 0 0 0 1)) 1 0 ≡ bit_of_seat s 0 0 0 1)
+    [ North ↦ refl | East ↦ refl | South ↦ refl | West ↦ refl ]
 held_by_bit _ _ _ _ seat h = absurd (omega arith)
 
-pub bit_of_word : (hands : List ℕ) (seat : Seat) (i : ℕ) → bit_of_seat seat (bit_at (slice_index hands 0) i) (bit_at (slice_index hands 1) i) (bit_at (slice_index hands 2) i) (bit_at (slice_index hands 3) i) ≡ bit_at (word_of hands seat) i
+pub bit_of_word :
+    (hands : List ℕ) (seat : Seat) (i : ℕ) →
+    bit_of_seat seat (bit_at (slice_index hands 0) i) (bit_at (slice_index hands 1) i) (bit_at (slice_index hands 2) i) (bit_at (slice_index hands 3) i)
+    ≡ bit_at (word_of hands seat) i
 bit_of_word hands North i = refl
 bit_of_word hands East i = refl
 bit_of_word hands South i = refl
 bit_of_word hands West i = refl
 
-pub held_by_word : (hands : List ℕ) → IsDealt hands → (seat : Seat) (i : ℕ) → cond (is_held_by seat (holder_by_words hands i)) 1 0 ≡ bit_at (word_of hands seat) i
+pub held_by_word :
+    (hands : List ℕ) → IsDealt hands → (seat : Seat) (i : ℕ) →
+    cond (is_held_by seat (holder_by_words hands i)) 1 0 ≡ bit_at (word_of hands seat) i
 held_by_word hands dealt seat i = held_by_bit _ _ _ _ seat (dealt.one_holder i) ∙ bit_of_word hands seat i
 
 pub length-deal_of_words : (hands : List ℕ) → length (deal_of_words hands) ≡ 52
@@ -61,7 +78,9 @@ word_of_deal_of_words hands dealt seat =
     let small : mask_l bits < 2 ^ 52 = rw len at (mask_l-lt bits) in
     same_from_bits_below 52 (mask_l bits) (word_of hands seat) small (dealt.cards_alone seat)
     (λ i h. let lt : i < length (deal_of_words hands) = omega (arith, length-deal_of_words hands) in
-    let at : get_or bits i false ≡ is_held_by seat (holder_by_words hands i) = get_or-map (is_held_by seat) (deal_of_words hands) i None false lt ∙ ap (is_held_by seat) (get_or-deal_of_words hands i h) in
+    let at : get_or bits i false ≡ is_held_by seat (holder_by_words hands i) =
+    get_or-map (is_held_by seat) (deal_of_words hands) i None false lt
+    ∙ ap (is_held_by seat) (get_or-deal_of_words hands i h) in
     bit_mask_l bits i ∙ (ap (λ b. cond b 1 0) at ∙ held_by_word hands dealt seat i))
 
 -- how many cards the seat holds is how many bits its word has
@@ -70,7 +89,9 @@ unfolding word_of_deal
 count_of-deal_of_words hands dealt seat =
     sym (ones-mask_l (is_held_by seat) (deal_of_words hands)) ∙ ap count_ones (word_of_deal_of_words hands dealt seat)
 
-same_from_four : (hands : List ℕ) → length hands ≡ 4 → slice_index hands 0 ∷ slice_index hands 1 ∷ slice_index hands 2 ∷ slice_index hands 3 ∷ [] ≡ hands
+same_from_four :
+    (hands : List ℕ) → length hands ≡ 4 →
+    slice_index hands 0 ∷ slice_index hands 1 ∷ slice_index hands 2 ∷ slice_index hands 3 ∷ [] ≡ hands
 same_from_four [] h = absurd (omega arith)
 same_from_four (a ∷ []) h = absurd (omega arith)
 same_from_four (a ∷ b ∷ []) h = absurd (omega arith)
@@ -81,7 +102,12 @@ same_from_four (a ∷ b ∷ c ∷ d ∷ e ∷ rest) h = absurd (omega arith)
 -- the words of the deal are the words
 pub words_of_deal_of_words : (hands : List ℕ) → IsDealt hands → words_of_deal (deal_of_words hands) ≡ hands
 words_of_deal_of_words hands dealt =
-    rw (word_of_deal_of_words hands dealt North, word_of_deal_of_words hands dealt East, word_of_deal_of_words hands dealt South, word_of_deal_of_words hands dealt West)
+    rw (
+      word_of_deal_of_words hands dealt North,
+      word_of_deal_of_words hands dealt East,
+      word_of_deal_of_words hands dealt South,
+      word_of_deal_of_words hands dealt West,
+    )
     (same_from_four hands dealt.four)
 
 pub same_seat : (one other : Seat) → is_same_seat one other ≡ true → one ≡ other
@@ -121,7 +147,9 @@ pub is_same_deal-laws : IsPartialEquivalence is_same_deal
 is_same_deal-laws = partial_equiv_from_equiv is_same_deal-equivalence
 
 -- the words of two layouts are the same exactly where the layouts are
-pub same_from_words : (one other : List ℕ) → IsDealt one → IsDealt other → pointwise nat_eq one other ≡ is_same_deal (deal_of_words one) (deal_of_words other)
+pub same_from_words :
+    (one other : List ℕ) → IsDealt one → IsDealt other →
+    pointwise nat_eq one other ≡ is_same_deal (deal_of_words one) (deal_of_words other)
 same_from_words one other dealt dealt' =
     same_from_decides _ _
     (Decides-like (pointwise nat_eq one other) (λ e. ap deal_of_words e)
