@@ -11,3 +11,8 @@ pub mod NoFaultLaws
 pub mod LineLaws
 pub mod PartLaws
 pub mod EntryLaws
+pub mod TrickCards
+pub mod TrickWinner
+pub mod TrickRest
+pub mod StepIsSound
+pub mod ClaimsAreSound

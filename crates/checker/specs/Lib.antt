@@ -3,6 +3,7 @@ pub mod Steps
 pub mod Faults
 pub mod Laws
 pub mod Claims
+pub mod Soundness
 pub mod EntryFaults
 pub mod FaultWords
 pub mod Verdicts

@@ -15,6 +15,7 @@ mod judging;
 mod laws;
 mod parts;
 mod played;
+mod soundness;
 #[cfg(test)]
 mod tests;
 mod turns;
@@ -30,3 +31,4 @@ pub use laws::{
     graph_has_one_first_fault, no_fault_where_steps_hold, place_has_one_first_fault,
     places_are_on_lines,
 };
+pub use soundness::{entries_are_sound, graphs_are_sound, one_step_is_sound};

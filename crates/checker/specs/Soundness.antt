@@ -1,0 +1,59 @@
+-- What certificates are worth in play: where they are right, the sides have the strategies that they claim.
+use Rattle.std.specs.Prelude.{◌≡◌, ℕ, List, [], Some, Contains, slice_get}
+use Rattle.cards.specs.declared.suits.Trump.{Trump}
+use Rattle.cards.specs.declared.seats.Seat.{Seat}
+use Rattle.cards.specs.Deal.{Deal, IsLayout}
+use Rattle.patterns.specs.Shapes.{IsPattern}
+use Rattle.patterns.specs.Holders.{Matches}
+use Rattle.pattern_step.specs.declared.pat_cards.PatCard.{PatCard}
+use Rattle.play_rules.specs.History.{Opening}
+use Rattle.strategies.specs.Strategies.{CanWin}
+use Rattle.strategies.specs.Values.{IsValue}
+use Rattle.certificate_graph.specs.declared.children.Child.{Child}
+use Rattle.certificate_graph.specs.declared.nodes.Node.{Node}
+use Rattle.certificate_graph.specs.Trees.{Leaf}
+use Rattle.certificate_graph.specs.Graphs.{GraphShape, IsGraph}
+use Rattle.checker.specs.Places.{LeadsTo}
+use Rattle.checker.specs.Steps.{StepHolds, StepsHold}
+use Rattle.checker.specs.Claims.{ShowValue}
+
+-- the play of a deal with a node's seat to lead
+abbrev pub opening_at : GraphShape → Node → Deal → Opening
+opening_at graph node deal = record { deal = deal; leader = node.lead; trump = graph.trump }
+
+-- A node keeps its claim: from every layout that matches its pattern, with its seat to lead, the side can win as many
+-- tricks as it needs.
+abbrev pub KeepsItsClaim : GraphShape → Node → Type 0
+KeepsItsClaim graph node =
+    (deal : Deal) → IsLayout deal → Matches node.pattern deal
+    → CanWin (opening_at graph node deal) graph.side node.need []
+
+-- a leaf of the node's tree names the other node as one that goes on
+pub record IsNamedBy (graph : GraphShape) (node next : Node) : Type 0 where
+  pub cards : List PatCard
+  pub children : List Child
+  pub child : Child
+  pub leaf : LeadsTo node.tree cards (Leaf children)
+  pub listed : Contains children child
+  pub there : slice_get graph.nodes child.number ≡ Some next
+
+-- One trick: a node whose step holds keeps its claim, where the nodes that its leaves name keep theirs.
+abbrev pub OneStepIsSound : Type 0
+OneStepIsSound =
+    (graph : GraphShape) (node : Node) → IsGraph graph → IsPattern node.pattern → StepHolds graph node
+    → ((next : Node) → IsNamedBy graph node next → KeepsItsClaim graph next)
+    → KeepsItsClaim graph node
+
+-- all tricks: where the steps of a graph hold, each of its nodes keeps its claim
+abbrev pub GraphsAreSound : Type 0
+GraphsAreSound =
+    (graph : GraphShape) → IsGraph graph → StepsHold graph
+    → (number : ℕ) (node : Node) → slice_get graph.nodes number ≡ Some node → KeepsItsClaim graph node
+
+-- two graphs that show the value of a contract on a layout show its double-dummy value
+abbrev pub EntriesAreSound : Type 0
+EntriesAreSound =
+    (deal : Deal) (declarer : Seat) (trump : Trump) (tricks : ℕ) (declarers defenders : GraphShape)
+    → IsLayout deal → IsGraph declarers → IsGraph defenders
+    → ShowValue deal declarer trump tricks declarers defenders
+    → IsValue deal declarer trump tricks
