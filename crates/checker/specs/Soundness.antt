@@ -15,7 +15,8 @@ use Rattle.certificate_graph.specs.Trees.{Leaf}
 use Rattle.certificate_graph.specs.Graphs.{GraphShape, IsGraph}
 use Rattle.checker.specs.Places.{LeadsTo}
 use Rattle.checker.specs.Steps.{StepHolds, StepsHold}
-use Rattle.checker.specs.Claims.{ShowValue}
+use Rattle.checker.specs.declared.entries.Shown.{Shown}
+use Rattle.checker.specs.Claims.{ShowValue, IsShown}
 
 -- the play of a deal with a node's seat to lead
 abbrev pub opening_at : GraphShape → Node → Deal → Opening
@@ -57,3 +58,8 @@ EntriesAreSound =
     → IsLayout deal → IsGraph declarers → IsGraph defenders
     → ShowValue deal declarer trump tricks declarers defenders
     → IsValue deal declarer trump tricks
+
+-- what every proof keeps: some graphs showed it, and it is the double-dummy value
+pub record IsProven (shown : Shown) : Type 0 where
+  pub graphs : IsShown shown
+  pub value : IsValue shown.layout shown.declarer shown.trump shown.k

@@ -1,6 +1,7 @@
 //! What two graphs show of a contract on a layout.
 
 ghost use Rattle.std.specs.Prelude.{◌≡◌};
+ghost use Rattle.strategies.specs.Values.{IsValue};
 ghost use Rattle.checker.specs.Claims.{IsShown};
 ghost use Rattle.checker.specs.EntryFaults.{EntryAnswers};
 
@@ -23,7 +24,9 @@ pub struct Shown {
     pub k: u8,
 }
 
-/// The proof that two graphs showed something. [`check_entry`] alone makes one.
+/// The proof that two graphs showed something, so that it is the double-dummy value: declarer's side has a strategy that
+/// wins so many tricks against every defence, and the defenders have one that wins the others against every play.
+/// [`check_entry`] alone makes one.
 #[derive(Clone, Copy, Debug, PartialEq)]
 pub struct Proven {
     shown: Shown,
@@ -31,13 +34,13 @@ pub struct Proven {
 
 impl Model for Proven {
     ghost use Rattle.checker.specs.declared.entries.Shown.{Shown};
-    ghost use Rattle.checker.specs.Claims.{IsShown};
+    ghost use Rattle.checker.specs.Soundness.{IsProven};
 
     ghost Value = { Shown };
 
     ghost view = { λ proven. proven.shown };
 
-    ghost invariant = { λ proven. IsShown proven.shown };
+    ghost invariant = { λ proven. IsProven proven.shown };
 
     ghost inverse = { λ shown. record { shown = shown } };
 }
@@ -50,9 +53,10 @@ impl Proven {
         self.shown
     }
 
-    /// What every proof keeps. It does nothing.
+    /// What every proof keeps: the double-dummy value, and that some graphs showed it. It does nothing.
     pub fn invariant(&self)
-        ensures { IsShown self.now }
+        ensures value { IsValue self.now.layout self.now.declarer self.now.trump self.now.k }
+        ensures shown { IsShown self.now }
     {
         let _ = &self.shown;
     }

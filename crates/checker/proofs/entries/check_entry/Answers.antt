@@ -2,10 +2,11 @@ use Rattle.std.proofs.Common.{◌-◌, ◌≤◌, arith, sym, subst}
 use Rattle.cards.specs.Deal.{size_of}
 use Rattle.cards.specs.Seats.{next_of, side_of, other_side}
 use Rattle.checker.specs.declared.entry_faults.EntryFault.TheVariants.{Declarer, Defenders}
-use Rattle.checker.specs.Claims.{Shows}
+use Rattle.checker.specs.Claims.{Shows, ShowValue}
 use Rattle.checker.specs.EntryFaults.{IsPartFault, IsEntryFault}
 use Rattle.checker.proofs.EntryLaws.{named_fault, named_right}
 use Rattle.checker.proofs.PartLaws.{err_out}
+use Rattle.checker.proofs.ClaimsAreSound.{entries_sound}
 use Rattle.checker.proofs.entries.check_entry.Goals as goal
 
 pub returns-in_err-map_err : goal.returns-in_err-map_err
@@ -51,10 +52,9 @@ invariant_of-result c =
     let shows' = named_right Defenders c.check_part-2.result c.map_err-2.result
     (Shows defenders deal leader c.args.trump (other_side side) others) (IsPartFault defenders deal leader c.args.trump (other_side side) others)
     c.in_ok-map_err-2.field-0 (rw (c.next-leader.ensures, c.other.ensures, c.side-side.ensures, c.len-size.ensures.size) at c.check_part-2.ensures) c.map_err-2.ensures.cases c.in_ok-map_err-2.was in
+    let show : ShowValue deal c.args.declarer c.args.trump c.args.k declarers defenders =
+    record { within = omega (arith, c.len-size.ensures.size); declarers_win = shows; defenders_win = shows' } in
     record {
-      declarers = declarers;
-      defenders = defenders;
-      declarers_are = c.invariant.ensures;
-      defenders_are = c.invariant-2.ensures;
-      show = record { within = omega (arith, c.len-size.ensures.size); declarers_win = shows; defenders_win = shows' };
+      graphs = record { declarers = declarers; defenders = defenders; declarers_are = c.invariant.ensures; defenders_are = c.invariant-2.ensures; show = show };
+      value = entries_sound deal c.args.declarer c.args.trump c.args.k declarers defenders c.len-size.ensures.layout c.invariant.ensures c.invariant-2.ensures show;
     }
