@@ -1,5 +1,1 @@
-pub mod Statuses
-pub mod PlainLine
-pub mod Blanks
-pub mod Runs
 pub mod Commands

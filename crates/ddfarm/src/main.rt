@@ -4,18 +4,14 @@
 //! `main` gives it the words and the streams of the process, and flushes the output at the end.
 #![tactic(auto)]
 
-mod blanks;
-mod faults;
+mod commands;
 mod help;
-mod plain;
-mod requests;
-mod runs;
-mod statuses;
 #[cfg(test)]
 mod tests;
+mod words;
 
-use faults::{RunFault, tell};
-use runs::{close_output, run_command};
+use commands::run_command;
+use runs::{RunFault, close_output, tell};
 use std::io::{BufWriter, ErrorKind};
 use std::process::ExitCode;
 use streams::{ReaderSource, WriterSink};

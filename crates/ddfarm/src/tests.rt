@@ -1,20 +1,12 @@
 //! What `ddfarm` prints and with which status it ends, over memory.
-mod endings;
-mod pbn_tables;
 
-use crate::faults::RunFault;
-use crate::plain::plain_line;
-use crate::runs::{close_output, run_command};
-use crate::statuses::Status;
-use cards::{Buffer, Bytes, Seat, Sink, Suit, Trump};
-use endings::ENDINGS;
-use pbn_deals::PbnFault;
+use crate::commands::run_command;
+use cards::{Buffer, Bytes};
+use runs::Status;
 use std::alloc::Global;
-use std::io;
-use std::io::BufWriter;
 use std::process::Abort;
 use std::test::Fail;
-use streams::{WriterSink, read_all};
+use streams::read_all;
 
 const ROOM: usize = 8192;
 
@@ -80,47 +72,26 @@ fn worked_endings(rt: HostRuntime) -> Result<(), Fail> {
     Ok(())
 }
 
+/// The words of `table` have the input read.
 #[test]
-fn endings_from_outside(rt: HostRuntime) -> Result<(), Fail> {
-    for (layout, leader, trump, line) in ENDINGS.iter() {
-        let words = ["ddfarm", "plain", *layout, *leader, *trump];
-        expect_run(
-            &rt,
-            rt.alloc(),
-            words.as_slice(),
-            ROOM,
-            (Status::Done, *line, ""),
-        )?;
-    }
-    Ok(())
-}
-
-#[test]
-fn refused_layouts(rt: HostRuntime) -> Result<(), Fail> {
-    for (layout, told) in [
+fn words_of_table(rt: HostRuntime) -> Result<(), Fail> {
+    for (text, want) in [
+        (b"".as_slice(), (Status::Done, "% PBN 2.1\n", "")),
         (
-            "N:AKQJT... 98765... ..AKQJT. ...AKQJT",
-            "ddfarm: plain takes at most 4 cards a hand\n",
+            b"[Deal \"?\"]".as_slice(),
+            (
+                Status::Incomplete,
+                "% PBN 2.1\n[Board \"\"]\n[Deal \"?\"]\n; table incomplete: 0 of 20\n\n",
+                "",
+            ),
         ),
-        ("N:A... A... Q... J...", "ddfarm: layout: 5 CardTwice\n"),
-        ("N:AA... K... Q... J...", "ddfarm: layout: 5 CardTwice\n"),
-        ("N:A... K... Q...", "ddfarm: layout: 4 DealForm\n"),
-        ("N:A... K... Q... -", "ddfarm: layout: 4 DealForm\n"),
-        ("N:10... K... Q... J...", "ddfarm: layout: 4 DealForm\n"),
-        ("", "ddfarm: layout: 4 DealForm\n"),
-        ("?", "ddfarm: layout: 4 DealForm\n"),
-        ("#", "ddfarm: layout: 4 DealForm\n"),
-        ("N:A... K... Q... J.2..", "ddfarm: layout: 6 HandSize\n"),
-        ("N:... ... ... ...", "ddfarm: layout: 6 HandSize\n"),
+        (
+            b"{".as_slice(),
+            (Status::Refused, "", "ddfarm: line 1: 2 OpenComment\n"),
+        ),
     ] {
-        let words = ["ddfarm", "plain", layout, "E", "NT"];
-        expect_run(
-            &rt,
-            rt.alloc(),
-            words.as_slice(),
-            ROOM,
-            (Status::Refused, "", told),
-        )?;
+        let words = ["ddfarm", "table"];
+        expect_words(&rt, rt.alloc(), words.as_slice(), text, ROOM, want)?;
     }
     Ok(())
 }
@@ -262,79 +233,5 @@ fn a_full_error_output_is_not_told(rt: HostRuntime) -> Result<(), Fail> {
     assert_eq!(rt; status, Status::Refused);
     assert_eq!(rt; errors.bytes(), b"ddfa".as_slice());
     assert!(rt; output.bytes().is_empty());
-    Ok(())
-}
-
-#[test]
-fn plain_lines(rt: HostRuntime) -> Result<(), Fail> {
-    let mut output = Buffer::new(rt.alloc(), 7, 2)?;
-    let ruff = plain_line(
-        b"N:2... .A.. 3... .K..",
-        Seat::East,
-        Trump::Suit(Suit::Spades),
-        &mut output,
-    );
-    assert_eq!(rt; ruff, Ok(()));
-    let twice = plain_line(b"N:A... A... Q... J...", Seat::East, Trump::Nt, &mut output);
-    assert_eq!(rt;
-        twice,
-        Err(RunFault::Layout(PbnFault::CardTwice { line: 1 }))
-    );
-    let large = plain_line(
-        b"N:AKQJT... 98765... ..AKQJT. ...AKQJT",
-        Seat::North,
-        Trump::Nt,
-        &mut output,
-    );
-    assert_eq!(rt; large, Err(RunFault::TooLarge));
-    let full = plain_line(b"N:A... K... Q... J...", Seat::East, Trump::Nt, &mut output);
-    assert_eq!(rt; full, Err(RunFault::Write));
-    assert_eq!(rt; output.bytes(), b"NS 1\nNS".as_slice());
-    Ok(())
-}
-
-/// A writer that takes no byte, or one that fails.
-#[derive(Drop)]
-struct Broken {
-    takes_none: bool,
-}
-
-impl io::Write for Broken {
-    fn write(&mut self, _buf: &[u8]) -> io::Result<usize> {
-        if self.takes_none {
-            return Ok(0);
-        }
-        Err(io::Error::from(io::ErrorKind::BrokenPipe))
-    }
-
-    fn flush(&mut self) -> io::Result<()> {
-        Ok(())
-    }
-}
-
-/// A run whose last bytes can't go out has failed, and is told so, once.
-#[test]
-fn failed_flush(rt: HostRuntime) -> Result<(), Fail> {
-    let failed = "ddfarm: writing failed\n";
-    for (status, code, ended, told) in [
-        (Status::Done, 0, Status::Failed, failed),
-        (Status::Incomplete, 3, Status::Failed, failed),
-        (Status::Failed, 1, Status::Failed, ""),
-        (Status::Refused, 2, Status::Refused, ""),
-    ] {
-        assert_eq!(rt; status.code(), code);
-        for takes_none in [false, true] {
-            let mut errors = Buffer::new(rt.alloc(), ROOM, ROOM)?;
-            let mut sink = WriterSink::new(BufWriter::new(rt.alloc(), Broken { takes_none })?);
-            assert_eq!(rt; sink.write(b"NS 1\n"), Ok(5));
-            assert_eq!(rt; close_output(status, &mut sink, &mut errors), ended);
-            assert_eq!(rt; errors.bytes(), told.as_bytes());
-        }
-        let mut errors = Buffer::new(rt.alloc(), ROOM, ROOM)?;
-        let mut sink = WriterSink::new(BufWriter::new(rt.alloc(), Vec::new(rt.alloc()))?);
-        assert_eq!(rt; sink.write(b"NS 1\n"), Ok(5));
-        assert_eq!(rt; close_output(status, &mut sink, &mut errors), status);
-        assert!(rt; errors.bytes().is_empty());
-    }
     Ok(())
 }

@@ -1,0 +1,82 @@
+//! Which run the words of a command line ask for.
+
+use crate::help;
+use cards::{Seat, Trump};
+use clap::error::ErrorKind;
+use clap::{Arg, ArgMatches, Command, Error};
+use runs::Run;
+use std::alloc::{AllocError, Global};
+use std::convert::AsStr;
+
+const LEADERS: [&str; 4] = ["N", "E", "S", "W"];
+
+const TRUMPS: [&str; 5] = ["NT", "S", "H", "D", "C"];
+
+/// The command line that is understood.
+fn command<'a>(alloc: Global) -> Result<Command<'a>, AllocError> {
+    Command::new(alloc, "ddfarm")
+        .bin_name("ddfarm")?
+        .about(help::ABOUT)
+        .after_help(help::EXAMPLE)
+        .subcommand_required(true)
+        .arg_required_else_help(true)
+        .disable_help_subcommand(true)
+        .subcommand(plain_command(alloc)?)?
+        .subcommand(table_command(alloc))
+}
+
+fn plain_command<'a>(alloc: Global) -> Result<Command<'a>, AllocError> {
+    Command::new(alloc, "plain")
+        .about(help::PLAIN_ABOUT)
+        .after_help(help::PLAIN_EXAMPLE)
+        .arg(layout_arg(alloc))?
+        .arg(leader_arg(alloc))?
+        .arg(trump_arg(alloc))
+}
+
+fn layout_arg<'a>(alloc: Global) -> Arg<'a> {
+    Arg::new(alloc, "LAYOUT").required(true).help(help::LAYOUT)
+}
+
+fn leader_arg<'a>(alloc: Global) -> Arg<'a> {
+    Arg::new(alloc, "LEADER")
+        .required(true)
+        .value_parser(LEADERS.as_slice())
+        .help(help::LEADER)
+}
+
+fn trump_arg<'a>(alloc: Global) -> Arg<'a> {
+    Arg::new(alloc, "TRUMP")
+        .required(true)
+        .value_parser(TRUMPS.as_slice())
+        .help(help::TRUMP)
+}
+
+fn table_command<'a>(alloc: Global) -> Command<'a> {
+    Command::new(alloc, "table")
+        .about(help::TABLE_ABOUT)
+        .override_usage(help::TABLE_USAGE)
+        .after_help(help::TABLE_EXAMPLE)
+}
+
+/// The run that the words ask for, the first of them being the program's name.
+pub fn run_of<'a, S: AsStr>(alloc: Global, words: &'a [S]) -> Result<Run<'a>, Error> {
+    let mut command = command(alloc)?;
+    let matches = command.try_get_matches_from_mut(words)?;
+    match matched_run(&matches) {
+        Some(run) => Ok(run),
+        None => Err(command.error(ErrorKind::MissingSubcommand, "no such command")?),
+    }
+}
+
+fn matched_run<'a>(matches: &ArgMatches<'a>) -> Option<Run<'a>> {
+    if matches.subcommand_matches("table").is_some() {
+        return Some(Run::Tables);
+    }
+    let plain = matches.subcommand_matches("plain")?;
+    Some(Run::Plain {
+        layout: plain.get_str("LAYOUT")?,
+        leader: Seat::of_letter(plain.get_str("LEADER")?)?,
+        trump: Trump::of_letters(plain.get_str("TRUMP")?)?,
+    })
+}

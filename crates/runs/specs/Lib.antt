@@ -1,0 +1,4 @@
+pub mod Statuses
+pub mod PlainLine
+pub mod Blanks
+pub mod Runs

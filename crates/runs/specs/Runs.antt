@@ -1,0 +1,55 @@
+-- What a run does for what was asked, and how it ends.
+use Rattle.std.specs.Prelude.{◌≡◌, Result, Ok, Err, nat_lt, if◌then◌else◌, ◌⊎◌, Option, List, ℕ}
+use Rattle.tables.specs.declared.sheets.Report.{Report}
+use Rattle.streams.specs.Flushes.{HandsOn}
+use Rattle.cards.specs.Devices.{Device, Fails, Adds, AddsBeginning}
+use Rattle.runs.specs.declared.faults.RunFault.{RunFault}
+use Rattle.runs.specs.declared.faults.RunFault.TheVariants.{Write}
+use Rattle.runs.specs.declared.statuses.Status.{Status}
+use Rattle.runs.specs.declared.statuses.Status.TheVariants.{Done, Failed, Refused, Incomplete}
+use Rattle.runs.specs.declared.running.Run.{Run}
+use Rattle.runs.specs.declared.running.Run.TheVariants.{Plain, Tables}
+use Rattle.runs.specs.Statuses.{fault_status, told_line, IsTold}
+use Rattle.runs.specs.PlainLine.{MeetsPlainLine}
+use Rattle.runs.specs.Blanks.{MakesBlank}
+
+-- a table is incomplete, or all are complete
+abbrev pub report_status : Report → Status
+report_status report = if nat_lt report.complete report.boards then Incomplete else Done
+
+-- What came of a run, and what its devices have given and got. A single layout leaves the input as it was.
+abbrev pub Does : Run → Device → Device → Device → Device → Result Status RunFault → Type 0
+Does (Plain layout leader trump) source source' sink sink' (Ok status) =
+    (status ≡ Done) × (source' ≡ source) × MeetsPlainLine layout.now leader trump sink sink' (Ok tt)
+Does (Plain layout leader trump) source source' sink sink' (Err fault) =
+    (source' ≡ source) × MeetsPlainLine layout.now leader trump sink sink' (Err fault)
+Does Tables source source' sink sink' (Ok status) =
+    (report : Report) × (status ≡ report_status report) × MakesBlank source source' sink sink' (Ok report)
+Does Tables source source' sink sink' (Err fault) = MakesBlank source source' sink sink' (Err fault)
+
+-- how the run ends: a fault is told on the error output, which nothing else touches
+abbrev pub Ends : Result Status RunFault → Device → Device → Status → Type 0
+Ends (Ok answer) errors errors' status = (status ≡ answer) × (errors' ≡ errors)
+Ends (Err fault) errors errors' status = (status ≡ fault_status fault) × IsTold errors errors' (told_line fault)
+
+-- a whole run
+pub record MeetsRun (run : Run) (source source' sink sink' errors errors' : Device) (status : Status) : Type 0 where
+  pub answer : Result Status RunFault
+  pub does : Does run source source' sink sink' answer
+  pub ends : Ends answer errors errors' status
+
+-- a text was written on the output, or a beginning of it, and that it failed was told
+abbrev pub Shows : Device → Device → Device → Device → List ℕ → Status → Type 0
+Shows sink sink' errors errors' text Done = Adds sink sink' text × (errors' ≡ errors)
+Shows sink sink' errors errors' text Failed = AddsBeginning sink sink' text × IsTold errors errors' (told_line Write)
+Shows sink sink' errors errors' text Refused = ⊥
+Shows sink sink' errors errors' text Incomplete = ⊥
+
+-- The end of a run that was done: the writer behind the output's buffer has got all that was written, or that failed and
+-- was told. A run that failed or was refused stays so, and nothing more is done.
+abbrev pub Closes : Device → Device → Option (List ℕ) → Device → Device → Status → Status → Type 0
+Closes sink sink' behind errors errors' Failed ended = (ended ≡ Failed) × (sink' ≡ sink) × (errors' ≡ errors)
+Closes sink sink' behind errors errors' Refused ended = (ended ≡ Refused) × (sink' ≡ sink) × (errors' ≡ errors)
+Closes sink sink' behind errors errors' status ended =
+    ((ended ≡ status) × HandsOn sink sink' behind × (errors' ≡ errors))
+    ⊎ ((ended ≡ Failed) × Fails sink sink' × IsTold errors errors' (told_line Write))

@@ -1,0 +1,18 @@
+//! What each run of the program does, and how it ends, over any input, output and error output.
+//!
+//! A run reads, works and writes, or tells on the error output why it can't; its status says which.
+#![tactic(auto)]
+
+mod blanks;
+mod faults;
+mod plain;
+mod running;
+mod statuses;
+#[cfg(test)]
+mod tests;
+
+pub use blanks::make_blank;
+pub use faults::{RunFault, tell};
+pub use plain::plain_line;
+pub use running::{Run, close_output, do_run, show};
+pub use statuses::Status;

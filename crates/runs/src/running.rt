@@ -1,0 +1,109 @@
+//! What a run does for what was asked, and how it ends.
+
+ghost use Rattle.std.specs.Prelude.{◌≡◌};
+ghost use Rattle.streams.specs.Flushes.{contents_behind};
+ghost use Rattle.runs.specs.Runs.{Closes, Does, MeetsRun, Shows, report_status};
+
+use crate::blanks::make_blank;
+use crate::faults::{RunFault, tell};
+use crate::plain::plain_line;
+use crate::statuses::Status;
+use cards::{Seat, Sink, Source, Trump, write_all};
+use std::alloc::Global;
+use std::io::{BufWriter, Write};
+use streams::WriterSink;
+use tables::Report;
+
+/// What is asked of a run.
+#[derive(Clone, Copy)]
+pub enum Run<'a> {
+    /// The tricks of North and South in a layout.
+    Plain {
+        layout: &'a str,
+        leader: Seat,
+        trump: Trump,
+    },
+    /// The tables of the boards of the input.
+    Tables,
+}
+
+/// Does what is asked, and answers how the run ends.
+///
+/// What can't be done is told on the error output, with nothing on the output but the beginning that a failed output has
+/// taken; else the error output is as it was. Where the error output fails, nobody is left to be told.
+pub fn do_run<I: Source, O: Sink, E: Sink>(
+    alloc: Global,
+    run: Run<'_>,
+    input: &mut I,
+    output: &mut O,
+    errors: &mut E,
+) -> Status
+    ensures { MeetsRun run.entry (I.state input.old) (I.state input.new) (O.state output.old) (O.state output.new)
+        (E.state errors.old) (E.state errors.new) result }
+{
+    match answer_run(alloc, run, input, output) {
+        Ok(status) => status,
+        Err(fault) => tell(fault, errors),
+    }
+}
+
+/// Does what is asked, and tells nothing.
+fn answer_run<I: Source, O: Sink>(
+    alloc: Global,
+    run: Run<'_>,
+    input: &mut I,
+    output: &mut O,
+) -> Result<Status, RunFault>
+    ensures { Does run.entry (I.state input.old) (I.state input.new) (O.state output.old) (O.state output.new) result }
+{
+    match run {
+        Run::Plain {
+            layout,
+            leader,
+            trump,
+        } => {
+            plain_line(layout.as_bytes(), leader, trump, output)?;
+            Ok(Status::Done)
+        }
+        Run::Tables => Ok(status_of(make_blank(alloc, input, output)?)),
+    }
+}
+
+/// Whether a table is incomplete.
+fn status_of(report: Report) -> Status
+    ensures { result ≡ report_status report }
+{
+    if report.complete < report.boards {
+        Status::Incomplete
+    } else {
+        Status::Done
+    }
+}
+
+/// Writes a text that was asked for, such as help, and answers how the run ends: a write that failed is told on the error output.
+pub fn show<O: Sink, E: Sink>(text: &[u8], output: &mut O, errors: &mut E) -> Status
+    ensures { Shows (O.state output.old) (O.state output.new) (E.state errors.old) (E.state errors.new) text.now result }
+{
+    match write_all(output, text) {
+        Ok(()) => Status::Done,
+        Err(_) => tell(RunFault::Write, errors),
+    }
+}
+
+/// Flushes the output of a run that was done, and answers how the run ends: a flush that failed is told on the error output.
+pub fn close_output<W: Write + Drop, E: Sink>(
+    status: Status,
+    output: &mut WriterSink<BufWriter<W>>,
+    errors: &mut E,
+) -> Status
+    ensures { Closes (⟦<WriterSink<BufWriter<W>> as Sink>⟧.state output.old) (⟦<WriterSink<BufWriter<W>> as Sink>⟧.state output.new)
+        (contents_behind W.contents output.new) (E.state errors.old) (E.state errors.new) status result }
+{
+    match status {
+        Status::Failed | Status::Refused => status,
+        Status::Done | Status::Incomplete => match output.flush() {
+            Ok(()) => status,
+            Err(_) => tell(RunFault::Write, errors),
+        },
+    }
+}

@@ -1,0 +1,31 @@
+//! How a run ends.
+
+ghost use Rattle.std.specs.Prelude.{◌≡◌};
+ghost use Rattle.runs.specs.Statuses.{status_code};
+
+/// How a run ends.
+#[derive(Clone, Copy, Debug, PartialEq, Eq)]
+pub enum Status {
+    /// All was done.
+    Done,
+    /// Memory or a device failed.
+    Failed,
+    /// The command line or the input was refused.
+    Refused,
+    /// All was done, but a table is incomplete.
+    Incomplete,
+}
+
+impl Status {
+    /// The exit status of the process.
+    pub fn code(self) -> u8
+        ensures { result ≡ status_code self }
+    {
+        match self {
+            Status::Done => 0,
+            Status::Failed => 1,
+            Status::Refused => 2,
+            Status::Incomplete => 3,
+        }
+    }
+}
