@@ -18,6 +18,10 @@ mod played;
 mod soundness;
 #[cfg(test)]
 mod tests;
+#[cfg(test)]
+mod value_tests;
+#[cfg(test)]
+mod worked_answers;
 mod turns;
 mod walks;
 
