@@ -23,6 +23,3 @@ pub use orders::{compare_by_number, lists_are_in_order};
 pub use pack::{Card, Rank};
 pub use seats::{Seat, Side};
 pub use suits::{Suit, Trump};
-
-#[cfg(test)]
-mod tests;

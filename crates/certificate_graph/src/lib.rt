@@ -23,8 +23,6 @@ mod pattern_reading;
 mod places;
 mod reading;
 mod scanning;
-#[cfg(test)]
-mod tests;
 mod tree_reading;
 mod trees;
 mod writing;

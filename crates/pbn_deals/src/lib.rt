@@ -22,6 +22,3 @@ pub use laws::{
     boards_are_printable, one_answer, one_layout, some_answer, some_layout, texts_are_read_in_turn,
 };
 pub use readers::read_boards;
-
-#[cfg(test)]
-mod tests;

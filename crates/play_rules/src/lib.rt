@@ -9,8 +9,6 @@ mod faults;
 mod holdings;
 mod laws;
 mod tables;
-#[cfg(test)]
-mod tests;
 mod tricks;
 
 pub use faults::PlayFault;

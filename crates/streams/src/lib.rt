@@ -11,6 +11,3 @@ mod writer_sinks;
 pub use inputs::{InputFault, read_all};
 pub use reader_sources::ReaderSource;
 pub use writer_sinks::WriterSink;
-
-#[cfg(test)]
-mod tests;

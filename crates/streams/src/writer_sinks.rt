@@ -10,7 +10,7 @@ use std::io::{BufWriter, Write};
 /// A writer as a sink for bytes. A writer that takes no byte of a piece has failed.
 #[derive(Drop)]
 pub struct WriterSink<W> {
-    pub(crate) writer: W,
+    writer: W,
     failures: u64,
 }
 
@@ -23,6 +23,13 @@ impl<W: Write> WriterSink<W> {
             writer,
             failures: 0,
         }
+    }
+
+    /// The writer.
+    pub fn get_ref(&self) -> &W
+        ensures { result.now ≡ self.now.writer }
+    {
+        &self.writer
     }
 
     /// Counts a call that failed.

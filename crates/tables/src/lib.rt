@@ -15,6 +15,3 @@ mod tables;
 pub use laws::{boards_are_read_back, said_boards_are_read_back};
 pub use sheet_text::write_sheet;
 pub use sheets::{Report, Sheet};
-
-#[cfg(test)]
-mod tests;

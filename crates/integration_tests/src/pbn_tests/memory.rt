@@ -1,6 +1,7 @@
 //! A text where memory may run out. `.ci/memory` runs these tests with each allocation refused in turn.
 
-use crate::{Board, PbnFault, read_boards, read_layout};
+use crate::expect::{expect_bytes, expect_eq};
+use pbn_deals::{Board, PbnFault, read_boards, read_layout};
 use std::process::Abort;
 use std::test::Fail;
 
@@ -26,12 +27,14 @@ const FOUR_SUITS: &[u8] = b"N:AKQJT98765432... .AKQJT98765432.. ..AKQJT98765432.
 
 /// Checks that these are the boards of the text.
 fn expect_boards(rt: &impl Abort, boards: &[Board]) -> Result<(), Fail> {
-    let first = read_layout(FOUR_SUITS)?;
-    assert_eq!(rt; boards.len(), 2);
-    assert_eq!(rt; boards[0].name.as_bytes(), b"7".as_slice());
-    assert_eq!(rt; boards[0].deal, Some(first));
-    assert_eq!(rt; boards[1].name.as_bytes(), b"8".as_slice());
-    assert_eq!(rt; boards[1].deal, None);
+    let deal = read_layout(FOUR_SUITS)?;
+    let [seventh, eighth] = boards else {
+        panic!(rt; "not two boards");
+    };
+    expect_bytes(rt, seventh.name.as_bytes(), b"7");
+    expect_eq(rt, &seventh.deal, &Some(deal));
+    expect_bytes(rt, eighth.name.as_bytes(), b"8");
+    expect_eq(rt, &eighth.deal, &None);
     Ok(())
 }
 
@@ -48,7 +51,7 @@ fn boards_or_want_of_memory(rt: HostRuntime) -> Result<(), Fail> {
     match read_boards(rt.alloc(), CR_LF) {
         Ok(boards) => expect_boards(&rt, boards.as_slice()),
         Err(fault) => {
-            assert_eq!(rt; fault, PbnFault::OutOfMemory);
+            expect_eq(&rt, &fault, &PbnFault::OutOfMemory);
             Ok(())
         }
     }

@@ -1,7 +1,9 @@
 //! Play by hand: who wins tricks, which cards may be played, and the three refusals.
 
-use crate::{PlayFault, Table, winner};
+use crate::expect::expect_eq;
 use cards::{Card, Layout, LayoutFault, Rank, Seat, Side, Suit, Trump};
+use play_rules::{PlayFault, Table, winner};
+use std::process::Abort;
 use std::test::Fail;
 
 fn card(suit: Suit, rank: Rank) -> Card {
@@ -29,24 +31,27 @@ fn squeeze() -> Result<Layout, LayoutFault> {
     ])
 }
 
+/// These cards may be played.
+fn expect_legal(rt: &impl Abort, table: &Table, wanted: &[Card]) {
+    assert_eq!(rt; table.legal().as_slice(), wanted);
+}
+
 #[test]
 fn refuses_in_turn(rt: HostRuntime) -> Result<(), Fail> {
     let mut table = Table::new(squeeze()?, Seat::South, Trump::Nt);
-    assert_eq!(rt;
-        table.play(card(Suit::Clubs, Rank::King)),
-        Err(PlayFault::NotHeld)
+    expect_eq(
+        &rt,
+        &table.play(card(Suit::Clubs, Rank::King)),
+        &Err(PlayFault::NotHeld),
     );
-    assert_eq!(rt; table.play(card(Suit::Hearts, Rank::Two)), Ok(()));
-    let legal = table.legal();
-    assert_eq!(rt;
-        legal.as_slice(),
-        [card(Suit::Hearts, Rank::Ace)].as_slice()
+    expect_eq(&rt, &table.play(card(Suit::Hearts, Rank::Two)), &Ok(()));
+    expect_legal(&rt, &table, &[card(Suit::Hearts, Rank::Ace)]);
+    expect_eq(
+        &rt,
+        &table.play(card(Suit::Spades, Rank::King)),
+        &Err(PlayFault::MustFollow),
     );
-    assert_eq!(rt;
-        table.play(card(Suit::Spades, Rank::King)),
-        Err(PlayFault::MustFollow)
-    );
-    assert_eq!(rt; table.turn(), Some(Seat::West));
+    expect_eq(&rt, &table.turn(), &Some(Seat::West));
     Ok(())
 }
 
@@ -68,15 +73,16 @@ fn plays_to_the_end(rt: HostRuntime) -> Result<(), Fail> {
         card(Suit::Hearts, Rank::Ace),
     ];
     for played in played {
-        assert_eq!(rt; table.play(played), Ok(()));
+        expect_eq(&rt, &table.play(played), &Ok(()));
     }
-    assert_eq!(rt; table.turn(), None);
-    assert_eq!(rt; table.legal().len(), 0);
-    assert_eq!(rt; table.tricks(Side::NorthSouth), 3);
-    assert_eq!(rt; table.tricks(Side::EastWest), 0);
-    assert_eq!(rt;
-        table.play(card(Suit::Clubs, Rank::King)),
-        Err(PlayFault::Over)
+    expect_eq(&rt, &table.turn(), &None);
+    expect_eq(&rt, &table.legal().len(), &0);
+    expect_eq(&rt, &table.tricks(Side::NorthSouth), &3);
+    expect_eq(&rt, &table.tricks(Side::EastWest), &0);
+    expect_eq(
+        &rt,
+        &table.play(card(Suit::Clubs, Rank::King)),
+        &Err(PlayFault::Over),
     );
     Ok(())
 }
@@ -85,13 +91,12 @@ fn plays_to_the_end(rt: HostRuntime) -> Result<(), Fail> {
 fn lists_by_suit_and_falling(rt: HostRuntime) -> Result<(), Fail> {
     let table = Table::new(squeeze()?, Seat::West, Trump::Nt);
     let copy = table.clone()?;
-    let legal = copy.legal();
     let wanted = [
         card(Suit::Spades, Rank::King),
         card(Suit::Spades, Rank::Queen),
         card(Suit::Hearts, Rank::Ace),
     ];
-    assert_eq!(rt; legal.as_slice(), wanted.as_slice());
+    expect_legal(&rt, &copy, &wanted);
     Ok(())
 }
 
@@ -102,28 +107,26 @@ fn trumps_win(rt: HostRuntime) {
     let three = card(Suit::Diamonds, Rank::Three);
     let king = card(Suit::Hearts, Rank::King);
     let spades = Trump::Suit(Suit::Spades);
+    let hearts = Trump::Suit(Suit::Hearts);
     let clubs = Trump::Suit(Suit::Clubs);
-    assert_eq!(rt;
-        winner(spades, Seat::East, ace, two, king, three),
-        Seat::South
+    expect_eq(
+        &rt,
+        &winner(spades, Seat::East, ace, two, king, three),
+        &Seat::South,
     );
-    assert_eq!(rt;
-        winner(Trump::Nt, Seat::East, ace, two, king, three),
-        Seat::East
+    expect_eq(
+        &rt,
+        &winner(Trump::Nt, Seat::East, ace, two, king, three),
+        &Seat::East,
     );
-    assert_eq!(rt;
-        winner(clubs, Seat::West, three, two, ace, king),
-        Seat::West
+    expect_eq(
+        &rt,
+        &winner(clubs, Seat::West, three, two, ace, king),
+        &Seat::West,
     );
-    assert_eq!(rt;
-        winner(
-            Trump::Suit(Suit::Hearts),
-            Seat::North,
-            two,
-            king,
-            three,
-            ace
-        ),
-        Seat::West
+    expect_eq(
+        &rt,
+        &winner(hearts, Seat::North, two, king, three, ace),
+        &Seat::West,
     );
 }

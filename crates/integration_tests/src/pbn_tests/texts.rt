@@ -1,8 +1,9 @@
 //! Whole texts. An answer is written as the fault's number, `@` and its line, or for each board its name, `:`,
 //! `D` where it has a deal and `-` where it has none, and `|`.
 
-use crate::read_boards;
-use std::alloc::Global;
+use crate::expect::{expect_eq, joined};
+use pbn_deals::read_boards;
+use std::alloc::{AllocError, Global};
 use std::process::Abort;
 use std::test::Fail;
 
@@ -391,16 +392,20 @@ fn whole_texts(rt: HostRuntime) -> Result<(), Fail> {
     expect_answers(&rt, rt.alloc(), WHOLE_TEXTS.as_slice())
 }
 
-/// So many games with a Deal tag, and a last one with the value.
-fn text_of_games(alloc: Global, count: usize, value: &[u8]) -> Result<Vec<u8>, Fail> {
-    let mut text = Vec::new(alloc);
+/// So many games with a Deal tag.
+fn add_games(text: &mut Vec<u8>, count: usize) -> Result<(), AllocError> {
     for _game in 0..count {
         text.extend_from_slice(b"[Deal \"?\"]\n\n")?;
     }
-    text.extend_from_slice(b"[Event \"x\"]\n\n[Deal \"")?;
-    text.extend_from_slice(value)?;
-    text.extend_from_slice(b"\"]\n")?;
-    Ok(text)
+    Ok(())
+}
+
+/// So many games with a Deal tag, and a last one with the value.
+fn text_of_games(alloc: Global, count: usize, value: &[u8]) -> Result<Vec<u8>, Fail> {
+    let mut games = Vec::new(alloc);
+    add_games(&mut games, count)?;
+    let last = b"[Event \"x\"]\n\n[Deal \"";
+    Ok(joined(alloc, &[games.as_slice(), last, value, b"\"]\n"])?)
 }
 
 /// A text has at most 4,096 boards. Games without a Deal tag do not count.
@@ -408,17 +413,26 @@ fn text_of_games(alloc: Global, count: usize, value: &[u8]) -> Result<Vec<u8>, F
 fn greatest_count(rt: HostRuntime) -> Result<(), Fail> {
     let text = text_of_games(rt.alloc(), 4095, b"?")?;
     let boards = read_boards(rt.alloc(), text.as_slice())?;
-    assert_eq!(rt; boards.len(), 4096);
-    let table: [(&[u8], &[u8]); 4] = [
-        (b"?", b"8@8195"),
-        (b"x", b"4@8195"),
-        (b"#", b"7@8195"),
-        (b"N:A... A... Q... J...", b"5@8195"),
-    ];
-    for (value, wanted) in table {
-        let text = text_of_games(rt.alloc(), 4096, value)?;
-        let written = answer(rt.alloc(), text.as_slice())?;
-        assert_eq!(rt; written.as_slice(), wanted, "{value:?}");
-    }
+    expect_eq(&rt, &boards.len(), &4096);
     Ok(())
+}
+
+/// The answer where a game with this value follows 4,096 boards.
+fn expect_past_greatest(
+    rt: &impl Abort,
+    alloc: Global,
+    value: &[u8],
+    wanted: &[u8],
+) -> Result<(), Fail> {
+    let text = text_of_games(alloc, 4096, value)?;
+    expect_answers(rt, alloc, &[(text.as_slice(), wanted)])
+}
+
+#[test]
+fn past_the_greatest_count(rt: HostRuntime) -> Result<(), Fail> {
+    let alloc = rt.alloc();
+    expect_past_greatest(&rt, alloc, b"?", b"8@8195")?;
+    expect_past_greatest(&rt, alloc, b"x", b"4@8195")?;
+    expect_past_greatest(&rt, alloc, b"#", b"7@8195")?;
+    expect_past_greatest(&rt, alloc, b"N:A... A... Q... J...", b"5@8195")
 }

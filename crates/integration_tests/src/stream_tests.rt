@@ -1,10 +1,11 @@
 //! Readers and writers that tell their bytes, and such as fail.
 
-use crate::{InputFault, ReaderSource, WriterSink, read_all};
+use crate::expect::{expect_bytes, expect_eq};
 use cards::{Bytes, DeviceFault, Sink, Source};
 use std::io;
 use std::io::BufWriter;
 use std::test::Fail;
+use streams::{InputFault, ReaderSource, WriterSink, read_all};
 
 /// A writer that takes no byte, or a reader and a writer that fail.
 #[derive(Drop)]
@@ -35,24 +36,24 @@ impl io::Read for Broken {
 fn readers(rt: HostRuntime) {
     let mut buffer = [0; 4];
     let mut source = ReaderSource::new(b"abcdef".as_slice());
-    assert_eq!(rt; source.read(&mut buffer), Ok(4));
-    assert_eq!(rt; &buffer, b"abcd");
-    assert_eq!(rt; source.read(&mut buffer), Ok(2));
-    assert_eq!(rt; &buffer, b"efcd");
-    assert_eq!(rt; source.read(&mut buffer), Ok(0));
+    expect_eq(&rt, &source.read(&mut buffer), &Ok(4));
+    expect_bytes(&rt, &buffer, b"abcd");
+    expect_eq(&rt, &source.read(&mut buffer), &Ok(2));
+    expect_bytes(&rt, &buffer, b"efcd");
+    expect_eq(&rt, &source.read(&mut buffer), &Ok(0));
     let mut broken = ReaderSource::new(Broken { takes_none: false });
-    assert_eq!(rt; broken.read(&mut buffer), Err(DeviceFault));
-    assert_eq!(rt; &buffer, b"efcd");
+    expect_eq(&rt, &broken.read(&mut buffer), &Err(DeviceFault));
+    expect_bytes(&rt, &buffer, b"efcd");
 }
 
 #[test]
 fn writers(rt: HostRuntime) {
     let mut sink = WriterSink::new(Vec::new(rt.alloc()));
-    assert_eq!(rt; sink.write(b"abc"), Ok(3));
-    assert_eq!(rt; sink.write(b""), Ok(0));
+    expect_eq(&rt, &sink.write(b"abc"), &Ok(3));
+    expect_eq(&rt, &sink.write(b""), &Ok(0));
     for takes_none in [false, true] {
         let mut broken = WriterSink::new(Broken { takes_none });
-        assert_eq!(rt; broken.write(b"abc"), Err(DeviceFault));
+        expect_eq(&rt, &broken.write(b"abc"), &Err(DeviceFault));
     }
 }
 
@@ -60,31 +61,31 @@ fn writers(rt: HostRuntime) {
 #[test]
 fn flushes(rt: HostRuntime) -> Result<(), Fail> {
     let mut sink = WriterSink::new(BufWriter::new(rt.alloc(), Vec::new(rt.alloc()))?);
-    assert_eq!(rt; sink.write(b"NS 1\n"), Ok(5));
-    assert_eq!(rt; sink.writer.get_ref().as_slice(), b"".as_slice());
-    assert_eq!(rt; sink.flush(), Ok(()));
-    assert_eq!(rt; sink.writer.get_ref().as_slice(), b"NS 1\n".as_slice());
+    expect_eq(&rt, &sink.write(b"NS 1\n"), &Ok(5));
+    expect_bytes(&rt, sink.get_ref().get_ref().as_slice(), b"");
+    expect_eq(&rt, &sink.flush(), &Ok(()));
+    expect_bytes(&rt, sink.get_ref().get_ref().as_slice(), b"NS 1\n");
+    Ok(())
+}
+
+#[test]
+fn flushes_that_fail(rt: HostRuntime) -> Result<(), Fail> {
     for takes_none in [false, true] {
         let mut broken = WriterSink::new(BufWriter::new(rt.alloc(), Broken { takes_none })?);
-        assert_eq!(rt; broken.write(b"NS 1\n"), Ok(5));
-        assert_eq!(rt; broken.flush(), Err(DeviceFault));
+        expect_eq(&rt, &broken.write(b"NS 1\n"), &Ok(5));
+        expect_eq(&rt, &broken.flush(), &Err(DeviceFault));
     }
     Ok(())
 }
 
 /// A text longer than two pieces, and a source that fails in its second call.
 #[test]
-fn whole_inputs(rt: HostRuntime) -> Result<(), Fail> {
+fn whole_inputs(rt: HostRuntime) {
     let text = [b'x'; 40000];
     let mut source = ReaderSource::new(text.as_slice());
-    assert_eq!(rt;
-        read_all(rt.alloc(), &mut source).map(|all| all.len()),
-        Ok(text.len())
-    );
+    let all = read_all(rt.alloc(), &mut source).map(|all| all.len());
+    expect_eq(&rt, &all, &Ok(text.len()));
     let mut failing = Bytes::failing_after(&text, 100, 1);
-    assert_eq!(rt;
-        read_all(rt.alloc(), &mut failing).map(|all| all.len()),
-        Err(InputFault::Read)
-    );
-    Ok(())
+    let none = read_all(rt.alloc(), &mut failing).map(|all| all.len());
+    expect_eq(&rt, &none, &Err(InputFault::Read));
 }

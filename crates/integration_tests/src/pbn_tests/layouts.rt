@@ -1,7 +1,9 @@
 //! Deal values alone.
 
-use crate::read_layout;
-use cards::{Card, Rank, Seat, Suit};
+use crate::expect::expect_eq;
+use cards::{Card, Layout, Rank, Seat, Suit};
+use pbn_deals::read_layout;
+use std::process::Abort;
 use std::test::Fail;
 
 /// The number of the fault that a value alone gets, and 0 for a layout.
@@ -71,10 +73,26 @@ const VALUES: [(&[u8], u8); 41] = [
     ),
 ];
 
+/// Checks the numbers for values.
+fn expect_numbers(rt: &impl Abort, table: &[(&[u8], u8)]) {
+    for (value, number) in table {
+        assert_eq!(rt; answer(value), *number, "{value:?}");
+    }
+}
+
 #[test]
 fn answers_of_values(rt: HostRuntime) {
-    for (value, number) in VALUES {
-        assert_eq!(rt; answer(value), number, "{value:?}");
+    expect_numbers(&rt, VALUES.as_slice());
+}
+
+/// Checks who holds cards.
+fn expect_holders(rt: &impl Abort, layout: &Layout, holders: &[(Suit, Rank, Option<Seat>)]) {
+    for (suit, rank, holder) in holders {
+        let card = Card {
+            suit: *suit,
+            rank: *rank,
+        };
+        expect_eq(rt, &layout.owner(card), holder);
     }
 }
 
@@ -83,19 +101,17 @@ fn hands_go_clockwise_from_the_seat(rt: HostRuntime) -> Result<(), Fail> {
     let layout = read_layout(
         b"e:.akqjt98765432.. ..23456789tjqka. ...AKQJT98765432 AKQJT98765432...",
     )?;
-    assert_eq!(rt; layout.len(), 13);
+    expect_eq(&rt, &layout.len(), &13);
     let holders = [
-        (Suit::Hearts, Rank::Ace, Seat::East),
-        (Suit::Hearts, Rank::Two, Seat::East),
-        (Suit::Diamonds, Rank::Ten, Seat::South),
-        (Suit::Clubs, Rank::King, Seat::West),
-        (Suit::Spades, Rank::Nine, Seat::North),
+        (Suit::Hearts, Rank::Ace, Some(Seat::East)),
+        (Suit::Hearts, Rank::Two, Some(Seat::East)),
+        (Suit::Diamonds, Rank::Ten, Some(Seat::South)),
+        (Suit::Clubs, Rank::King, Some(Seat::West)),
+        (Suit::Spades, Rank::Nine, Some(Seat::North)),
     ];
-    for (suit, rank, seat) in holders {
-        assert_eq!(rt; layout.owner(Card { suit, rank }), Some(seat));
-    }
+    expect_holders(&rt, &layout, &holders);
     let ending = read_layout(b"W:K.Q.. A.2.. .43.. ..J.9")?;
-    assert_eq!(rt; ending.len(), 2);
+    expect_eq(&rt, &ending.len(), &2);
     let holders = [
         (Suit::Spades, Rank::King, Some(Seat::West)),
         (Suit::Hearts, Rank::Queen, Some(Seat::West)),
@@ -105,8 +121,6 @@ fn hands_go_clockwise_from_the_seat(rt: HostRuntime) -> Result<(), Fail> {
         (Suit::Clubs, Rank::Nine, Some(Seat::South)),
         (Suit::Clubs, Rank::Ace, None),
     ];
-    for (suit, rank, holder) in holders {
-        assert_eq!(rt; ending.owner(Card { suit, rank }), holder);
-    }
+    expect_holders(&rt, &ending, &holders);
     Ok(())
 }

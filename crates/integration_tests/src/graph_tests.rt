@@ -1,8 +1,9 @@
 //! Texts with their graphs and their faults, worked out by hand from the form of a text.
 
-use crate::{Branch, Child, Graph, GraphFault, Node, TextFault, Tree};
+use crate::expect::{expect_bytes, expect_eq};
 use arrayvec::ArrayVec;
 use cards::{Buffer, DeviceFault, Seat, Side, Suit, Trump};
+use certificate_graph::{Branch, Child, Graph, GraphFault, Node, TextFault, Tree};
 use pattern_step::PatCard;
 use patterns::{Pattern, SuitPart};
 use std::alloc::{AllocError, Global};
@@ -172,28 +173,53 @@ fn fault_of(alloc: Global, text: &[u8]) -> Option<TextFault> {
     }
 }
 
-/// What is read is written as it was, in pieces of any size.
-#[test]
-fn written_as_read(rt: HostRuntime) -> Result<(), Fail> {
-    for text in [FINESSE, ACE, NOTHING] {
-        let graph = Graph::read(rt.alloc(), text)?;
-        for piece in [1, 7, 200] {
-            let mut sink = Buffer::new(rt.alloc(), 200, piece)?;
-            graph.write(&mut sink)?;
-            assert_eq!(rt; sink.bytes(), text);
-        }
-    }
+/// Checks that a graph is written so, in pieces of so many bytes.
+fn expect_written(
+    rt: &impl Abort,
+    alloc: Global,
+    graph: &Graph,
+    piece: usize,
+    text: &[u8],
+) -> Result<(), Fail> {
+    let mut sink = Buffer::new(alloc, 200, piece)?;
+    expect_eq(rt, &graph.write(&mut sink), &Ok(()));
+    expect_bytes(rt, sink.bytes(), text);
     Ok(())
 }
 
-/// A sink that is full has a beginning of the text.
+/// What is read is written as it was, in pieces of any size.
+fn expect_written_as_read(rt: &impl Abort, alloc: Global, text: &[u8]) -> Result<(), Fail> {
+    let graph = Graph::read(alloc, text)?;
+    expect_written(rt, alloc, &graph, 1, text)?;
+    expect_written(rt, alloc, &graph, 7, text)?;
+    expect_written(rt, alloc, &graph, 200, text)
+}
+
+#[test]
+fn written_as_read(rt: HostRuntime) -> Result<(), Fail> {
+    expect_written_as_read(&rt, rt.alloc(), FINESSE)?;
+    expect_written_as_read(&rt, rt.alloc(), ACE)?;
+    expect_written_as_read(&rt, rt.alloc(), NOTHING)
+}
+
+/// A sink with so much room gets the beginning of the text, and a fault.
+fn expect_beginning(
+    rt: &impl Abort,
+    alloc: Global,
+    graph: &Graph,
+    beginning: &[u8],
+) -> Result<(), Fail> {
+    let mut sink = Buffer::new(alloc, beginning.len(), 3)?;
+    expect_eq(rt, &graph.write(&mut sink), &Err(DeviceFault));
+    expect_bytes(rt, sink.bytes(), beginning);
+    Ok(())
+}
+
 #[test]
 fn a_sink_that_is_full(rt: HostRuntime) -> Result<(), Fail> {
     let graph = Graph::read(rt.alloc(), FINESSE)?;
     for room in 0..FINESSE.len() {
-        let mut sink = Buffer::new(rt.alloc(), room, 3)?;
-        assert_eq!(rt; graph.write(&mut sink), Err(DeviceFault));
-        assert_eq!(rt; sink.bytes(), &FINESSE[..room]);
+        expect_beginning(&rt, rt.alloc(), &graph, &FINESSE[..room])?;
     }
     Ok(())
 }
@@ -213,23 +239,20 @@ fn fault_of_beginning(count: usize) -> TextFault {
 }
 
 #[test]
-fn beginnings(rt: HostRuntime) -> Result<(), Fail> {
-    assert_eq!(rt; FINESSE.len(), 159);
+fn beginnings(rt: HostRuntime) {
+    expect_eq(&rt, &FINESSE.len(), &159);
     for count in 0..FINESSE.len() {
-        assert_eq!(rt;
-            fault_of(rt.alloc(), &FINESSE[..count]),
-            Some(fault_of_beginning(count))
-        );
+        let fault = fault_of(rt.alloc(), &FINESSE[..count]);
+        expect_eq(&rt, &fault, &Some(fault_of_beginning(count)));
     }
-    Ok(())
 }
 
 #[test]
-fn refusals(rt: HostRuntime) -> Result<(), Fail> {
-    for refusal in REFUSALS {
-        assert_eq!(rt; fault_of(rt.alloc(), refusal.text), Some(refusal.fault));
+fn refusals(rt: HostRuntime) {
+    for refusal in &REFUSALS {
+        let fault = fault_of(rt.alloc(), refusal.text);
+        expect_eq(&rt, &fault, &Some(refusal.fault));
     }
-    Ok(())
 }
 
 /// One card of spades each, North's the ace.
@@ -297,9 +320,20 @@ fn built_and_written(rt: HostRuntime) -> Result<(), Fail> {
     let top = PatCard::Top(Suit::Spades, 0);
     let nodes = ace(rt.alloc(), top, 1, &[])?;
     let graph = Graph::new(Trump::Nt, Side::NorthSouth, nodes)?;
-    let mut sink = Buffer::new(rt.alloc(), 200, 200)?;
-    graph.write(&mut sink)?;
-    assert_eq!(rt; sink.bytes(), ACE);
+    expect_written(&rt, rt.alloc(), &graph, 200, ACE)
+}
+
+/// Checks the fault of the nodes of the ace.
+fn expect_fault(
+    rt: &impl Abort,
+    alloc: Global,
+    card: PatCard,
+    need: u8,
+    children: &[Child],
+    wanted: Option<GraphFault>,
+) -> Result<(), Fail> {
+    let fault = fault_of_nodes(ace(alloc, card, need, children)?);
+    expect_eq(rt, &fault, &wanted);
     Ok(())
 }
 
@@ -320,26 +354,17 @@ fn nodes_of_no_graph(rt: HostRuntime) -> Result<(), Fail> {
         winner: Seat::South,
         number: 1,
     };
-    assert_eq!(rt; fault_of_nodes(ace(alloc, top, 13, &[north, east])?), None);
-    assert_eq!(rt;
-        fault_of_nodes(ace(alloc, past, 0, &[absent])?),
-        Some(GraphFault::Need)
-    );
-    assert_eq!(rt;
-        fault_of_nodes(ace(alloc, top, 14, &[])?),
-        Some(GraphFault::Need)
-    );
-    assert_eq!(rt;
-        fault_of_nodes(ace(alloc, past, 1, &[absent])?),
-        Some(GraphFault::TreeForm)
-    );
-    assert_eq!(rt;
-        fault_of_nodes(ace(alloc, top, 1, &[east, north])?),
-        Some(GraphFault::TreeForm)
-    );
-    assert_eq!(rt;
-        fault_of_nodes(ace(alloc, top, 1, &[absent])?),
-        Some(GraphFault::ChildNumber)
-    );
-    Ok(())
+    expect_fault(&rt, alloc, top, 13, &[north, east], None)?;
+    expect_fault(&rt, alloc, past, 0, &[absent], Some(GraphFault::Need))?;
+    expect_fault(&rt, alloc, top, 14, &[], Some(GraphFault::Need))?;
+    expect_fault(&rt, alloc, past, 1, &[absent], Some(GraphFault::TreeForm))?;
+    expect_fault(
+        &rt,
+        alloc,
+        top,
+        1,
+        &[east, north],
+        Some(GraphFault::TreeForm),
+    )?;
+    expect_fault(&rt, alloc, top, 1, &[absent], Some(GraphFault::ChildNumber))
 }

@@ -1,0 +1,19 @@
+//! Tests of the libraries by what they hand out alone, on values that were worked out by hand from the rules.
+//!
+//! They stand together, over the libraries: a crate with tests of its own is proved twice.
+#![tactic(auto)]
+
+#[cfg(test)]
+mod card_tests;
+#[cfg(test)]
+mod expect;
+#[cfg(test)]
+mod graph_tests;
+#[cfg(test)]
+mod pbn_tests;
+#[cfg(test)]
+mod play_tests;
+#[cfg(test)]
+mod stream_tests;
+#[cfg(test)]
+mod table_tests;
