@@ -10,7 +10,7 @@ ghost use Rattle.certificate_graph.specs.declared.faults.TextFault.TheVariants.{
 
 use crate::checks::check_nodes;
 use crate::faults::{GraphFault, TextFault};
-use crate::line_writing::{put_count, put_heading, put_nodes};
+use crate::line_writing::{write_count, write_heading, write_nodes};
 use crate::node_reading::read_nodes;
 use crate::nodes::Node;
 use crate::reading::{read_count, read_side, read_title, read_trump};
@@ -95,9 +95,9 @@ impl Graph {
     {
         self.invariant();
         let nodes = self.nodes();
-        put_heading(sink, self.trump(), self.side())?;
-        put_count(sink, nodes.len() as u32)?;
-        put_nodes(sink, nodes)
+        write_heading(sink, self.trump(), self.side())?;
+        write_count(sink, nodes.len() as u32)?;
+        write_nodes(sink, nodes)
     }
 
     /// What every graph keeps.

@@ -7,36 +7,36 @@ ghost use Rattle.certificate_graph.specs.Graphs.{IsTree};
 ghost use Rattle.certificate_graph.specs.Texts.{claim_text, node_text, nodes_text, title_text, trump_text, side_text, count_text};
 
 use crate::nodes::Node;
-use crate::writing::{put_len, put_number, put_pattern, put_tree, seat_byte};
-use cards::{DeviceFault, Seat, Side, Sink, Suit, Trump, write_all};
+use crate::writing::{seat_byte, write_len, write_pattern, write_tree};
+use cards::{DeviceFault, Seat, Side, Sink, Suit, Trump, write_all, write_number};
 
 /// Writes a lead and a need, with a blank behind each.
-fn put_claim<S: Sink>(sink: &mut S, lead: Seat, need: u8) -> Result<(), DeviceFault>
+fn write_claim<S: Sink>(sink: &mut S, lead: Seat, need: u8) -> Result<(), DeviceFault>
     ensures { Writes (S.state sink.old) (S.state sink.new) (claim_text lead need []) result }
 {
     write_all(sink, &[seat_byte(lead), b' '])?;
-    put_len(sink, need, b' ')
+    write_len(sink, need, b' ')
 }
 
 /// Writes a node.
-fn put_node<S: Sink>(sink: &mut S, node: &Node) -> Result<(), DeviceFault>
+fn write_node<S: Sink>(sink: &mut S, node: &Node) -> Result<(), DeviceFault>
     requires { IsTree node.now.tree }
     ensures { Writes (S.state sink.old) (S.state sink.new) (node_text node.now []) result }
 {
-    put_claim(sink, node.lead, node.need)?;
-    put_pattern(sink, &node.pattern)?;
+    write_claim(sink, node.lead, node.need)?;
+    write_pattern(sink, &node.pattern)?;
     write_all(sink, b" ")?;
-    put_tree(sink, &node.tree.root())?;
+    write_tree(sink, &node.tree.root())?;
     write_all(sink, b"\n")
 }
 
 /// Writes nodes.
-pub(crate) fn put_nodes<S: Sink>(sink: &mut S, nodes: &[Node]) -> Result<(), DeviceFault>
+pub(crate) fn write_nodes<S: Sink>(sink: &mut S, nodes: &[Node]) -> Result<(), DeviceFault>
     requires { All (λ node. IsTree node.tree) nodes.now }
     ensures { Writes (S.state sink.old) (S.state sink.new) (nodes_text nodes.now []) result }
 {
     for node in nodes {
-        put_node(sink, node)?;
+        write_node(sink, node)?;
     }
     Ok(())
 }
@@ -65,7 +65,7 @@ pub(crate) fn side_line(side: Side) -> &'static [u8]
 }
 
 /// Writes the title, the trump and the side.
-pub(crate) fn put_heading<S: Sink>(
+pub(crate) fn write_heading<S: Sink>(
     sink: &mut S,
     trump: Trump,
     side: Side,
@@ -78,10 +78,10 @@ pub(crate) fn put_heading<S: Sink>(
 }
 
 /// Writes the number of nodes.
-pub(crate) fn put_count<S: Sink>(sink: &mut S, count: u32) -> Result<(), DeviceFault>
+pub(crate) fn write_count<S: Sink>(sink: &mut S, count: u32) -> Result<(), DeviceFault>
     ensures { Writes (S.state sink.old) (S.state sink.new) (count_text (decimal count) []) result }
 {
     write_all(sink, b"nodes ")?;
-    put_number(sink, count)?;
+    write_number(sink, u64::from(count))?;
     write_all(sink, b"\n")
 }

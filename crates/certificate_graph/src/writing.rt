@@ -50,73 +50,66 @@ fn card_bytes(card: PatCard) -> [u8; 2]
     }
 }
 
-/// Writes a number.
-pub(crate) fn put_number<S: Sink>(sink: &mut S, number: u32) -> Result<(), DeviceFault>
-    ensures { Writes (S.state sink.old) (S.state sink.new) (decimal number) result }
-{
-    write_number(sink, u64::from(number))
-}
-
 /// Writes a child.
-fn put_child<S: Sink>(sink: &mut S, child: &Child) -> Result<(), DeviceFault>
+fn write_child<S: Sink>(sink: &mut S, child: &Child) -> Result<(), DeviceFault>
     ensures { Writes (S.state sink.old) (S.state sink.new) (child_text child.now []) result }
 {
     write_all(sink, &[seat_byte(child.winner)])?;
-    put_number(sink, child.number)
+    write_number(sink, u64::from(child.number))
 }
 
 /// Writes children behind another one, and the closing brace.
-fn put_more_children<S: Sink>(sink: &mut S, children: &[Child]) -> Result<(), DeviceFault>
+fn write_more_children<S: Sink>(sink: &mut S, children: &[Child]) -> Result<(), DeviceFault>
     ensures { Writes (S.state sink.old) (S.state sink.new) (more_children_text children.now []) result }
 {
     match children.split_first() {
         None => write_all(sink, b"}"),
         Some((child, more)) => {
             write_all(sink, b" ")?;
-            put_child(sink, child)?;
-            put_more_children(sink, more)
+            write_child(sink, child)?;
+            write_more_children(sink, more)
         }
     }
 }
 
 /// Writes children and the closing brace.
-fn put_children<S: Sink>(sink: &mut S, children: &[Child]) -> Result<(), DeviceFault>
+fn write_children<S: Sink>(sink: &mut S, children: &[Child]) -> Result<(), DeviceFault>
     ensures { Writes (S.state sink.old) (S.state sink.new) (children_text children.now []) result }
 {
     match children.split_first() {
         None => write_all(sink, b"}"),
         Some((child, more)) => {
-            put_child(sink, child)?;
-            put_more_children(sink, more)
+            write_child(sink, child)?;
+            write_more_children(sink, more)
         }
     }
 }
 
 /// Writes a place of a tree, and all below it.
-#[cycle(put)]
-pub(crate) fn put_tree<S: Sink>(sink: &mut S, place: &Place<'_>) -> Result<(), DeviceFault>
+#[cycle(write)]
+pub(crate) fn write_tree<S: Sink>(sink: &mut S, place: &Place<'_>) -> Result<(), DeviceFault>
     requires { IsTree place.now }
     ensures { Writes (S.state sink.old) (S.state sink.new) (tree_text place.now []) result }
 {
     match place.view() {
         View::Own(card, below) => {
             write_all(sink, &card_bytes(card))?;
-            put_tree(sink, &below)
+            write_tree(sink, &below)
         }
         View::Reply(branches) => {
             write_all(sink, b"(")?;
-            put_branches(sink, &branches)
+            write_branches(sink, &branches)
         }
         View::Leaf(children) => {
             write_all(sink, b"{")?;
-            put_children(sink, children)
+            write_children(sink, children)
         }
     }
 }
 
 /// Writes branches and the closing parenthesis.
-#[cycle(put)]
-fn put_branches<S: Sink>(sink: &mut S, branches: &Branches<'_>) -> Result<(), DeviceFault>
+#[cycle(write)]
+fn write_branches<S: Sink>(sink: &mut S, branches: &Branches<'_>) -> Result<(), DeviceFault>
     requires { AreBranches branches.now }
     ensures { Writes (S.state sink.old) (S.state sink.new) (branches_text branches.now []) result }
 {
@@ -124,63 +117,63 @@ fn put_branches<S: Sink>(sink: &mut S, branches: &Branches<'_>) -> Result<(), De
         None => write_all(sink, b")"),
         Some((card, below, more)) => {
             write_all(sink, &card_bytes(card))?;
-            put_tree(sink, &below)?;
-            put_branches(sink, &more)
+            write_tree(sink, &below)?;
+            write_branches(sink, &more)
         }
     }
 }
 
 /// Writes owners.
-fn put_owners<S: Sink>(sink: &mut S, owners: &[Seat]) -> Result<(), DeviceFault>
+fn write_owners<S: Sink>(sink: &mut S, owners: &[Seat]) -> Result<(), DeviceFault>
     ensures { Writes (S.state sink.old) (S.state sink.new) (owners_text owners.now []) result }
 {
     match owners.split_first() {
         None => Ok(()),
         Some((owner, more)) => {
             write_all(sink, &[seat_byte(*owner)])?;
-            put_owners(sink, more)
+            write_owners(sink, more)
         }
     }
 }
 
 /// Writes a length and the byte behind it.
-pub(crate) fn put_len<S: Sink>(sink: &mut S, len: u8, behind: u8) -> Result<(), DeviceFault>
+pub(crate) fn write_len<S: Sink>(sink: &mut S, len: u8, behind: u8) -> Result<(), DeviceFault>
     ensures { Writes (S.state sink.old) (S.state sink.new) (decimal len ++ (behind ∷ [])) result }
 {
-    put_number(sink, u32::from(len))?;
+    write_number(sink, u64::from(len))?;
     write_all(sink, &[behind])
 }
 
 /// Writes a suit of a pattern.
-fn put_suit<S: Sink>(sink: &mut S, pattern: &Pattern, suit: Suit) -> Result<(), DeviceFault>
+fn write_suit<S: Sink>(sink: &mut S, pattern: &Pattern, suit: Suit) -> Result<(), DeviceFault>
     ensures { Writes (S.state sink.old) (S.state sink.new) (suit_text (suit_of pattern.now suit) []) result }
 {
     let part = pattern.part(suit);
-    put_len(sink, part.lens[0], b'.')?;
-    put_len(sink, part.lens[1], b'.')?;
-    put_len(sink, part.lens[2], b'.')?;
-    put_len(sink, part.lens[3], b'/')?;
-    put_owners(sink, part.owners.as_slice())
+    write_len(sink, part.lens[0], b'.')?;
+    write_len(sink, part.lens[1], b'.')?;
+    write_len(sink, part.lens[2], b'.')?;
+    write_len(sink, part.lens[3], b'/')?;
+    write_owners(sink, part.owners.as_slice())
 }
 
 /// Writes a suit of a pattern, and a blank.
-fn put_suit_and_blank<S: Sink>(
+fn write_suit_and_blank<S: Sink>(
     sink: &mut S,
     pattern: &Pattern,
     suit: Suit,
 ) -> Result<(), DeviceFault>
     ensures { Writes (S.state sink.old) (S.state sink.new) (suit_text (suit_of pattern.now suit) (32 ∷ [])) result }
 {
-    put_suit(sink, pattern, suit)?;
+    write_suit(sink, pattern, suit)?;
     write_all(sink, b" ")
 }
 
 /// Writes the four suits of a pattern.
-pub(crate) fn put_pattern<S: Sink>(sink: &mut S, pattern: &Pattern) -> Result<(), DeviceFault>
+pub(crate) fn write_pattern<S: Sink>(sink: &mut S, pattern: &Pattern) -> Result<(), DeviceFault>
     ensures { Writes (S.state sink.old) (S.state sink.new) (pattern_text pattern.now []) result }
 {
-    put_suit_and_blank(sink, pattern, Suit::Spades)?;
-    put_suit_and_blank(sink, pattern, Suit::Hearts)?;
-    put_suit_and_blank(sink, pattern, Suit::Diamonds)?;
-    put_suit(sink, pattern, Suit::Clubs)
+    write_suit_and_blank(sink, pattern, Suit::Spades)?;
+    write_suit_and_blank(sink, pattern, Suit::Hearts)?;
+    write_suit_and_blank(sink, pattern, Suit::Diamonds)?;
+    write_suit(sink, pattern, Suit::Clubs)
 }

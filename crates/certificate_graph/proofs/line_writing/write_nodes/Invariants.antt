@@ -2,7 +2,7 @@
 use Rattle.std.proofs.Common.{◌≡◌, ℕ, ◌++◌, [], List, drop}
 use Rattle.cards.specs.Devices.{Adds}
 use Rattle.certificate_graph.specs.Texts.{nodes_text}
-use Rattle.certificate_graph.proofs.line_writing.put_nodes.Given as goal
+use Rattle.certificate_graph.proofs.line_writing.write_nodes.Given as goal
 
 abbrev pub invariant-loop-node : goal.invariant-loop-node
 invariant-loop-node g l = record {
