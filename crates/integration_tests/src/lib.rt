@@ -10,6 +10,8 @@ mod expect;
 #[cfg(test)]
 mod graph_tests;
 #[cfg(test)]
+mod memory_tests;
+#[cfg(test)]
 mod pbn_tests;
 #[cfg(test)]
 mod play_tests;

@@ -2,5 +2,4 @@
 
 mod layouts;
 mod long_texts;
-mod memory;
 mod texts;
