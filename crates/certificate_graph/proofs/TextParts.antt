@@ -16,6 +16,10 @@ use Rattle.certificate_graph.specs.Trees.{TrickTree, Own, Reply, Leaf, Branches,
 use Rattle.certificate_graph.specs.Graphs.{GraphShape}
 use Rattle.certificate_graph.specs.Texts.{card_text, child_text, more_children_text, children_text, tree_text, branches_text, owners_text, suit_text, pattern_text, claim_text, node_text, nodes_text, title_text, trump_text, side_text, count_text, graph_text}
 
+-- texts of one byte
+pub one_letter : (a b : ℕ) → a ∷ [] ≡ b ∷ [] → a ≡ b
+one_letter a b e = cc
+
 -- a piece before a text that is cut in two
 pub before : (piece text front rest : List ℕ) → text ≡ front ++ rest → piece ++ text ≡ (piece ++ front) ++ rest
 before piece text front rest e = ap (λ t. piece ++ t) e ∙ sym (append_assoc piece front rest)

@@ -6,6 +6,7 @@ ghost use Rattle.std.specs.Str.Parse.{AllDigits, digits_value};
 ghost use Rattle.cards.specs.declared.seats.Seat.{Seat};
 ghost use Rattle.cards.specs.declared.suits.Suit.{Suit};
 ghost use Rattle.cards.specs.Pack.{suit_letter};
+ghost use Rattle.cards.specs.Seats.{seat_letter};
 ghost use Rattle.certificate_graph.specs.Graphs.{IsCard};
 ghost use Rattle.certificate_graph.specs.Texts.{card_text};
 ghost use Rattle.certificate_graph.specs.TextFaults.{IsNumber};
@@ -24,17 +25,28 @@ pub(crate) fn behind(text: &[u8], byte: u8) -> Option<&[u8]>
     }
 }
 
+/// The seat of a letter.
+fn seat_of_letter(byte: u8) -> Option<Seat>
+    ensures { MatchOption result ((seat : Seat) → seat_letter seat ≡ byte ∷ [] → ⊥) (λ seat. seat_letter seat ≡ byte ∷ []) }
+{
+    match byte {
+        b'N' => Some(Seat::North),
+        b'E' => Some(Seat::East),
+        b'S' => Some(Seat::South),
+        b'W' => Some(Seat::West),
+        _ => None,
+    }
+}
+
 /// A seat, and what stands behind its letter.
 pub(crate) fn read_seat(text: &[u8]) -> Option<(Seat, &[u8])>
     ensures { MatchOption result (Lacks Always seat_text text.now) (λ p. text.now ≡ seat_text p.0 p.1.now) }
 {
-    match text {
-        [b'N', rest @ ..] => Some((Seat::North, rest)),
-        [b'E', rest @ ..] => Some((Seat::East, rest)),
-        [b'S', rest @ ..] => Some((Seat::South, rest)),
-        [b'W', rest @ ..] => Some((Seat::West, rest)),
-        _ => None,
-    }
+    let [letter, rest @ ..] = text else {
+        return None;
+    };
+    let seat = seat_of_letter(*letter)?;
+    Some((seat, rest))
 }
 
 /// The suit of a letter.
