@@ -181,6 +181,29 @@ two_seats _ _ _ _ hp hq hr hs h = absurd (omega arith)
 some_bit : (n : ℕ) → n < 2 ^ 64 → n ≢ 0 → (i : ℕ) × (bit_at n i ≡ 1)
 some_bit n h e = (trailing_zeros w64 n, (bit_at-trailing_zeros w64 n (omega arith) h).1)
 
+-- two seats with the bit of a card have the card
+card_of_two : (hands : List ℕ) (i : ℕ) → i < 52 → TwoSeats (bit_at (slice_index hands 0) i) (bit_at (slice_index hands 1) i) (bit_at (slice_index hands 2) i) (bit_at (slice_index hands 3) i) → HaveCardTwice hands
+card_of_two hands i within (one, other, apart, by_one, by_other) =
+    let number = card_number-card_at i within in
+    record {
+      card = card_at i;
+      one = one;
+      other = other;
+      apart = apart;
+      in_one = ap (bit_at (word_of hands one)) number ∙ (sym (bit_of_word hands one i) ∙ by_one);
+      in_other = ap (bit_at (word_of hands other)) number ∙ (sym (bit_of_word hands other i) ∙ by_other);
+    }
+
+-- no bit from 52 up is shared where the words have none
+shared_of-lt : (a b c d : ℕ) → a < 2 ^ 52 → b < 2 ^ 52 → c < 2 ^ 52 → shared_of a b c d < 2 ^ 52
+shared_of-lt a b c d ha hb hc =
+    let and_lt : (x y : ℕ) → x < 2 ^ 52 → bit_and x y < 2 ^ 52 = λ x y hx. omega (arith, and_le_l x y) in
+    or_lt 52 _ _ (or_lt 52 _ _ (or_lt 52 _ _ (or_lt 52 _ _ (or_lt 52 _ _ (and_lt a b ha) (and_lt a c ha)) (and_lt a d ha)) (and_lt b c hb)) (and_lt b d hb)) (and_lt c d hc)
+
+-- a bit of a number below 2 ^ 52 is below 52
+bit_below : (n i : ℕ) → n < 2 ^ 52 → bit_at n i ≡ 1 → i < 52
+bit_below n i small set = elim (cases_lt i 52) [ inl l ↦ l | inr g ↦ absurd (omega (arith, bit_at_above n 52 i small g)) ]
+
 -- a card is in two words where a bit is shared
 pub some_card_twice : (hands : List ℕ) → HaveCardsAlone hands → shared_of (slice_index hands 0) (slice_index hands 1) (slice_index hands 2) (slice_index hands 3) ≢ 0 → HaveCardTwice hands
 some_card_twice hands alone h =
@@ -188,27 +211,13 @@ some_card_twice hands alone h =
     let b = slice_index hands 1 in
     let c = slice_index hands 2 in
     let d = slice_index hands 3 in
-    let ha : a < 2 ^ 52 = alone North in
-    let hb : b < 2 ^ 52 = alone East in
-    let hc : c < 2 ^ 52 = alone South in
-    let hd : d < 2 ^ 52 = alone West in
-    let and_lt : (x y : ℕ) → x < 2 ^ 52 → bit_and x y < 2 ^ 52 = λ x y hx. omega (arith, and_le_l x y) in
-    let small : shared_of a b c d < 2 ^ 52 = or_lt 52 _ _ (or_lt 52 _ _ (or_lt 52 _ _ (or_lt 52 _ _ (or_lt 52 _ _ (and_lt a b ha) (and_lt a c ha)) (and_lt a d ha)) (and_lt b c hb)) (and_lt b d hb)) (and_lt c d hc) in
-    let bit = some_bit (shared_of a b c d) (omega arith) h in
+    let shared = shared_of a b c d in
+    let small : shared < 2 ^ 52 = shared_of-lt a b c d (alone North) (alone East) (alone South) in
+    let bit = some_bit shared (omega arith) h in
     let i = bit.0 in
-    let within : i < 52 = elim (cases_lt i 52) [ inl l ↦ l | inr g ↦ absurd (omega (arith, bit_at_above (shared_of a b c d) 52 i small g, bit.1)) ] in
-    let set : bit_at (shared_of a b c d) i ≡ 1 = bit.1 in
-    let above : 0 < bit_at (shared_of a b c d) i = omega arith in
-    let two = two_seats _ _ _ _ (bit_at-lt a i) (bit_at-lt b i) (bit_at-lt c i) (bit_at-lt d i) (rw (bit_at-shared_of a b c d i) at above) in
-    let number = card_number-card_at i within in
-    record {
-      card = card_at i;
-      one = two.0;
-      other = two.1;
-      apart = two.2;
-      in_one = ap (bit_at (word_of hands two.0)) number ∙ (sym (bit_of_word hands two.0 i) ∙ two.3);
-      in_other = ap (bit_at (word_of hands two.1)) number ∙ (sym (bit_of_word hands two.1 i) ∙ two.4);
-    }
+    let above : 0 < bit_at shared i = omega (arith, bit.1) in
+    card_of_two hands i (bit_below shared i small bit.1)
+    (two_seats _ _ _ _ (bit_at-lt a i) (bit_at-lt b i) (bit_at-lt c i) (bit_at-lt d i) (rw (bit_at-shared_of a b c d i) at above))
 
 -- bit r of thirteen bits that are cut out of a word
 pub bit_at-cut : (word k r : ℕ) → r < 13 → bit_at (bit_and (word / 2 ^ k) 8191) r ≡ bit_at word (k + r)
