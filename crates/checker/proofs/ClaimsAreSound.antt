@@ -1,5 +1,5 @@
 -- Graphs and entries are sound: from trick to trick, hands have a card less.
-use Rattle.std.proofs.Common.{◌≡◌, ℕ, zero, suc, ◌+◌, ◌-◌, ◌≤◌, List, [], length, Some, sym, ◌∙◌, subst, arith}
+use Rattle.std.proofs.Common.{◌≡◌, ℕ, zero, suc, ◌+◌, ◌≤◌, [], Some, sym, ◌∙◌, subst, arith}
 use Rattle.std.specs.Prelude.{slice_get}
 use Rattle.std.proofs.lemmas.List.Elements.{All-contains}
 use Rattle.cards.specs.declared.seats.Seat.{Seat}
@@ -14,7 +14,7 @@ use Rattle.certificate_graph.specs.declared.nodes.Node.{Node}
 use Rattle.certificate_graph.specs.Trees.{Leaf}
 use Rattle.certificate_graph.specs.Graphs.{GraphShape, IsGraph}
 use Rattle.checker.specs.Steps.{IsRightChild, IsRightLeaf, StepHolds, StepsHold}
-use Rattle.checker.specs.Claims.{HasRoot, Shows}
+use Rattle.checker.specs.Claims.{Shows}
 use Rattle.checker.specs.Soundness.{KeepsItsClaim, IsNamedBy, GraphsAreSound, EntriesAreSound}
 use Rattle.checker.proofs.Lines.{four_are_legal}
 use Rattle.checker.proofs.LineLaws.{on_lines}

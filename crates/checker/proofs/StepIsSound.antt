@@ -1,24 +1,23 @@
 -- One step is sound: the side wins what the node needs, since it can choose its cards by the tree, whatever is played.
-use Rattle.std.proofs.Common.{◌≡◌, ℕ, zero, suc, ◌+◌, ◌-◌, ◌*◌, ◌<◌, ◌≤◌, Bool, true, false, cond, List, [], ◌∷◌, ◌++◌, length, Contains, Some, refl, sym, ◌∙◌, ap, subst, arith, inl, inr, length-append}
+use Rattle.std.proofs.Common.{◌≡◌, ℕ, zero, suc, ◌+◌, ◌-◌, ◌<◌, ◌≤◌, Bool, true, false, cond, List, [], ◌∷◌, ◌++◌, length, Contains, Some, refl, sym, ◌∙◌, ap, subst, arith, inl, inr, length-append}
 use Rattle.std.specs.Prelude.{slice_get}
 use Rattle.std.proofs.lemmas.Bool.{cases_lt}
 use Rattle.std.proofs.lemmas.Option.{slice_get_within, get_or_from_slice_get}
 use Rattle.std.proofs.lemmas.List.Elements.{All-contains}
 use Rattle.cards.specs.declared.pack.Card.{Card}
 use Rattle.cards.specs.declared.seats.Seat.{Seat}
-use Rattle.cards.specs.declared.seats.Seat.TheVariants.{North}
 use Rattle.cards.specs.declared.seats.Side.{Side}
 use Rattle.cards.specs.Seats.{side_of, is_same_side}
-use Rattle.cards.specs.Deal.{Deal, IsLayout, size_of}
+use Rattle.cards.specs.Deal.{Deal, IsLayout}
 use Rattle.patterns.specs.Shapes.{IsPattern}
 use Rattle.patterns.specs.Holders.{Matches}
 use Rattle.pattern_step.specs.declared.pat_cards.PatCard.{PatCard}
-use Rattle.pattern_step.specs.Tricks.{MayWin, played_in_place}
+use Rattle.pattern_step.specs.Tricks.{played_in_place}
 use Rattle.pattern_step.specs.LayoutCards.{StandsFor}
 use Rattle.play_rules.specs.Tricks.{card_in_place}
 use Rattle.play_rules.specs.Winners.{winner_of}
 use Rattle.play_rules.specs.History.{trick_made, tricks_of}
-use Rattle.play_rules.specs.Legal.{CanPlay, IsUnfinished}
+use Rattle.play_rules.specs.Legal.{IsUnfinished}
 use Rattle.play_rules.proofs.HistoryLaws.{Ends-from_four}
 use Rattle.strategies.specs.Strategies.{CanWin}
 use Rattle.strategies.specs.Values.{opening_after}
@@ -27,7 +26,7 @@ use Rattle.certificate_graph.specs.declared.children.Child.{Child}
 use Rattle.certificate_graph.specs.declared.nodes.Node.{Node}
 use Rattle.certificate_graph.specs.Trees.{TrickTree, Own, Reply, Leaf}
 use Rattle.certificate_graph.specs.Graphs.{GraphShape, IsGraph, IsNode}
-use Rattle.checker.specs.Places.{HasBranch, LeadsTo}
+use Rattle.checker.specs.Places.{LeadsTo}
 use Rattle.checker.specs.Steps.{need_after, HasToGoOn, IsRightChild, IsRightLeaf, StepHolds}
 use Rattle.checker.specs.Soundness.{opening_at, KeepsItsClaim, IsNamedBy, OneStepIsSound}
 use Rattle.checker.proofs.Lines.{four_are_legal}

@@ -1,5 +1,5 @@
 -- A trick on a layout and on a pattern that it matches: the cards played so far, and the pattern cards that stand for them.
-use Rattle.std.proofs.Common.{◌≡◌, ℕ, ◌+◌, ◌<◌, List, [], ◌∷◌, ◌++◌, length, get_or, Contains, Option, None, Some, refl, sym, ◌∙◌, ap, subst, arith, inl, inr}
+use Rattle.std.proofs.Common.{◌≡◌, ℕ, ◌<◌, List, [], ◌∷◌, ◌++◌, length, get_or, Option, None, Some, refl, sym, ◌∙◌, ap, arith, inl, inr}
 use Rattle.std.proofs.lemmas.Bool.{cases_lt}
 use Rattle.std.proofs.lemmas.List.{length-append, get_or_default}
 use Rattle.std.proofs.Math.Seq.{get_or-append_seam}
@@ -15,13 +15,13 @@ use Rattle.cards.specs.Deal.{Deal, holder_of}
 use Rattle.patterns.specs.Holders.{Matches}
 use Rattle.pattern_step.specs.declared.pat_cards.PatCard.{PatCard}
 use Rattle.pattern_step.specs.declared.pat_cards.PatCard.TheVariants.{Top}
-use Rattle.pattern_step.specs.PatCards.{suit_of_card, IsLegal, FollowsSuit}
+use Rattle.pattern_step.specs.PatCards.{FollowsSuit}
 use Rattle.pattern_step.specs.Tricks.{played_in_place, suit_led_by}
 use Rattle.pattern_step.specs.LayoutCards.{StandsFor}
 use Rattle.pattern_step.proofs.LayoutLaws.{stands_suit, length_is_held, IsOnePatCard-of, IsSomeCard-of}
 use Rattle.pattern_step.proofs.TurnLaws.{place_of-seat_in_place}
 use Rattle.play_rules.specs.History.{suit_of_first, suit_led}
-use Rattle.play_rules.specs.Legal.{StillHolds, CanPlay, CanFollow, IsLegalHistory, seat_to_play}
+use Rattle.play_rules.specs.Legal.{StillHolds, CanPlay, IsLegalHistory, seat_to_play}
 use Rattle.play_rules.proofs.HistoryLaws.{seat_to_play-short, suit_of_first-short}
 use Rattle.play_rules.proofs.PositionLaws.{IsLegalHistory-push}
 use Rattle.certificate_graph.specs.declared.nodes.Node.{Node}

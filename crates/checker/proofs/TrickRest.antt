@@ -1,5 +1,5 @@
 -- What a trick leaves of a layout and of the pattern that it matches.
-use Rattle.std.proofs.Common.{◌≡◌, ◌≢◌, ℕ, ◌+◌, ◌<◌, List, length, get_or, Contains, None, Some, refl, sym, ◌∙◌, ap, subst, arith}
+use Rattle.std.proofs.Common.{◌≡◌, ◌+◌, ◌<◌, List, length, Some, sym, ◌∙◌, ap, arith}
 use Rattle.std.proofs.lemmas.List.{get_or_default}
 use Rattle.std.proofs.lemmas.List.Elements.{Contains-get_or}
 use Rattle.cards.specs.declared.pack.Card.{Card}
@@ -9,12 +9,12 @@ use Rattle.cards.specs.declared.seats.Seat.{Seat}
 use Rattle.cards.specs.declared.seats.Seat.TheVariants.{North}
 use Rattle.cards.specs.Pack.{card_of}
 use Rattle.cards.specs.Seats.{seat_in_place, place_of}
-use Rattle.cards.specs.Deal.{Deal, holder_of, size_of, IsLayout}
-use Rattle.patterns.specs.Shapes.{Shape, hand_size, IsPattern, Covers}
+use Rattle.cards.specs.Deal.{Deal, size_of, IsLayout}
+use Rattle.patterns.specs.Shapes.{Shape, hand_size, IsPattern}
 use Rattle.patterns.specs.Holders.{Matches}
 use Rattle.pattern_step.specs.declared.pat_cards.PatCard.{PatCard}
-use Rattle.pattern_step.specs.Tricks.{played_by, AreLegalInTurn, IsLeft}
-use Rattle.pattern_step.specs.LayoutCards.{StandsFor, real_by, ArePlayed, IsWithout}
+use Rattle.pattern_step.specs.Tricks.{AreLegalInTurn}
+use Rattle.pattern_step.specs.LayoutCards.{real_by, ArePlayed, IsWithout}
 use Rattle.pattern_step.proofs.TurnLaws.{place_of-lt, seat_in_place-place_of, place_of-seat_in_place}
 use Rattle.pattern_step.proofs.LayoutLaws.{hand_size-dealt, hand_size-covered}
 use Rattle.pattern_step.proofs.LeftLaws.{Matches-left}

@@ -1,6 +1,5 @@
 -- The seat that wins a trick is among those that may win it on the pattern.
-use Rattle.std.proofs.Common.{◌≡◌, ℕ, zero, suc, ◌<◌, ◌≤◌, Bool, true, false, cond, ◌||◌, List, [], ◌∷◌, length, get_or, Contains, refl, sym, ◌∙◌, ap, subst, arith, inl, inr}
-use Rattle.std.specs.List.{list_any}
+use Rattle.std.proofs.Common.{◌≡◌, ℕ, ◌<◌, Bool, true, false, cond, ◌||◌, List, [], ◌∷◌, length, Contains, refl, sym, ◌∙◌, ap, subst, arith, inl, inr}
 use Rattle.std.proofs.lemmas.Bool.{cases_lt}
 use Rattle.std.proofs.lemmas.List.{get_or_default}
 use Rattle.std.proofs.lemmas.List.Elements.{Contains-get_or}
@@ -10,7 +9,6 @@ use Rattle.cards.specs.declared.suits.Suit.TheVariants.{Spades}
 use Rattle.cards.specs.declared.suits.Trump.{Trump}
 use Rattle.cards.specs.declared.suits.Trump.TheVariants as trump
 use Rattle.cards.specs.declared.seats.Seat.{Seat}
-use Rattle.cards.specs.Pack.{suit_number, rank_number}
 use Rattle.cards.specs.Seats.{seat_in_place}
 use Rattle.cards.specs.Deal.{Deal}
 use Rattle.patterns.specs.Shapes.{Shape}
@@ -22,7 +20,7 @@ use Rattle.pattern_step.specs.LayoutCards.{StandsFor, IsBelowTop}
 use Rattle.pattern_step.proofs.LayoutLaws.{stands_suit, top_ranks_above}
 use Rattle.pattern_step.proofs.TurnLaws.{place_of-seat_in_place}
 use Rattle.play_rules.specs.Tricks.{Trick, card_in_place, IsHighest}
-use Rattle.play_rules.specs.Winners.{is_of, deciding_suit, winning_place, winner_of}
+use Rattle.play_rules.specs.Winners.{deciding_suit, winning_place, winner_of}
 use Rattle.play_rules.specs.History.{trick_made}
 use Rattle.play_rules.proofs.TrickLaws.{wins_by_highest_card}
 
@@ -38,8 +36,12 @@ StandForTrick shape deal pats trick = (place : ℕ) → place < 4 → StandsFor 
 decides : (shape : Shape) (deal : Deal) (trump : Trump) (pats : List PatCard) (trick : Trick) → length pats ≡ 4 → StandForTrick shape deal pats trick → deciding_suit trump trick ≡ winning_suit trump pats
 decides shape deal trump.Nt (a ∷ b ∷ c ∷ d ∷ []) trick four stand = stands_suit shape deal a trick.first (stand 0 (omega arith))
 decides shape deal (trump.Suit suit) (a ∷ b ∷ c ∷ d ∷ []) trick four stand =
-    rw (stands_suit shape deal a trick.first (stand 0 (omega arith)), stands_suit shape deal b trick.second (stand 1 (omega arith)),
-      stands_suit shape deal c trick.third (stand 2 (omega arith)), stands_suit shape deal d trick.fourth (stand 3 (omega arith)))
+    rw (
+      stands_suit shape deal a trick.first (stand 0 (omega arith)),
+      stands_suit shape deal b trick.second (stand 1 (omega arith)),
+      stands_suit shape deal c trick.third (stand 2 (omega arith)),
+      stands_suit shape deal d trick.fourth (stand 3 (omega arith)),
+    )
     (ap (λ any. cond any suit (suit_of_card a)) (sym (or_nothing (is_of_suit suit a) (is_of_suit suit b) (is_of_suit suit c) (is_of_suit suit d))))
 decides shape deal trump [] trick four stand = absurd (omega (arith, four))
 decides shape deal trump (a ∷ []) trick four stand = absurd (omega (arith, four))

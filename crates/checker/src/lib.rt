@@ -18,12 +18,12 @@ mod played;
 mod soundness;
 #[cfg(test)]
 mod tests;
+mod turns;
 #[cfg(test)]
 mod value_tests;
+mod walks;
 #[cfg(test)]
 mod worked_answers;
-mod turns;
-mod walks;
 
 pub use entries::{Proven, Shown, check_entry};
 pub use entry_faults::{EntryFault, PartFault};

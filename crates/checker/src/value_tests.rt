@@ -85,12 +85,24 @@ fn expect_value(rt: &impl Abort, alloc: Global, answer: &Answer) -> Result<(), F
     let layout = layout_of(answer.layout)?;
     let declarers = Graph::read(alloc, answer.declarers)?;
     let defenders = Graph::read(alloc, answer.defenders)?;
-    let proven = check_entry(&layout, answer.declarer, answer.trump, answer.k, &declarers, &defenders)?;
+    let proven = check_entry(
+        &layout,
+        answer.declarer,
+        answer.trump,
+        answer.k,
+        &declarers,
+        &defenders,
+    )?;
     let shown = proven.shown();
     assert_eq!(rt; shown.layout, layout, "{}", answer.layout);
     assert_eq!(rt; shown.k, answer.k, "{}", answer.layout);
     let plain = plain_value(&layout, answer.declarer.next(), answer.trump)?;
-    assert_eq!(rt; plain, north_south(answer.declarer, layout.len() as u8, shown.k), "{}", answer.layout);
+    assert_eq!(rt;
+        plain,
+        north_south(answer.declarer, layout.len() as u8, shown.k),
+        "{}",
+        answer.layout
+    );
     Ok(())
 }
 
