@@ -1,5 +1,5 @@
 -- `==` says whether suits are the same: all that it compares is all that a suit is.
-use Rattle.std.proofs.Common.{◌≡◌, ◌-◌, Bool, ◌&&◌, ℕ, List, length, replicate, take, refl, nat_eq, sym, ◌∙◌, ap}
+use Rattle.std.proofs.Common.{◌≡◌, ◌-◌, Bool, true, ◌&&◌, ℕ, List, length, replicate, take, refl, nat_eq, sym, ◌∙◌, ap}
 use Rattle.std.specs.Bool.{Decides}
 use Rattle.std.specs.Cmp.Lexicographic.{pointwise}
 use Rattle.std.proofs.Math.Seq.{take-append_seam}
@@ -12,8 +12,9 @@ use Rattle.cards.specs.declared.suits.Suit.TheVariants.{Spades, Hearts, Diamonds
 use Rattle.cards.specs.declared.seats.Seat.{Seat}
 use Rattle.cards.specs.declared.seats.Seat.TheVariants.{North}
 use Rattle.cards.specs.Seats.{is_same_seat}
-use Rattle.patterns.specs.Shapes.{SuitShape, Shape, suit_of}
-use Rattle.patterns.specs.HeldSuits.{places_of}
+use Rattle.patterns.specs.Shapes.{SuitShape, Shape, suit_of, IsShape}
+use Rattle.patterns.specs.Words.{word_of, HasWord, HaveWords}
+use Rattle.patterns.proofs.SuitWords.{same_from_word, HasWord-fits}
 use Rattle.patterns.proofs.SeatLaws.{for_each_suit, same_seat_test, is_same_seat_self, same_from_is_same}
 
 -- `==` of two seats
@@ -41,26 +42,24 @@ same_shapes one other same =
     ∙ (ap (λ (s : SuitShape). record other { diamonds = s; clubs = one.clubs }) (same Diamonds)
     ∙ ap (λ (s : SuitShape). record other { clubs = s }) (same Clubs)))
 
--- the owners and the places behind them tell the owners
-same_from_places : (one other : List Seat) → length one ≡ length other → places_of one ≡ places_of other → one ≡ other
-same_from_places one other len places =
-    sym (take-append_seam one (replicate (13 - length one) North))
-    ∙ (ap (take (length one)) places
-    ∙ (ap (λ n. take n (places_of other)) len ∙ take-append_seam other (replicate (13 - length other) North)))
-
 -- `==` of two suits as they are stored
-pub suits_equal-Decides : (one other : SuitShape) →
-    Decides (pointwise nat_eq one.lens other.lens && (nat_eq (length one.owners) (length other.owners) && pointwise (sameb the_type) (places_of one.owners) (places_of other.owners))) (one ≡ other)
-suits_equal-Decides one other =
-    Decides-like _ (λ h. same_suits one other h.0 (same_from_places one.owners other.owners h.1.0 h.1.1))
-    (λ e. (ap (λ (s : SuitShape). s.lens) e, (ap (λ (s : SuitShape). length s.owners) e, ap (λ (s : SuitShape). places_of s.owners) e)))
-    (Decides-and _ _ (lens_equal-Decides one.lens other.lens)
-    (Decides-and _ _ (Decides-eqb (length one.owners) (length other.owners)) (owners_equal-Decides (places_of one.owners) (places_of other.owners))))
+pub suits_equal-Decides : (one other : SuitShape) → HasWord one → HasWord other → Decides (nat_eq (word_of one) (word_of other)) (one ≡ other)
+suits_equal-Decides one other has has' =
+    Decides-like _ (same_from_word one other has has') (ap word_of) (Decides-eqb (word_of one) (word_of other))
+
+-- each suit of a pattern or a rest has a word
+pub HaveWords-shape : (fewest most : ℕ) (shape : Shape) → IsShape fewest most shape → HaveWords shape
+HaveWords-shape fewest most shape h suit =
+    HasWord-fits (suit_of shape suit) (h.four_seats suit) (h.suits suit) (h.owners suit)
+
+-- what ends the list of tests
+sure : Decides true (◌≡◌ {A = ℕ} 0 0)
+sure = (λ _. refl, λ _. refl)
 
 -- what four tests tell of four suits
 pub shapes_equal-Decides : (spades hearts diamonds clubs : Bool) (one other : Shape) → Decides spades (one.spades ≡ other.spades) → Decides hearts (one.hearts ≡ other.hearts) →
-    Decides diamonds (one.diamonds ≡ other.diamonds) → Decides clubs (one.clubs ≡ other.clubs) → Decides (spades && (hearts && (diamonds && clubs))) (one ≡ other)
+    Decides diamonds (one.diamonds ≡ other.diamonds) → Decides clubs (one.clubs ≡ other.clubs) → Decides (spades && (hearts && (diamonds && (clubs && true)))) (one ≡ other)
 shapes_equal-Decides spades hearts diamonds clubs one other s h d c =
     Decides-like _ (λ same. same_shapes one other (for_each_suit (λ suit. suit_of one suit ≡ suit_of other suit) same.0 same.1.0 same.1.1.0 same.1.1.1))
     (λ e. (ap (λ (x : Shape). x.spades) e, (ap (λ (x : Shape). x.hearts) e, (ap (λ (x : Shape). x.diamonds) e, ap (λ (x : Shape). x.clubs) e))))
-    (Decides-and _ _ s (Decides-and _ _ h (Decides-and _ _ d c)))
+    (Decides-and _ _ s (Decides-and _ _ h (Decides-and _ _ d (Decides-like _ (λ h. h.0) (λ e. (e, refl)) (Decides-and _ _ c sure)))))

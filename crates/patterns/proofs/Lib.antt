@@ -3,3 +3,6 @@ pub mod HolderLaws
 pub mod HoldingLaws
 pub mod SeatLaws
 pub mod EqualityLaws
+pub mod SuitWords
+pub mod PartLaws
+pub mod ShapeWordLaws

@@ -3,7 +3,7 @@ use Rattle.std.proofs.Common.{◌≡◌, ℕ, ◌+◌, ◌-◌, ◌<◌, ◌≤�
 use Rattle.std.specs.Option.{option_to_list}
 use Rattle.std.specs.List.{filter_map}
 use Rattle.std.proofs.lemmas.Bool.{eqb-true, eq-eqb}
-use Rattle.std.proofs.lemmas.List.{length-take, length-take-le, take_more, append-nil, append_assoc, get_or_at, get_or-take}
+use Rattle.std.proofs.lemmas.List.{length-take, length-take-le, take_all, take_more, append-nil, append_assoc, get_or_at, get_or-take}
 use Rattle.std.proofs.lemmas.List.Prefix.{front_fits, front_reads}
 use Rattle.cards.specs.declared.seats.Seat.{Seat}
 use Rattle.cards.specs.declared.seats.Seat.TheVariants.{North}
@@ -17,15 +17,15 @@ use Rattle.patterns.specs.Holdings.{TellHolders, holder_in, falling_numbers, hol
 use Rattle.patterns.proofs.HoldingLaws.{holders_above, holders_above-more, holders_in-split, length-holders_above, take-more, take-full, holders_in-is, count_ones-is}
 
 -- all owners were met
-pub all_met : (words : List ℕ) (owners : List Seat) (n seen count : ℕ) → holders_above words n ≡ take seen owners → seen ≡ count → BeginsWith (holders_in words) (take count owners)
-all_met words owners n seen count so_far all =
+pub all_met : (words : List ℕ) (owners : List Seat) (n seen count : ℕ) → holders_above words n ≡ take seen owners → seen ≡ count → count ≡ length owners → BeginsWith (holders_in words) owners
+all_met words owners n seen count so_far all len =
     let rest = filter_map (holder_in words) (drop n falling_numbers) in
-    (rest, holders_in-split words n ∙ ap (λ xs. xs ++ rest) (so_far ∙ ap (λ k. take k owners) all))
+    (rest, holders_in-split words n ∙ ap (λ xs. xs ++ rest) (so_far ∙ take_all seen owners (omega arith)))
 
 -- the next card is another seat's
-pub other_met : (words : List ℕ) (owners : List Seat) (n seen count : ℕ) (seat : Seat) → n < 13 → length owners ≡ 13 → count ≤ 13 → seen < count → holders_above words n ≡ take seen owners →
-    holder_in words (12 - n) ≡ Some seat → ¬ (seat ≡ get_or owners seen North) → ¬ BeginsWith (holders_in words) (take count owners)
-other_met words owners n seen count seat less thirteen within fewer so_far held apart begins =
+pub other_met : (words : List ℕ) (owners : List Seat) (n seen : ℕ) (seat : Seat) → n < 13 → seen < length owners → holders_above words n ≡ take seen owners →
+    holder_in words (12 - n) ≡ Some seat → ¬ (seat ≡ get_or owners seen North) → ¬ BeginsWith (holders_in words) owners
+other_met words owners n seen seat less fewer so_far held apart begins =
     let rest = filter_map (holder_in words) (drop (n + 1) falling_numbers) in
     let front : holders_above words (n + 1) ≡ take seen owners ++ seat ∷ [] =
     holders_above-more words n less ∙ (ap (λ xs. xs ++ option_to_list (holder_in words (12 - n))) so_far ∙ ap (λ o. take seen owners ++ option_to_list o) held) in
@@ -33,9 +33,9 @@ other_met words owners n seen count seat less thirteen within fewer so_far held 
     holders_in-split words (n + 1) ∙ (ap (λ xs. xs ++ rest) front ∙ append_assoc (take seen owners) (seat ∷ []) rest) in
     let here : get_or (holders_in words) seen North ≡ seat =
     ap (λ xs. get_or xs seen North) whole ∙ get_or_at (take seen owners) seat rest North seen (length-take-le seen owners (omega arith)) in
-    let there : get_or (holders_in words) seen North ≡ get_or (take count owners) seen North =
-    front_reads North (holders_in words) (take count owners) begins.0 begins.1 seen (omega (arith, length-take-le count owners (omega arith))) in
-    apart (sym here ∙ (there ∙ get_or-take count owners seen North fewer))
+    let there : get_or (holders_in words) seen North ≡ get_or owners seen North =
+    front_reads North (holders_in words) owners begins.0 begins.1 seen fewer in
+    apart (sym here ∙ there)
 
 -- the next card is the next owner's
 pub owner_met : (words : List ℕ) (owners : List Seat) (n seen : ℕ) → n < 13 → seen < length owners → holders_above words n ≡ take seen owners →
@@ -53,18 +53,17 @@ nobody_met words owners n seen less so_far free =
     ∙ (ap (λ o. holders_above words n ++ option_to_list o) free ∙ (append-nil (holders_above words n) ∙ so_far))
 
 -- all cards were met
-pub all_cards_met : (words : List ℕ) (owners : List Seat) (n seen count : ℕ) → n ≡ 13 → length owners ≡ 13 → count ≤ 13 → seen ≤ count → holders_above words n ≡ take seen owners →
-    IsTrue (eqb seen count) ↔ BeginsWith (holders_in words) (take count owners)
+pub all_cards_met : (words : List ℕ) (owners : List Seat) (n seen count : ℕ) → n ≡ 13 → count ≡ length owners → seen ≤ count → holders_above words n ≡ take seen owners →
+    IsTrue (eqb seen count) ↔ BeginsWith (holders_in words) owners
 unfolding holders_in
-all_cards_met words owners n seen count end thirteen within fewer so_far = (
-  λ h. all_met words owners n seen count so_far (eqb-true seen count h),
+all_cards_met words owners n seen count end len fewer so_far = (
+  λ h. all_met words owners n seen count so_far (eqb-true seen count h) len,
   λ begins.
       let whole : holders_in words ≡ take seen owners = sym (ap (holders_above words) end) ∙ so_far in
-      let fits = front_fits (holders_in words) (take count owners) begins.0 begins.1 in
+      let fits = front_fits (holders_in words) owners begins.0 begins.1 in
       let seen_len = length-take-le seen owners (omega arith) in
-      let count_len = length-take-le count owners (omega arith) in
       let whole_len = ap length whole in
-      eq-eqb seen count (omega (arith, fits, seen_len, count_len, whole_len)),
+      eq-eqb seen count (omega (arith, fits, seen_len, whole_len)),
 )
 
 -- a list of owners grows up to the depth
@@ -91,6 +90,14 @@ list_is_full words depth n owners less are full =
 pub list_has_room : (words : List ℕ) (depth n : ℕ) (owners : List Seat) → n < 13 → owners ≡ take depth (holders_above words n) → length owners < 13
 list_has_room words depth n owners less are =
     let above = length-holders_above words n (omega arith) in
+    let taken = length-take depth (holders_above words n) in
+    let len = ap length are in
+    omega (arith, above, taken, len)
+
+-- and no more than thirteen
+pub listed_fits : (words : List ℕ) (depth n : ℕ) (owners : List Seat) → n ≤ 13 → owners ≡ take depth (holders_above words n) → length owners ≤ 13
+listed_fits words depth n owners less are =
+    let above = length-holders_above words n less in
     let taken = length-take depth (holders_above words n) in
     let len = ap length are in
     omega (arith, above, taken, len)

@@ -1,5 +1,6 @@
 pub mod Shapes
 pub mod Parts
 pub mod Holders
-pub mod HeldSuits
+pub mod Words
 pub mod Holdings
+pub mod WordLaws

@@ -6,7 +6,7 @@ use Rattle.cards.specs.declared.seats.Seat.TheVariants.{North}
 use Rattle.patterns.specs.Shapes.{SuitShape, Shape, suit_of, len_of, tops_of, suit_size, hand_size, IsShape}
 use Rattle.patterns.specs.declared.suit_parts.SuitPart.{SuitPart}
 use Rattle.patterns.specs.declared.faults.PatternFault.{PatternFault}
-use Rattle.patterns.specs.declared.faults.PatternFault.TheVariants.{Lengths, Cards, Owners}
+use Rattle.patterns.specs.declared.faults.PatternFault.TheVariants.{Lengths, Cards, Owners, Words}
 
 -- a part, as one suit
 abbrev pub suit_shape : SuitPart → SuitShape
@@ -70,6 +70,8 @@ abbrev pub IsFault : ℕ → ℕ → Shape → PatternFault → Type 0
 IsFault fewest most shape Lengths = HasLongSuit shape
 IsFault fewest most shape Cards = SuitsFit shape × HasWrongHands fewest most shape
 IsFault fewest most shape Owners = SuitsFit shape × HandsFit fewest most shape × HasWrongOwner shape
+-- a fault of words alone (Words.antt)
+IsFault fewest most shape Words = ⊥
 
 -- the answer for four parts
 abbrev pub MeetsParts : ℕ → ℕ → Shape → Result Shape PatternFault → Type 0

@@ -1,8 +1,8 @@
-//! Why four suits are no pattern, or no rest.
+//! Why four suits, or four words, are no pattern, or no rest.
 
 use thiserror::Error;
 
-/// Why four suits are no pattern, or no rest: the first that applies.
+/// Why four suits, or four words, are no pattern, or no rest: the first that applies.
 #[derive(Clone, Copy, Debug, PartialEq, Eq, Hash, Error)]
 pub enum PatternFault {
     /// A suit has over 13 cards.
@@ -14,4 +14,7 @@ pub enum PatternFault {
     /// A seat is an owner in a suit more often than it has cards there.
     #[error("a seat owns more cards of a suit than it has")]
     Owners = 3,
+    /// A word has a bit that must be 0, or over 13 owners. It comes before the other three.
+    #[error("a word has a bit that must be 0, or over 13 owners")]
+    Words = 4,
 }

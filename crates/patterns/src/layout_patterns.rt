@@ -4,11 +4,12 @@ ghost use Rattle.std.specs.Prelude.{◌≡◌, ◌↔◌, ◌≤◌, IsTrue, len
 ghost use Rattle.patterns.specs.Shapes.{suit_of, len_of, tops_of, IsPattern, Covers};
 ghost use Rattle.patterns.specs.Holders.{Matches, shape_of_layout};
 ghost use Rattle.patterns.specs.Parts.{suit_shape, shape_of_parts, MeetsParts};
+ghost use Rattle.patterns.specs.Words.{shape_in, words_of, AreWords, MeetsWords};
 
 use crate::faults::PatternFault;
-use crate::held_shapes::HeldShape;
 use crate::rests::Rest;
-use crate::suit_parts::SuitPart;
+use crate::shape_words::ShapeWords;
+use crate::suit_parts::{SuitPart, suits_fit};
 use cards::{Layout, Seat, Suit};
 use std::marker::Model;
 
@@ -16,7 +17,7 @@ use std::marker::Model;
 /// cards as the others, 1 to 13, and no seat is an owner in a suit more often than it has cards there.
 #[derive(Clone, Copy, Debug, PartialEq, Eq, Hash)]
 pub struct Pattern {
-    held: HeldShape,
+    held: ShapeWords,
 }
 
 impl Model for Pattern {
@@ -36,9 +37,34 @@ impl Pattern {
     pub fn from_parts(parts: [SuitPart; 4]) -> Result<Pattern, PatternFault>
         ensures cases { MeetsParts 1 13 (shape_of_parts parts) result }
     {
-        let held = HeldShape::of_parts(&parts);
+        if !suits_fit(&parts) {
+            return Err(PatternFault::Lengths);
+        }
+        let held = ShapeWords::of_parts(&parts);
         held.check(1, 13)?;
         Ok(Pattern { held })
+    }
+
+    /// The pattern that four words tell, spades first. In each word bits 0 to 3, 4 to 7, 8 to 11 and 12 to 15 are the
+    /// lengths of North, East, South and West, bits 16 to 19 the number of owners, and bits 20 + 2 i and 21 + 2 i the
+    /// owner in place i: North 0, East 1, South 2, West 3. All other bits have to be 0.
+    pub fn from_words(words: [u64; 4]) -> Result<Pattern, PatternFault>
+        ensures { MeetsWords 1 13 words result }
+    {
+        let Some(held) = ShapeWords::of_words(words) else {
+            return Err(PatternFault::Words);
+        };
+        held.check(1, 13)?;
+        Ok(Pattern { held })
+    }
+
+    /// The four words of the pattern, as `from_words` takes them.
+    pub fn words(&self) -> &[u64; 4]
+        ensures words { result.now ≡ words_of self.now }
+        ensures tell { shape_in result.now ≡ self.now }
+        ensures are { AreWords result.now }
+    {
+        self.held.words()
     }
 
     /// The pattern of a layout, with as many owners in each suit as there are, up to its depth, that of spades first.
@@ -48,7 +74,7 @@ impl Pattern {
     {
         let _size = layout.len();
         Pattern {
-            held: HeldShape::of_layout(layout, depths),
+            held: ShapeWords::of_layout(layout, depths),
         }
     }
 

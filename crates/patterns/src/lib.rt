@@ -8,18 +8,21 @@
 #![tactic(auto)]
 
 mod faults;
-mod held_shapes;
-mod held_suits;
 mod holdings;
 mod laws;
 mod layout_patterns;
 mod rests;
+mod shape_words;
 mod suit_parts;
+mod suit_words;
 #[cfg(test)]
 mod tests;
 
 pub use faults::PatternFault;
-pub use laws::{equal_parts_are_one, equal_patterns_are_one, equal_rests_are_one};
+pub use laws::{
+    equal_parts_are_one, equal_patterns_are_one, equal_rests_are_one, equal_words_are_one_pattern,
+    equal_words_are_one_rest, words_make_their_pattern, words_make_their_rest,
+};
 pub use layout_patterns::Pattern;
 pub use rests::Rest;
 pub use suit_parts::SuitPart;

@@ -3,17 +3,18 @@
 ghost use Rattle.std.specs.Prelude.{◌≡◌};
 ghost use Rattle.patterns.specs.Shapes.{suit_of, IsRest};
 ghost use Rattle.patterns.specs.Parts.{suit_shape, shape_of_parts, MeetsParts};
+ghost use Rattle.patterns.specs.Words.{shape_in, words_of, AreWords, MeetsWords};
 
 use crate::faults::PatternFault;
-use crate::held_shapes::HeldShape;
-use crate::suit_parts::SuitPart;
+use crate::shape_words::ShapeWords;
+use crate::suit_parts::{SuitPart, suits_fit};
 use cards::Suit;
 use std::marker::Model;
 
 /// What a trick leaves of a pattern. It is as a pattern, but has 0 to 12 cards a seat.
 #[derive(Clone, Copy, Debug, PartialEq, Eq, Hash)]
 pub struct Rest {
-    held: HeldShape,
+    held: ShapeWords,
 }
 
 impl Model for Rest {
@@ -33,9 +34,32 @@ impl Rest {
     pub fn from_parts(parts: [SuitPart; 4]) -> Result<Rest, PatternFault>
         ensures cases { MeetsParts 0 12 (shape_of_parts parts) result }
     {
-        let held = HeldShape::of_parts(&parts);
+        if !suits_fit(&parts) {
+            return Err(PatternFault::Lengths);
+        }
+        let held = ShapeWords::of_parts(&parts);
         held.check(0, 12)?;
         Ok(Rest { held })
+    }
+
+    /// The rest that four words tell, spades first, laid out as those of a pattern.
+    pub fn from_words(words: [u64; 4]) -> Result<Rest, PatternFault>
+        ensures { MeetsWords 0 12 words result }
+    {
+        let Some(held) = ShapeWords::of_words(words) else {
+            return Err(PatternFault::Words);
+        };
+        held.check(0, 12)?;
+        Ok(Rest { held })
+    }
+
+    /// The four words of the rest, as `from_words` takes them.
+    pub fn words(&self) -> &[u64; 4]
+        ensures words { result.now ≡ words_of self.now }
+        ensures tell { shape_in result.now ≡ self.now }
+        ensures are { AreWords result.now }
+    {
+        self.held.words()
     }
 
     /// The rest of four suits that are known to be one: `from_parts` without its tests.
@@ -44,7 +68,7 @@ impl Rest {
         ensures { result ≡ shape_of_parts parts }
     {
         Rest {
-            held: HeldShape::of_parts(&parts),
+            held: ShapeWords::of_parts(&parts),
         }
     }
 
@@ -62,7 +86,7 @@ impl Rest {
         self.held.suit(suit).part()
     }
 
-    pub(crate) fn held(&self) -> &HeldShape
+    pub(crate) fn held(&self) -> &ShapeWords
         ensures { result.now ≡ self.now }
     {
         &self.held

@@ -199,3 +199,65 @@ fn tells_unequal_lengths_apart(rt: HostRuntime) -> Result<(), Fail> {
     assert!(rt; spades([1, 1, 1, 1], &[])? != spades([2, 2, 2, 2], &[])?);
     Ok(())
 }
+
+/// Spades in one word, and no other suit.
+fn spade_word(word: u64) -> Result<Pattern, PatternFault> {
+    Pattern::from_words([word, 0, 0, 0])
+}
+
+#[test]
+fn tells_a_suit_in_a_word(rt: HostRuntime) -> Result<(), Fail> {
+    let short = spade_word(0x11111)?;
+    assert_eq!(rt;
+        spade_word(0xC32222)?,
+        spades([2, 2, 2, 2], &[NORTH, WEST, NORTH])?
+    );
+    assert_eq!(rt; short, spades([1, 1, 1, 1], &[NORTH])?);
+    assert!(rt; short.covers(&Rest::from_words([0xC21111, 0, 0, 0])?));
+    assert!(rt; !spade_word(0xC21111)?.covers(&Rest::from_words([0x11111, 0, 0, 0])?));
+    assert_eq!(rt; spade_word(0x411111), Err(PatternFault::Words));
+    assert_eq!(rt; spade_word(0xE1111), Err(PatternFault::Words));
+    assert_eq!(rt; spade_word(0x51111), Err(PatternFault::Owners));
+    Ok(())
+}
+
+#[test]
+fn gives_the_words_that_it_was_made_of(rt: HostRuntime) -> Result<(), Fail> {
+    let rest_words = [0x121111, 0, 0xE441111, 0];
+    assert_eq!(rt; *spade_word(0xC32222)?.words(), [0xC32222, 0, 0, 0]);
+    assert_eq!(rt; *Rest::from_words(rest_words)?.words(), rest_words);
+    assert_eq!(rt;
+        Rest::from_words(rest_words)?.part(Suit::Diamonds),
+        part([1, 1, 1, 1], &[NORTH, EAST, SOUTH, WEST])
+    );
+    assert_eq!(rt;
+        *spades([1, 1, 1, 1], &[EAST, SOUTH])?.words(),
+        [0x921111, 0, 0, 0]
+    );
+    // North in the second place leaves no bit but in the number of owners.
+    assert!(rt; spade_word(0x22222)? != spade_word(0x12222)?);
+    assert!(rt; spade_word(0x111111)? != spade_word(0x11111)?);
+    Ok(())
+}
+
+#[test]
+fn refuses_words_in_order(rt: HostRuntime) -> Result<(), Fail> {
+    assert_eq!(rt; spade_word(1 << 63), Err(PatternFault::Words));
+    assert_eq!(rt;
+        Pattern::from_words([0x3344, 0, 0, 0xE0000]),
+        Err(PatternFault::Words)
+    );
+    assert_eq!(rt; spade_word(0x3344), Err(PatternFault::Lengths));
+    assert_eq!(rt; spade_word(0x0111), Err(PatternFault::Cards));
+    assert_eq!(rt; spade_word(0), Err(PatternFault::Cards));
+    assert!(rt; Rest::from_words([0; 4]).is_ok());
+    assert_eq!(rt;
+        Rest::from_words([0x000D, 0x00D0, 0x0D00, 0xD000]),
+        Err(PatternFault::Cards)
+    );
+    assert_eq!(rt;
+        *Pattern::from_words([0x000D, 0x00D0, 0x0D00, 0xD000])?.words(),
+        [0x000D, 0x00D0, 0x0D00, 0xD000]
+    );
+    Ok(())
+}

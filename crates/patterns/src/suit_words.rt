@@ -1,0 +1,277 @@
+//! One suit in a word.
+
+ghost use Rattle.std.specs.Prelude.{◌≡◌, ◌↔◌, ◌≤◌, ◌<◌, ◌+◌, ◌*◌, ◌/◌, ◌%◌, ◌^◌, IsTrue, MatchBool, length, slice_get};
+ghost use Rattle.patterns.specs.Shapes.{len_of, tops_of, suit_size, BeginsWith, CoversSuit};
+ghost use Rattle.std.specs.Prelude.{count_ones, slice_index, slice_index_or};
+ghost use Rattle.cards.specs.declared.seats.Seat.TheVariants.{North};
+ghost use Rattle.cards.specs.declared.seats.Seat.{Seat};
+ghost use Rattle.cards.specs.Seats.{seat_number};
+ghost use Rattle.patterns.specs.Holders.{holders_of, MatchesSuit, suit_of_layout};
+ghost use Rattle.patterns.specs.Holdings.{holders_in};
+ghost use Rattle.patterns.specs.Parts.{suit_shape, HasItsOwners, HasExcessOwner};
+ghost use Rattle.patterns.specs.Words.{suit_in, seat_at, HasWord, IsSuitWord, IsWrongWord};
+
+use crate::holdings::{holder, holdings};
+use crate::suit_parts::SuitPart;
+use arrayvec::ArrayVec;
+use cards::{Layout, Seat, Suit};
+use std::marker::Model;
+
+/// One suit in a word. From the lowest bit on: four bits each for the lengths of North, East, South and West, four
+/// for the number of owners, and two for each owner. The other bits are 0.
+#[derive(Clone, Copy)]
+pub(crate) struct SuitWord {
+    word: u64,
+}
+
+impl Model for SuitWord {
+    ghost use Rattle.std.specs.Prelude.{ℕ};
+    ghost use Rattle.std.proofs.Common.{ap};
+    ghost use Rattle.patterns.specs.Shapes.{SuitShape};
+    ghost use Rattle.patterns.specs.Words.{suit_in, word_of, IsSuitWord};
+    ghost use Rattle.patterns.specs.WordLaws.{word_of-suit_in};
+
+    ghost Value = { SuitShape };
+
+    ghost view = { λ held. suit_in held.word };
+
+    ghost invariant = { λ held. IsSuitWord held.word };
+
+    ghost inverse = { λ suit. record { word = word_of suit } };
+
+    ghost inverse_ok = { λ held h. ap (λ (n : ℕ). record { word = n }) (word_of-suit_in held.word h) };
+}
+
+/// Where the number of owners stands in a word, and where the owners begin.
+const COUNT: u32 = 16;
+
+const OWNERS: u32 = 20;
+
+impl SuitWord {
+    /// The suit that a word tells.
+    pub(crate) fn of_word(word: u64) -> SuitWord
+        requires { IsSuitWord word }
+        ensures { result ≡ suit_in word }
+    {
+        SuitWord { word }
+    }
+
+    /// The word of the suit.
+    pub(crate) fn word(&self) -> u64
+        ensures tells { suit_in result ≡ self.now }
+        ensures word { IsSuitWord result }
+    {
+        self.word
+    }
+
+    /// The suit that the part tells.
+    pub(crate) fn of_part(part: &SuitPart) -> SuitWord
+        requires { HasWord (suit_shape part.now) }
+        ensures { result ≡ suit_shape part.now }
+    {
+        let mut bits = 0;
+        for (place, owner) in part.owners.as_slice().iter().enumerate() {
+            bits += (owner.number() as u64) << (2 * place);
+        }
+        SuitWord {
+            word: u64::from(part.lens[0])
+                + (u64::from(part.lens[1]) << 4)
+                + (u64::from(part.lens[2]) << 8)
+                + (u64::from(part.lens[3]) << 12)
+                + ((part.owners.len() as u64) << COUNT)
+                + (bits << OWNERS),
+        }
+    }
+
+    /// The part that tells the suit.
+    pub(crate) fn part(&self) -> SuitPart
+        ensures { suit_shape result ≡ self.now }
+    {
+        let mut owners = ArrayVec::new();
+        for place in 0..self.owner_count() {
+            owners.push(self.owner_in(place));
+        }
+        SuitPart {
+            lens: [
+                self.len(Seat::North),
+                self.len(Seat::East),
+                self.len(Seat::South),
+                self.len(Seat::West),
+            ],
+            owners,
+        }
+    }
+
+    /// How many cards of the suit the seat has.
+    pub(crate) fn len(&self, seat: Seat) -> u8
+        ensures len { result ≡ len_of self.now seat }
+        ensures four { length self.now.lens ≡ 4 }
+    {
+        nibble(self.word, 4 * seat.number() as u32) as u8
+    }
+
+    /// How many owners there are.
+    pub(crate) fn owner_count(&self) -> usize
+        ensures count { result ≡ length self.now.owners }
+        ensures within { result ≤ 13 }
+    {
+        nibble(self.word, COUNT) as usize
+    }
+
+    /// The owner in this place, if there are so many.
+    pub(crate) fn owner(&self, place: usize) -> Option<Seat>
+        ensures { result ≡ slice_get self.now.owners place }
+    {
+        if place < self.owner_count() {
+            Some(owner_at(self.word >> OWNERS, place))
+        } else {
+            None
+        }
+    }
+
+    /// The owner in this place.
+    fn owner_in(&self, place: usize) -> Seat
+        requires { place < length self.now.owners }
+        ensures { result ≡ slice_index_or self.now.owners place North }
+    {
+        let _count = self.owner_count();
+        owner_at(self.word >> OWNERS, place)
+    }
+
+    /// How many cards of the suit the four seats have.
+    pub(crate) fn size(&self) -> u16
+        ensures size { result ≡ suit_size self.now }
+        ensures four { length self.now.lens ≡ 4 }
+    {
+        u16::from(self.len(Seat::North))
+            + u16::from(self.len(Seat::East))
+            + u16::from(self.len(Seat::South))
+            + u16::from(self.len(Seat::West))
+    }
+
+    /// How often the seat is an owner.
+    pub(crate) fn tops(&self, seat: Seat) -> u8
+        ensures { result ≡ tops_of self.now seat }
+    {
+        let mut tops = 0;
+        for place in 0..self.owner_count() {
+            if self.owner_in(place) == seat {
+                tops += 1;
+            }
+        }
+        tops
+    }
+
+    /// Whether no seat is an owner more often than it has cards.
+    pub(crate) fn has_its_owners(&self) -> bool
+        ensures { MatchBool result (HasItsOwners self.now) (HasExcessOwner self.now) }
+    {
+        self.tops(Seat::North) <= self.len(Seat::North)
+            && self.tops(Seat::East) <= self.len(Seat::East)
+            && self.tops(Seat::South) <= self.len(Seat::South)
+            && self.tops(Seat::West) <= self.len(Seat::West)
+    }
+
+    /// Whether the lengths are those of the rest, and these owners are a beginning of its.
+    pub(crate) fn covers(&self, rest: &SuitWord) -> bool
+        ensures { IsTrue result ↔ CoversSuit self.now rest.now }
+    {
+        let count = nibble(self.word, COUNT);
+        let among = (1 << (2 * count)) - 1;
+        self.word & 0xffff == rest.word & 0xffff
+            && count <= nibble(rest.word, COUNT)
+            && self.word >> OWNERS == rest.word >> OWNERS & among
+    }
+
+    /// The suit as it is in the layout, with as many owners as there are, up to the depth.
+    pub(crate) fn of_layout(layout: &Layout, suit: Suit, depth: u8) -> SuitWord
+        ensures { result ≡ suit_of_layout layout.now suit depth }
+    {
+        let words = holdings(layout, suit);
+        let mut owners = ArrayVec::new();
+        for above in 0..13 {
+            if owners.len() < depth as usize {
+                if let Some(seat) = holder(&words, 12 - above) {
+                    owners.push(seat);
+                }
+            }
+        }
+        SuitWord::of_part(&SuitPart {
+            lens: [
+                words[0].count_ones() as u8,
+                words[1].count_ones() as u8,
+                words[2].count_ones() as u8,
+                words[3].count_ones() as u8,
+            ],
+            owners,
+        })
+    }
+
+    /// Whether the suit of the layout matches this one.
+    pub(crate) fn matches(&self, layout: &Layout, suit: Suit) -> bool
+        ensures { IsTrue result ↔ MatchesSuit self.now (holders_of layout.now suit) }
+    {
+        let words = holdings(layout, suit);
+        self.has_lens(&words) && self.has_owners(&words)
+    }
+
+    /// Whether the words have as many cards as the lengths say.
+    fn has_lens(&self, words: &[u16; 4]) -> bool
+        ensures { IsTrue result ↔ ((seat : Seat) → len_of self.now seat ≡ count_ones (slice_index words.now (seat_number seat))) }
+    {
+        words[0].count_ones() == u32::from(self.len(Seat::North))
+            && words[1].count_ones() == u32::from(self.len(Seat::East))
+            && words[2].count_ones() == u32::from(self.len(Seat::South))
+            && words[3].count_ones() == u32::from(self.len(Seat::West))
+    }
+
+    /// Whether the owners hold the highest cards of the words, in their order.
+    fn has_owners(&self, words: &[u16; 4]) -> bool
+        ensures { IsTrue result ↔ BeginsWith (holders_in words.now) self.now.owners }
+    {
+        let count = self.owner_count();
+        let mut seen = 0;
+        for above in 0..13 {
+            if seen == count {
+                return true;
+            }
+            if let Some(seat) = holder(words, 12 - above) {
+                if seat != self.owner_in(seen) {
+                    return false;
+                }
+                seen += 1;
+            }
+        }
+        seen == count
+    }
+}
+
+/// Four bits of the word.
+fn nibble(word: u64, from: u32) -> u64
+    requires { from < 64 }
+    ensures value { result ≡ word / 2 ^ from % 2 ^ 4 }
+    ensures below { result < 16 }
+{
+    word >> from & 0xf
+}
+
+/// The seat whose number stands in the two bits of this place.
+fn owner_at(bits: u64, place: usize) -> Seat
+    requires { place < 32 }
+    ensures { result ≡ seat_at (bits / 2 ^ (2 * place) % 4) }
+{
+    match bits >> (2 * place) & 3 {
+        0 => Seat::North,
+        1 => Seat::East,
+        2 => Seat::South,
+        _ => Seat::West,
+    }
+}
+
+/// Whether the word tells a suit: it has at most 13 owners, and no bit behind the last of them.
+pub(crate) fn tells_suit(word: u64) -> bool
+    ensures { MatchBool result (IsSuitWord word) (IsWrongWord word) }
+{
+    let count = nibble(word, COUNT);
+    count <= 13 && word >> OWNERS >> (2 * count) == 0
+}
