@@ -1,9 +1,9 @@
 //! Who wins a trick (Law 44E and 44F).
 
-ghost use Rattle.std.specs.Prelude.{◌≡◌, ℕ, ◌≤◌};
+ghost use Rattle.std.specs.Prelude.{◌≡◌, ℕ, ◌≤◌, ◌||◌};
 ghost use Rattle.cards.specs.Seats.{seat_in_place};
 ghost use Rattle.play_rules.specs.Tricks.{AreFourCards, WinsAt};
-ghost use Rattle.play_rules.specs.Winners.{deciding_suit, height, highest_place, winner_of};
+ghost use Rattle.play_rules.specs.Winners.{is_of, deciding_suit, height, highest_place, winner_of};
 ghost use Rattle.play_rules.specs.History.{trick_made};
 
 use cards::{Card, Seat, Suit, Trump};
@@ -65,16 +65,26 @@ fn seat_at(leader: Seat, place: usize) -> Seat
     }
 }
 
+/// Whether the card is of the suit.
+fn is_of(suit: Suit, card: Card) -> bool
+    ensures { result ≡ is_of suit card }
+{
+    card.suit == suit
+}
+
+/// Whether one of the cards is of the suit.
+fn are_of(suit: Suit, first: Card, second: Card, third: Card, fourth: Card) -> bool
+    ensures { result ≡ (is_of suit first || (is_of suit second || (is_of suit third || is_of suit fourth))) }
+{
+    is_of(suit, first) || is_of(suit, second) || is_of(suit, third) || is_of(suit, fourth)
+}
+
 /// The suit whose highest card wins.
 fn deciding(trump: Trump, first: Card, second: Card, third: Card, fourth: Card) -> Suit
     ensures { result ≡ deciding_suit trump (trick_made first second third fourth) }
 {
     match trump {
-        Trump::Suit(suit)
-            if first.suit == suit
-                || second.suit == suit
-                || third.suit == suit
-                || fourth.suit == suit => { suit }
+        Trump::Suit(suit) if are_of(suit, first, second, third, fourth) => suit,
         _ => first.suit,
     }
 }
@@ -83,7 +93,7 @@ fn deciding(trump: Trump, first: Card, second: Card, third: Card, fourth: Card) 
 fn height_in(suit: Suit, card: Card) -> usize
     ensures { result ≡ height suit card }
 {
-    if card.suit == suit {
+    if is_of(suit, card) {
         card.rank.number() + 1
     } else {
         0
