@@ -1,7 +1,7 @@
 use Rattle.std.proofs.Common.{◌≡◌, [], ◌++◌, refl, sym, ◌∙◌, ap, append_assoc}
 use Rattle.pattern_step.specs.declared.pat_cards.PatCard.{PatCard}
 use Rattle.certificate_graph.specs.Trees.{TrickTree, Branches, Branch}
-use Rattle.certificate_graph.specs.Texts.{card_text, tree_text, branches_text}
+use Rattle.certificate_graph.specs.Texts.{card_text, tree_text, branches_text, children_text}
 use Rattle.certificate_graph.proofs.TextParts.{card-cut, tree-cut}
 use Rattle.cards.proofs.WriteLemmas.{AddsBeginning-then, Writes-then}
 use Rattle.certificate_graph.proofs.WriteLemmas.{writes_same, stops_within}
@@ -50,3 +50,34 @@ write_branches-returns-in_ok-write_tree-in-Some g t c =
     (rw c.in-Some.ensures
     (ap (λ s. s ++ (below ++ more)) c.card_bytes.ensures ∙ parts c.in-Some.card c.in-Some.below c.in-Some.more))
     (Writes-then done _ _ c.in_ok-write_all-in-Some.ensures (Writes-then done _ _ c.in_ok-write_tree-in-Some.ensures c.write_branches.ensures))
+
+pub write_tree-returns-in_err-write_all-in-Own : goal.write_tree-returns-in_err-write_all-in-Own
+write_tree-returns-in_err-write_all-in-Own g t c =
+    let end = c.from_residual in
+    let below = tree_text c.in-Own.below [] in
+    stops_within _ _ end.result _ below end.ensures.1
+    (rw (← c.in-Own.ensures) (ap (λ s. s ++ below) c.card_bytes.ensures ∙ sym (card-cut c.in-Own.card [] below)))
+    c.in_err-write_all-in-Own.ensures
+
+pub write_tree-returns-in_err-write_all-in-Reply : goal.write_tree-returns-in_err-write_all-in-Reply
+write_tree-returns-in_err-write_all-in-Reply g t c =
+    let end = c.from_residual-in_err-write_all-in-Reply in
+    stops_within _ _ end.result _ (branches_text c.in-Reply.branches []) end.ensures.1 (rw (← c.in-Reply.ensures) refl) c.in_err-write_all-in-Reply.ensures
+
+pub write_tree-returns-in_err-write_all-in-Leaf : goal.write_tree-returns-in_err-write_all-in-Leaf
+write_tree-returns-in_err-write_all-in-Leaf g t c =
+    let end = c.from_residual-in_err-write_all-in-Leaf in
+    stops_within _ _ end.result _ (children_text c.in-Leaf.children.now []) end.ensures.1 (rw (← c.in-Leaf.ensures) refl) c.in_err-write_all-in-Leaf.ensures
+
+pub write_branches-returns-in_err-write_all-in-Some : goal.write_branches-returns-in_err-write_all-in-Some
+write_branches-returns-in_err-write_all-in-Some g t c =
+    let end = c.from_residual in
+    let below = tree_text c.in-Some.below [] in
+    let more = branches_text c.in-Some.more [] in
+    stops_within _ _ end.result _ (below ++ more) end.ensures.1
+    (rw c.in-Some.ensures
+    (ap (λ s. s ++ (below ++ more)) c.card_bytes.ensures ∙ parts c.in-Some.card c.in-Some.below c.in-Some.more))
+    c.in_err-write_all-in-Some.ensures
+
+pub write_branches-returns-in-None : goal.write_branches-returns-in-None
+write_branches-returns-in-None g t c = rw c.in-None.ensures c.write_all.ensures
