@@ -6,3 +6,4 @@ pub mod EqualityLaws
 pub mod SuitWords
 pub mod PartLaws
 pub mod ShapeWordLaws
+pub mod Removals

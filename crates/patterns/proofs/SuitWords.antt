@@ -180,7 +180,7 @@ tells_by_bits word k is within = go (nat_eq above 0) refl
     ]
 
 -- the four lengths are the low sixteen bits
-lens_by_word : (one other : ℕ) → ((suit_in one).lens ≡ (suit_in other).lens) ↔ (one % 2 ^ 16 ≡ other % 2 ^ 16)
+pub lens_by_word : (one other : ℕ) → ((suit_in one).lens ≡ (suit_in other).lens) ↔ (one % 2 ^ 16 ≡ other % 2 ^ 16)
 lens_by_word one other = (
   λ e.
       let n : one % 2 ^ 4 ≡ other % 2 ^ 4 = cc in
@@ -216,7 +216,7 @@ owner_bits-push (owner ∷ owners) x =
     omega (arith, rest, e)
 
 -- so many owners have so many bits
-places_below : (k : ℕ) → k ≤ 13 → 2 ^ (2 * k) ≤ 2 ^ 26
+pub places_below : (k : ℕ) → k ≤ 13 → 2 ^ (2 * k) ≤ 2 ^ 26
 places_below k h = let e : 2 * k ≤ 26 = omega arith in let two : 0 < 2 = omega arith in pow-le-pow_right two e
 
 pub owner_bits-fit : (owners : List Seat) → length owners ≤ 13 → owner_bits owners < 2 ^ 26

@@ -4,3 +4,4 @@ pub mod Holders
 pub mod Words
 pub mod Holdings
 pub mod WordLaws
+pub mod Removals

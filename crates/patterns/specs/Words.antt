@@ -62,6 +62,11 @@ pub record IsSuitWord (word : ℕ) : Type 0 where
 abbrev pub IsWrongWord : ℕ → Type 0
 IsWrongWord word = (13 < owner_count word) ⊎ (2 ^ (2 * owner_count word) ≤ word / 2 ^ 20)
 
+-- four suits, spades first
+abbrev pub shape_with : SuitShape → SuitShape → SuitShape → SuitShape → Shape
+shape_with spades hearts diamonds clubs =
+    record { spades = spades; hearts = hearts; diamonds = diamonds; clubs = clubs }
+
 -- the four suits that four words tell, spades first
 abbrev pub shape_in : List ℕ → Shape
 shape_in words = record {

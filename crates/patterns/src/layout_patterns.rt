@@ -10,6 +10,7 @@ use crate::faults::PatternFault;
 use crate::rests::Rest;
 use crate::shape_words::ShapeWords;
 use crate::suit_parts::{SuitPart, suits_fit};
+use crate::suit_words::SuitWord;
 use cards::{Layout, Seat, Suit};
 use std::marker::Model;
 
@@ -99,6 +100,13 @@ impl Pattern {
         ensures { IsPattern self.now }
     {
         let _held = &self.held;
+    }
+
+    /// One suit of the pattern, in its word.
+    pub fn suit(&self, suit: Suit) -> SuitWord
+        ensures { result ≡ suit_of self.now suit }
+    {
+        self.held.suit(suit)
     }
 
     /// One suit of the pattern.

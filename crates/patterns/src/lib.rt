@@ -26,3 +26,4 @@ pub use laws::{
 pub use layout_patterns::Pattern;
 pub use rests::Rest;
 pub use suit_parts::SuitPart;
+pub use suit_words::SuitWord;

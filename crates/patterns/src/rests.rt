@@ -3,11 +3,12 @@
 ghost use Rattle.std.specs.Prelude.{◌≡◌};
 ghost use Rattle.patterns.specs.Shapes.{suit_of, IsRest};
 ghost use Rattle.patterns.specs.Parts.{suit_shape, shape_of_parts, MeetsParts};
-ghost use Rattle.patterns.specs.Words.{shape_in, words_of, AreWords, MeetsWords};
+ghost use Rattle.patterns.specs.Words.{shape_with, shape_in, words_of, AreWords, MeetsWords};
 
 use crate::faults::PatternFault;
 use crate::shape_words::ShapeWords;
 use crate::suit_parts::{SuitPart, suits_fit};
+use crate::suit_words::SuitWord;
 use cards::Suit;
 use std::marker::Model;
 
@@ -69,6 +70,21 @@ impl Rest {
     {
         Rest {
             held: ShapeWords::of_parts(&parts),
+        }
+    }
+
+    /// The rest of four suits in their words that are known to be one.
+    pub fn of_suits(
+        spades: SuitWord,
+        hearts: SuitWord,
+        diamonds: SuitWord,
+        clubs: SuitWord,
+    ) -> Rest
+        requires { IsRest (shape_with spades hearts diamonds clubs) }
+        ensures { result ≡ shape_with spades hearts diamonds clubs }
+    {
+        Rest {
+            held: ShapeWords::of_suits(spades, hearts, diamonds, clubs),
         }
     }
 

@@ -5,7 +5,7 @@ ghost use Rattle.std.specs.Bool.{OnTrue};
 ghost use Rattle.patterns.specs.Shapes.{suit_of, suit_size, hand_size, IsShape, CoversSuit, Covers};
 ghost use Rattle.patterns.specs.Holders.{holders_of, MatchesSuit, Matches, shape_of_layout};
 ghost use Rattle.patterns.specs.Parts.{shape_of_parts, HasFourSeats, SuitsFit, HasLongSuit, HandsFit, HasWrongHands, HasItsOwners, HasExcessOwner, OwnersFit, HasWrongOwner, IsFault};
-ghost use Rattle.patterns.specs.Words.{shape_in, words_of, HaveWords, AreWords, HasWrongWord};
+ghost use Rattle.patterns.specs.Words.{shape_with, shape_in, words_of, HaveWords, AreWords, HasWrongWord};
 
 use crate::faults::PatternFault;
 use crate::suit_parts::SuitPart;
@@ -23,7 +23,7 @@ impl Model for ShapeWords {
     ghost use Rattle.std.specs.Prelude.{ℕ, List};
     ghost use Rattle.std.proofs.Common.{ap};
     ghost use Rattle.patterns.specs.Shapes.{Shape};
-    ghost use Rattle.patterns.specs.Words.{shape_in, words_of, AreWords};
+    ghost use Rattle.patterns.specs.Words.{shape_with, shape_in, words_of, AreWords};
     ghost use Rattle.patterns.specs.WordLaws.{words_of-shape_in};
 
     ghost Value = { Shape };
@@ -52,13 +52,13 @@ impl ShapeWords {
     }
 
     /// The shape of four suits.
-    fn of_suits(
+    pub(crate) fn of_suits(
         spades: SuitWord,
         hearts: SuitWord,
         diamonds: SuitWord,
         clubs: SuitWord,
     ) -> ShapeWords
-        ensures { result ≡ record { spades = spades; hearts = hearts; diamonds = diamonds; clubs = clubs } }
+        ensures { result ≡ shape_with spades hearts diamonds clubs }
     {
         ShapeWords {
             words: [spades.word(), hearts.word(), diamonds.word(), clubs.word()],

@@ -1,6 +1,6 @@
 //! One suit in a word.
 
-ghost use Rattle.std.specs.Prelude.{◌≡◌, ◌↔◌, ◌≤◌, ◌<◌, ◌+◌, ◌*◌, ◌/◌, ◌%◌, ◌^◌, IsTrue, MatchBool, length, slice_get};
+ghost use Rattle.std.specs.Prelude.{◌≡◌, ◌≢◌, ◌↔◌, ◌≤◌, ◌<◌, ◌+◌, ◌-◌, ◌*◌, ◌/◌, ◌%◌, ◌^◌, IsTrue, MatchBool, length, slice_get};
 ghost use Rattle.patterns.specs.Shapes.{len_of, tops_of, suit_size, BeginsWith, CoversSuit};
 ghost use Rattle.std.specs.Prelude.{count_ones, slice_index, slice_index_or};
 ghost use Rattle.cards.specs.declared.seats.Seat.TheVariants.{North};
@@ -11,6 +11,8 @@ ghost use Rattle.patterns.specs.Holdings.{holders_in};
 ghost use Rattle.patterns.specs.Parts.{suit_shape, HasItsOwners, HasExcessOwner};
 ghost use Rattle.patterns.specs.Words.{suit_in, seat_at, HasWord, IsSuitWord, IsWrongWord};
 
+ghost use Rattle.patterns.specs.Removals.{owners_but};
+
 use crate::holdings::{holder, holdings};
 use crate::suit_parts::SuitPart;
 use arrayvec::ArrayVec;
@@ -20,7 +22,7 @@ use std::marker::Model;
 /// One suit in a word. From the lowest bit on: four bits each for the lengths of North, East, South and West, four
 /// for the number of owners, and two for each owner. The other bits are 0.
 #[derive(Clone, Copy)]
-pub(crate) struct SuitWord {
+pub struct SuitWord {
     word: u64,
 }
 
@@ -103,7 +105,7 @@ impl SuitWord {
     }
 
     /// How many cards of the suit the seat has.
-    pub(crate) fn len(&self, seat: Seat) -> u8
+    pub fn len(&self, seat: Seat) -> u8
         ensures len { result ≡ len_of self.now seat }
         ensures four { length self.now.lens ≡ 4 }
     {
@@ -111,7 +113,7 @@ impl SuitWord {
     }
 
     /// How many owners there are.
-    pub(crate) fn owner_count(&self) -> usize
+    pub fn owner_count(&self) -> usize
         ensures count { result ≡ length self.now.owners }
         ensures within { result ≤ 13 }
     {
@@ -119,7 +121,7 @@ impl SuitWord {
     }
 
     /// The owner in this place, if there are so many.
-    pub(crate) fn owner(&self, place: usize) -> Option<Seat>
+    pub fn owner(&self, place: usize) -> Option<Seat>
         ensures { result ≡ slice_get self.now.owners place }
     {
         if place < self.owner_count() {
@@ -138,6 +140,41 @@ impl SuitWord {
         owner_at(self.word >> OWNERS, place)
     }
 
+    /// The suit with a card less of the seat; one that has none keeps none. The owners stay.
+    pub fn less(self, seat: Seat) -> SuitWord
+        ensures four { length result.lens ≡ 4 }
+        ensures own { len_of result seat ≡ len_of self seat - 1 }
+        ensures others { (other : Seat) → other ≢ seat → len_of result other ≡ len_of self other }
+        ensures owners { result.owners ≡ self.owners }
+    {
+        if self.len(seat) == 0 {
+            return self;
+        }
+        SuitWord {
+            word: self.word - (1 << (4 * seat.number())),
+        }
+    }
+
+    /// The suit without the owners in these places, which have a bit each, that of place 0 lowest. They are taken out
+    /// one by one, the lowest first, and the places behind move down by one each time.
+    pub fn without(self, places: u64) -> SuitWord
+        ensures lens { result.lens ≡ self.lens }
+        ensures owners { result.owners ≡ owners_but places self.owners }
+    {
+        let mut count = nibble(self.word, COUNT);
+        let mut bits = self.word >> OWNERS;
+        let mut taken = places & ((1 << count) - 1);
+        while taken != 0 {
+            let place = taken.trailing_zeros();
+            bits = without_place(bits, place);
+            taken = taken >> (place + 1) << place;
+            count -= 1;
+        }
+        SuitWord {
+            word: (self.word & 0xffff) + (count << COUNT) + (bits << OWNERS),
+        }
+    }
+
     /// How many cards of the suit the four seats have.
     pub(crate) fn size(&self) -> u16
         ensures size { result ≡ suit_size self.now }
@@ -150,7 +187,7 @@ impl SuitWord {
     }
 
     /// How often the seat is an owner.
-    pub(crate) fn tops(&self, seat: Seat) -> u8
+    pub fn tops(&self, seat: Seat) -> u8
         ensures { result ≡ tops_of self.now seat }
     {
         let mut tops = 0;
@@ -253,6 +290,14 @@ fn nibble(word: u64, from: u32) -> u64
     ensures below { result < 16 }
 {
     word >> from & 0xf
+}
+
+/// The bits of the owners without the one in this place.
+fn without_place(bits: u64, place: u32) -> u64
+    requires { place < 31 }
+    ensures { result ≡ bits % 2 ^ (2 * place) + bits / 2 ^ (2 * place + 2) * 2 ^ (2 * place) }
+{
+    (bits & ((1 << (2 * place)) - 1)) + (bits >> (2 * place + 2) << (2 * place))
 }
 
 /// The seat whose number stands in the two bits of this place.

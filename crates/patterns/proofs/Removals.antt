@@ -1,0 +1,220 @@
+-- Owners taken out of a word one by one, the lowest place first; each later place moves down by one.
+use Rattle.std.proofs.Common.{◌≡◌, ℕ, zero, suc, ◌+◌, ◌-◌, ◌*◌, ◌/◌, ◌%◌, ◌^◌, ◌<◌, ◌≤◌, ◌↔◌, Bool, true, false, not, cond, List, [], ◌∷◌, ◌++◌, length, take, drop, map, filter, eqb, refl, sym, ◌∙◌, ap, subst, inl, inr, arith}
+use Rattle.std.specs.List.{enumerate_from}
+use Rattle.std.specs.Prelude.{bit_and}
+use Rattle.std.specs.Int.{bit_at, trailing_zeros, w64}
+use Rattle.std.proofs.lemmas.Bool.{eqb-true, eq-eqb, ne_eqb, cases_lt}
+use Rattle.std.proofs.lemmas.Nat.{and_mask, one_shl, mod_below, pow-add, pow_pos, shr-shr, shr_split, mod-pow-add}
+use Rattle.std.proofs.lemmas.Nat.Bits.{bit_at-trailing_zeros, bit_at-suc, bit_at_lowest, bit_at_above}
+use Rattle.std.proofs.Math.Nat.{pow-le-pow_right}
+use Rattle.cards.specs.declared.seats.Seat.{Seat}
+use Rattle.patterns.specs.Words.{seat_at, owners_in, suit_in, IsSuitWord}
+use Rattle.patterns.proofs.SuitWords.{lens_by_word, places_below}
+use Rattle.patterns.specs.WordLaws.{place_more}
+use Rattle.patterns.specs.Removals.{is_among, owners_but}
+
+-- the owners whose bit is 0, the lowest bit being the first's
+abbrev pub kept : ℕ → List Seat → List Seat
+kept places [] = []
+kept places (owner ∷ owners) = cond (eqb (places % 2) 1) (kept (places / 2) owners) (owner ∷ kept (places / 2) owners)
+
+pub bit_more : (k : ℕ) → 2 ^ suc k ≡ 2 * 2 ^ k
+bit_more k = let e : suc k ≡ 1 + k = omega arith in ap (λ n. 2 ^ n) e ∙ pow-add 2 1 k
+
+one_down : (n k : ℕ) → n / 2 / 2 ^ k ≡ n / 2 ^ suc k
+one_down n k = let e : 1 + k ≡ suc k = omega arith in shr-shr n 1 k ∙ ap (λ m. n / 2 ^ m) e
+
+-- nobody is taken out
+pub kept-none : (owners : List Seat) → kept 0 owners ≡ owners
+kept-none [] = refl
+kept-none (owner ∷ owners) = ap (λ rest. owner ∷ rest) (kept-none owners)
+
+-- places behind the owners are of no account
+pub kept-mod : (k m : ℕ) (owners : List Seat) → length owners ≤ k → kept (m % 2 ^ k) owners ≡ kept m owners
+kept-mod k m [] h = refl
+kept-mod zero m (owner ∷ owners) h = absurd (omega arith)
+kept-mod (suc k) m (owner ∷ owners) h =
+    let e : suc k ≡ k + 1 = omega arith in
+    let whole : m % 2 ^ suc k ≡ m / 2 % 2 ^ k * 2 + m % 2 = ap (λ n. m % 2 ^ n) e ∙ mod-pow-add m k 1 in
+    let low : m % 2 ^ suc k % 2 ≡ m % 2 = omega (arith, whole) in
+    let high : m % 2 ^ suc k / 2 ≡ m / 2 % 2 ^ k = omega (arith, whole) in
+    rw (low, high, kept-mod k (m / 2) owners (omega arith)) refl
+
+-- the places behind the first one that is taken, moved down by one
+abbrev pub moved_down : ℕ → ℕ → ℕ
+moved_down m p = m / 2 ^ (p + 1) * 2 ^ p
+
+moved_down-suc : (m p : ℕ) → moved_down m (suc p) ≡ moved_down (m / 2) p * 2
+moved_down-suc m p =
+    let e : suc p + 1 ≡ suc (p + 1) = omega arith in
+    let there : m / 2 ^ (suc p + 1) ≡ m / 2 / 2 ^ (p + 1) = ap (λ n. m / 2 ^ n) e ∙ sym (one_down m (p + 1)) in
+    let more = bit_more p in
+    ap (λ n. n * 2 ^ suc p) there ∙ (ap (λ n. m / 2 / 2 ^ (p + 1) * n) more ∙ grind arith)
+
+-- the first owner that is taken out
+pub kept-first : (p m : ℕ) (owners : List Seat) → m % 2 ^ p ≡ 0 → bit_at m p ≡ 1 → kept m owners ≡ kept (moved_down m p) (take p owners ++ drop (suc p) owners)
+kept-first zero m [] none one = refl
+kept-first (suc p) m [] none one = refl
+kept-first zero m (owner ∷ owners) none one =
+    let odd : m % 2 ≡ 1 = omega (arith, one) in
+    let half : moved_down m 0 ≡ m / 2 = omega arith in
+    rw (eq-eqb (m % 2) 1 odd, half) refl
+kept-first (suc p) m (owner ∷ owners) none one =
+    let e : suc p ≡ p + 1 = omega arith in
+    let whole : m % 2 ^ suc p ≡ m / 2 % 2 ^ p * 2 + m % 2 = ap (λ n. m % 2 ^ n) e ∙ mod-pow-add m p 1 in
+    let even : m % 2 ≡ 0 = omega (arith, whole, none) in
+    let none' : m / 2 % 2 ^ p ≡ 0 = omega (arith, whole, none) in
+    let one' : bit_at (m / 2) p ≡ 1 = ap (λ n. n % 2) (one_down m p) ∙ one in
+    let down = moved_down-suc m p in
+    let low : moved_down m (suc p) % 2 ≡ 0 = omega (arith, down) in
+    let high : moved_down m (suc p) / 2 ≡ moved_down (m / 2) p = omega (arith, down) in
+    let odd_no : eqb (m % 2) 1 ≡ false = ne_eqb (m % 2) 1 (omega (arith, even)) in
+    let low_no : eqb (moved_down m (suc p) % 2) 1 ≡ false = ne_eqb (moved_down m (suc p) % 2) 1 (omega (arith, low)) in
+    ap (λ b. cond b (kept (m / 2) owners) (owner ∷ kept (m / 2) owners)) odd_no
+    ∙ (ap (λ rest. owner ∷ rest) (kept-first p (m / 2) owners none' one')
+    ∙ sym (ap (λ b. cond b (kept (moved_down m (suc p) / 2) (take p owners ++ drop (suc p) owners)) (owner ∷ kept (moved_down m (suc p) / 2) (take p owners ++ drop (suc p) owners))) low_no
+    ∙ ap (λ n. owner ∷ kept n (take p owners ++ drop (suc p) owners)) high))
+
+-- the bits of the owners without the one in a place
+abbrev pub bits_but : ℕ → ℕ → ℕ
+bits_but n p = n % 2 ^ (2 * p) + n / 2 ^ (2 * p + 2) * 2 ^ (2 * p)
+
+bits_but-suc : (n p : ℕ) → bits_but n (suc p) ≡ 4 * bits_but (n / 4) p + n % 4
+bits_but-suc n p =
+    let more = place_more p in
+    let at : 2 ^ (2 * suc p) ≡ 2 ^ (2 * p + 2) = ap (λ e. 2 ^ e) (omega arith) in
+    let low : n % 2 ^ (2 * suc p) ≡ n / 4 % 2 ^ (2 * p) * 4 + n % 4 = ap (λ m. n % m) at ∙ mod-pow-add n (2 * p) 2 in
+    let e : 2 + (2 * p + 2) ≡ 2 * suc p + 2 = omega arith in
+    let there : n / 2 ^ (2 * suc p + 2) ≡ n / 4 / 2 ^ (2 * p + 2) = sym (shr-shr n 2 (2 * p + 2) ∙ ap (λ m. n / 2 ^ m) e) in
+    let high : n / 2 ^ (2 * suc p + 2) * 2 ^ (2 * suc p) ≡ 4 * (n / 4 / 2 ^ (2 * p + 2) * 2 ^ (2 * p)) =
+        ap (λ m. m * 2 ^ (2 * suc p)) there ∙ (ap (λ m. n / 4 / 2 ^ (2 * p + 2) * m) more ∙ grind arith) in
+    omega (arith, low, high)
+
+pub owners_in-but : (p j n : ℕ) → p ≤ j → take p (owners_in (suc j) n) ++ drop (suc p) (owners_in (suc j) n) ≡ owners_in j (bits_but n p)
+owners_in-but zero j n h = let e : n / 4 ≡ bits_but n 0 = omega arith in ap (owners_in j) e
+owners_in-but (suc p) zero n h = absurd (omega arith)
+owners_in-but (suc p) (suc j) n h =
+    let but = bits_but-suc n p in
+    let low : bits_but n (suc p) % 4 ≡ n % 4 = omega (arith, but) in
+    let high : bits_but n (suc p) / 4 ≡ bits_but (n / 4) p = omega (arith, but) in
+    ap (λ rest. seat_at (n % 4) ∷ rest) (owners_in-but p j (n / 4) (omega arith))
+    ∙ (ap (λ m. seat_at m ∷ owners_in j (bits_but (n / 4) p)) (sym low) ∙ ap (λ m. seat_at (bits_but n (suc p) % 4) ∷ owners_in j m) (sym high))
+
+pub bits_but-below : (p j n : ℕ) → p ≤ j → n < 2 ^ (2 * suc j) → bits_but n p < 2 ^ (2 * j)
+bits_but-below zero j n h below = omega (arith, place_more j)
+bits_but-below (suc p) zero n h below = absurd (omega arith)
+bits_but-below (suc p) (suc j) n h below =
+    let more = place_more (suc j) in
+    let more' = place_more j in
+    omega (arith, bits_but-suc n p, bits_but-below p j (n / 4) (omega arith) (omega arith))
+
+-- no bit below a place
+none_below : (p n : ℕ) → ((i : ℕ) → i < p → bit_at n i ≡ 0) → n % 2 ^ p ≡ 0
+none_below zero n none = omega arith
+none_below (suc p) n none =
+    let e : suc p ≡ p + 1 = omega arith in
+    let whole : n % 2 ^ suc p ≡ n / 2 % 2 ^ p * 2 + n % 2 = ap (λ m. n % 2 ^ m) e ∙ mod-pow-add n p 1 in
+    let low : n % 2 ≡ 0 = sym (bit_at_lowest n) ∙ none 0 (omega arith) in
+    let high = none_below p (n / 2) (λ i less. sym (bit_at-suc n i) ∙ none (suc i) (omega arith)) in
+    omega (arith, whole, low, high)
+
+small : (k : ℕ) → k ≤ 13 → 2 ^ k ≤ 2 ^ 13
+small k h = let two : 0 < 2 = omega arith in pow-le-pow_right two h
+
+-- one step: the lowest of the places is taken out
+pub record TakenOut (k n m p : ℕ) : Type 0 where
+  pub inside : p < k
+  pub fewer : moved_down m p < m
+  pub places : moved_down m p < 2 ^ (k - 1)
+  pub bits : bits_but n p < 2 ^ (2 * (k - 1))
+  pub same : kept (moved_down m p) (owners_in (k - 1) (bits_but n p)) ≡ kept m (owners_in k n)
+
+pub taken_out : (k n m p : ℕ) → n < 2 ^ (2 * k) → m < 2 ^ k → k ≤ 13 → 0 < m → p ≡ trailing_zeros w64 m → TakenOut k n m p
+taken_out zero n m p bits places within some lowest = absurd (omega arith)
+taken_out (suc j) n m p bits places within some lowest =
+    let more = bit_more j in
+    let more13 = pow_pos j in
+    let wide : m < 2 ^ 64 = omega (arith, places, small (suc j) within) in
+    let tz = bit_at-trailing_zeros w64 m some wide in
+    let one : bit_at m p ≡ 1 = ap (bit_at m) lowest ∙ tz.1 in
+    let none : m % 2 ^ p ≡ 0 = none_below p m (λ i less. tz.2 i (subst (λ q. i < q) lowest less)) in
+    let inside : p < suc j = elim (cases_lt p (suc j)) [
+      | inl less ↦ less
+      | inr over ↦ absurd (omega (arith, one, bit_at_above m (suc j) p places over))
+    ] in
+    let split = shr_split m (p + 1) in
+    let up : 2 ^ (p + 1) ≡ 2 * 2 ^ p = (let e : p + 1 ≡ suc p = omega arith in ap (λ q. 2 ^ q) e) ∙ bit_more p in
+    let twice : m / 2 ^ (p + 1) * 2 ^ (p + 1) ≡ 2 * moved_down m p = ap (λ q. m / 2 ^ (p + 1) * q) up ∙ grind arith in
+    let k1 : suc j - 1 ≡ j = omega arith in
+    record {
+      inside = inside;
+      fewer = omega (arith, split, twice);
+      places = rw k1 (omega (arith, split, twice, more));
+      bits = rw k1 (bits_but-below p j n (omega arith) bits);
+      same = ap (λ q. kept (moved_down m p) (owners_in q (bits_but n p))) k1
+          ∙ sym (kept-first p m (owners_in (suc j) n) none one ∙ ap (kept (moved_down m p)) (owners_in-but p j n (omega arith)));
+    }
+
+-- the owners in the places from k on that aren't among the places
+abbrev left_from : ℕ → ℕ → List Seat → List Seat
+left_from places k owners = map (λ entry. entry.1) (filter (λ entry. not (is_among places entry.0)) (enumerate_from k owners))
+
+left_from-kept : (places k : ℕ) (owners : List Seat) → left_from places k owners ≡ kept (places / 2 ^ k) owners
+left_from-kept places k [] = refl
+left_from-kept places k (owner ∷ owners) = go (is_among places k) refl (left_from-kept places (k + 1) owners ∙ ap (λ m. kept m owners) (sym (shr-shr places k 1)))
+  where
+    go : (test : Bool) → is_among places k ≡ test → left_from places (k + 1) owners ≡ kept (places / 2 ^ k / 2) owners → left_from places k (owner ∷ owners) ≡ kept (places / 2 ^ k) (owner ∷ owners)
+    go true e rest = rw e rest
+    go false e rest = rw e (ap (λ more. owner ∷ more) rest)
+
+-- the owners in all other places, by recursion
+pub owners_but-kept : (places : ℕ) (owners : List Seat) → owners_but places owners ≡ kept places owners
+owners_but-kept places owners = left_from-kept places 0 owners ∙ (let e : places / 1 ≡ places = omega arith in ap (λ m. kept m owners) e)
+
+-- a word of these lengths, owners and bits, as the code puts it together
+pub record PutBack (word k n : ℕ) : Type 0 where
+  pub fits : word % 2 ^ 16 + k * 65536 % 2 ^ 64 + n * 1048576 % 2 ^ 64 < 2 ^ 64
+  pub is_word : IsSuitWord (word % 2 ^ 16 + k * 65536 % 2 ^ 64 + n * 1048576 % 2 ^ 64)
+  pub lens : (suit_in (word % 2 ^ 16 + k * 65536 % 2 ^ 64 + n * 1048576 % 2 ^ 64)).lens ≡ (suit_in word).lens
+  pub owners : (suit_in (word % 2 ^ 16 + k * 65536 % 2 ^ 64 + n * 1048576 % 2 ^ 64)).owners ≡ owners_in k n
+
+pub put_back : (word k n : ℕ) → k ≤ 13 → n < 2 ^ (2 * k) → PutBack word k n
+put_back word k n within below =
+    let few : n < 2 ^ 26 = omega (arith, places_below k within) in
+    let whole : word % 2 ^ 16 + k * 65536 % 2 ^ 64 + n * 1048576 % 2 ^ 64 ≡ word % 2 ^ 16 + 2 ^ 16 * k + 2 ^ 20 * n = omega arith in
+    let low : (word % 2 ^ 16 + 2 ^ 16 * k + 2 ^ 20 * n) % 2 ^ 16 ≡ word % 2 ^ 16 = omega arith in
+    let count : (word % 2 ^ 16 + 2 ^ 16 * k + 2 ^ 20 * n) / 2 ^ 16 % 2 ^ 4 ≡ k = omega arith in
+    let bits : (word % 2 ^ 16 + 2 ^ 16 * k + 2 ^ 20 * n) / 2 ^ 20 ≡ n = omega arith in
+    record {
+      fits = omega arith;
+      is_word = rw whole (record { within = rw count within; blank = rw (count, bits) below });
+      lens = rw whole ((lens_by_word (word % 2 ^ 16 + 2 ^ 16 * k + 2 ^ 20 * n) word).1 low);
+      owners = rw whole (rw (count, bits) refl);
+    }
+
+-- the bits without the owner in a place, as the code computes them
+pub record BitsTaken (n p : ℕ) : Type 0 where
+  pub below : bit_and n (1 * 2 ^ (2 * p) % 2 ^ 64 - 1) ≡ n % 2 ^ (2 * p)
+  pub above : n / 2 ^ (2 * p + 2) * 2 ^ (2 * p) % 2 ^ 64 ≡ n / 2 ^ (2 * p + 2) * 2 ^ (2 * p)
+  pub fits : bits_but n p < 2 ^ 64
+
+pub bits_taken : (n p : ℕ) → p < 31 → n < 2 ^ 64 → BitsTaken n p
+bits_taken n p small wide =
+    let two : 0 < 2 = omega arith in
+    let e : 2 * p ≤ 60 = omega arith in
+    let unit : 2 ^ (2 * p) ≤ 2 ^ 60 = pow-le-pow_right two e in
+    let split = shr_split n (2 * p + 2) in
+    let up : n / 2 ^ (2 * p + 2) * 2 ^ (2 * p + 2) ≡ 4 * (n / 2 ^ (2 * p + 2) * 2 ^ (2 * p)) = ap (λ m. n / 2 ^ (2 * p + 2) * m) (pow-add 2 (2 * p) 2) ∙ grind arith in
+    let low = mod_below n (2 ^ (2 * p)) (pow_pos (2 * p)) in
+    record {
+      below = ap (λ m. bit_and n (m - 1)) (one_shl (2 * p) 64 (omega arith)) ∙ and_mask n (2 * p);
+      above = omega (arith, split, up);
+      fits = omega (arith, split, up, low, unit);
+    }
+
+-- the places that are left are those moved down, as the code computes them
+pub places_moved : (m p : ℕ) → m < 2 ^ 64 → m / 2 ^ (p + 1) * 2 ^ p % 2 ^ 64 ≡ moved_down m p
+places_moved m p wide =
+    let split = shr_split m (p + 1) in
+    let up : m / 2 ^ (p + 1) * 2 ^ (p + 1) ≡ 2 * moved_down m p = ap (λ q. m / 2 ^ (p + 1) * q) (pow-add 2 p 1) ∙ grind arith in
+    omega (arith, split, up)
