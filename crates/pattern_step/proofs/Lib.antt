@@ -4,3 +4,4 @@ pub mod LeftLaws
 pub mod PatCardLaws
 pub mod TrickLaws
 pub mod TurnLaws
+pub mod PlaceLaws

@@ -27,7 +27,7 @@ unfoldable pub left_from : {X : Type 0} → (ℕ → Bool) → ℕ → List X �
 left_from keep a [] = []
 left_from keep a (x ∷ xs) = cond (keep a) (x ∷ left_from keep (a + 1) xs) (left_from keep (a + 1) xs)
 
-left_from-is : {X : Type 0} (keep : ℕ → Bool) (a : ℕ) (xs : List X) → map (λ (entry : ℕ × X). entry.1) (filter (λ (entry : ℕ × X). keep entry.0) (enumerate_from a xs)) ≡ left_from keep a xs
+pub left_from-is : {X : Type 0} (keep : ℕ → Bool) (a : ℕ) (xs : List X) → map (λ (entry : ℕ × X). entry.1) (filter (λ (entry : ℕ × X). keep entry.0) (enumerate_from a xs)) ≡ left_from keep a xs
 unfolding left_from
 left_from-is keep a [] = refl
 left_from-is keep a (x ∷ xs) = go (keep a) (left_from-is keep (a + 1) xs)
@@ -93,17 +93,6 @@ kept cards suit place = not (list_any (is_top suit place) cards)
 
 pub owners_left-is : (cards : List PatCard) (suit : Suit) (owners : List Seat) → owners_left cards suit owners ≡ left_from (kept cards suit) 0 owners
 owners_left-is cards suit owners = left_from-is (kept cards suit) 0 owners
-
--- the owners left, one place more
-pub owners_left-more : (cards : List PatCard) (suit : Suit) (owners : List Seat) (n : ℕ) (d : Seat) → n < length owners →
-    owners_left cards suit (take (n + 1) owners) ≡ owners_left cards suit (take n owners) ++ cond (not (list_any (is_top suit n) cards)) (get_or owners n d ∷ []) []
-owners_left-more cards suit owners n d less =
-    let len : 0 + length (take n owners) ≡ n = omega (arith, length-take-le n owners (omega arith)) in
-    owners_left-is cards suit (take (n + 1) owners)
-    ∙ (ap (left_from (kept cards suit) 0) (take_more owners n d less)
-    ∙ (left_from-push (kept cards suit) 0 (take n owners) (get_or owners n d)
-    ∙ (ap (λ k. left_from (kept cards suit) 0 (take n owners) ++ cond (kept cards suit k) (get_or owners n d ∷ []) []) len
-    ∙ ap (λ xs. xs ++ cond (kept cards suit n) (get_or owners n d ∷ []) []) (sym (owners_left-is cards suit (take n owners))))))
 
 pub length-owners_left : (cards : List PatCard) (suit : Suit) (owners : List Seat) → length (owners_left cards suit owners) ≤ length owners
 length-owners_left cards suit owners = rw (owners_left-is cards suit owners) (length-left_from (kept cards suit) 0 owners)
@@ -215,34 +204,7 @@ IsRest-left shape leader cards left four pattern legal is_left =
         rw ((is_left suit).lens seat, (is_left suit).owners)
         (owners_fit shape pattern seat (played_by leader cards seat) cards suit (played_is_held shape leader cards legal seat) (λ test. some_card leader cards seat test four))
 
--- the owners left, place by place
-pub owner_kept : (cards : List PatCard) (suit : Suit) (owners : List Seat) (n : ℕ) (owner : Seat) (left : List Seat) → left ≡ owners_left cards suit (take n owners) → list_any (is_top suit n) cards ≡ false → slice_get owners n ≡ Some owner →
-    left ++ owner ∷ [] ≡ owners_left cards suit (take (n + 1) owners)
-owner_kept cards suit owners n owner left so_far unplayed is =
-    let within = slice_get-within owners n owner is in
-    let here : get_or owners n owner ≡ owner = let x = sym (slice_get-at owners n owner within) ∙ is in cc in
-    sym (owners_left-more cards suit owners n owner within
-    ∙ (ap (λ b. owners_left cards suit (take n owners) ++ cond (not b) (get_or owners n owner ∷ []) []) unplayed
-    ∙ (ap (λ o. owners_left cards suit (take n owners) ++ o ∷ []) here ∙ ap (λ xs. xs ++ owner ∷ []) (sym so_far))))
-
-pub owner_gone : (cards : List PatCard) (suit : Suit) (owners : List Seat) (n : ℕ) (left : List Seat) → n < length owners → left ≡ owners_left cards suit (take n owners) → list_any (is_top suit n) cards ≡ true →
-    left ≡ owners_left cards suit (take (n + 1) owners)
-owner_gone cards suit owners n left within so_far played =
-    so_far
-    ∙ (sym (append-nil (owners_left cards suit (take n owners)))
-    ∙ sym (owners_left-more cards suit owners n North within
-    ∙ ap (λ b. owners_left cards suit (take n owners) ++ cond (not b) (get_or owners n North ∷ []) []) played))
-
-pub no_owner : (owners : List Seat) (n : ℕ) → n < length owners → slice_get owners n ≡ None → ⊥
-no_owner owners n within none = let x = sym (slice_get-at owners n North within) ∙ none in cc
-
-pub left_has_room : (cards : List PatCard) (suit : Suit) (owners : List Seat) (n : ℕ) (left : List Seat) → n < 13 → n < length owners → left ≡ owners_left cards suit (take n owners) → length left < 13
-left_has_room cards suit owners n left less within so_far =
-    omega (arith, ap length so_far, length-owners_left cards suit (take n owners), length-take-le n owners (omega arith))
-
-pub all_left : (cards : List PatCard) (suit : Suit) (owners : List Seat) (n : ℕ) (left : List Seat) → length owners ≤ n → left ≡ owners_left cards suit (take n owners) → left ≡ owners_left cards suit owners
-all_left cards suit owners n left end so_far = so_far ∙ ap (owners_left cards suit) (take_all n owners end)
-
+-- lengths that are the same seat by seat
 same_lens : (one other : List ℕ) → length one ≡ 4 → length other ≡ 4 → ((seat : Seat) → slice_index one (seat_number seat) ≡ slice_index other (seat_number seat)) → one ≡ other
 same_lens one other four four' same =
     same_lists one other (four ∙ sym four')

@@ -1,42 +1,36 @@
-use Rattle.std.proofs.Common.{◌<◌, length, sym, ◌∙◌, ap, arith, refl}
-use Rattle.arrayvec.specs.ArrayVec.{ArrayVec}
+use Rattle.std.proofs.Common.{◌≡◌, ◌≢◌, List, ℕ, ◌-◌, cond, sym, ◌∙◌, ap, arith}
+use Rattle.std.specs.Prelude.{slice_index}
 use Rattle.cards.specs.declared.seats.Seat.{Seat}
-use Rattle.patterns.specs.Shapes.{suit_of}
+use Rattle.cards.specs.declared.seats.Seat.TheVariants.{North, East, South, West}
+use Rattle.patterns.specs.Shapes.{SuitShape, suit_of, len_of}
+use Rattle.patterns.specs.Removals.{owners_but}
 use Rattle.patterns.proofs.SeatLaws.{for_each_seat}
-use Rattle.pattern_step.proofs.TrickLaws.{owner_kept, owner_gone, no_owner, left_has_room, all_left}
+use Rattle.patterns.proofs.SuitWords.{HasWord-fits}
+use Rattle.pattern_step.specs.PatCards.{is_of_suit}
+use Rattle.pattern_step.specs.Tricks.{played_by}
+use Rattle.pattern_step.proofs.PlaceLaws.{owners_left-but}
 use Rattle.pattern_step.proofs.trick_rests.left.Goals as goal
-use Rattle.pattern_step.proofs.trick_rests.left.Goals.{then-not-is_top_played+in-Some, then-not-is_top_played+in_default, else-not-is_top_played}
-
-pub push-requires : goal.push-requires
-push-requires c = (
-  omega arith,
-  left_has_room c.args.cards.now c.args.suit (suit_of c.args.pattern.now c.args.suit).owners c.loop-place.place c.loop-place.owners.items
-      (omega (arith, c.owner_count-place-end.ensures.within)) (rw (← c.owner_count-place-end.ensures.count) c.loop-place-test.true) c.loop-place.invariant,
-)
-
-pub loop-place-preserved : goal.loop-place-preserved
-loop-place-preserved c =
-    let owners = (suit_of c.args.pattern.now c.args.suit).owners in
-    let n = c.loop-place.place in
-    let so_far = c.loop-place.invariant in
-    let within : n < length owners = rw (← c.owner_count-place-end.ensures.count) c.loop-place-test.true in
-    elim c.if-not-is_top_played.branch [
-      | then-not-is_top_played+in-Some w ↦
-          (ap (λ (v : ArrayVec Seat). v.items) w.owners-is
-          ∙ (w.push.ensures.items ∙ owner_kept c.args.cards.now c.args.suit owners n w.in-Some.owner c.loop-place.owners.items so_far
-          (sym c.is_top_played.ensures ∙ w.if-not-is_top_played.true) (sym w.owner.ensures ∙ w.in-Some.is)))
-      | then-not-is_top_played+in_default w ↦ absurd (no_owner owners n within (sym w.owner.ensures ∙ w.in_default.is))
-      | else-not-is_top_played w ↦
-          (ap (λ (v : ArrayVec Seat). v.items) w.owners-is
-          ∙ owner_gone c.args.cards.now c.args.suit owners n c.loop-place.owners.items within so_far (sym c.is_top_played.ensures ∙ w.if-not-is_top_played.false))
-    ]
 
 pub returns : goal.returns
 returns c =
-    let owners = (suit_of c.args.pattern.now c.args.suit).owners in
+    let before = suit_of c.args.pattern.now c.args.suit in
+    let all = c.without-all.result in
+    let n = c.played_from-north.ensures in
+    let e = c.played_from-east.ensures in
+    let s = c.played_from-south.ensures in
+    let w = c.played_from.ensures in
+    let same : all.lens ≡ before.lens = c.without-all.ensures.lens ∙ ap (λ (suit : SuitShape). suit.lens) c.suit.ensures in
+    let one_less = λ (seat : Seat) (len : ℕ). cond (is_of_suit c.args.suit (played_by c.args.leader c.args.cards.now seat)) (len - 1) len in
     record {
-      four_seats = refl;
-      lens = for_each_seat _ c.len_left.ensures c.len_left-2.ensures c.len_left-3.ensures c.len_left-4.ensures;
-      owners = all_left c.args.cards.now c.args.suit owners c.loop-place.place c.loop-place.owners.items
-          (omega (arith, c.owner_count-place-end.ensures.count, c.loop-place-test.false)) c.loop-place.invariant;
+      four_seats = w.four;
+      lens = for_each_seat _
+          (w.others North (λ a. cc) ∙ (s.others North (λ a. cc) ∙ (e.others North (λ a. cc) ∙ (n.own ∙ ap (λ (l : List ℕ). one_less North (slice_index l 0)) same))))
+          (w.others East (λ a. cc) ∙ (s.others East (λ a. cc) ∙ (e.own ∙ (ap (one_less East) (n.others East (λ a. cc)) ∙ ap (λ (l : List ℕ). one_less East (slice_index l 1)) same))))
+          (w.others South (λ a. cc) ∙ (s.own ∙ (ap (one_less South) (e.others South (λ a. cc) ∙ n.others South (λ a. cc)) ∙ ap (λ (l : List ℕ). one_less South (slice_index l 2)) same)))
+          (w.own ∙ (ap (one_less West) (s.others West (λ a. cc) ∙ (e.others West (λ a. cc) ∙ n.others West (λ a. cc))) ∙ ap (λ (l : List ℕ). one_less West (slice_index l 3)) same));
+      owners = w.owners ∙ (s.owners ∙ (e.owners ∙ (n.owners ∙ (c.without-all.ensures.owners
+          ∙ (ap (λ (suit : SuitShape). owners_but c.places_played.result suit.owners) c.suit.ensures
+          ∙ owners_left-but c.args.cards.now c.args.suit c.places_played.result before.owners
+          (HasWord-fits before (c.invariant.ensures.four_seats c.args.suit) (c.invariant.ensures.suits c.args.suit) (c.invariant.ensures.owners c.args.suit)).within
+          c.places_played.ensures)))));
     }
