@@ -1,2 +1,3 @@
 pub mod BlankLemmas
 pub mod TellLemmas
+pub mod AnswerLaws

@@ -3,6 +3,7 @@
 //! A run reads, works and writes, or tells on the error output why it can't; its status says which.
 #![tactic(auto)]
 
+mod answers;
 mod blanks;
 mod faults;
 mod plain;
@@ -11,6 +12,7 @@ mod statuses;
 #[cfg(test)]
 mod tests;
 
+pub use answers::{read_answer, text_is_one_answer};
 pub use blanks::make_blank;
 pub use faults::{RunFault, tell};
 pub use plain::plain_line;

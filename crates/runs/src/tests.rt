@@ -1,4 +1,5 @@
 //! What each run prints and with which status it ends, over memory.
+mod answers;
 mod endings;
 mod pbn_tables;
 

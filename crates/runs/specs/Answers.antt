@@ -1,0 +1,50 @@
+-- The text of an answer: its result, and the texts of two certificates.
+use Rattle.std.specs.Prelude.{◌≡◌, ◌≢◌, ℕ, ◌-◌, ◌≤◌, List, [], ◌∷◌, ◌++◌, length, slice_get, Some, codes, ◌⊎◌}
+use Rattle.std.specs.Fmt.{decimal}
+
+-- a number and a line feed before a text
+abbrev pub number_line : ℕ → List ℕ → List ℕ
+number_line number rest = decimal number ++ 10 ∷ rest
+
+-- the first line, and what stands behind it
+abbrev pub result_text : ℕ → List ℕ → List ℕ
+result_text tricks body = codes "result " ++ number_line tricks body
+
+-- a line without bytes stands in this place: a line feed, at the very beginning or behind another one
+pub record IsEmptyLine (text : List ℕ) (place : ℕ) : Type 0 where
+  pub ends : slice_get text place ≡ Some 10
+  pub begins : (place ≡ 0) ⊎ (slice_get text (place - 1) ≡ Some 10)
+
+abbrev pub HasNoEmptyLine : List ℕ → Type 0
+HasNoEmptyLine text = (place : ℕ) → IsEmptyLine text place → ⊥
+
+-- the first empty line stands between the texts: the text for declarer's side goes to the end of the line before it
+pub record IsCut (body declarers defenders : List ℕ) : Type 0 where
+  pub is : body ≡ declarers ++ 10 ∷ defenders
+  pub empty : IsEmptyLine body (length declarers)
+  pub first : HasNoEmptyLine declarers
+
+-- no line is empty, and the text for the defenders has no bytes
+pub record IsUncut (body declarers defenders : List ℕ) : Type 0 where
+  pub none : HasNoEmptyLine body
+  pub all : declarers ≡ body
+  pub nothing : defenders ≡ []
+
+-- the text is an answer: so many tricks, the text for declarer's side, and that for the defenders
+pub record IsAnswer (text : List ℕ) (tricks : ℕ) (declarers defenders : List ℕ) : Type 0 where
+  pub few : tricks ≤ 13
+  pub body : List ℕ
+  pub line : text ≡ result_text tricks body
+  pub parts : IsCut body declarers defenders ⊎ IsUncut body declarers defenders
+
+-- its first line is that of no result
+abbrev pub LacksResult : List ℕ → Type 0
+LacksResult text = (tricks : ℕ) (body : List ℕ) → tricks ≤ 13 → text ≢ result_text tricks body
+
+-- a text is one answer at most, and none where its first line is that of no result
+pub record HasOneAnswer : Type 0 where
+  pub one :
+      (text : List ℕ) (tricks tricks' : ℕ) (declarers declarers' defenders defenders' : List ℕ) →
+      IsAnswer text tricks declarers defenders → IsAnswer text tricks' declarers' defenders' →
+      (tricks ≡ tricks') × (declarers ≡ declarers') × (defenders ≡ defenders')
+  pub none : (text : List ℕ) (tricks : ℕ) (declarers defenders : List ℕ) → LacksResult text → IsAnswer text tricks declarers defenders → ⊥
