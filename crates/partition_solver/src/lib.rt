@@ -1,0 +1,23 @@
+//! A solver: how many tricks declarer's side takes, with a certificate for each side.
+//!
+//! A partition search over the real cards remembers patterns, each with what a side can win of it, and the certificates
+//! are written from what it remembers. Nothing that it answers is trusted: the checker decides. It promises only that it
+//! returns, whatever the layout, the budget and the memory. `docs/SOLVER.md` tells the algorithm.
+#![tactic(auto)]
+
+mod deals;
+mod entries;
+mod graph_writing;
+mod moves;
+mod order;
+mod plans;
+mod played_patterns;
+mod search;
+mod solving;
+#[cfg(test)]
+mod tests;
+mod tricks;
+mod weights;
+mod words;
+
+pub use solving::{Partition, Solver};

@@ -1,0 +1,300 @@
+//! The proof of an entry: one trick on its pattern, worked out anew from what the search remembers.
+
+use crate::entries::{Entry, list_of};
+use crate::played_patterns::{LOW, PatternTrick, PlainCard};
+use crate::search::Search;
+use cards::Suit;
+use std::alloc::{AllocError, Global};
+
+/// A piece of a tree, in the order of its text.
+#[derive(Clone, Copy, Debug, PartialEq, Eq)]
+pub(crate) enum Piece {
+    /// A card of the side; what follows it comes next.
+    Own(PlainCard),
+    /// So many cards of the opponents come next, each with what follows it.
+    Reply(usize),
+    /// One of them.
+    Branch(PlainCard),
+    /// So many children come next.
+    Leaf(usize),
+    /// A seat that may win, and the entry that goes on.
+    Child(Known),
+}
+
+/// An entry with its shape, and the seat that leads.
+#[derive(Clone, Copy, Debug, PartialEq, Eq)]
+pub(crate) struct Known {
+    pub lengths: u64,
+    pub entry: u32,
+    pub lead: usize,
+}
+
+/// What of a side is proved so far: the tree in work, and the numbers of the nodes.
+#[derive(Drop)]
+pub(crate) struct Plan {
+    pub pieces: Vec<Piece>,
+    /// By the number of an entry that of its node, from 1.
+    pub numbers: Vec<u32>,
+    pub ours: bool,
+    /// Where the suits lie in a word, spades first.
+    pub lanes: [usize; 4],
+}
+
+/// Where a suit lies in a word.
+fn lane_of(suits: [Suit; 4], suit: Suit) -> usize {
+    if suits[0] == suit {
+        0
+    } else if suits[1] == suit {
+        1
+    } else if suits[2] == suit {
+        2
+    } else {
+        3
+    }
+}
+
+/// The highest place of each run of touching tops of one seat, and the low card.
+fn tops_of_runs(legal: u32) -> u32 {
+    legal & (!legal.wrapping_shl(1) | 1u32.wrapping_shl(LOW))
+}
+
+impl Plan {
+    /// Nothing is proved yet.
+    pub(crate) fn new(alloc: Global, search: &Search, ours: bool) -> Result<Plan, AllocError> {
+        let suits = search.deal.suits;
+        let mut numbers = Vec::new(alloc);
+        for _ in 0..search.entries.len() {
+            numbers.push(0)?;
+        }
+        Ok(Plan {
+            pieces: Vec::new(alloc),
+            numbers,
+            ours,
+            lanes: [
+                lane_of(suits, Suit::Spades),
+                lane_of(suits, Suit::Hearts),
+                lane_of(suits, Suit::Diamonds),
+                lane_of(suits, Suit::Clubs),
+            ],
+        })
+    }
+
+    /// The number of an entry's node, from 1; 0 where it has none.
+    pub(crate) fn number(&self, entry: u32) -> u32 {
+        self.numbers.get(entry as usize).copied().unwrap_or(0)
+    }
+
+    /// Adds the tree of what follows, and answers how many new nodes it needs. None where what is remembered does not
+    /// show it, or no steps are left; what was added is then of no use.
+    #[cycle(planning)]
+    pub(crate) fn add_tree(
+        &mut self,
+        search: &mut Search,
+        fuel: u32,
+        trick: &PatternTrick,
+        need: i32,
+    ) -> Result<Option<u32>, AllocError> {
+        if fuel == 0 {
+            return Ok(None);
+        }
+        if trick.played >= 4 {
+            return self.add_leaf(search, trick, need);
+        }
+        if (trick.seat & 1 == 0) == self.ours {
+            self.add_own(search, fuel - 1, trick, need)
+        } else {
+            self.add_reply(search, fuel - 1, trick, need)
+        }
+    }
+
+    /// Adds a card and what follows it.
+    #[cycle(planning)]
+    fn add_card(
+        &mut self,
+        search: &mut Search,
+        fuel: u32,
+        trick: &PatternTrick,
+        need: i32,
+        piece: Piece,
+        card: PlainCard,
+    ) -> Result<Option<u32>, AllocError> {
+        if fuel == 0 || search.steps == 0 {
+            return Ok(None);
+        }
+        search.steps -= 1;
+        self.pieces.push(piece)?;
+        let after = trick.after(card, search.deal.trumps != 0);
+        self.add_tree(search, fuel - 1, &after, need)
+    }
+
+    /// Adds the card of the side whose tree needs the fewest new nodes.
+    #[cycle(planning)]
+    fn add_own(
+        &mut self,
+        search: &mut Search,
+        fuel: u32,
+        trick: &PatternTrick,
+        need: i32,
+    ) -> Result<Option<u32>, AllocError> {
+        if fuel == 0 {
+            return Ok(None);
+        }
+        let begin = self.pieces.len();
+        let mut least = None;
+        for number in 0..4usize {
+            let lane = self.lanes[number];
+            let legal = tops_of_runs(trick.legal(lane));
+            for place in 0..16u32 {
+                if legal.wrapping_shr(place) & 1 == 0 || least == Some(0) {
+                    continue;
+                }
+                let card = PlainCard { lane, place };
+                let from = self.pieces.len();
+                let cost = self.add_card(search, fuel - 1, trick, need, Piece::Own(card), card)?;
+                match (least, cost) {
+                    (Some(old), Some(new)) if new < old => {
+                        self.keep(begin, from);
+                        least = cost;
+                    }
+                    (None, Some(_)) => {
+                        self.keep(begin, from);
+                        least = cost;
+                    }
+                    _ => self.pieces.truncate(from),
+                }
+            }
+        }
+        Ok(least)
+    }
+
+    /// Drops the pieces from the first place up to the second.
+    fn keep(&mut self, begin: usize, from: usize) {
+        if begin == from {
+            return;
+        }
+        let count = self.pieces.len().saturating_sub(from);
+        for place in 0..count {
+            let Some(piece) = self.pieces.get(from.wrapping_add(place)).copied() else {
+                break;
+            };
+            if let Some(old) = self.pieces.get_mut(begin.wrapping_add(place)) {
+                *old = piece;
+            }
+        }
+        self.pieces.truncate(begin.wrapping_add(count));
+    }
+
+    /// Adds all cards of the opponents.
+    #[cycle(planning)]
+    fn add_reply(
+        &mut self,
+        search: &mut Search,
+        fuel: u32,
+        trick: &PatternTrick,
+        need: i32,
+    ) -> Result<Option<u32>, AllocError> {
+        if fuel == 0 {
+            return Ok(None);
+        }
+        let begin = self.pieces.len();
+        self.pieces.push(Piece::Reply(0))?;
+        let mut count = 0usize;
+        let mut sum = 0u32;
+        for number in 0..4usize {
+            let lane = self.lanes[number];
+            let legal = trick.legal(lane);
+            for place in 0..16u32 {
+                if legal.wrapping_shr(place) & 1 == 0 {
+                    continue;
+                }
+                let card = PlainCard { lane, place };
+                let Some(cost) = self.add_card(
+                    search,
+                    fuel - 1,
+                    trick,
+                    need,
+                    Piece::Branch(card),
+                    card,
+                )?
+                else {
+                    return Ok(None);
+                };
+                count = count.wrapping_add(1);
+                sum = sum.saturating_add(cost);
+            }
+        }
+        if let Some(piece) = self.pieces.get_mut(begin) {
+            *piece = Piece::Reply(count);
+        }
+        Ok(Some(sum))
+    }
+
+    /// Adds the children after a trick.
+    fn add_leaf(
+        &mut self,
+        search: &Search,
+        trick: &PatternTrick,
+        need: i32,
+    ) -> Result<Option<u32>, AllocError> {
+        let begin = self.pieces.len();
+        self.pieces.push(Piece::Leaf(0))?;
+        let winners = trick.winners();
+        let mut count = 0usize;
+        let mut cost = 0u32;
+        for seat in 0..4usize {
+            if winners.wrapping_shr(seat as u32) & 1 == 0 {
+                continue;
+            }
+            let rest = need.wrapping_sub(if (seat & 1 == 0) == self.ours { 1 } else { 0 });
+            if rest <= 0 {
+                continue;
+            }
+            let Some(entry) = self.child(search, trick, seat, rest) else {
+                return Ok(None);
+            };
+            if self.number(entry) == 0 {
+                cost = cost.wrapping_add(1);
+            }
+            self.pieces.push(Piece::Child(Known {
+                lengths: trick.lengths,
+                entry,
+                lead: seat,
+            }))?;
+            count = count.wrapping_add(1);
+        }
+        if let Some(piece) = self.pieces.get_mut(begin) {
+            *piece = Piece::Leaf(count);
+        }
+        Ok(Some(cost))
+    }
+
+    /// An entry that goes on after the trick: one that has a node already, else the most general.
+    fn child(
+        &self,
+        search: &Search,
+        trick: &PatternTrick,
+        winner: usize,
+        need: i32,
+    ) -> Option<u32> {
+        let slot = search.entries.slot(trick.lengths)?;
+        let remains = trick.remains();
+        let mut number = search.entries.first(slot, list_of(winner, self.ours));
+        let mut first = None;
+        for _ in 0..search.entries.len() {
+            if number == 0 {
+                break;
+            }
+            let entry: Entry = search.entries.entry(number);
+            if i32::from(entry.need) >= need && remains.are_covered_by(&entry) {
+                if self.number(number) != 0 {
+                    return Some(number);
+                }
+                if first.is_none() {
+                    first = Some(number);
+                }
+            }
+            number = search.entries.next(number);
+        }
+        first
+    }
+}

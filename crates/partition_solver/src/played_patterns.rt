@@ -1,0 +1,191 @@
+//! A trick played on a remembered pattern.
+
+use crate::deals::Owners;
+use crate::entries::Entry;
+use crate::words::SUIT;
+
+/// A card of a pattern: a top by its place among the owners of its suit, from 0, or with the place `LOW` a low card. The
+/// suit is named by its number in the word.
+#[derive(Clone, Copy, Debug, Default, PartialEq, Eq)]
+pub(crate) struct PlainCard {
+    pub lane: usize,
+    pub place: u32,
+}
+
+/// The place of a low card.
+pub(crate) const LOW: u32 = 15;
+
+/// A trick on a pattern.
+#[derive(Clone, Copy, Debug)]
+pub(crate) struct PatternTrick {
+    owners: [u32; 4],
+    depths: [u32; 4],
+    gone: [u32; 4],
+    /// The lengths, as the search has them.
+    pub lengths: u64,
+    led: Option<usize>,
+    deciding: usize,
+    best: u32,
+    winner: usize,
+    lows: u32,
+    /// The seat to play.
+    pub seat: usize,
+    /// How many cards lie on the table.
+    pub played: u32,
+}
+
+/// What a trick leaves: the owners, and the bits of those that are known.
+#[derive(Clone, Copy, Debug)]
+pub(crate) struct Remains {
+    owners: Owners,
+    known: Owners,
+}
+
+impl Remains {
+    /// Whether the entry says no more of the owners than is known.
+    pub(crate) fn are_covered_by(&self, entry: &Entry) -> bool {
+        entry.mask & !self.known.near == 0
+            && entry.deep_mask & !self.known.deep == 0
+            && entry.matches(self.owners)
+    }
+}
+
+/// A suit's part of a word.
+fn lane_of(word: u64, lane: usize) -> u32 {
+    (word.wrapping_shr((lane & 3) as u32 * 16) & SUIT) as u32
+}
+
+/// The owners without that in this place.
+fn without(owners: u32, place: u32) -> u32 {
+    let low = 1u32.wrapping_shl(place.wrapping_mul(2)).wrapping_sub(1);
+    owners & low | owners >> 2 & !low
+}
+
+impl PatternTrick {
+    /// The start of a trick on an entry's pattern.
+    pub(crate) fn start(entry: &Entry, lengths: u64, lead: usize) -> PatternTrick {
+        let mut owners = [0; 4];
+        let mut depths = [0; 4];
+        for lane in 0..4usize {
+            owners[lane] = lane_of(entry.near, lane) | lane_of(entry.deep, lane).wrapping_shl(16);
+            depths[lane] = u32::from(entry.depths.wrapping_shr((lane & 3) as u32 * 4) & 15);
+        }
+        PatternTrick {
+            owners,
+            depths,
+            gone: [0; 4],
+            lengths,
+            led: None,
+            deciding: 0,
+            best: LOW,
+            winner: lead,
+            lows: 0,
+            seat: lead,
+            played: 0,
+        }
+    }
+
+    /// How many cards of a suit the seat has.
+    pub(crate) fn length_of(&self, lane: usize, seat: usize) -> u8 {
+        let place = (lane & 3) as u32 * 16 + (seat & 3) as u32 * 4;
+        (self.lengths.wrapping_shr(place) & 15) as u8
+    }
+
+    /// How many cards of a suit the seat to play has.
+    fn length(&self, lane: usize) -> u32 {
+        u32::from(self.length_of(lane, self.seat))
+    }
+
+    /// Who owns the card in this place of a suit.
+    pub(crate) fn owner(&self, lane: usize, place: u32) -> usize {
+        (self.owners[lane & 3].wrapping_shr(place.wrapping_mul(2)) & 3) as usize
+    }
+
+    /// How many owners of a suit are known.
+    pub(crate) fn depth(&self, lane: usize) -> u32 {
+        self.depths[lane & 3]
+    }
+
+    /// The cards of a suit that the seat to play may play, a bit for each place, the low card's at `LOW`.
+    pub(crate) fn legal(&self, lane: usize) -> u32 {
+        if let Some(led) = self.led {
+            if led != lane && self.length(led) != 0 {
+                return 0;
+            }
+        }
+        let mut cards = 0u32;
+        for place in 0..13u32 {
+            if place < self.depth(lane) && self.owner(lane, place) == self.seat & 3 {
+                cards |= 1u32.wrapping_shl(place);
+            }
+        }
+        if cards.count_ones() < self.length(lane) {
+            cards |= 1u32.wrapping_shl(LOW);
+        }
+        cards
+    }
+
+    /// The trick after the seat to play has played the card.
+    pub(crate) fn after(&self, card: PlainCard, has_trumps: bool) -> PatternTrick {
+        let mut next = *self;
+        let lane = card.lane & 3;
+        let seat = self.seat & 3;
+        let place = lane as u32 * 16 + seat as u32 * 4;
+        next.lengths = self.lengths.wrapping_sub(1u64.wrapping_shl(place));
+        if self.led.is_none() {
+            next.led = Some(lane);
+            next.deciding = lane;
+        } else if has_trumps && lane == 3 && self.deciding != 3 {
+            next.deciding = 3;
+            next.best = LOW;
+            next.lows = 0;
+        }
+        if lane == next.deciding {
+            if card.place == LOW {
+                next.lows |= 1u32.wrapping_shl(seat as u32);
+            } else if card.place < next.best {
+                next.best = card.place;
+                next.winner = seat;
+            }
+        }
+        if card.place < 13 {
+            next.gone[lane] |= 1u32.wrapping_shl(card.place);
+        }
+        next.seat = seat + 1 & 3;
+        next.played = self.played.wrapping_add(1);
+        next
+    }
+
+    /// A bit for each seat that may have won.
+    pub(crate) fn winners(&self) -> u32 {
+        if self.best == LOW {
+            self.lows
+        } else {
+            1u32.wrapping_shl((self.winner & 3) as u32)
+        }
+    }
+
+    /// What the trick leaves.
+    pub(crate) fn remains(&self) -> Remains {
+        let mut owners = Owners::default();
+        let mut known = Owners::default();
+        for lane in 0..4usize {
+            let mut suit = self.owners[lane];
+            let gone = self.gone[lane];
+            for above in 0..13u32 {
+                let place = 12u32.wrapping_sub(above);
+                if gone.wrapping_shr(place) & 1 == 1 {
+                    suit = without(suit, place);
+                }
+            }
+            let depth = self.depths[lane].wrapping_sub(gone.count_ones()) & 15;
+            let bits = 1u32.wrapping_shl(depth.wrapping_mul(2)).wrapping_sub(1);
+            let start = lane as u32 * 16;
+            owners.near |= (u64::from(suit) & SUIT).wrapping_shl(start);
+            owners.deep |= u64::from(suit >> 16).wrapping_shl(start);
+            known.near |= (u64::from(bits) & SUIT).wrapping_shl(start);
+            known.deep |= u64::from(bits >> 16).wrapping_shl(start);
+        }
+        Remains { owners, known }
+    }
+}

@@ -1,0 +1,315 @@
+//! The search: whether North and South can win so many of the tricks left.
+
+use crate::deals::{Deal, Owners};
+use crate::entries::{Entries, Entry, list_of};
+use crate::moves::{Moves, whole_runs};
+use crate::tricks::Trick;
+use crate::words::{SUIT, below, lowest, suit_of};
+use cards::{Layout, Trump};
+use std::alloc::{AllocError, Global};
+
+/// The answer of a search: the side that gets what it wants, how many of the tricks left it can win, and the cards whose
+/// rank that needed. The lowest of a suit tells how deep the suit has to be known.
+#[derive(Clone, Copy, Debug, PartialEq, Eq)]
+pub(crate) struct Found {
+    pub ours: bool,
+    pub bound: i32,
+    pub relevant: u64,
+}
+
+/// A search of one deal in one denomination, with all that it remembers.
+#[derive(Drop)]
+pub(crate) struct Search {
+    pub alloc: Global,
+    pub deal: Deal,
+    pub entries: Entries,
+    /// How many cards may still be tried.
+    pub steps: u64,
+    hints: Vec<u32>,
+}
+
+const HINTS: usize = 1 << 14;
+
+/// How deep the lowest relevant card of the suit that starts here lies.
+fn depth_of(left: u64, relevant: u64, start: u32) -> u16 {
+    let named = relevant.wrapping_shr(start) & SUIT;
+    if named == 0 {
+        return 0;
+    }
+    let above = (left.wrapping_shr(start) & SUIT).wrapping_shr(named.trailing_zeros());
+    (above.count_ones() & 15) as u16
+}
+
+/// The depths that the relevant cards need, four bits a suit.
+fn depths_of(left: u64, relevant: u64) -> u16 {
+    depth_of(left, relevant, 0)
+        | depth_of(left, relevant, 16).wrapping_shl(4)
+        | depth_of(left, relevant, 32).wrapping_shl(8)
+        | depth_of(left, relevant, 48).wrapping_shl(12)
+}
+
+/// How many tricks a side wants that North and South want so many of.
+fn goal_of(trick: &Trick, ours: bool) -> i32 {
+    if ours {
+        trick.want
+    } else {
+        trick.tricks.wrapping_sub(trick.want).wrapping_add(1)
+    }
+}
+
+/// Whether the seat is of North's and South's side.
+fn is_ours(seat: usize) -> bool {
+    seat & 1 == 0
+}
+
+/// A trick that the seat wins, where it counts for the side.
+fn trick_for(seat: usize, ours: bool) -> i32 {
+    if is_ours(seat) == ours { 1 } else { 0 }
+}
+
+/// The place of a hint.
+fn hint_place(trick: &Trick) -> usize {
+    let key = trick.lengths
+        ^ (trick.seat as u64).wrapping_shl(61)
+        ^ u64::from(trick.want.unsigned_abs()).wrapping_shl(57);
+    (key.wrapping_mul(0x9e37_79b9_7f4a_7c15) >> 50) as usize
+}
+
+impl Search {
+    /// A search that has found nothing yet.
+    pub(crate) fn new(
+        alloc: Global,
+        layout: &Layout,
+        trump: Trump,
+        steps: u64,
+    ) -> Result<Search, AllocError> {
+        let mut hints = Vec::new(alloc);
+        for _ in 0..HINTS {
+            hints.push(0)?;
+        }
+        Ok(Search {
+            alloc,
+            deal: Deal::new(alloc, layout, trump)?,
+            entries: Entries::new(alloc)?,
+            steps,
+            hints,
+        })
+    }
+
+    /// What is known of the start of a trick.
+    fn known(&self, trick: &Trick) -> Option<Found> {
+        for ours in [true, false] {
+            if goal_of(trick, ours) <= 0 {
+                return Some(Found {
+                    ours,
+                    bound: 0,
+                    relevant: 0,
+                });
+            }
+        }
+        let slot = self.entries.slot(trick.lengths)?;
+        let owners = self.deal.owners(trick.left);
+        for ours in [true, false] {
+            let list = list_of(trick.seat, ours);
+            if let Some(number) = self.entries.find(slot, list, owners, goal_of(trick, ours)) {
+                return Some(self.told(trick.left, ours, number));
+            }
+        }
+        None
+    }
+
+    /// What an entry says of these cards.
+    fn told(&self, left: u64, ours: bool, number: u32) -> Found {
+        let entry = self.entries.entry(number);
+        Found {
+            ours,
+            bound: i32::from(entry.need),
+            relevant: self.deal.cards_at(left, entry.depths),
+        }
+    }
+
+    /// Remembers what was found at the start of a trick.
+    fn remember(&mut self, trick: &Trick, found: Found, card: u64) -> Result<(), AllocError> {
+        if let Some(hint) = self.hints.get_mut(hint_place(trick)) {
+            if card != 0 {
+                *hint = card.trailing_zeros() + 1;
+            }
+        }
+        let owners = self.deal.owners(trick.left);
+        let depths = depths_of(trick.left, found.relevant);
+        let entry = Entry::new(owners, depths, (found.bound & 15) as u8);
+        self.entries.add(
+            self.alloc,
+            trick.lengths,
+            list_of(trick.seat, found.ours),
+            entry,
+        )
+    }
+
+    /// The card that succeeded before at such a place.
+    fn hint(&self, trick: &Trick) -> u64 {
+        if trick.played != 0 {
+            return 0;
+        }
+        match self.hints.get(hint_place(trick)).copied() {
+            Some(place) if place != 0 => 1u64.wrapping_shl(place.wrapping_sub(1)),
+            _ => 0,
+        }
+    }
+
+    /// Whether North and South win what they want of the tricks left, else that East and West win more than the rest.
+    /// None where no steps are left.
+    #[cycle(searching)]
+    pub(crate) fn search(&mut self, fuel: u32, trick: &Trick) -> Result<Option<Found>, AllocError> {
+        if fuel == 0 {
+            return Ok(None);
+        }
+        if trick.played == 0 {
+            if let Some(found) = self.known(trick) {
+                return Ok(Some(found));
+            }
+        }
+        let trumps = self.deal.trumps;
+        let mover = trick.is_ours();
+        let mut moves = Moves::of(&self.deal, trick, self.hint(trick));
+        let mut answer = Found {
+            ours: !mover,
+            bound: 99,
+            relevant: 0,
+        };
+        let mut success = 0;
+        for _ in 0..16 {
+            let Some(tried) = moves.next(trick, trumps) else {
+                break;
+            };
+            if self.steps == 0 {
+                return Ok(None);
+            }
+            self.steps -= 1;
+            let after = trick.after(tried.card, trumps);
+            let Some(found) = self.follow(fuel - 1, &after)? else {
+                return Ok(None);
+            };
+            if found.ours == mover {
+                answer = found;
+                success = tried.card;
+                break;
+            }
+            answer.bound = answer.bound.min(found.bound);
+            answer.relevant |= whole_runs(tried, found.relevant);
+            moves.skip(tried, found.relevant);
+        }
+        if trick.played == 0 {
+            self.remember(trick, answer, success)?;
+        }
+        Ok(Some(answer))
+    }
+
+    /// Goes on after a card.
+    #[cycle(searching)]
+    fn follow(&mut self, fuel: u32, after: &Trick) -> Result<Option<Found>, AllocError> {
+        if fuel == 0 {
+            return Ok(None);
+        }
+        if after.played < 4 {
+            return self.search(fuel - 1, after);
+        }
+        let found = self.search(fuel - 1, &after.next(after.winner))?;
+        Ok(found.map(|found| self.ended(after, found)))
+    }
+
+    /// What was found of a trick that has ended: the winner's rank matters where others played to its suit, unless what
+    /// is left is known to go the same way whoever of them wins.
+    fn ended(&self, after: &Trick, found: Found) -> Found {
+        let mut whole = found;
+        whole.bound = found
+            .bound
+            .wrapping_add(trick_for(after.winner, found.ours));
+        if after.contenders & after.contenders.wrapping_sub(1) == 0 {
+            return whole;
+        }
+        if let Some(other) = self.whoever(after, whole) {
+            return other;
+        }
+        whole.relevant |= after.best;
+        whole
+    }
+
+    /// The same answer whoever of those who played to the winner's suit wins, where that is known.
+    fn whoever(&self, after: &Trick, found: Found) -> Option<Found> {
+        let suit = suit_of(after.best);
+        let low = below(after.best) | after.best;
+        if found.relevant & suit & low != 0 {
+            return None;
+        }
+        let mut answer = found;
+        let goal = goal_of(after, found.ours);
+        let left = after.next(after.winner);
+        let owners = self.deal.owners(left.left);
+        let mut slot = None;
+        for seat in 0..4usize {
+            if seat == after.winner || after.contenders.wrapping_shr(seat as u32) & 1 == 0 {
+                continue;
+            }
+            let wanted = goal.wrapping_sub(trick_for(seat, found.ours));
+            if wanted <= 0 {
+                answer.bound = answer.bound.min(trick_for(seat, found.ours));
+                continue;
+            }
+            if slot.is_none() {
+                slot = Some(self.entries.slot(left.lengths)?);
+            }
+            let number = self
+                .entries
+                .find(slot?, list_of(seat, found.ours), owners, wanted)?;
+            let other = self.told(left.left, found.ours, number);
+            answer.bound = answer
+                .bound
+                .min(other.bound.wrapping_add(trick_for(seat, found.ours)));
+            answer.relevant |= other.relevant;
+        }
+        let with_best = found.relevant | after.best;
+        for start in [0u32, 16, 32, 48] {
+            let lane = SUIT.wrapping_shl(start);
+            let now = lowest(answer.relevant & lane);
+            let before = lowest(with_best & lane);
+            if now != 0 && (before == 0 || now < before)
+                || now != 0 && lane == suit && now <= after.best
+            {
+                return None;
+            }
+        }
+        Some(answer)
+    }
+
+    /// How many tricks North and South can win with this seat to lead. None where no steps are left.
+    pub(crate) fn value(&mut self, leader: usize) -> Result<Option<i32>, AllocError> {
+        let mut trick = Trick::start(self.deal.hands, leader);
+        let mut least = 0;
+        let mut most = trick.tricks;
+        trick.want = trick.tricks.wrapping_add(1) / 2;
+        for _ in 0..16 {
+            if least >= most {
+                break;
+            }
+            trick.want = trick.want.max(least.wrapping_add(1)).min(most);
+            let Some(found) = self.search(120, &trick)? else {
+                return Ok(None);
+            };
+            if found.ours {
+                least = least.max(found.bound);
+                trick.want = least.wrapping_add(1);
+            } else {
+                most = most.min(trick.tricks.wrapping_sub(found.bound));
+                trick.want = most;
+            }
+        }
+        Ok(Some(least))
+    }
+
+    /// The owners of all cards.
+    pub(crate) fn all_owners(&self) -> Owners {
+        let hands = self.deal.hands;
+        self.deal.owners(hands[0] | hands[1] | hands[2] | hands[3])
+    }
+}

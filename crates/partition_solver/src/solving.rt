@@ -1,0 +1,62 @@
+//! What a solver is, and the partition search as one.
+
+use crate::graph_writing::write_graph;
+use crate::search::Search;
+use cards::{Layout, Seat, Trump};
+use certificate_graph::Answer;
+use std::alloc::{AllocError, Global};
+
+/// Something that looks for the tricks that declarer's side takes, and for the graphs that show them. Nothing is
+/// promised of what it answers.
+pub trait Solver {
+    /// An answer for the layout, with the seat at declarer's left to lead, if one was found within the budget.
+    fn solve(
+        &self,
+        alloc: Global,
+        layout: &Layout,
+        declarer: Seat,
+        trump: Trump,
+        budget: u64,
+    ) -> Result<Option<Answer>, AllocError>;
+}
+
+/// A partition search. A step of its budget is one card tried: in the search, or for a tree of a graph.
+#[derive(Clone, Copy, Debug, Default)]
+pub struct Partition;
+
+impl Solver for Partition {
+    fn solve(
+        &self,
+        alloc: Global,
+        layout: &Layout,
+        declarer: Seat,
+        trump: Trump,
+        budget: u64,
+    ) -> Result<Option<Answer>, AllocError> {
+        let mut search = Search::new(alloc, layout, trump, budget)?;
+        let leader = declarer.next().number();
+        let Some(ours) = search.value(leader)? else {
+            return Ok(None);
+        };
+        let theirs = (layout.len() as i32).wrapping_sub(ours);
+        let Some(north) = write_graph(alloc, &mut search, trump, leader, true, ours)? else {
+            return Ok(None);
+        };
+        let Some(east) = write_graph(alloc, &mut search, trump, leader, false, theirs)? else {
+            return Ok(None);
+        };
+        let answer = match declarer {
+            Seat::North | Seat::South => Answer {
+                k: (ours & 15) as u8,
+                declarer: north,
+                defenders: east,
+            },
+            Seat::East | Seat::West => Answer {
+                k: (theirs & 15) as u8,
+                declarer: east,
+                defenders: north,
+            },
+        };
+        Ok(Some(answer))
+    }
+}

@@ -1,0 +1,159 @@
+//! Answers with DDS's numbers, which the checker has to accept.
+
+use crate::{Partition, Solver};
+use cards::{Layout, Seat, Suit, Trump};
+use checker::check_entry;
+use pbn_deals::read_layout;
+use std::alloc::Global;
+use std::process::Abort;
+use std::test::Fail;
+
+/// A layout, and by declarer (N E S W) the tricks in no-trump, spades, hearts, diamonds and clubs that DDS 2.9 gives.
+type Row = (&'static str, &'static str);
+
+/// Endings of one to four cards a hand: a trump, a finesse, squeezes.
+const ENDINGS: [Row; 6] = [
+    ("N:A... K... Q... J...", "11111 00000 11111 00000"),
+    ("N:2... .A.. 3... .K..", "01000 00100 01000 00100"),
+    ("N:AQ... 65... 32... K4...", "22222 00000 22222 11111"),
+    ("N:AQ... K5... 32... 64...", "22222 11111 11111 11111"),
+    ("N:AJ.K.. ..432. 2.2..A KQ.A..", "02203 01130 11102 22131"),
+    ("N:AJ.K.. KQ.A.. 2.2..A ..432.", "11102 01130 02203 22131"),
+];
+
+/// Random endings of three and of five cards a hand.
+const SMALL: [Row; 6] = [
+    (
+        "N:.5.A5.Q8 .K.J2.T4 K7..7.75 J86..9.K",
+        "22213 23222 22213 23222",
+    ),
+    ("N:.J.5.J T..4.9 86.K.. A..7.K", "01200 21022 01200 22133"),
+    (
+        "N:74.3.2.3 9.J.K65. .T.J74.2 62.A6..A",
+        "01010 54545 01010 54433",
+    ),
+    ("N:J.J7.. Q.Q.A. .8..Q8 .4.K.J", "00101 12131 00101 33132"),
+    (
+        "N:K..A.632 T7.T8.7. .Q3..J95 .7.2.AK4",
+        "32213 22232 32113 23322",
+    ),
+    ("N:T..Q4. 8...T3 K..J2. 6.7.A.", "11021 21212 11120 21212"),
+];
+
+/// One of nine cards a hand.
+const NINE: [Row; 1] = [(
+    "N:43..K93.AQJT 95.T6.862.32 AJ762.J8..86 .K95.AQJT4.5",
+    "59238 00550 79339 00550",
+)];
+
+/// A board on which East takes five tricks in no-trump.
+const BOARD: &str = "N:T97.643.A73.AQJ8 832.KJT7.QJ942.4 AQ54.Q52.K6.K932 KJ6.A98.T85.T765";
+
+/// The denominations in the order of a row.
+const TRUMPS: [Trump; 5] = [
+    Trump::Nt,
+    Trump::Suit(Suit::Spades),
+    Trump::Suit(Suit::Hearts),
+    Trump::Suit(Suit::Diamonds),
+    Trump::Suit(Suit::Clubs),
+];
+
+/// The number that a digit of a row names.
+fn number_of(digit: u8) -> u8 {
+    if digit >= b'a' {
+        digit - b'a' + 10
+    } else {
+        digit.wrapping_sub(b'0')
+    }
+}
+
+/// Solves the layout for a declarer and a denomination, where DDS has this number.
+fn solves_entry(
+    rt: &impl Abort,
+    alloc: Global,
+    text: &str,
+    declarer: Seat,
+    trump: Trump,
+    number: u8,
+) -> Result<(), Fail> {
+    let layout = read_layout(text.as_bytes())?;
+    let answer = Partition.solve(alloc, &layout, declarer, trump, 10_000_000)?;
+    let answer = answer.ok_or("no answer")?;
+    assert_eq!(rt; answer.k, number, "{text} {declarer} {trump}");
+    let proven = check_entry(
+        &layout,
+        declarer,
+        trump,
+        answer.k,
+        &answer.declarer,
+        &answer.defenders,
+    );
+    assert!(rt; proven.is_ok(), "{text} {declarer} {trump}");
+    Ok(())
+}
+
+/// Solves the layout for each of these declarers and all denominations.
+fn solves(rt: &impl Abort, alloc: Global, row: Row, declarers: &[Seat]) -> Result<(), Fail> {
+    let (text, numbers) = row;
+    for declarer in declarers {
+        for (place, trump) in TRUMPS.as_slice().iter().enumerate() {
+            let digit = numbers
+                .as_bytes()
+                .get(declarer.number() * 6 + place)
+                .copied();
+            solves_entry(
+                rt,
+                alloc,
+                text,
+                *declarer,
+                *trump,
+                number_of(digit.ok_or("no digit")?),
+            )?;
+        }
+    }
+    Ok(())
+}
+
+#[test]
+fn endings(rt: HostRuntime) -> Result<(), Fail> {
+    for row in ENDINGS {
+        solves(&rt, rt.alloc(), row, &Seat::ALL)?;
+    }
+    Ok(())
+}
+
+#[test]
+fn small_layouts(rt: HostRuntime) -> Result<(), Fail> {
+    for row in SMALL {
+        solves(&rt, rt.alloc(), row, &Seat::ALL)?;
+    }
+    Ok(())
+}
+
+#[test]
+fn nine_cards(rt: HostRuntime) -> Result<(), Fail> {
+    for row in NINE {
+        solves(&rt, rt.alloc(), row, &[Seat::East])?;
+    }
+    Ok(())
+}
+
+#[test]
+fn board(rt: HostRuntime) -> Result<(), Fail> {
+    solves_entry(&rt, rt.alloc(), BOARD, Seat::East, Trump::Nt, 5)
+}
+
+/// A tree has four cards, each of which is a step, so three steps are never enough.
+#[test]
+fn three_steps(rt: HostRuntime) -> Result<(), Fail> {
+    for (text, _) in ENDINGS {
+        let layout = read_layout(text.as_bytes())?;
+        for declarer in Seat::ALL {
+            for trump in TRUMPS {
+                let answer = Partition.solve(rt.alloc(), &layout, declarer, trump, 3)?;
+                assert!(rt; answer.is_none(), "{text} {declarer} {trump}");
+            }
+        }
+    }
+    Ok(())
+}

@@ -1,0 +1,52 @@
+//! Sets of cards as words: sixteen bits a suit, the deuce lowest. The trump suit, where there is one, lies highest.
+
+/// All cards of the pack.
+pub(crate) const PACK: u64 = 0x1fff_1fff_1fff_1fff;
+/// The bits of the lowest suit.
+pub(crate) const SUIT: u64 = 0xffff;
+
+/// The lowest card of a set.
+pub(crate) fn lowest(cards: u64) -> u64 {
+    cards & 0u64.wrapping_sub(cards)
+}
+
+/// The set without its lowest card.
+pub(crate) fn without_lowest(cards: u64) -> u64 {
+    cards & cards.wrapping_sub(1)
+}
+
+/// The highest card of a set.
+pub(crate) fn highest(cards: u64) -> u64 {
+    if cards == 0 {
+        return 0;
+    }
+    0x8000_0000_0000_0000u64.wrapping_shr(cards.leading_zeros())
+}
+
+/// Where the suit of the card begins: 0, 16, 32 or 48.
+pub(crate) fn start_of(card: u64) -> u32 {
+    card.trailing_zeros() & 48
+}
+
+/// All bits of the suit of the card.
+pub(crate) fn suit_of(card: u64) -> u64 {
+    SUIT.wrapping_shl(start_of(card))
+}
+
+/// The cards below this one, in its suit and the suits below.
+pub(crate) fn below(card: u64) -> u64 {
+    card.wrapping_sub(1)
+}
+
+/// The lowest card of each run of touching cards of a hand: those between which no card is left with others.
+pub(crate) fn bottoms(own: u64, left: u64) -> u64 {
+    own & !own.wrapping_shl(1).wrapping_add(PACK & !left)
+}
+
+/// The highest card of the run that begins with this one.
+pub(crate) fn top_of_run(bottom: u64, own: u64, left: u64) -> u64 {
+    let suit = suit_of(bottom);
+    let end = 0x2000u64.wrapping_shl(start_of(bottom));
+    let stop = lowest((left & !own & suit & !below(bottom)) | end);
+    highest(own & suit & below(stop))
+}
