@@ -3,7 +3,7 @@ use Rattle.std.specs.Prelude.{◌≡◌, ℕ, List, length, None, Result, Ok, Er
 use Rattle.cards.specs.Devices.{Device, Adds, AddsBeginning, one_more}
 use Rattle.pbn_deals.specs.declared.boards.Board.{Board}
 use Rattle.pbn_deals.specs.Reading.{TextAnswers}
-use Rattle.streams.specs.Inputs.{IsTextOf}
+use Rattle.streams.specs.Inputs.{IsReadToEnd}
 use Rattle.tables.specs.declared.sheets.Report.{Report}
 use Rattle.tables.specs.TablesText.{Results, tables_text}
 use Rattle.runs.specs.declared.faults.RunFault.{RunFault}
@@ -16,7 +16,7 @@ no_results board declarer denomination = None
 -- the source was read to its end, and these are the boards of its text
 pub record HasBoards (old new : Device) (boards : List Board) : Type 0 where
   pub text : List ℕ
-  pub all : IsTextOf old new text
+  pub all : IsReadToEnd old new text
   pub read : TextAnswers text (Ok boards)
 
 -- What was answered, what the source has given and what the sink has got. With all refusals but the last nothing was
@@ -28,7 +28,7 @@ MakesBlank source source' sink sink' (Ok report) =
 MakesBlank source source' sink sink' (Err OutOfMemory) = (source'.failed ≡ source.failed) × (sink' ≡ sink)
 MakesBlank source source' sink sink' (Err Read) = (source'.failed ≡ one_more source.failed) × (sink' ≡ sink)
 MakesBlank source source' sink sink' (Err (Pbn fault)) =
-    (text : List ℕ) × IsTextOf source source' text × TextAnswers text (Err fault) × (sink' ≡ sink)
+    (text : List ℕ) × IsReadToEnd source source' text × TextAnswers text (Err fault) × (sink' ≡ sink)
 MakesBlank source source' sink sink' (Err Write) =
     (boards : List Board) × HasBoards source source' boards × AddsBeginning sink sink' (tables_text boards no_results)
 MakesBlank source source' sink sink' (Err NotText) = ⊥

@@ -10,7 +10,7 @@ IsAllOf None left' text = ⊤
 IsAllOf (Some left) left' text = (text ≡ left) × (left' ≡ Some [])
 
 -- the source was read to its end, this is its text, and no call failed
-pub record IsTextOf (old new : Device) (text : List ℕ) : Type 0 where
+pub record IsReadToEnd (old new : Device) (text : List ℕ) : Type 0 where
   pub all : IsAllOf old.bytes new.bytes text
   pub none_failed : new.failed ≡ old.failed
 

@@ -1,7 +1,7 @@
 //! The reading of a whole source.
 
 ghost use Rattle.std.specs.Prelude.{IfOk, IfErr};
-ghost use Rattle.streams.specs.Inputs.{IsTextOf, StopsReading};
+ghost use Rattle.streams.specs.Inputs.{IsReadToEnd, StopsReading};
 
 use cards::Source;
 use std::alloc::Global;
@@ -23,7 +23,7 @@ const PIECE: usize = 16384;
 
 /// Reads the source to its end. What was read before a fault is lost.
 pub fn read_all<S: Source>(alloc: Global, source: &mut S) -> Result<Vec<u8>, InputFault>
-    ensures all { IfOk result (λ text. IsTextOf (S.state source.old) (S.state source.new) text.items) }
+    ensures all { IfOk result (λ text. IsReadToEnd (S.state source.old) (S.state source.new) text.items) }
     ensures fault { IfErr result (StopsReading (S.state source.old) (S.state source.new)) }
 {
     let mut text = Vec::new(alloc);
