@@ -1,3 +1,4 @@
 pub mod BlankLemmas
 pub mod TellLemmas
 pub mod AnswerLaws
+pub mod CheckLemmas

@@ -2,4 +2,6 @@ pub mod Statuses
 pub mod PlainLine
 pub mod Blanks
 pub mod Answers
+pub mod VerdictLines
+pub mod Checks
 pub mod Runs

@@ -6,12 +6,13 @@ use Rattle.cards.specs.Devices.{Device, Fails, Adds, AddsBeginning}
 use Rattle.runs.specs.declared.faults.RunFault.{RunFault}
 use Rattle.runs.specs.declared.faults.RunFault.TheVariants.{Write}
 use Rattle.runs.specs.declared.statuses.Status.{Status}
-use Rattle.runs.specs.declared.statuses.Status.TheVariants.{Done, Failed, Refused, Incomplete}
+use Rattle.runs.specs.declared.statuses.Status.TheVariants.{Done, Failed, Refused, Incomplete, Rejected}
 use Rattle.runs.specs.declared.running.Run.{Run}
-use Rattle.runs.specs.declared.running.Run.TheVariants.{Plain, Tables}
+use Rattle.runs.specs.declared.running.Run.TheVariants.{Plain, Tables, Check}
 use Rattle.runs.specs.Statuses.{fault_status, told_line, IsTold}
 use Rattle.runs.specs.PlainLine.{MeetsPlainLine}
 use Rattle.runs.specs.Blanks.{MakesBlank}
+use Rattle.runs.specs.Checks.{ChecksAnswer}
 
 -- a table is incomplete, or all are complete
 abbrev pub report_status : Report → Status
@@ -26,6 +27,7 @@ Does (Plain layout leader trump) source source' sink sink' (Err fault) =
 Does Tables source source' sink sink' (Ok status) =
     (report : Report) × (status ≡ report_status report) × MakesBlank source source' sink sink' (Ok report)
 Does Tables source source' sink sink' (Err fault) = MakesBlank source source' sink sink' (Err fault)
+Does (Check layout declarer trump) source source' sink sink' answer = ChecksAnswer layout.now declarer trump source source' sink sink' answer
 
 -- how the run ends: a fault is told on the error output, which nothing else touches
 abbrev pub Ends : Result Status RunFault → Device → Device → Status → Type 0
@@ -44,6 +46,7 @@ Shows sink sink' errors errors' text Done = Adds sink sink' text × (errors' ≡
 Shows sink sink' errors errors' text Failed = AddsBeginning sink sink' text × IsTold errors errors' (told_line Write)
 Shows sink sink' errors errors' text Refused = ⊥
 Shows sink sink' errors errors' text Incomplete = ⊥
+Shows sink sink' errors errors' text Rejected = ⊥
 
 -- The end of a run that was done: the writer behind the output's buffer has got all that was written, or that failed and
 -- was told. A run that failed or was refused stays so, and nothing more is done.

@@ -8,7 +8,7 @@ use Rattle.streams.specs.declared.inputs.InputFault.TheVariants as input
 use Rattle.runs.specs.declared.faults.RunFault.{RunFault}
 use Rattle.runs.specs.declared.faults.RunFault.TheVariants as fault
 use Rattle.runs.specs.declared.statuses.Status.{Status}
-use Rattle.runs.specs.declared.statuses.Status.TheVariants.{Done, Failed, Refused, Incomplete}
+use Rattle.runs.specs.declared.statuses.Status.TheVariants.{Done, Failed, Refused, Incomplete, Rejected}
 
 -- the exit status of the process
 abbrev pub status_code : Status → ℕ
@@ -16,6 +16,7 @@ status_code Done = 0
 status_code Failed = 1
 status_code Refused = 2
 status_code Incomplete = 3
+status_code Rejected = 4
 
 -- memory or a device has failed, or the words or the input are refused
 abbrev pub fault_status : RunFault → Status
@@ -26,6 +27,7 @@ fault_status fault.NotText = Refused
 fault_status (fault.Layout refusal) = Refused
 fault_status fault.TooLarge = Refused
 fault_status (fault.Pbn refusal) = Refused
+fault_status fault.NoResult = Refused
 
 -- why an input could not be read
 abbrev pub input_fault : InputFault → RunFault
@@ -46,6 +48,7 @@ said_of fault.NotText = codes "a word of the command line is not UTF-8"
 said_of (fault.Layout refusal) = codes "layout: " ++ fault_text refusal
 said_of fault.TooLarge = codes "plain takes at most 4 cards a hand"
 said_of (fault.Pbn refusal) = behind_line (fault_line refusal) (fault_text refusal)
+said_of fault.NoResult = codes "first line is not a result line"
 
 -- the line that tells it
 abbrev pub told_line : RunFault → List ℕ

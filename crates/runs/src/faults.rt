@@ -30,6 +30,8 @@ pub enum RunFault {
     TooLarge,
     /// The PBN text is refused.
     Pbn(PbnFault),
+    /// The first line of an answer is not a result line.
+    NoResult,
 }
 
 impl From<InputFault> for RunFault {
@@ -70,9 +72,11 @@ pub fn tell<E: Sink>(fault: RunFault, errors: &mut E) -> Status
     let _ = write_line(fault, errors);
     match fault {
         RunFault::OutOfMemory | RunFault::Read | RunFault::Write => Status::Failed,
-        RunFault::NotText | RunFault::Layout(_) | RunFault::TooLarge | RunFault::Pbn(_) => {
-            Status::Refused
-        }
+        RunFault::NotText
+        | RunFault::Layout(_)
+        | RunFault::TooLarge
+        | RunFault::Pbn(_)
+        | RunFault::NoResult => Status::Refused,
     }
 }
 
@@ -97,6 +101,7 @@ fn write_fault<E: Sink>(fault: RunFault, errors: &mut E) -> Result<(), DeviceFau
         RunFault::Layout(refusal) => write_layout_refusal(refusal, errors),
         RunFault::TooLarge => write_all(errors, b"plain takes at most 4 cards a hand"),
         RunFault::Pbn(refusal) => write_text_refusal(refusal, errors),
+        RunFault::NoResult => write_all(errors, b"first line is not a result line"),
     }
 }
 

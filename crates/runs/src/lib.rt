@@ -5,15 +5,18 @@
 
 mod answers;
 mod blanks;
+mod checks;
 mod faults;
 mod plain;
 mod running;
 mod statuses;
 #[cfg(test)]
 mod tests;
+mod verdict_lines;
 
 pub use answers::{read_answer, text_is_one_answer};
 pub use blanks::make_blank;
+pub use checks::check_answer;
 pub use faults::{RunFault, tell};
 pub use plain::plain_line;
 pub use running::{Run, close_output, do_run, show};

@@ -5,6 +5,7 @@ ghost use Rattle.streams.specs.Flushes.{contents_behind};
 ghost use Rattle.runs.specs.Runs.{Closes, Does, MeetsRun, Shows, report_status};
 
 use crate::blanks::make_blank;
+use crate::checks::check_answer;
 use crate::faults::{RunFault, tell};
 use crate::plain::plain_line;
 use crate::statuses::Status;
@@ -25,6 +26,12 @@ pub enum Run<'a> {
     },
     /// The tables of the boards of the input.
     Tables,
+    /// Whether the answer that is the input is right.
+    Check {
+        layout: &'a str,
+        declarer: Seat,
+        trump: Trump,
+    },
 }
 
 /// Does what is asked, and answers how the run ends.
@@ -66,6 +73,11 @@ fn answer_run<I: Source, O: Sink>(
             Ok(Status::Done)
         }
         Run::Tables => Ok(status_of(make_blank(alloc, input, output)?)),
+        Run::Check {
+            layout,
+            declarer,
+            trump,
+        } => check_answer(alloc, layout.as_bytes(), declarer, trump, input, output),
     }
 }
 
@@ -101,7 +113,7 @@ pub fn close_output<W: Write + Drop, E: Sink>(
 {
     match status {
         Status::Failed | Status::Refused => status,
-        Status::Done | Status::Incomplete => match output.flush() {
+        Status::Done | Status::Incomplete | Status::Rejected => match output.flush() {
             Ok(()) => status,
             Err(_) => tell(RunFault::Write, errors),
         },

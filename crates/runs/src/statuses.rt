@@ -14,6 +14,8 @@ pub enum Status {
     Refused,
     /// All was done, but a table is incomplete.
     Incomplete,
+    /// All was done, and the answer that was checked is wrong.
+    Rejected,
 }
 
 impl Status {
@@ -26,6 +28,7 @@ impl Status {
             Status::Failed => 1,
             Status::Refused => 2,
             Status::Incomplete => 3,
+            Status::Rejected => 4,
         }
     }
 }
