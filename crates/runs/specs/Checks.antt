@@ -5,7 +5,7 @@ use Rattle.cards.specs.declared.suits.Trump.{Trump}
 use Rattle.cards.specs.Deal.{Deal}
 use Rattle.cards.specs.Devices.{Device, Adds, AddsBeginning, one_more}
 use Rattle.pbn_deals.specs.LayoutValue.{SaysLayout}
-use Rattle.streams.specs.Inputs.{IsTextOf}
+use Rattle.streams.specs.Inputs.{IsReadToEnd}
 use Rattle.checker.specs.declared.entries.Shown.{Shown}
 use Rattle.checker.specs.declared.hand_faults.HandFault.{HandFault}
 use Rattle.checker.specs.Verdicts.{IsVerdict}
@@ -36,7 +36,7 @@ pub record HasVerdict (value : List ℕ) (declarer : Seat) (trump : Trump) (old 
   pub deal : Deal
   pub spelt : SaysLayout value (Ok deal)
   pub text : List ℕ
-  pub all : IsTextOf old new text
+  pub all : IsReadToEnd old new text
   pub judged : IsVerdictOf text deal declarer trump verdict
 
 -- the bytes spell a layout
@@ -59,7 +59,7 @@ ChecksAnswer value declarer trump source source' sink sink' (Err Read) =
 ChecksAnswer value declarer trump source source' sink sink' (Err OutOfMemory) =
     SpellsLayout value × (source'.failed ≡ source.failed) × (sink' ≡ sink)
 ChecksAnswer value declarer trump source source' sink sink' (Err NoResult) =
-    SpellsLayout value × (text : List ℕ) × IsTextOf source source' text × LacksResult text × (sink' ≡ sink)
+    SpellsLayout value × (text : List ℕ) × IsReadToEnd source source' text × LacksResult text × (sink' ≡ sink)
 ChecksAnswer value declarer trump source source' sink sink' (Err NotText) = ⊥
 ChecksAnswer value declarer trump source source' sink sink' (Err TooLarge) = ⊥
 ChecksAnswer value declarer trump source source' sink sink' (Err (Pbn fault)) = ⊥
