@@ -9,7 +9,7 @@ ghost use Rattle.pattern_step.specs.Tricks.{AreLegalInTurn, IsLeft, IsLeftOf, le
 ghost use Rattle.pattern_step.specs.PatCards.{is_top};
 
 use crate::pat_cards::PatCard;
-use crate::trick_winners::played_by;
+use crate::trick_winners::{is_played, played_by};
 use cards::{Seat, Suit};
 use patterns::{Pattern, Rest, SuitWord};
 
@@ -34,6 +34,9 @@ fn left(pattern: &Pattern, leader: Seat, cards: &[PatCard; 4], suit: Suit) -> Su
     ensures { IsLeftOf (suit_of pattern.now suit) leader cards.now suit result }
 {
     pattern.invariant();
+    if !is_played(cards, suit) {
+        return pattern.suit(suit);
+    }
     let all = pattern.suit(suit).without(places_played(cards, suit));
     let north = played_from(all, leader, cards, suit, Seat::North);
     let east = played_from(north, leader, cards, suit, Seat::East);

@@ -50,7 +50,7 @@ fn low_players(leader: Seat, cards: &[PatCard; 4], suit: Suit) -> SeatSet
 }
 
 /// Whether a card of the suit was played.
-fn is_played(cards: &[PatCard; 4], suit: Suit) -> bool
+pub(crate) fn is_played(cards: &[PatCard; 4], suit: Suit) -> bool
     ensures { result ≡ list_any (is_of_suit suit) cards.now }
 {
     cards.iter().any(|card| card.is_of(suit))

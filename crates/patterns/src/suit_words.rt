@@ -21,7 +21,7 @@ use std::marker::Model;
 
 /// One suit in a word. From the lowest bit on: four bits each for the lengths of North, East, South and West, four
 /// for the number of owners, and two for each owner. The other bits are 0.
-#[derive(Clone, Copy)]
+#[derive(Clone, Copy, Debug)]
 pub struct SuitWord {
     word: u64,
 }

@@ -261,3 +261,23 @@ fn refuses_words_in_order(rt: HostRuntime) -> Result<(), Fail> {
     );
     Ok(())
 }
+
+#[test]
+fn takes_cards_and_owners_out_of_a_word(rt: HostRuntime) -> Result<(), Fail> {
+    let pattern = spades([2, 2, 2, 2], &[NORTH, WEST, NORTH])?;
+    let held = pattern.suit(Suit::Spades);
+    let west_alone = held.without(0b101);
+    assert_eq!(rt; west_alone.owner_count(), 1);
+    assert_eq!(rt; west_alone.owner(0), Some(WEST));
+    assert_eq!(rt; west_alone.len(NORTH), 2);
+    let norths = held.without(0b010);
+    assert_eq!(rt; norths.owner_count(), 2);
+    assert_eq!(rt; norths.owner(1), Some(NORTH));
+    assert_eq!(rt; held.without(1 << 5).owner_count(), 3);
+    assert_eq!(rt; held.without(u64::MAX).owner_count(), 0);
+    assert_eq!(rt; held.less(WEST).len(WEST), 1);
+    assert_eq!(rt; held.less(WEST).len(SOUTH), 2);
+    assert_eq!(rt; held.less(WEST).tops(NORTH), 2);
+    assert_eq!(rt; pattern.suit(Suit::Hearts).less(NORTH).len(NORTH), 0);
+    Ok(())
+}
