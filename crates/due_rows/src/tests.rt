@@ -1,0 +1,80 @@
+//! Rows against a slow search.
+
+use crate::DueRow;
+use std::alloc::Global;
+use std::process::Abort;
+use std::test::Fail;
+
+/// The first place from this one on with a moment of at most `now`.
+fn slow_first(moments: &[Option<u64>], now: u64, from: usize) -> Option<usize> {
+    for (place, moment) in moments.iter().enumerate() {
+        if place >= from
+            && let Some(moment) = moment
+            && *moment <= now
+        {
+            return Some(place);
+        }
+    }
+    None
+}
+
+/// The next of a fixed run of numbers below 2^31.
+fn next(number: u64) -> u64 {
+    (number % 2_147_483_648 * 1_103_515_245 + 12_345) % 2_147_483_648
+}
+
+/// A run of changes to a row of so many places and one more, each followed by searches from each place.
+fn run<R: Abort>(rt: &R, alloc: Global, more: u8) -> Result<(), Fail> {
+    let count = usize::from(more) + 1;
+    let mut row = DueRow::new(alloc, count)?;
+    let mut slow = vec![in alloc; None; count]?;
+    let mut number = 7;
+    for _ in 0..60 {
+        number = next(number);
+        let place = (number / 16 % 1_000_000) as usize % count;
+        number = next(number);
+        let moment = if number / 64 % 4 == 0 {
+            None
+        } else {
+            Some(number / 1024 % 20)
+        };
+        assert!(rt; place < row.len() && place < slow.len());
+        row.set(place, moment);
+        slow[place] = moment;
+        number = next(number);
+        let now = number / 256 % 20;
+        for from in 0..count + 2 {
+            assert_eq!(rt;
+                row.first_due(now, from),
+                slow_first(slow.as_slice(), now, from)
+            );
+        }
+    }
+    Ok(())
+}
+
+/// Rows of one place, of powers of two, and of numbers beside them.
+#[test]
+fn finds_what_a_slow_search_finds(rt: HostRuntime) -> Result<(), Fail> {
+    for more in [0, 1, 2, 3, 4, 6, 7, 8, 19] {
+        run(&rt, rt.alloc(), more)?;
+    }
+    Ok(())
+}
+
+/// A row without places, and moments at the ends of their range.
+#[test]
+fn has_bounds(rt: HostRuntime) -> Result<(), Fail> {
+    let row = DueRow::new(rt.alloc(), 0)?;
+    assert_eq!(rt; row.first_due(u64::MAX, 0), None);
+    let mut row = DueRow::new(rt.alloc(), 3)?;
+    row.set(2, Some(u64::MAX));
+    assert_eq!(rt; row.first_due(u64::MAX - 1, 0), None);
+    assert_eq!(rt; row.first_due(u64::MAX, 0), Some(2));
+    row.set(1, Some(0));
+    assert_eq!(rt; row.first_due(0, 0), Some(1));
+    assert_eq!(rt; row.first_due(0, 2), None);
+    row.set(1, None);
+    assert_eq!(rt; row.first_due(0, 0), None);
+    Ok(())
+}
