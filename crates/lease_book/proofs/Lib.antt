@@ -1,0 +1,10 @@
+pub mod SlotLaws
+pub mod HistoryLaws
+pub mod HeldLaws
+pub mod BookLaws
+pub mod ReleaseLaws
+pub mod EntryLaws
+pub mod Answering
+pub mod OpenLaws
+pub mod ExpireLaws
+pub mod SettleLaws

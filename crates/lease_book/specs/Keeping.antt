@@ -1,0 +1,56 @@
+-- What a book keeps beside its history, and what that has to be.
+use Rattle.std.specs.Prelude.{◌≡◌, ℕ, suc, ◌+◌, ◌-◌, ◌*◌, ◌/◌, ◌<◌, ◌≤◌, Bool, false, List, [], ◌∷◌, length, Option, None, Some, is_some, ◌⊎◌, if◌then◌else◌, slice_index_or}
+use Rattle.std.specs.List.{find, list_any}
+use Rattle.cards.specs.Deal.{Deal}
+use Rattle.lease_book.specs.declared.entries.Entry.{Entry}
+use Rattle.lease_book.specs.declared.events.Grant.{Grant}
+use Rattle.lease_book.specs.declared.events.Event.{Event}
+use Rattle.lease_book.specs.declared.slots.Slot.{Slot}
+use Rattle.lease_book.specs.Entries.{place_of}
+use Rattle.lease_book.specs.Proofs.{IsProven}
+use Rattle.lease_book.specs.Histories.{Terms, given_in, held_after, published_at, published_in, times_leased, deal_of, is_numbered, is_for_place}
+use Rattle.lease_book.specs.Replies.{IsLegal}
+
+-- the lease is one of these
+abbrev pub Among : Grant → List Grant → Type 0
+Among grant [] = ⊥
+Among grant (first ∷ rest) = (first ≡ grant) ⊎ Among grant rest
+
+-- no two are of one entry
+abbrev pub AreApart : List Grant → Type 0
+AreApart [] = Unit {0}
+AreApart (grant ∷ rest) = (list_any (is_for_place (place_of grant.entry)) rest ≡ false) × AreApart rest
+
+-- they are numbered in turn
+abbrev pub AreNumberedFrom : ℕ → List Grant → Type 0
+AreNumberedFrom number [] = Unit {0}
+AreNumberedFrom number (grant ∷ rest) = (grant.lease ≡ number) × AreNumberedFrom (suc number) rest
+
+-- what the history says of the entry in a place
+abbrev pub slot_of : Terms → List Event → ℕ → Slot
+slot_of terms events place =
+    record {
+      published = published_at place events;
+      holder = find (is_for_place place) (held_after events);
+      left = (if is_some (deal_of terms.boards (place / 20)) then terms.tries else 0) - times_leased events place
+    }
+
+-- each published number is proven of the deal of its board
+abbrev pub AreProven : Terms → List Event → Type 0
+AreProven terms events =
+    (entry : Entry) (deal : Deal) (k : ℕ) → published_in events entry ≡ Some k → deal_of terms.boards entry.board ≡ Some deal
+    → IsProven (record { layout = deal; declarer = entry.declarer; trump = entry.trump; k = k })
+
+-- what a book is: its history is legal, and what is kept beside it is what the history says
+pub record IsKept (terms : Terms) (events : List Event) (leases : List Grant) (slots : List Slot) : Type 0 where
+  pub legal : IsLegal terms events
+  pub proven : AreProven terms events
+  pub few_boards : length terms.boards ≤ 4096
+  pub sized : length slots ≡ 20 * length terms.boards
+  pub given : leases ≡ given_in events
+  pub numbered : AreNumberedFrom 1 leases
+  pub there : (grant : Grant) → Among grant leases → place_of grant.entry < length slots
+  pub found : (grant : Grant) → Among grant (held_after events) → find (is_numbered grant.lease) leases ≡ Some grant
+  pub apart : AreApart (held_after events)
+  pub slots_are : (place : ℕ) (d : Slot) → place < length slots → slice_index_or slots place d ≡ slot_of terms events place
+  pub only_there : (place : ℕ) → length slots ≤ place → published_at place events ≡ None

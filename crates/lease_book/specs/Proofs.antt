@@ -1,0 +1,21 @@
+-- What a book asks of whatever it publishes.
+use Rattle.std.specs.Prelude.{Result, Ok, Err}
+use Rattle.checker.specs.declared.entries.Shown.{Shown}
+use Rattle.checker.specs.declared.hand_faults.HandFault.{HandFault}
+use Rattle.checker.specs.Claims.{IsShown}
+use Rattle.lease_book.specs.declared.events.Evidence.{Evidence}
+use Rattle.lease_book.specs.declared.events.Evidence.TheVariants.{Shows, Faulty}
+
+-- what every `Proven` keeps
+abbrev pub IsProven : Shown → Type 0
+IsProven shown = IsShown shown
+
+-- what a verdict has shown
+abbrev pub evidence_of : Result Shown HandFault → Evidence
+evidence_of (Ok shown) = Shows shown
+evidence_of (Err fault) = Faulty fault
+
+-- where it shows something, that is proven
+abbrev pub IsProvenEvidence : Evidence → Type 0
+IsProvenEvidence (Shows shown) = IsProven shown
+IsProvenEvidence (Faulty fault) = Unit {0}

@@ -1,0 +1,282 @@
+//! The book of leases.
+
+ghost use Rattle.std.specs.Prelude.{◌≡◌, ◌<◌, ◌≤◌, ◌*◌, ◌-◌, ◌^◌, ℕ, [], length, slice_set, slice_index_or, IfOk, OnErr, Some, MatchResult, MatchBool, if◌then◌else◌, Err};
+ghost use Rattle.std.specs.List.{find};
+ghost use Rattle.cards.specs.Deal.{Deal};
+ghost use Rattle.lease_book.specs.Entries.{place_of};
+ghost use Rattle.lease_book.specs.Proofs.{IsProven, IsProvenEvidence, evidence_of};
+ghost use Rattle.lease_book.specs.Histories.{is_numbered, published_in, deal_of};
+ghost use Rattle.lease_book.specs.Replies.{IsLegal, is_evidence_for, is_shown_for};
+ghost use Rattle.lease_book.specs.Slots.{is_holder, freed_of};
+ghost use Rattle.lease_book.specs.Keeping.{AreNumberedFrom, AreProven};
+ghost use Rattle.lease_book.specs.Books.{IsAnswered, IsMade};
+ghost use Rattle.lease_book.specs.declared.slots.Slot.{Slot};
+ghost use Rattle.lease_book.specs.declared.events.Asked.TheVariants.{Lease, Expire, GiveUp, HandIn};
+ghost use Rattle.lease_book.specs.declared.events.Reply.TheVariants.{GaveUp, NotHeld};
+
+use crate::entries::{Entry, contract_place};
+use crate::events::{Asked, Event, Evidence, Grant, Reply, add, make_room};
+use crate::faults::BookFault;
+use crate::slots::{Slot, Slots};
+use cards::Layout;
+use checker::{OutOfMemory, Shown, Verdict};
+use pbn_deals::Board;
+use std::alloc::Global;
+use std::marker::Model;
+
+/// A book of leases over a list of boards. Contracts see its boards, term and tries, and its history.
+#[derive(Drop)]
+pub struct Book {
+    boards: Vec<Board>,
+    term: u64,
+    tries: u32,
+    events: Vec<Event>,
+    /// The leases given, in order.
+    leases: Vec<Grant>,
+    /// What the history says of each entry.
+    slots: Slots,
+}
+
+impl Model for Book {
+    ghost use Rattle.lease_book.specs.Books.{Ledger};
+    ghost use Rattle.lease_book.specs.Keeping.{IsKept};
+
+    ghost Value = { Ledger };
+
+    ghost view = { λ book. record { terms = record { boards = book.boards.items; term = book.term; tries = book.tries }; events = book.events.items } };
+
+    ghost invariant = { λ book. IsKept (record { boards = book.boards.items; term = book.term; tries = book.tries }) book.events.items book.leases.items book.slots };
+}
+
+/// The lease given under a number.
+fn given(leases: &[Grant], lease: u64) -> Option<Grant>
+    requires { AreNumberedFrom 1 leases.now }
+    ensures { result ≡ find (is_numbered lease) leases.now }
+{
+    if lease == 0 || lease > leases.len() as u64 {
+        return None;
+    }
+    Some(leases[(lease - 1) as usize])
+}
+
+/// Takes the lease of this number from the entry in a place, where it is held.
+fn take_back(slots: &mut Slots, place: usize, lease: u64) -> Reply
+    requires { place < length slots.old }
+    ensures reply { (d : Slot) → result ≡ (if is_holder lease (slice_index_or slots.old place d).holder then GaveUp else NotHeld) }
+    ensures slots { (d : Slot) → slots.new ≡ slice_set slots.old place (freed_of lease (slice_index_or slots.old place d)) }
+{
+    let slot = slots.slot(place);
+    if !slot.is_held_by(lease) {
+        return Reply::NotHeld;
+    }
+    slots.set(
+        place,
+        Slot {
+            holder: None,
+            ..slot
+        },
+    );
+    Reply::GaveUp
+}
+
+/// What a verdict has shown.
+fn evidence_of(verdict: &Verdict) -> Evidence
+    ensures same { result ≡ evidence_of verdict.now }
+    ensures proven { IsProvenEvidence result }
+{
+    match verdict {
+        Ok(proven) => {
+            proven.invariant();
+            Evidence::Shows(proven.shown())
+        }
+        Err(fault) => Evidence::Faulty(*fault),
+    }
+}
+
+/// Whether what was handed in can be for the entry.
+fn is_evidence_for(boards: &[Board], entry: &Entry, evidence: &Evidence) -> bool
+    ensures { result ≡ is_evidence_for boards.now entry.now evidence.now }
+{
+    match evidence {
+        Evidence::Shows(shown) => match boards.get(entry.board) {
+            Some(board) => is_shown_for(&board.deal, entry, shown),
+            None => false,
+        },
+        Evidence::Faulty(_) => true,
+    }
+}
+
+/// Whether what was shown is of this deal, and of the entry's declarer and denomination.
+fn is_shown_for(deal: &Option<Layout>, entry: &Entry, shown: &Shown) -> bool
+    ensures { result ≡ is_shown_for deal.now entry.now shown.now }
+{
+    match deal {
+        Some(layout) => {
+            *layout == shown.layout
+                && contract_place(entry.declarer, entry.trump)
+                    == contract_place(shown.declarer, shown.trump)
+        }
+        None => false,
+    }
+}
+
+impl Book {
+    /// A book over these boards, at most 4,096, without a history. A lease lasts a term, and an entry is leased at most
+    /// as often as `tries` says, 1 to 1,000.
+    pub fn new(
+        alloc: Global,
+        boards: Vec<Board>,
+        term: u64,
+        tries: u32,
+    ) -> Result<Book, BookFault>
+        ensures { IsMade (record { boards = boards.items; term = term; tries = tries }) result }
+    {
+        if boards.len() > 4096 {
+            return Err(BookFault::TooManyBoards);
+        }
+        if tries == 0 || tries > 1000 {
+            return Err(BookFault::Tries);
+        }
+        let Ok(slots) = Slots::new(alloc, boards.as_slice(), tries) else {
+            return Err(BookFault::OutOfMemory);
+        };
+        Ok(Book {
+            boards,
+            term,
+            tries,
+            events: Vec::new(alloc),
+            leases: Vec::new(alloc),
+            slots,
+        })
+    }
+
+    /// The boards, in their order.
+    pub fn boards(&self) -> &[Board]
+        ensures { result.now ≡ self.now.terms.boards }
+    {
+        self.boards.as_slice()
+    }
+
+    /// All that was asked and replied, in order. Each reply is the one that the history before it names.
+    pub fn history(&self) -> &[Event]
+        ensures events { result.now ≡ self.now.events }
+        ensures legal { IsLegal self.now.terms self.now.events }
+    {
+        self.events.as_slice()
+    }
+
+    /// The number published for an entry, which is proven on the deal of its board.
+    pub fn published(&self, entry: Entry) -> Option<u8>
+        ensures number { result ≡ published_in self.now.events entry }
+        ensures proven { AreProven self.now.terms self.now.events }
+    {
+        if entry.board >= self.boards.len() {
+            return None;
+        }
+        self.slots.slot(entry.place()).published
+    }
+
+    /// Gives the least open entry to the one who asks, or answers that none is open.
+    pub fn lease(&mut self, now: u64) -> Result<Reply, OutOfMemory>
+        ensures ok { IfOk result (IsAnswered self.old self.new (Lease now)) }
+        ensures err { OnErr result (self.new ≡ self.old) }
+    {
+        make_room(&mut self.events)?;
+        let asked = Asked::Lease { now };
+        let Some(place) = self.slots.first_open() else {
+            return Ok(add(&mut self.events, asked, Reply::Nothing));
+        };
+        if self.leases.reserve(1).is_err() {
+            return Err(OutOfMemory);
+        }
+        let lease = self.leases.len() as u64 + 1;
+        let entry = Entry::at(place);
+        let deadline = now.saturating_add(self.term);
+        let grant = Grant {
+            lease,
+            entry,
+            deadline,
+        };
+        let slot = self.slots.slot(place);
+        self.slots.set(place, slot.leased(grant));
+        self.leases.push_reserved(grant);
+        let reply = Reply::Given {
+            lease,
+            entry,
+            deadline,
+        };
+        Ok(add(&mut self.events, asked, reply))
+    }
+
+    /// Frees the leases whose deadline is at this moment or before it.
+    pub fn expire(&mut self, now: u64) -> Result<Reply, OutOfMemory>
+        ensures ok { IfOk result (IsAnswered self.old self.new (Expire now)) }
+        ensures err { OnErr result (self.new ≡ self.old) }
+    {
+        make_room(&mut self.events)?;
+        let freed = self.slots.free_past(now);
+        Ok(add(
+            &mut self.events,
+            Asked::Expire { now },
+            Reply::Freed(freed),
+        ))
+    }
+
+    /// Takes a lease back.
+    pub fn give_up(&mut self, lease: u64) -> Result<Reply, OutOfMemory>
+        ensures ok { IfOk result (IsAnswered self.old self.new (GiveUp lease)) }
+        ensures err { OnErr result (self.new ≡ self.old) }
+    {
+        make_room(&mut self.events)?;
+        let asked = Asked::GiveUp { lease };
+        let Some(grant) = given(self.leases.as_slice(), lease) else {
+            return Ok(add(&mut self.events, asked, Reply::UnknownLease));
+        };
+        let place = grant.entry.place();
+        let reply = take_back(&mut self.slots, place, lease);
+        Ok(add(&mut self.events, asked, reply))
+    }
+
+    /// Publishes what was shown, if it is the first that counts for the entry.
+    pub fn settle(
+        &mut self,
+        lease: u64,
+        entry: Entry,
+        verdict: Verdict,
+    ) -> Result<Reply, OutOfMemory>
+        ensures ok { IfOk result (IsAnswered self.old self.new (HandIn lease entry (evidence_of verdict))) }
+        ensures err { OnErr result (self.new ≡ self.old) }
+    {
+        let evidence = evidence_of(&verdict);
+        make_room(&mut self.events)?;
+        let asked = Asked::HandIn {
+            lease,
+            entry,
+            evidence,
+        };
+        let Some(grant) = given(self.leases.as_slice(), lease) else {
+            return Ok(add(&mut self.events, asked, Reply::UnknownLease));
+        };
+        if !grant.entry.is_same(&entry) {
+            return Ok(add(&mut self.events, asked, Reply::OtherEntry));
+        }
+        if !is_evidence_for(self.boards.as_slice(), &entry, &evidence) {
+            return Ok(add(&mut self.events, asked, Reply::OtherEntry));
+        }
+        let place = grant.entry.place();
+        let slot = self.slots.slot(place);
+        if slot.published.is_some() {
+            return Ok(add(&mut self.events, asked, Reply::AlreadyPublished));
+        }
+        match evidence {
+            Evidence::Shows(shown) => {
+                self.slots.set(place, slot.with_number(shown.k));
+                Ok(add(&mut self.events, asked, Reply::Published(shown.k)))
+            }
+            Evidence::Faulty(fault) => {
+                let _held = take_back(&mut self.slots, place, lease);
+                Ok(add(&mut self.events, asked, Reply::BadCertificate(fault)))
+            }
+        }
+    }
+}

@@ -1,0 +1,137 @@
+//! What a book is asked, and what it replies.
+
+ghost use Rattle.std.specs.Prelude.{◌≡◌, ◌+◌, ◌<◌, ◌≤◌, ◌++◌, ◌∷◌, [], OnOk, vec_len, vec_capacity};
+
+use crate::entries::Entry;
+use checker::{HandFault, OutOfMemory, Shown};
+use thiserror::Error;
+
+/// A lease that was given.
+#[derive(Clone, Copy, Debug, PartialEq)]
+pub struct Grant {
+    /// Its number, from 1.
+    pub lease: u64,
+    /// The entry that it is for.
+    pub entry: Entry,
+    /// The moment from which on it can be expired.
+    pub deadline: u64,
+}
+
+/// What was handed in.
+#[derive(Clone, Copy, Debug, PartialEq)]
+pub enum Evidence {
+    /// It shows this.
+    Shows(Shown),
+    /// It shows nothing, by this fault.
+    Faulty(HandFault),
+}
+
+/// What a book is asked.
+#[derive(Clone, Copy, Debug, PartialEq)]
+pub enum Asked {
+    /// For a lease, at this moment.
+    Lease {
+        /// The moment.
+        now: u64,
+    },
+    /// To free the leases whose deadline is at this moment or before it.
+    Expire {
+        /// The moment.
+        now: u64,
+    },
+    /// To take a lease back.
+    GiveUp {
+        /// The lease's number.
+        lease: u64,
+    },
+    /// To publish what was shown.
+    HandIn {
+        /// The number of the lease under which it was worked out.
+        lease: u64,
+        /// The entry that it is meant for.
+        entry: Entry,
+        /// What was handed in.
+        evidence: Evidence,
+    },
+}
+
+/// What a book replies. Every refusal but `BadCertificate` leaves leases and publications as they were.
+#[derive(Clone, Copy, Debug, PartialEq, Error)]
+pub enum Reply {
+    /// A lease was given.
+    #[error("given {lease}")]
+    Given {
+        /// Its number.
+        lease: u64,
+        /// The entry that it is for.
+        entry: Entry,
+        /// Its deadline.
+        deadline: u64,
+    },
+    /// No entry is open.
+    #[error("nothing")]
+    Nothing,
+    /// So many leases were freed.
+    #[error("freed {0}")]
+    Freed(u64),
+    /// The lease was taken back.
+    #[error("gave up")]
+    GaveUp,
+    /// No lease of this number was given.
+    #[error("1 UnknownLease")]
+    UnknownLease,
+    /// The lease was freed before.
+    #[error("2 NotHeld")]
+    NotHeld,
+    /// The lease is for another entry, or what was shown is of another layout, declarer or denomination.
+    #[error("3 OtherEntry")]
+    OtherEntry,
+    /// The entry has a number already.
+    #[error("4 AlreadyPublished")]
+    AlreadyPublished,
+    /// Nothing was shown. The lease is freed if it was held.
+    #[error("5 BadCertificate {0}")]
+    BadCertificate(HandFault),
+    /// The entry has this number from now on.
+    #[error("published {0}")]
+    Published(u8),
+}
+
+/// A request with its reply. It is plain data.
+#[derive(Clone, Copy, Debug, PartialEq)]
+pub struct Event {
+    /// What was asked.
+    pub asked: Asked,
+    /// What was replied.
+    pub reply: Reply,
+}
+
+impl Event {
+    /// An equal event. Takes no memory.
+    pub fn copy(&self) -> Event
+        ensures { result ≡ self.now }
+    {
+        *self
+    }
+}
+
+/// Makes room for an event.
+pub(crate) fn make_room(events: &mut Vec<Event>) -> Result<(), OutOfMemory>
+    ensures events { events.new.items ≡ events.old.items }
+    ensures room { OnOk result (vec_len events.new < vec_capacity events.new) }
+{
+    if events.reserve(1).is_err() {
+        return Err(OutOfMemory);
+    }
+    Ok(())
+}
+
+/// Adds an event, for which there is room, and gives its reply back.
+pub(crate) fn add(events: &mut Vec<Event>, asked: Asked, reply: Reply) -> Reply
+    requires { vec_len events.old < vec_capacity events.old }
+    ensures events { events.new.items ≡ events.old.items ++ record { asked = asked; reply = reply } ∷ [] }
+    ensures reply { result ≡ reply }
+{
+    let _added = events.extend_from_slice(&[Event { asked, reply }]);
+    reply
+}

@@ -1,0 +1,18 @@
+//! Who works on what, and which hand-in counts.
+//!
+//! A [`Book`] gives out leases of entries, and keeps the history of all that it was asked and what it replied. Each
+//! reply is the one that the history before it names (`specs/Histories.antt`), and a published number is that of a
+//! proof on the board's deal.
+#![tactic(auto)]
+
+mod book;
+mod entries;
+mod events;
+mod faults;
+mod slots;
+
+pub use book::Book;
+pub use checker::OutOfMemory;
+pub use entries::Entry;
+pub use events::{Asked, Event, Evidence, Grant, Reply};
+pub use faults::BookFault;
