@@ -1,0 +1,13 @@
+//! Patterns that were found, each with the seat that leads, a side and how many tricks the side can win.
+//!
+//! For the lengths of each pattern, each lead and each side a store holds the list of its adds, in their order. It answers
+//! for a layout with the first of them that serves.
+#![tactic(auto)]
+
+mod keys;
+mod stores;
+#[cfg(test)]
+mod tests;
+
+pub use keys::{Added, Key};
+pub use stores::Store;
