@@ -1,7 +1,7 @@
 //! The graph of a side, written from the root on, each node after those that name it first.
 
 use crate::entries::list_of;
-use crate::plans::{Known, Piece, Plan};
+use crate::plans::{Goal, Known, Piece, Plan};
 use crate::played_patterns::{LOW, PatternTrick, PlainCard};
 use crate::search::Search;
 use crate::tricks::Trick;
@@ -113,11 +113,11 @@ impl Writing {
             return Ok(None);
         };
         self.plan.pieces.truncate(0);
-        if self
-            .plan
-            .add_tree(search, 32, &trick, i32::from(entry.need))?
-            .is_none()
-        {
+        let goal = Goal {
+            need: i32::from(entry.need),
+            limit: u32::MAX,
+        };
+        if self.plan.add_tree(search, 32, &trick, goal)?.is_none() {
             return Ok(None);
         }
         self.put_down_children()?;

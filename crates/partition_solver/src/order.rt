@@ -33,9 +33,9 @@ fn one_if(holds: bool) -> i32 {
     if holds { 1 } else { 0 }
 }
 
-/// The place of a card in its suit.
+/// The rank of a card, 2 for the deuce.
 fn rank_of(card: u64) -> i32 {
-    (card.trailing_zeros() & 15) as i32
+    (card.trailing_zeros() & 15) as i32 + 2
 }
 
 /// A number of bits, the first the lowest.

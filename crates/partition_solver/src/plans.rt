@@ -1,7 +1,7 @@
 //! The proof of an entry: one trick on its pattern, worked out anew from what the search remembers.
 
-use crate::entries::{Entry, list_of};
-use crate::played_patterns::{LOW, PatternTrick, PlainCard};
+use crate::entries::{Slot, list_of};
+use crate::played_patterns::{LOW, PatternTrick, PlainCard, Remains};
 use crate::search::Search;
 use cards::Suit;
 use std::alloc::{AllocError, Global};
@@ -38,6 +38,13 @@ pub(crate) struct Plan {
     pub ours: bool,
     /// Where the suits lie in a word, spades first.
     pub lanes: [usize; 4],
+}
+
+/// What a tree has to show: so many tricks, with fewer new nodes than the limit.
+#[derive(Clone, Copy, Debug)]
+pub(crate) struct Goal {
+    pub need: i32,
+    pub limit: u32,
 }
 
 /// Where a suit lies in a word.
@@ -85,25 +92,25 @@ impl Plan {
     }
 
     /// Adds the tree of what follows, and answers how many new nodes it needs. None where what is remembered does not
-    /// show it, or no steps are left; what was added is then of no use.
+    /// show it with fewer than the limit, or no steps are left; what was added is then of no use.
     #[cycle(planning)]
     pub(crate) fn add_tree(
         &mut self,
         search: &mut Search,
         fuel: u32,
         trick: &PatternTrick,
-        need: i32,
+        goal: Goal,
     ) -> Result<Option<u32>, AllocError> {
         if fuel == 0 {
             return Ok(None);
         }
         if trick.played >= 4 {
-            return self.add_leaf(search, trick, need);
+            return self.add_leaf(search, trick, goal);
         }
         if (trick.seat & 1 == 0) == self.ours {
-            self.add_own(search, fuel - 1, trick, need)
+            self.add_own(search, fuel - 1, trick, goal)
         } else {
-            self.add_reply(search, fuel - 1, trick, need)
+            self.add_reply(search, fuel - 1, trick, goal)
         }
     }
 
@@ -114,7 +121,7 @@ impl Plan {
         search: &mut Search,
         fuel: u32,
         trick: &PatternTrick,
-        need: i32,
+        goal: Goal,
         piece: Piece,
         card: PlainCard,
     ) -> Result<Option<u32>, AllocError> {
@@ -124,7 +131,7 @@ impl Plan {
         search.steps -= 1;
         self.pieces.push(piece)?;
         let after = trick.after(card, search.deal.trumps != 0);
-        self.add_tree(search, fuel - 1, &after, need)
+        self.add_tree(search, fuel - 1, &after, goal)
     }
 
     /// Adds the card of the side whose tree needs the fewest new nodes.
@@ -134,37 +141,36 @@ impl Plan {
         search: &mut Search,
         fuel: u32,
         trick: &PatternTrick,
-        need: i32,
+        goal: Goal,
     ) -> Result<Option<u32>, AllocError> {
         if fuel == 0 {
             return Ok(None);
         }
         let begin = self.pieces.len();
-        let mut least = None;
+        let mut least = goal;
+        let mut found = None;
         for number in 0..4usize {
             let lane = self.lanes[number];
-            let legal = tops_of_runs(trick.legal(lane));
-            for place in 0..16u32 {
-                if legal.wrapping_shr(place) & 1 == 0 || least == Some(0) {
-                    continue;
+            let mut legal = tops_of_runs(trick.legal(lane));
+            for _ in 0..16 {
+                if legal == 0 || least.limit == 0 {
+                    break;
                 }
+                let place = legal.trailing_zeros();
+                legal &= legal.wrapping_sub(1);
                 let card = PlainCard { lane, place };
                 let from = self.pieces.len();
-                let cost = self.add_card(search, fuel - 1, trick, need, Piece::Own(card), card)?;
-                match (least, cost) {
-                    (Some(old), Some(new)) if new < old => {
-                        self.keep(begin, from);
-                        least = cost;
-                    }
-                    (None, Some(_)) => {
-                        self.keep(begin, from);
-                        least = cost;
-                    }
-                    _ => self.pieces.truncate(from),
+                let cost = self.add_card(search, fuel - 1, trick, least, Piece::Own(card), card)?;
+                if let Some(new) = cost {
+                    self.keep(begin, from);
+                    least.limit = new;
+                    found = cost;
+                } else {
+                    self.pieces.truncate(from);
                 }
             }
         }
-        Ok(least)
+        Ok(found)
     }
 
     /// Drops the pieces from the first place up to the second.
@@ -191,7 +197,7 @@ impl Plan {
         search: &mut Search,
         fuel: u32,
         trick: &PatternTrick,
-        need: i32,
+        goal: Goal,
     ) -> Result<Option<u32>, AllocError> {
         if fuel == 0 {
             return Ok(None);
@@ -202,21 +208,20 @@ impl Plan {
         let mut sum = 0u32;
         for number in 0..4usize {
             let lane = self.lanes[number];
-            let legal = trick.legal(lane);
-            for place in 0..16u32 {
-                if legal.wrapping_shr(place) & 1 == 0 {
-                    continue;
+            let mut legal = trick.legal(lane);
+            for _ in 0..16 {
+                if legal == 0 {
+                    break;
                 }
+                let place = legal.trailing_zeros();
+                legal &= legal.wrapping_sub(1);
                 let card = PlainCard { lane, place };
-                let Some(cost) = self.add_card(
-                    search,
-                    fuel - 1,
-                    trick,
-                    need,
-                    Piece::Branch(card),
-                    card,
-                )?
-                else {
+                let rest = Goal {
+                    need: goal.need,
+                    limit: goal.limit.saturating_sub(sum),
+                };
+                let cost = self.add_card(search, fuel - 1, trick, rest, Piece::Branch(card), card)?;
+                let Some(cost) = cost else {
                     return Ok(None);
                 };
                 count = count.wrapping_add(1);
@@ -234,22 +239,30 @@ impl Plan {
         &mut self,
         search: &Search,
         trick: &PatternTrick,
-        need: i32,
+        goal: Goal,
     ) -> Result<Option<u32>, AllocError> {
         let begin = self.pieces.len();
         self.pieces.push(Piece::Leaf(0))?;
         let winners = trick.winners();
         let mut count = 0usize;
         let mut cost = 0u32;
+        let mut after = None;
         for seat in 0..4usize {
-            if winners.wrapping_shr(seat as u32) & 1 == 0 {
+            let won = if (seat & 1 == 0) == self.ours { 1 } else { 0 };
+            let rest = goal.need.wrapping_sub(won);
+            if winners.wrapping_shr(seat as u32) & 1 == 0 || rest <= 0 {
                 continue;
             }
-            let rest = need.wrapping_sub(if (seat & 1 == 0) == self.ours { 1 } else { 0 });
-            if rest <= 0 {
-                continue;
+            if after.is_none() {
+                after = search
+                    .entries
+                    .slot(trick.lengths)
+                    .map(|slot| (slot, trick.remains()));
             }
-            let Some(entry) = self.child(search, trick, seat, rest) else {
+            let Some((slot, remains)) = after else {
+                return Ok(None);
+            };
+            let Some(entry) = self.child(search, slot, remains, seat, rest) else {
                 return Ok(None);
             };
             if self.number(entry) == 0 {
@@ -262,6 +275,9 @@ impl Plan {
             }))?;
             count = count.wrapping_add(1);
         }
+        if cost >= goal.limit {
+            return Ok(None);
+        }
         if let Some(piece) = self.pieces.get_mut(begin) {
             *piece = Piece::Leaf(count);
         }
@@ -272,19 +288,18 @@ impl Plan {
     fn child(
         &self,
         search: &Search,
-        trick: &PatternTrick,
+        slot: &Slot,
+        remains: Remains,
         winner: usize,
         need: i32,
     ) -> Option<u32> {
-        let slot = search.entries.slot(trick.lengths)?;
-        let remains = trick.remains();
         let mut number = search.entries.first(slot, list_of(winner, self.ours));
         let mut first = None;
         for _ in 0..search.entries.len() {
             if number == 0 {
                 break;
             }
-            let entry: Entry = search.entries.entry(number);
+            let entry = search.entries.entry(number);
             if i32::from(entry.need) >= need && remains.are_covered_by(&entry) {
                 if self.number(number) != 0 {
                     return Some(number);

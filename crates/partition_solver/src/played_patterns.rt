@@ -21,6 +21,8 @@ pub(crate) struct PatternTrick {
     owners: [u32; 4],
     depths: [u32; 4],
     gone: [u32; 4],
+    /// The tops of each seat, sixteen bits a suit, a bit for each place.
+    tops: [u64; 4],
     /// The lengths, as the search has them.
     pub lengths: u64,
     led: Option<usize>,
@@ -61,6 +63,20 @@ fn without(owners: u32, place: u32) -> u32 {
     owners & low | owners >> 2 & !low
 }
 
+/// The tops of each seat.
+fn tops_of(owners: [u32; 4], depths: [u32; 4]) -> [u64; 4] {
+    let mut tops = [0u64; 4];
+    for lane in 0..4usize {
+        for place in 0..13u32 {
+            if place < depths[lane] {
+                let owner = (owners[lane].wrapping_shr(place * 2) & 3) as usize;
+                tops[owner] |= 1u64.wrapping_shl(lane as u32 * 16 + place);
+            }
+        }
+    }
+    tops
+}
+
 impl PatternTrick {
     /// The start of a trick on an entry's pattern.
     pub(crate) fn start(entry: &Entry, lengths: u64, lead: usize) -> PatternTrick {
@@ -74,6 +90,7 @@ impl PatternTrick {
             owners,
             depths,
             gone: [0; 4],
+            tops: tops_of(owners, depths),
             lengths,
             led: None,
             deciding: 0,
@@ -113,12 +130,7 @@ impl PatternTrick {
                 return 0;
             }
         }
-        let mut cards = 0u32;
-        for place in 0..13u32 {
-            if place < self.depth(lane) && self.owner(lane, place) == self.seat & 3 {
-                cards |= 1u32.wrapping_shl(place);
-            }
-        }
+        let mut cards = lane_of(self.tops[self.seat & 3], lane);
         if cards.count_ones() < self.length(lane) {
             cards |= 1u32.wrapping_shl(LOW);
         }
@@ -172,11 +184,14 @@ impl PatternTrick {
         for lane in 0..4usize {
             let mut suit = self.owners[lane];
             let gone = self.gone[lane];
-            for above in 0..13u32 {
-                let place = 12u32.wrapping_sub(above);
-                if gone.wrapping_shr(place) & 1 == 1 {
-                    suit = without(suit, place);
+            let mut rest = gone;
+            for _ in 0..4 {
+                if rest == 0 {
+                    break;
                 }
+                let place = 31u32.wrapping_sub(rest.leading_zeros());
+                suit = without(suit, place);
+                rest &= !1u32.wrapping_shl(place);
             }
             let depth = self.depths[lane].wrapping_sub(gone.count_ones()) & 15;
             let bits = 1u32.wrapping_shl(depth.wrapping_mul(2)).wrapping_sub(1);

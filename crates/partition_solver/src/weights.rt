@@ -3,8 +3,8 @@
 /// How many weights a set has.
 pub(crate) const COUNT: usize = 352;
 
-/// Where the side to play wants more than half of the tricks left.
-pub(crate) static EAGER: [i32; 352] = [
+/// Where the side to play wants at most half of the tricks left.
+pub(crate) static MODEST: [i32; 352] = [
     52, -69, 3, 48, -10, -20, 36, 13, 9, 48, -42, -43, 69, 1, 3, -2, 3, 1, -8, -5, -16, 23, -11, 4,
     -9, -26, -6, -51, 34, -23, 25, 36, 32, 56, 32, 41, 9, 12, 45, 38, 34, 33, 42, 42, 21, -11, -5,
     -6, -14, 2, -10, 34, -25, -9, -28, 1, -12, -31, 0, -8, 69, -3, 5, 44, -5, -106, 47, -2, 47, 48,
@@ -23,8 +23,8 @@ pub(crate) static EAGER: [i32; 352] = [
     -24,
 ];
 
-/// Where it wants fewer.
-pub(crate) static MODEST: [i32; 352] = [
+/// Where the side to play wants more than half of the tricks left.
+pub(crate) static EAGER: [i32; 352] = [
     54, -54, 8, 47, -10, -11, 34, 8, 42, 35, -24, -58, 46, -7, 5, 0, 9, 2, -8, 9, -21, 23, -19, 15,
     -15, -28, -11, -20, 31, -23, 25, 28, 32, 55, 34, 38, 7, 54, 50, 42, 40, 33, 9, 36, 25, -16, -7,
     -7, -45, -27, -12, 63, -25, 2, -31, -11, -8, -22, -5, -4, 55, -10, -1, 45, -10, -116, 43, 7,
