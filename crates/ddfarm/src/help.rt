@@ -47,6 +47,37 @@ Exit status:
   2  the command line or the text is refused
   3  a table is incomplete";
 
+pub const CHECK_ABOUT: &str = "\
+Checks an answer: that declarer's side takes just so many tricks of a layout";
+
+pub const CHECK_USAGE: &str = "ddfarm check LAYOUT DECLARER TRUMP <answer.txt";
+
+pub const CHECK_EXAMPLE: &str = "\
+Example:
+  ddfarm check \"N:A... K... Q... J...\" N NT <answer.txt
+reads an answer from the standard input: a line `result 1`, the certificate of
+declarer's side, an empty line, and that of the defenders. Where they show that
+North takes 1 trick, `accepted 1` is printed.
+
+What is refused is printed behind `refused`, with `declarer` or `defenders` before
+all but 9:
+  1 RootMissing   tricks are to be won, and there are no nodes
+  2 RootNeedless  no tricks are to be won, and there are nodes
+  3 RootTrump     another trump
+  4 RootSide      another side
+  5 RootLead      node 0 has another seat to lead
+  6 RootNeed      node 0 has another need
+  7 RootPattern   the layout doesn't match the pattern of node 0
+  8 Node          the step of a node doesn't hold: its number and its own fault
+  9 KTooLarge     there are to be more tricks than cards in a hand
+  10 Text         the text is no certificate: its own fault and the line
+
+Exit status:
+  0  the answer is accepted
+  1  memory or a device failed
+  2  the command line is refused, or the first line is not a result line
+  4  the answer is refused";
+
 pub const LAYOUT: &str = "\
 The four hands, in quotes: a seat (N, E, S or W), a colon, its hand, and then
 the others clockwise, with a blank between two hands. A hand is its spades,
@@ -55,5 +86,7 @@ Example: \"N:AQ... 65... 32... K4...\", where North holds the ace and queen of
 spades, East the six and five, South the three and two, West the king and four.";
 
 pub const LEADER: &str = "The seat that leads to the first trick, as S for South";
+
+pub const DECLARER: &str = "Declarer's seat, as E for East; the seat at the left leads";
 
 pub const TRUMP: &str = "The trump suit, as H for hearts, or NT for no-trump";

@@ -72,6 +72,60 @@ fn worked_endings(rt: HostRuntime) -> Result<(), Fail> {
     Ok(())
 }
 
+/// What the words of `check` print for North's ace, of which North takes a trick.
+const CHECKS: [(&[&str], &str, (Status, &str, &str)); 6] = [
+    (
+        &["ddfarm", "check", "N:A... K... Q... J...", "N", "NT"],
+        "result 1\nDDC 1\ntrump NT\nside NS\nnodes 1\nE 1 1.1.1.1/N 0.0.0.0/ 0.0.0.0/ 0.0.0.0/ (SxSx(SxSa{}))\n\nDDC 1\ntrump NT\nside EW\nnodes 0\n",
+        (Status::Done, "accepted 1\n", ""),
+    ),
+    (
+        &["ddfarm", "check", "N:A... K... Q... J...", "N", "NT"],
+        "result 1\n",
+        (
+            Status::Rejected,
+            "refused declarer 10 Text 1 Head line 1\n",
+            "",
+        ),
+    ),
+    (
+        &["ddfarm", "check", "N:A... K... Q... J...", "N", "NT"],
+        "result 1",
+        (
+            Status::Refused,
+            "",
+            "ddfarm: first line is not a result line\n",
+        ),
+    ),
+    (
+        &["ddfarm", "check", "N:A... K... Q... J...", "N", "NT"],
+        "result 14\n",
+        (
+            Status::Refused,
+            "",
+            "ddfarm: first line is not a result line\n",
+        ),
+    ),
+    (
+        &["ddfarm", "check", "N:A... A... Q... J...", "N", "NT"],
+        "",
+        (Status::Refused, "", "ddfarm: layout: 5 CardTwice\n"),
+    ),
+    (
+        &["ddfarm", "check", "", "W", "C"],
+        "result 1\n",
+        (Status::Refused, "", "ddfarm: layout: 4 DealForm\n"),
+    ),
+];
+
+#[test]
+fn words_of_check(rt: HostRuntime) -> Result<(), Fail> {
+    for (words, text, want) in CHECKS {
+        expect_words(&rt, rt.alloc(), words, text.as_bytes(), ROOM, want)?;
+    }
+    Ok(())
+}
+
 /// The words of `table` have the input read.
 #[test]
 fn words_of_table(rt: HostRuntime) -> Result<(), Fail> {
@@ -97,7 +151,15 @@ fn words_of_table(rt: HostRuntime) -> Result<(), Fail> {
 }
 
 /// Words that are refused, and how what is told of them begins.
-const REFUSED_WORDS: [(&[&str], &str); 8] = [
+const REFUSED_WORDS: [(&[&str], &str); 10] = [
+    (
+        &["ddfarm", "check", "N:A", "n", "NT"],
+        "error: invalid value 'n' for '<DECLARER>'\n",
+    ),
+    (
+        &["ddfarm", "check", "N:A", "N", "NT", "answer.txt"],
+        "error: unexpected argument 'answer.txt' found\n\nUsage: ddfarm check LAYOUT DECLARER TRUMP <answer.txt\n",
+    ),
     (
         &["ddfarm", "solve"],
         "error: unrecognized subcommand 'solve'\n",
@@ -159,6 +221,14 @@ fn asked_help(rt: HostRuntime) -> Result<(), Fail> {
         (
             ["ddfarm", "table", "--help"].as_slice(),
             "  5 CardTwice      a card is named twice\n",
+        ),
+        (
+            ["ddfarm", "check", "--help"].as_slice(),
+            "Usage: ddfarm check LAYOUT DECLARER TRUMP <answer.txt\n",
+        ),
+        (
+            ["ddfarm", "check", "--help"].as_slice(),
+            "  7 RootPattern   the layout doesn't match the pattern of node 0\n",
         ),
         (
             ["ddfarm", "plain", "-h"].as_slice(),

@@ -8,7 +8,7 @@ use runs::Run;
 use std::alloc::{AllocError, Global};
 use std::convert::AsStr;
 
-const LEADERS: [&str; 4] = ["N", "E", "S", "W"];
+const SEATS: [&str; 4] = ["N", "E", "S", "W"];
 
 const TRUMPS: [&str; 5] = ["NT", "S", "H", "D", "C"];
 
@@ -22,7 +22,8 @@ fn command<'a>(alloc: Global) -> Result<Command<'a>, AllocError> {
         .arg_required_else_help(true)
         .disable_help_subcommand(true)
         .subcommand(plain_command(alloc)?)?
-        .subcommand(table_command(alloc))
+        .subcommand(table_command(alloc))?
+        .subcommand(check_command(alloc)?)
 }
 
 fn plain_command<'a>(alloc: Global) -> Result<Command<'a>, AllocError> {
@@ -34,6 +35,16 @@ fn plain_command<'a>(alloc: Global) -> Result<Command<'a>, AllocError> {
         .arg(trump_arg(alloc))
 }
 
+fn check_command<'a>(alloc: Global) -> Result<Command<'a>, AllocError> {
+    Command::new(alloc, "check")
+        .about(help::CHECK_ABOUT)
+        .override_usage(help::CHECK_USAGE)
+        .after_help(help::CHECK_EXAMPLE)
+        .arg(layout_arg(alloc))?
+        .arg(declarer_arg(alloc))?
+        .arg(trump_arg(alloc))
+}
+
 fn layout_arg<'a>(alloc: Global) -> Arg<'a> {
     Arg::new(alloc, "LAYOUT").required(true).help(help::LAYOUT)
 }
@@ -41,8 +52,15 @@ fn layout_arg<'a>(alloc: Global) -> Arg<'a> {
 fn leader_arg<'a>(alloc: Global) -> Arg<'a> {
     Arg::new(alloc, "LEADER")
         .required(true)
-        .value_parser(LEADERS.as_slice())
+        .value_parser(SEATS.as_slice())
         .help(help::LEADER)
+}
+
+fn declarer_arg<'a>(alloc: Global) -> Arg<'a> {
+    Arg::new(alloc, "DECLARER")
+        .required(true)
+        .value_parser(SEATS.as_slice())
+        .help(help::DECLARER)
 }
 
 fn trump_arg<'a>(alloc: Global) -> Arg<'a> {
@@ -73,10 +91,21 @@ fn matched_run<'a>(matches: &ArgMatches<'a>) -> Option<Run<'a>> {
     if matches.subcommand_matches("table").is_some() {
         return Some(Run::Tables);
     }
+    if let Some(check) = matches.subcommand_matches("check") {
+        return checked_run(check);
+    }
     let plain = matches.subcommand_matches("plain")?;
     Some(Run::Plain {
         layout: plain.get_str("LAYOUT")?,
         leader: Seat::of_letter(plain.get_str("LEADER")?)?,
         trump: Trump::of_letters(plain.get_str("TRUMP")?)?,
+    })
+}
+
+fn checked_run<'a>(check: &ArgMatches<'a>) -> Option<Run<'a>> {
+    Some(Run::Check {
+        layout: check.get_str("LAYOUT")?,
+        declarer: Seat::of_letter(check.get_str("DECLARER")?)?,
+        trump: Trump::of_letters(check.get_str("TRUMP")?)?,
     })
 }

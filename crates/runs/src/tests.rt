@@ -1,5 +1,6 @@
 //! What each run prints and with which status it ends, over memory.
 mod answers;
+mod checked_answers;
 mod endings;
 mod pbn_tables;
 
@@ -141,6 +142,7 @@ fn failed_flush(rt: HostRuntime) -> Result<(), Fail> {
         (Status::Incomplete, 3, Status::Failed, failed),
         (Status::Failed, 1, Status::Failed, ""),
         (Status::Refused, 2, Status::Refused, ""),
+        (Status::Rejected, 4, Status::Failed, failed),
     ] {
         assert_eq!(rt; status.code(), code);
         for takes_none in [false, true] {
