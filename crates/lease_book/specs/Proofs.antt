@@ -2,13 +2,13 @@
 use Rattle.std.specs.Prelude.{Result, Ok, Err}
 use Rattle.checker.specs.declared.entries.Shown.{Shown}
 use Rattle.checker.specs.declared.hand_faults.HandFault.{HandFault}
-use Rattle.checker.specs.Claims.{IsShown}
+use Rattle.strategies.specs.Values.{IsValue}
 use Rattle.lease_book.specs.declared.events.Evidence.{Evidence}
 use Rattle.lease_book.specs.declared.events.Evidence.TheVariants.{Shows, Faulty}
 
--- what every `Proven` keeps
+-- what every `Proven` keeps: the number is the double-dummy value
 abbrev pub IsProven : Shown → Type 0
-IsProven shown = IsShown shown
+IsProven shown = IsValue shown.layout shown.declarer shown.trump shown.k
 
 -- what a verdict has shown
 abbrev pub evidence_of : Result Shown HandFault → Evidence
