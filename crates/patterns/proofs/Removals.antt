@@ -87,7 +87,7 @@ bits_but-suc n p =
     let e : 2 + (2 * p + 2) ≡ 2 * suc p + 2 = omega arith in
     let there : n / 2 ^ (2 * suc p + 2) ≡ n / 4 / 2 ^ (2 * p + 2) = sym (shr-shr n 2 (2 * p + 2) ∙ ap (λ m. n / 2 ^ m) e) in
     let high : n / 2 ^ (2 * suc p + 2) * 2 ^ (2 * suc p) ≡ 4 * (n / 4 / 2 ^ (2 * p + 2) * 2 ^ (2 * p)) =
-        ap (λ m. m * 2 ^ (2 * suc p)) there ∙ (ap (λ m. n / 4 / 2 ^ (2 * p + 2) * m) more ∙ grind arith) in
+    ap (λ m. m * 2 ^ (2 * suc p)) there ∙ (ap (λ m. n / 4 / 2 ^ (2 * p + 2) * m) more ∙ grind arith) in
     omega (arith, low, high)
 
 pub owners_in-but : (p j n : ℕ) → p ≤ j → take p (owners_in (suc j) n) ++ drop (suc p) (owners_in (suc j) n) ≡ owners_in j (bits_but n p)

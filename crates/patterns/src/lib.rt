@@ -4,7 +4,8 @@
 //! falling order; the other cards are low cards without a rank. It stands for every layout that matches it (one
 //! value for a set of positions, as in Ginsberg's Partition Search, AAAI 1996). A rest is what a trick leaves of
 //! a pattern, and a pattern covers the rests of which it says no more than they do. Contracts see patterns and
-//! rests alike as four suits, each of four lengths and a list of owners, and know nothing of how they are stored.
+//! rests alike as four suits, each of four lengths and a list of owners. Each suit is held in one word, of which
+//! only `words` and `from_words` speak.
 #![tactic(auto)]
 
 mod faults;

@@ -74,12 +74,7 @@ impl Rest {
     }
 
     /// The rest of four suits in their words that are known to be one.
-    pub fn of_suits(
-        spades: SuitWord,
-        hearts: SuitWord,
-        diamonds: SuitWord,
-        clubs: SuitWord,
-    ) -> Rest
+    pub fn of_suits(spades: SuitWord, hearts: SuitWord, diamonds: SuitWord, clubs: SuitWord) -> Rest
         requires { IsRest (shape_with spades hearts diamonds clubs) }
         ensures { result ≡ shape_with spades hearts diamonds clubs }
     {

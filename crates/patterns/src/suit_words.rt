@@ -10,7 +10,6 @@ ghost use Rattle.patterns.specs.Holders.{holders_of, MatchesSuit, suit_of_layout
 ghost use Rattle.patterns.specs.Holdings.{holders_in};
 ghost use Rattle.patterns.specs.Parts.{suit_shape, HasItsOwners, HasExcessOwner};
 ghost use Rattle.patterns.specs.Words.{suit_in, seat_at, HasWord, IsSuitWord, IsWrongWord};
-
 ghost use Rattle.patterns.specs.Removals.{owners_but};
 
 use crate::holdings::{holder, holdings};
