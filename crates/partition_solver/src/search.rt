@@ -30,6 +30,9 @@ pub(crate) struct Search {
 
 const HINTS: usize = 1 << 14;
 
+/// With how many tricks left other possible winners are searched.
+const SEARCHED: i32 = 7;
+
 /// How deep the lowest relevant card of the suit that starts here lies.
 fn depth_of(left: u64, relevant: u64, start: u32) -> u16 {
     let named = relevant.wrapping_shr(start) & SUIT;
@@ -73,6 +76,36 @@ fn hint_place(trick: &Trick) -> usize {
         ^ (trick.seat as u64).wrapping_shl(61)
         ^ u64::from(trick.want.unsigned_abs()).wrapping_shl(57);
     (key.wrapping_mul(0x9e37_79b9_7f4a_7c15) >> 50) as usize
+}
+
+/// How many cards a set has.
+fn count_of(cards: u64) -> i32 {
+    cards.count_ones() as i32
+}
+
+/// Four for an ace, three for a king, two for a queen, one for a jack.
+fn points_of(cards: u64) -> i32 {
+    let aces = count_of(cards & 0x1000_1000_1000_1000);
+    let kings = count_of(cards & 0x1800_1800_1800_1800);
+    let queens = count_of(cards & 0x1c00_1c00_1c00_1c00);
+    let jacks = count_of(cards & 0x1e00_1e00_1e00_1e00);
+    aces.wrapping_add(kings)
+        .wrapping_add(queens)
+        .wrapping_add(jacks)
+}
+
+/// Whether what all possible winners need is no deeper than what the winner's rank would make it, and leaves that out.
+fn is_no_deeper(after: &Trick, all: u64, found: u64) -> bool {
+    let suit = suit_of(after.best);
+    for start in [0u32, 16, 32, 48] {
+        let lane = SUIT.wrapping_shl(start);
+        let now = lowest(all & lane);
+        let before = lowest((found | after.best) & lane);
+        if now != 0 && (before == 0 || now < before || lane == suit && now <= after.best) {
+            return false;
+        }
+    }
+    true
 }
 
 impl Search {
@@ -214,72 +247,90 @@ impl Search {
         if after.played < 4 {
             return self.search(fuel - 1, after);
         }
-        let found = self.search(fuel - 1, &after.next(after.winner))?;
-        Ok(found.map(|found| self.ended(after, found)))
+        let Some(found) = self.search(fuel - 1, &after.next(after.winner))? else {
+            return Ok(None);
+        };
+        Ok(Some(self.ended(fuel - 1, after, found)?))
     }
 
     /// What was found of a trick that has ended: the winner's rank matters where others played to its suit, unless what
-    /// is left is known to go the same way whoever of them wins.
-    fn ended(&self, after: &Trick, found: Found) -> Found {
+    /// is left goes the same way whoever of them wins.
+    #[cycle(searching)]
+    fn ended(&mut self, fuel: u32, after: &Trick, found: Found) -> Result<Found, AllocError> {
         let mut whole = found;
         whole.bound = found
             .bound
             .wrapping_add(trick_for(after.winner, found.ours));
-        if after.contenders & after.contenders.wrapping_sub(1) == 0 {
-            return whole;
+        if fuel == 0 || after.contenders & after.contenders.wrapping_sub(1) == 0 {
+            return Ok(whole);
         }
-        if let Some(other) = self.whoever(after, whole) {
-            return other;
+        if let Some(other) = self.whoever(fuel - 1, after, whole)? {
+            return Ok(other);
         }
         whole.relevant |= after.best;
-        whole
+        Ok(whole)
     }
 
-    /// The same answer whoever of those who played to the winner's suit wins, where that is known.
-    fn whoever(&self, after: &Trick, found: Found) -> Option<Found> {
-        let suit = suit_of(after.best);
+    /// The same answer whoever of those who played to the winner's suit wins, where that is known or soon found.
+    #[cycle(searching)]
+    fn whoever(
+        &mut self,
+        fuel: u32,
+        after: &Trick,
+        found: Found,
+    ) -> Result<Option<Found>, AllocError> {
         let low = below(after.best) | after.best;
-        if found.relevant & suit & low != 0 {
-            return None;
+        if fuel == 0 || found.relevant & suit_of(after.best) & low != 0 {
+            return Ok(None);
+        }
+        let partners = if is_ours(after.winner) { 5 } else { 10 };
+        if is_ours(after.winner) == found.ours && after.contenders & !partners != 0 {
+            return Ok(None);
         }
         let mut answer = found;
-        let goal = goal_of(after, found.ours);
-        let left = after.next(after.winner);
-        let owners = self.deal.owners(left.left);
-        let mut slot = None;
         for seat in 0..4usize {
             if seat == after.winner || after.contenders.wrapping_shr(seat as u32) & 1 == 0 {
                 continue;
             }
-            let wanted = goal.wrapping_sub(trick_for(seat, found.ours));
-            if wanted <= 0 {
-                answer.bound = answer.bound.min(trick_for(seat, found.ours));
-                continue;
-            }
-            if slot.is_none() {
-                slot = Some(self.entries.slot(left.lengths)?);
-            }
-            let number = self
-                .entries
-                .find(slot?, list_of(seat, found.ours), owners, wanted)?;
-            let other = self.told(left.left, found.ours, number);
-            answer.bound = answer
-                .bound
-                .min(other.bound.wrapping_add(trick_for(seat, found.ours)));
+            let other = self.led_by(fuel - 1, &after.next(seat))?;
+            let Some(other) = other.filter(|other| other.ours == found.ours) else {
+                return Ok(None);
+            };
+            let bound = other.bound.wrapping_add(trick_for(seat, found.ours));
+            answer.bound = answer.bound.min(bound);
             answer.relevant |= other.relevant;
         }
-        let with_best = found.relevant | after.best;
-        for start in [0u32, 16, 32, 48] {
-            let lane = SUIT.wrapping_shl(start);
-            let now = lowest(answer.relevant & lane);
-            let before = lowest(with_best & lane);
-            if now != 0 && (before == 0 || now < before)
-                || now != 0 && lane == suit && now <= after.best
-            {
-                return None;
-            }
+        Ok(if is_no_deeper(after, answer.relevant, found.relevant) {
+            Some(answer)
+        } else {
+            None
+        })
+    }
+
+    /// What is left with another seat to lead: looked up, or searched where few tricks are left.
+    #[cycle(searching)]
+    fn led_by(&mut self, fuel: u32, next: &Trick) -> Result<Option<Found>, AllocError> {
+        if fuel == 0 || next.tricks > SEARCHED {
+            return Ok(self.known(next));
         }
-        Some(answer)
+        self.search(fuel - 1, next)
+    }
+
+    /// A first guess: half the tricks, and more by the difference of high cards and that of trumps.
+    fn guess(&self, tricks: i32) -> i32 {
+        let trumps = self.deal.trumps;
+        let hands = self.deal.hands;
+        let ours = hands[0] | hands[2];
+        let theirs = hands[1] | hands[3];
+        let points = points_of(ours).wrapping_sub(points_of(theirs));
+        let longer = count_of(ours & trumps).wrapping_sub(count_of(theirs & trumps));
+        let factor = if trumps == 0 { 17 } else { 14 };
+        tricks
+            .wrapping_mul(50)
+            .wrapping_add(points.wrapping_mul(factor))
+            .wrapping_add(longer.wrapping_mul(33))
+            .wrapping_add(50)
+            / 100
     }
 
     /// How many tricks North and South can win with this seat to lead. None where no steps are left.
@@ -287,13 +338,13 @@ impl Search {
         let mut trick = Trick::start(self.deal.hands, leader);
         let mut least = 0;
         let mut most = trick.tricks;
-        trick.want = trick.tricks.wrapping_add(1) / 2;
+        trick.want = self.guess(trick.tricks);
         for _ in 0..16 {
             if least >= most {
                 break;
             }
             trick.want = trick.want.max(least.wrapping_add(1)).min(most);
-            let Some(found) = self.search(120, &trick)? else {
+            let Some(found) = self.search(240, &trick)? else {
                 return Ok(None);
             };
             if found.ours {
