@@ -13,3 +13,9 @@ returns-clause-number c =
     rw (← c.self.view_is)
     (ap (λ (s : Slot). s.published) (c.slot.ensures no_slot)
     ∙ rw c.place.ensures (ap (λ (s : Slot). s.published) (c.self.invariant.slots_are (place_of entry) no_slot within)))
+
+pub returns-clause-proven : goal.returns-clause-proven
+returns-clause-proven c = rw (← c.self.view_is) c.self.invariant.proven
+
+pub returns-then-entry-len-clause-proven : goal.returns-then-entry-len-clause-proven
+returns-then-entry-len-clause-proven c = rw (← c.self.view_is) c.self.invariant.proven
