@@ -5,6 +5,7 @@ use Rattle.cards.specs.declared.suits.Trump.{Trump}
 use Rattle.cards.specs.Deal.{Deal}
 use Rattle.cards.specs.Devices.{Device, Adds, AddsBeginning, one_more}
 use Rattle.pbn_deals.specs.LayoutValue.{SaysLayout}
+use Rattle.strategies.specs.Values.{IsValue}
 use Rattle.streams.specs.Inputs.{IsReadToEnd}
 use Rattle.checker.specs.declared.entries.Shown.{Shown}
 use Rattle.checker.specs.declared.hand_faults.HandFault.{HandFault}
@@ -15,6 +16,11 @@ use Rattle.runs.specs.declared.statuses.Status.{Status}
 use Rattle.runs.specs.Answers.{IsAnswer, LacksResult}
 use Rattle.runs.specs.VerdictLines.{verdict_line, verdict_status}
 
+-- what a verdict says is so in play: the number shown is the double-dummy value
+abbrev pub IsTrueVerdict : Result Shown HandFault → Type 0
+IsTrueVerdict (Ok shown) = IsValue shown.layout shown.declarer shown.trump shown.k
+IsTrueVerdict (Err fault) = ⊤
+
 -- the text is an answer that has this verdict for the deal
 pub record IsVerdictOf (text : List ℕ) (deal : Deal) (declarer : Seat) (trump : Trump) (verdict : Result Shown HandFault) : Type 0 where
   pub tricks : ℕ
@@ -22,6 +28,7 @@ pub record IsVerdictOf (text : List ℕ) (deal : Deal) (declarer : Seat) (trump 
   pub defenders : List ℕ
   pub answer : IsAnswer text tricks declarers defenders
   pub judged : IsVerdict deal declarer trump tricks declarers defenders verdict
+  pub value : IsTrueVerdict verdict
 
 -- the verdict on a text, or that it is no answer; memory may run out
 abbrev pub JudgesText : List ℕ → Deal → Seat → Trump → Result (Result Shown HandFault) RunFault → Type 0

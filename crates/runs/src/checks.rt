@@ -1,7 +1,7 @@
 //! The check of an answer.
 
 ghost use Rattle.std.specs.Prelude.{◌≡◌};
-ghost use Rattle.runs.specs.Checks.{ChecksAnswer, JudgesText};
+ghost use Rattle.runs.specs.Checks.{ChecksAnswer, IsTrueVerdict, JudgesText};
 ghost use Rattle.runs.specs.VerdictLines.{verdict_status};
 
 use crate::answers::read_answer;
@@ -15,7 +15,7 @@ use std::alloc::Global;
 use streams::read_all;
 
 /// Reads an answer to its end, checks that its certificates show its number of tricks for the layout that the bytes spell, and
-/// writes the verdict.
+/// writes the verdict. A number that it writes as accepted is the double-dummy value.
 ///
 /// Refuses bytes that spell no layout before anything is read, and a text whose first line is not a result line. Nothing was
 /// written after any fault but a failed output, and after that one a beginning of the line.
@@ -60,8 +60,20 @@ fn judge_text(
         defenders,
     );
     match judged {
-        Ok(verdict) => Ok(verdict),
+        Ok(verdict) => {
+            is_true(&verdict);
+            Ok(verdict)
+        }
         Err(OutOfMemory) => Err(RunFault::OutOfMemory),
+    }
+}
+
+/// What a verdict shows is the double-dummy value. It does nothing.
+fn is_true(verdict: &Verdict)
+    ensures { IsTrueVerdict verdict.now }
+{
+    if let Ok(proven) = verdict {
+        proven.invariant();
     }
 }
 
