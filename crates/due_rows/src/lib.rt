@@ -8,6 +8,3 @@ mod nodes;
 mod rows;
 
 pub use rows::DueRow;
-
-#[cfg(test)]
-mod tests;

@@ -6,6 +6,8 @@
 #[cfg(test)]
 mod card_tests;
 #[cfg(test)]
+mod due_row_tests;
+#[cfg(test)]
 mod expect;
 #[cfg(test)]
 mod graph_tests;
@@ -15,6 +17,10 @@ mod memory_tests;
 mod pbn_tests;
 #[cfg(test)]
 mod play_tests;
+#[cfg(test)]
+mod solver_tests;
+#[cfg(test)]
+mod store_tests;
 #[cfg(test)]
 mod stream_tests;
 #[cfg(test)]

@@ -14,8 +14,6 @@ mod plans;
 mod played_patterns;
 mod search;
 mod solving;
-#[cfg(test)]
-mod tests;
 mod tricks;
 mod weights;
 mod words;

@@ -6,8 +6,6 @@
 
 mod keys;
 mod stores;
-#[cfg(test)]
-mod tests;
 
 pub use keys::{Added, Key};
 pub use stores::Store;

@@ -1,6 +1,6 @@
 //! Rows against a slow search.
 
-use crate::DueRow;
+use due_rows::DueRow;
 use std::alloc::Global;
 use std::process::Abort;
 use std::test::Fail;

@@ -1,6 +1,6 @@
 //! What no clause says: that an add with ample memory succeeds. The layouts and answers were made by hand.
 
-use crate::Store;
+use pattern_store::Store;
 use cards::{Layout, Seat, Side};
 use patterns::Pattern;
 use std::test::Fail;

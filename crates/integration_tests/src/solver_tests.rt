@@ -1,6 +1,6 @@
 //! Answers with DDS's numbers, which the checker has to accept.
 
-use crate::{Partition, Solver};
+use partition_solver::{Partition, Solver};
 use cards::{Layout, Seat, Suit, Trump};
 use checker::check_entry;
 use pbn_deals::read_layout;
