@@ -3,9 +3,8 @@
 status, standard output and standard error, to the byte. What is accepted has to tell the tricks that DDS tells, and `ddfarm plain`
 has to tell them too where it takes the layout.
 
-Usage: bench/answers/compare.py COUNT [SEED]. Each answer as it is, and COUNT times with each kind of damage (a tenth of that,
-one at least, where it is longer than 100,000 bytes). The program has to be built (run ./ddfarm once). Ends with status 1 at
-the first difference.
+Usage: bench/answers/compare.py COUNT [SEED]. Each answer as it is, and COUNT times with each kind of damage (a tenth of that where
+it is longer than 100,000 bytes). The program has to be built (run ./ddfarm once). Ends with status 1 at the first difference.
 """
 import os
 import random
@@ -68,14 +67,14 @@ def main():
             sys.exit(f"{name}: not accepted")
         compare_plain(name, *words, tricks)
         sound += 1
-        times = count if len(text) <= LONG else max(1, count // 10)
+        times = count if len(text) <= LONG else (count + 9) // 10
         for kind in damages.KINDS:
             for number in range(times):
                 other = kind(random.Random(f"{seed} {name} {kind.__name__} {number}"), text)
                 if other is not None and other != text:
                     damaged[compare(f"{name}, {kind.__name__} {number}", words, other, tricks)] += 1
-    print(f"{sound} answers accepted; {sum(damaged.values())} damaged ones, no difference:",
-          ", ".join(f"{name} {times}" for name, times in damaged.most_common()))
+    print(f"{sound} answers accepted, {sum(damaged.values())} damaged ones, no difference",
+          *(f"{name} {times}" for name, times in damaged.most_common()), sep=", ")
 
 
 main()
