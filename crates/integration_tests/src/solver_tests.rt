@@ -1,8 +1,8 @@
 //! Answers with DDS's numbers, which the checker has to accept.
 
-use partition_solver::{Partition, Solver};
 use cards::{Layout, Seat, Suit, Trump};
 use checker::check_entry;
+use partition_solver::{Partition, Solver};
 use pbn_deals::read_layout;
 use std::alloc::Global;
 use std::process::Abort;

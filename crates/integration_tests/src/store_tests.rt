@@ -1,7 +1,7 @@
 //! What no clause says: that an add with ample memory succeeds. The layouts and answers were made by hand.
 
-use pattern_store::Store;
 use cards::{Layout, Seat, Side};
+use pattern_store::Store;
 use patterns::Pattern;
 use std::test::Fail;
 

@@ -13,7 +13,7 @@ use Rattle.lease_book.specs.Books.{Ledger, IsAnswered}
 pub answered : (terms : Terms) (events after : List Event) (old : Ledger) (asked : Asked) (reply : Reply) → ◌≡◌ {A = Ledger} (record { terms = terms; events = events }) old → after ≡ events ++ record { asked = asked; reply = reply } ∷ [] → IsReply terms events asked reply → IsAnswered old (record { terms = terms; events = after }) asked reply
 answered terms events after old asked reply view added is =
     subst (λ (o : Ledger). IsAnswered o (record { terms = terms; events = after }) asked reply) view
-      (record { reply_is = is; history = ap (λ (es : List Event). record { terms = terms; events = es }) added })
+    (record { reply_is = is; history = ap (λ (es : List Event). record { terms = terms; events = es }) added })
 
 pub added : (events room after : List Event) (asked : Asked) (reply : Reply) → after ≡ room ++ record { asked = asked; reply = reply } ∷ [] → room ≡ events → after ≡ events ++ record { asked = asked; reply = reply } ∷ []
 added events room after asked reply a r = a ∙ ap (λ (es : List Event). es ++ record { asked = asked; reply = reply } ∷ []) r

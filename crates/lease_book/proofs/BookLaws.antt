@@ -25,7 +25,7 @@ slot_after event place slot =
     record {
       published = option_or slot.published (published_by place event.asked event.reply);
       holder = keep_if (is_left_by event) slot.holder;
-      left = slot.left
+      left = slot.left;
     }
 
 pub same_slot : (published published' : Option ℕ) (holder holder' : Option Grant) (left left' : ℕ) → published ≡ published' → holder ≡ holder' → left ≡ left'
@@ -52,9 +52,9 @@ module _ (terms : Terms) (events : List Event) (event : Event) (none : given_by 
   slot_push place apart =
       let all = cond (is_some (deal_of terms.boards (place / 20))) terms.tries 0 in
       same_slot _ _ _ _ _ _
-        (published_push place events event)
-        (ap (find (is_for_place place)) held_same ∙ find_filter (is_left_by event) place (held_after events) apart)
-        (ap (λ grants. all - count_by (is_for_place place) grants) given_same)
+      (published_push place events event)
+      (ap (find (is_for_place place)) held_same ∙ find_filter (is_left_by event) place (held_after events) apart)
+      (ap (λ grants. all - count_by (is_for_place place) grants) given_same)
 
   -- what is kept, where each slot is what the event makes of it
   pub kept_after :
@@ -62,7 +62,7 @@ module _ (terms : Terms) (events : List Event) (event : Event) (none : given_by 
       length after ≡ length slots →
       ((place : ℕ) (d : Slot) → place < length slots → get_or after place d ≡ slot_after event place (get_or slots place d)) →
       ((entry : Entry) (deal : Deal) (k : ℕ) → published_by (place_of entry) event.asked event.reply ≡ Some k → deal_of terms.boards entry.board ≡ Some deal
-          → IsProven (record { layout = deal; declarer = entry.declarer; trump = entry.trump; k = k })) →
+      → IsProven (record { layout = deal; declarer = entry.declarer; trump = entry.trump; k = k })) →
       ((place k : ℕ) → published_by place event.asked event.reply ≡ Some k → place < length slots) →
       IsKept terms (events ++ event ∷ []) leases after
   kept_after leases slots after kept reply same changed new there =
@@ -86,9 +86,9 @@ module _ (terms : Terms) (events : List Event) (event : Event) (none : given_by 
       not_there place l None e h = h ∙ e
       not_there place l (Some k) e h =
           ⊎_elim
-            (λ (old : published_at place events ≡ Some k). absurd (none-some k (sym (kept.only_there place l) ∙ old)))
-            (λ (now : published_by place event.asked event.reply ≡ Some k). absurd (omega (arith, there place k now)))
-            (option_or_some (published_at place events) (published_by place event.asked event.reply) k e)
+          (λ (old : published_at place events ≡ Some k). absurd (none-some k (sym (kept.only_there place l) ∙ old)))
+          (λ (now : published_by place event.asked event.reply ≡ Some k). absurd (omega (arith, there place k now)))
+          (option_or_some (published_at place events) (published_by place event.asked event.reply) k e)
 
       proven_of : (entry : Entry) (deal : Deal) (k : ℕ) → deal_of terms.boards entry.board ≡ Some deal → (published_in events entry ≡ Some k) ⊎ (published_by (place_of entry) event.asked event.reply ≡ Some k)
           → IsProven (record { layout = deal; declarer = entry.declarer; trump = entry.trump; k = k })

@@ -71,9 +71,10 @@ pub same_trump : (one other : Trump) → trump_place one ≡ trump_place other �
 same_trump one other e = sym (trump_again one) ∙ ap trump_in e ∙ trump_again other
 
 pub same_contract : (seat other : Seat) (trump another : Trump) → contract_place seat trump ≡ contract_place other another → (seat ≡ other) × (trump ≡ another)
-same_contract seat other trump another e =
-    (same_declarer seat other (omega (arith, e, seat_below seat, seat_below other, trump_below trump, trump_below another)),
-     same_trump trump another (omega (arith, e, seat_below seat, seat_below other, trump_below trump, trump_below another)))
+same_contract seat other trump another e = (
+  same_declarer seat other (omega (arith, e, seat_below seat, seat_below other, trump_below trump, trump_below another)),
+  same_trump trump another (omega (arith, e, seat_below seat, seat_below other, trump_below trump, trump_below another)),
+)
 
 pub same_entry : (one other : Entry) → place_of one ≡ place_of other → one ≡ other
 same_entry one other e =

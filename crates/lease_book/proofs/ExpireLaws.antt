@@ -41,21 +41,21 @@ count_past now (grant ∷ rest) slots apart there holds =
     let sums = sum_by-set bit slots place (freed slot) no_slot within in
     let more = sum_by-cons (λ (g : Grant). cond (is_past now g) 1 0) grant rest in
     let later : count_by (is_past_slot now) after ≡ count_by (is_past now) rest = count_past now rest after apart.1 (λ other m. omega (arith, there other (inr m), long))
-        (λ other d l. others other d (omega (arith, l, long))) in
+    (λ other d l. others other d (omega (arith, l, long))) in
     omega (arith, sums, past, more, later)
   where
     others : (other : ℕ) (d : Slot) → other < length slots → (get_or (set slots (place_of grant.entry) (freed (get_or slots (place_of grant.entry) no_slot))) other d).holder ≡ find (is_for_place other) rest
     others other d l =
         ⊎_elim
-          (λ (e : other ≡ place_of grant.entry).
-              ap (λ n. (get_or (set slots (place_of grant.entry) (freed (get_or slots (place_of grant.entry) no_slot))) n d).holder) e
-              ∙ ap (λ (s : Slot). s.holder) (get_or-set_same slots (place_of grant.entry) (freed (get_or slots (place_of grant.entry) no_slot)) d (there grant (inl refl)))
-              ∙ sym (ap (λ n. find (is_for_place n) rest) e ∙ find_none (is_for_place (place_of grant.entry)) rest apart.0))
-          (λ (ne : other ≢ place_of grant.entry).
-              ap (λ (s : Slot). s.holder) (get_or-set_other slots (place_of grant.entry) other (freed (get_or slots (place_of grant.entry) no_slot)) d ne)
-              ∙ holds other d l
-              ∙ ap (λ b. cond b (Some grant) (find (is_for_place other) rest)) (ne_eqb (place_of grant.entry) other (λ same. ne (sym same))))
-          (cases_eq other (place_of grant.entry))
+        (λ (e : other ≡ place_of grant.entry).
+        ap (λ n. (get_or (set slots (place_of grant.entry) (freed (get_or slots (place_of grant.entry) no_slot))) n d).holder) e
+        ∙ ap (λ (s : Slot). s.holder) (get_or-set_same slots (place_of grant.entry) (freed (get_or slots (place_of grant.entry) no_slot)) d (there grant (inl refl)))
+        ∙ sym (ap (λ n. find (is_for_place n) rest) e ∙ find_none (is_for_place (place_of grant.entry)) rest apart.0))
+        (λ (ne : other ≢ place_of grant.entry).
+        ap (λ (s : Slot). s.holder) (get_or-set_other slots (place_of grant.entry) other (freed (get_or slots (place_of grant.entry) no_slot)) d ne)
+        ∙ holds other d l
+        ∙ ap (λ b. cond b (Some grant) (find (is_for_place other) rest)) (ne_eqb (place_of grant.entry) other (λ same. ne (sym same))))
+        (cases_eq other (place_of grant.entry))
 
 expired_slot : (now count place : ℕ) (published : Option ℕ) (holder : Option Grant) (left : ℕ)
     → freed_if_past now (record { published = published; holder = holder; left = left }) ≡ slot_after (record { asked = Expire now; reply = Freed count }) place (record { published = published; holder = holder; left = left })
@@ -71,17 +71,17 @@ module _ (terms : Terms) (events : List Event) (leases : List Grant) (slots : Li
   pub freed_reply : (now : ℕ) → Freed (count_by (is_past_slot now) slots) ≡ Freed (count_by (is_past now) (held_after events))
   freed_reply now =
       ap (λ n. Freed n) (count_past now (held_after events) slots kept.apart
-          (λ grant m. kept.there grant (find_among (is_numbered grant.lease) leases grant (kept.found grant m)).0)
-          (λ place d l. ap (λ (s : Slot). s.holder) (kept.slots_are place d l)))
+      (λ grant m. kept.there grant (find_among (is_numbered grant.lease) leases grant (kept.found grant m)).0)
+      (λ place d l. ap (λ (s : Slot). s.holder) (kept.slots_are place d l)))
 
   pub kept_expired : (now : ℕ) → IsKept terms (events ++ record { asked = Expire now; reply = Freed (count_by (is_past_slot now) slots) } ∷ []) leases (map (freed_if_past now) slots)
   kept_expired now =
       let count = count_by (is_past_slot now) slots in
       let event : Event = record { asked = Expire now; reply = Freed count } in
       kept_after terms events event refl leases slots (map (freed_if_past now) slots) kept (freed_reply now)
-        (length-map slots (freed_if_past now))
-        (λ place d l. get_or-map (freed_if_past now) slots place d d l ∙ of_slot now count place (get_or slots place d))
-        (λ entry deal k h b. absurd (none-some k h)) (λ place k h. absurd (none-some k h))
+      (length-map slots (freed_if_past now))
+      (λ place d l. get_or-map (freed_if_past now) slots place d d l ∙ of_slot now count place (get_or slots place d))
+      (λ entry deal k h b. absurd (none-some k h)) (λ place k h. absurd (none-some k h))
     where
       of_slot : (now count place : ℕ) (slot : Slot) → freed_if_past now slot ≡ slot_after (record { asked = Expire now; reply = Freed count }) place slot
       of_slot now count place slot = expired_slot now count place slot.published slot.holder slot.left

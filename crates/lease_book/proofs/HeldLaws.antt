@@ -107,8 +107,8 @@ find_apart (first ∷ rest) grant apart (inl e) =
     ∙ ap (λ g. Some g) e
 find_apart (first ∷ rest) grant apart (inr m) =
     ap (λ b. cond b (Some first) (find (is_for_place (place_of grant.entry)) rest))
-      (ne_eqb (place_of first.entry) (place_of grant.entry) (λ same. both_ways (list_any (is_for_place (place_of first.entry)) rest) apart.0
-          (among_any (is_for_place (place_of first.entry)) rest grant m (eq-eqb (place_of grant.entry) (place_of first.entry) (sym same)))))
+    (ne_eqb (place_of first.entry) (place_of grant.entry) (λ same. both_ways (list_any (is_for_place (place_of first.entry)) rest) apart.0
+    (among_any (is_for_place (place_of first.entry)) rest grant m (eq-eqb (place_of grant.entry) (place_of first.entry) (sym same)))))
     ∙ find_apart rest grant apart.1 m
 
 -- what a filter leaves in a place

@@ -58,21 +58,21 @@ module _ (terms : Terms) (events : List Event) (leases : List Grant) (slots : Li
   closed_past entry l =
       let past : length terms.boards ≤ entry.board = omega (arith, kept.sized, contract_below entry.declarer entry.trump) in
       ap (λ o. ((is_some (deal_of_board o) && is_none (published_in events entry)) && not (list_any (is_for_place (place_of entry)) (held_after events))) && nat_lt (times_leased events (place_of entry)) terms.tries)
-        (slice_get_past terms.boards entry.board past)
+      (slice_get_past terms.boards entry.board past)
 
   pub nothing_open : NonePasses is_open_slot 0 slots → (entry : Entry) → is_open terms events entry ≡ false
   nothing_open none entry =
       ⊎_elim
-        (λ (l : place_of entry < length slots). sym (open_at entry no_slot l) ∙ none (place_of entry) no_slot (omega arith) l)
-        (λ (l : length slots ≤ place_of entry). closed_past entry l)
-        (cases_lt (place_of entry) (length slots))
+      (λ (l : place_of entry < length slots). sym (open_at entry no_slot l) ∙ none (place_of entry) no_slot (omega arith) l)
+      (λ (l : length slots ≤ place_of entry). closed_past entry l)
+      (cases_lt (place_of entry) (length slots))
 
   pub kept_nothing : (now : ℕ) → NonePasses is_open_slot 0 slots → IsKept terms (events ++ record { asked = Lease now; reply = Nothing } ∷ []) leases slots
   kept_nothing now none =
       let event : Event = record { asked = Lease now; reply = Nothing } in
       kept_after terms events event refl leases slots slots kept (nothing_open none) refl
-        (λ place d l. slot_stays event place (get_or slots place d) refl (λ grant h. refl))
-        (λ entry deal k h b. absurd (none-some k h)) (λ place k h. absurd (none-some k h))
+      (λ place d l. slot_stays event place (get_or slots place d) refl (λ grant h. refl))
+      (λ entry deal k h b. absurd (none-some k h)) (λ place k h. absurd (none-some k h))
 
   pub next_lease : (now lease : ℕ) (entry : Entry) (deadline place : ℕ) → IsFirst is_open_slot 0 slots place → place_of entry ≡ place → lease ≡ length leases + 1 → deadline ≡ min (now + terms.term) (2 ^ 64 - 1) → IsNextLease terms events now lease entry deadline
   next_lease now lease entry deadline place first same number until =
@@ -80,10 +80,10 @@ module _ (terms : Terms) (events : List Event) (leases : List Grant) (slots : Li
         next = number ∙ ap (λ (gs : List Grant). length gs + 1) kept.given;
         ready = sym (open_at entry no_slot (omega (arith, first.within, same))) ∙ ap (λ n. is_open_slot (get_or slots n no_slot)) same ∙ first.passes no_slot;
         least = λ other h. ⊎_elim
-          (λ (l : place_of other < place_of entry). absurd (both_ways (is_open terms events other)
-              (sym (open_at other no_slot (omega (arith, first.within, same))) ∙ first.first (place_of other) no_slot (omega arith) (omega (arith, same))) h))
-          (λ (l : place_of entry ≤ place_of other). l)
-          (cases_lt (place_of other) (place_of entry));
+            (λ (l : place_of other < place_of entry). absurd (both_ways (is_open terms events other)
+            (sym (open_at other no_slot (omega (arith, first.within, same))) ∙ first.first (place_of other) no_slot (omega arith) (omega (arith, same))) h))
+            (λ (l : place_of entry ≤ place_of other). l)
+            (cases_lt (place_of other) (place_of entry));
         until = until;
       }
 
@@ -120,19 +120,19 @@ module _ (terms : Terms) (events : List Event) (leases : List Grant) (slots : Li
       ≡ record {
         published = published_at place events;
         holder = option_or (find (is_for_place place) (held_after events)) (cond (is_for_place place (record { lease = lease; entry = entry; deadline = deadline })) (Some (record { lease = lease; entry = entry; deadline = deadline })) None);
-        left = cond (is_some (deal_of terms.boards (place / 20))) terms.tries 0 - (times_leased events place + cond (is_for_place place (record { lease = lease; entry = entry; deadline = deadline })) 1 0)
+        left = cond (is_some (deal_of terms.boards (place / 20))) terms.tries 0 - (times_leased events place + cond (is_for_place place (record { lease = lease; entry = entry; deadline = deadline })) 1 0);
       }
   new_slot_is place =
       let new : Grant = record { lease = lease; entry = entry; deadline = deadline } in
       let all = cond (is_some (deal_of terms.boards (place / 20))) terms.tries 0 in
       same_slot _ _ _ _ _ _
-        (published_same place)
-        (ap (find (is_for_place place)) held_more ∙ find-append (is_for_place place) (held_after events) (new ∷ []))
-        (ap (λ (gs : List Grant). all - count_by (is_for_place place) gs) given_more ∙ ap (λ n. all - n) (sum_by_push (λ (g : Grant). cond (is_for_place place g) 1 0) (given_in events) new))
+      (published_same place)
+      (ap (find (is_for_place place)) held_more ∙ find-append (is_for_place place) (held_after events) (new ∷ []))
+      (ap (λ (gs : List Grant). all - count_by (is_for_place place) gs) given_more ∙ ap (λ n. all - n) (sum_by_push (λ (g : Grant). cond (is_for_place place g) 1 0) (given_in events) new))
 
   pub kept_leased : (d : Slot) → lease ≡ length leases + 1
       → IsKept terms (events ++ record { asked = Lease now; reply = Given lease entry deadline } ∷ []) (leases ++ record { lease = lease; entry = entry; deadline = deadline } ∷ [])
-        (set slots (place_of entry) (record { published = (get_or slots (place_of entry) d).published; holder = Some (record { lease = lease; entry = entry; deadline = deadline }); left = (get_or slots (place_of entry) d).left - 1 }))
+      (set slots (place_of entry) (record { published = (get_or slots (place_of entry) d).published; holder = Some (record { lease = lease; entry = entry; deadline = deadline }); left = (get_or slots (place_of entry) d).left - 1 }))
   kept_leased d number =
       let new : Grant = record { lease = lease; entry = entry; deadline = deadline } in
       let changed : Slot = record { published = (get_or slots (place_of entry) d).published; holder = Some new; left = (get_or slots (place_of entry) d).left - 1 } in
@@ -179,27 +179,27 @@ module _ (terms : Terms) (events : List Event) (leases : List Grant) (slots : Li
           let changed : Slot = record { published = (get_or slots (place_of entry) d).published; holder = Some new; left = (get_or slots (place_of entry) d).left - 1 } in
           let was = kept.slots_are (place_of entry) d within in
           ⊎_elim
-            (λ (same : place ≡ place_of entry).
-                ap (λ n. get_or (set slots (place_of entry) changed) n e) same
-                ∙ get_or-set_same slots (place_of entry) changed e within
-                ∙ same_slot _ _ _ _ _ _
-                  (ap (λ (slot : Slot). slot.published) was)
-                  (sym (ap (λ o. option_or o (cond (is_for_place (place_of entry) new) (Some new) None)) (find_none (is_for_place (place_of entry)) (held_after events) free)
-                    ∙ ap (λ b. cond b (Some new) None) (eq-eqb (place_of entry) (place_of entry) refl)))
-                  (ap (λ (slot : Slot). slot.left - 1) was
-                    ∙ one_less (cond (is_some (deal_of terms.boards (place_of entry / 20))) terms.tries 0) (times_leased events (place_of entry)) (is_for_place (place_of entry) new) (eq-eqb (place_of entry) (place_of entry) refl))
-                ∙ sym (new_slot_is (place_of entry))
-                ∙ ap (λ n. slot_of terms (events ++ record { asked = Lease now; reply = Given lease entry deadline } ∷ []) n) (sym same))
-            (λ (ne : place ≢ place_of entry).
-                get_or-set_other slots (place_of entry) place changed e ne
-                ∙ kept.slots_are place e l
-                ∙ same_slot _ _ _ _ _ _
-                  refl
-                  (sym (ap (λ b. option_or (find (is_for_place place) (held_after events)) (cond b (Some new) None)) (ne_eqb (place_of entry) place (λ same. ne (sym same)))
-                    ∙ option_or_none (find (is_for_place place) (held_after events))))
-                  (none_less (cond (is_some (deal_of terms.boards (place / 20))) terms.tries 0) (times_leased events place) (is_for_place place new) (ne_eqb (place_of entry) place (λ same. ne (sym same))))
-                ∙ sym (new_slot_is place))
-            (cases_eq place (place_of entry))
+          (λ (same : place ≡ place_of entry).
+          ap (λ n. get_or (set slots (place_of entry) changed) n e) same
+          ∙ get_or-set_same slots (place_of entry) changed e within
+          ∙ same_slot _ _ _ _ _ _
+          (ap (λ (slot : Slot). slot.published) was)
+          (sym (ap (λ o. option_or o (cond (is_for_place (place_of entry) new) (Some new) None)) (find_none (is_for_place (place_of entry)) (held_after events) free)
+          ∙ ap (λ b. cond b (Some new) None) (eq-eqb (place_of entry) (place_of entry) refl)))
+          (ap (λ (slot : Slot). slot.left - 1) was
+          ∙ one_less (cond (is_some (deal_of terms.boards (place_of entry / 20))) terms.tries 0) (times_leased events (place_of entry)) (is_for_place (place_of entry) new) (eq-eqb (place_of entry) (place_of entry) refl))
+          ∙ sym (new_slot_is (place_of entry))
+          ∙ ap (λ n. slot_of terms (events ++ record { asked = Lease now; reply = Given lease entry deadline } ∷ []) n) (sym same))
+          (λ (ne : place ≢ place_of entry).
+          get_or-set_other slots (place_of entry) place changed e ne
+          ∙ kept.slots_are place e l
+          ∙ same_slot _ _ _ _ _ _
+          refl
+          (sym (ap (λ b. option_or (find (is_for_place place) (held_after events)) (cond b (Some new) None)) (ne_eqb (place_of entry) place (λ same. ne (sym same)))
+          ∙ option_or_none (find (is_for_place place) (held_after events))))
+          (none_less (cond (is_some (deal_of terms.boards (place / 20))) terms.tries 0) (times_leased events place) (is_for_place place new) (ne_eqb (place_of entry) place (λ same. ne (sym same))))
+          ∙ sym (new_slot_is place))
+          (cases_eq place (place_of entry))
         where
           one_less : (all times : ℕ) (b : Bool) → b ≡ true → (all - times) - 1 ≡ all - (times + cond b 1 0)
           one_less all times true h = omega arith

@@ -34,9 +34,9 @@ keep_all test (Some grant) h = ap (λ b. cond b (Some grant) None) (h grant refl
 pub slot_stays : (event : Event) (place : ℕ) (slot : Slot) → published_by place event.asked event.reply ≡ None → ((grant : Grant) → slot.holder ≡ Some grant → frees grant event ≡ false) → slot ≡ slot_after event place slot
 slot_stays event place slot p h =
     same_slot _ _ _ _ _ _
-      (sym (ap (option_or slot.published) p ∙ option_or_none slot.published))
-      (sym (keep_all (is_left_by event) slot.holder (λ grant e. ap not (h grant e))))
-      refl
+    (sym (ap (option_or slot.published) p ∙ option_or_none slot.published))
+    (sym (keep_all (is_left_by event) slot.holder (λ grant e. ap not (h grant e))))
+    refl
 
 module _ (terms : Terms) (events : List Event) (leases : List Grant) (slots : List Slot) (kept : IsKept terms events leases slots) where
   -- the lease that a slot has is held, and found under its number
@@ -55,8 +55,8 @@ module _ (terms : Terms) (events : List Event) (leases : List Grant) (slots : Li
   only_its_own lease place d grant own given ne l h =
       let found = holder_found place d grant l h in
       false_from_ne_true (is_numbered lease grant) (λ e.
-        let same : own ≡ grant = same_Some own grant (sym given ∙ ap (λ n. find (is_numbered n) leases) (sym (eqb-true grant.lease lease e)) ∙ found.0) in
-        ne (sym found.1 ∙ ap (λ (g : Grant). place_of g.entry) (sym same)))
+      let same : own ≡ grant = same_Some own grant (sym given ∙ ap (λ n. find (is_numbered n) leases) (sym (eqb-true grant.lease lease e)) ∙ found.0) in
+      ne (sym found.1 ∙ ap (λ (g : Grant). place_of g.entry) (sym same)))
 
   -- a lease is held exactly where it is in the slot of its entry
   pub held_is : (lease : ℕ) (d : Slot) (own : Grant) → find (is_numbered lease) leases ≡ Some own → place_of own.entry < length slots → is_held events lease ≡ is_holder lease (get_or slots (place_of own.entry) d).holder
@@ -68,9 +68,9 @@ module _ (terms : Terms) (events : List Event) (leases : List Grant) (slots : Li
           let some = any_among (is_numbered lease) (held_after events) h in
           let same : own ≡ some.0 = same_Some own some.0 (sym given ∙ ap (λ n. find (is_numbered n) leases) (sym (eqb-true (some.0).lease lease some.2)) ∙ kept.found some.0 some.1) in
           ap (is_holder lease)
-            (ap (λ (slot : Slot). slot.holder) (kept.slots_are (place_of own.entry) d l)
-            ∙ ap (λ (g : Grant). find (is_for_place (place_of g.entry)) (held_after events)) same
-            ∙ find_apart (held_after events) some.0 kept.apart some.1)
+          (ap (λ (slot : Slot). slot.holder) (kept.slots_are (place_of own.entry) d l)
+          ∙ ap (λ (g : Grant). find (is_for_place (place_of g.entry)) (held_after events)) same
+          ∙ find_apart (held_after events) some.0 kept.apart some.1)
           ∙ some.2
 
       in_slot : (holder : Option Grant) → holder ≡ (get_or slots (place_of own.entry) d).holder → is_holder lease holder ≡ true → is_held events lease ≡ true
@@ -86,16 +86,16 @@ module _ (terms : Terms) (events : List Event) (leases : List Grant) (slots : Li
       → (place : ℕ) (e : Slot) → place < length slots → get_or (set slots (place_of own.entry) (freed_of lease (get_or slots (place_of own.entry) d))) place e ≡ slot_after event place (get_or slots place e)
   released event lease own d frees_it none given l place e m =
       ⊎_elim
-        (λ (same : place ≡ place_of own.entry).
-            ap (λ n. get_or (set slots (place_of own.entry) (freed_of lease (get_or slots (place_of own.entry) d))) n e) same
-            ∙ get_or-set_same slots (place_of own.entry) (freed_of lease (get_or slots (place_of own.entry) d)) e l
-            ∙ ap (freed_of lease) (kept.slots_are (place_of own.entry) d l ∙ sym (kept.slots_are (place_of own.entry) e l))
-            ∙ own_slot (get_or slots (place_of own.entry) e)
-            ∙ ap (λ n. slot_after event n (get_or slots n e)) (sym same))
-        (λ (ne : place ≢ place_of own.entry).
-            get_or-set_other slots (place_of own.entry) place (freed_of lease (get_or slots (place_of own.entry) d)) e ne
-            ∙ slot_stays event place (get_or slots place e) (none place) (λ grant h. frees_it grant ∙ only_its_own lease place e grant own given ne m h))
-        (cases_eq place (place_of own.entry))
+      (λ (same : place ≡ place_of own.entry).
+      ap (λ n. get_or (set slots (place_of own.entry) (freed_of lease (get_or slots (place_of own.entry) d))) n e) same
+      ∙ get_or-set_same slots (place_of own.entry) (freed_of lease (get_or slots (place_of own.entry) d)) e l
+      ∙ ap (freed_of lease) (kept.slots_are (place_of own.entry) d l ∙ sym (kept.slots_are (place_of own.entry) e l))
+      ∙ own_slot (get_or slots (place_of own.entry) e)
+      ∙ ap (λ n. slot_after event n (get_or slots n e)) (sym same))
+      (λ (ne : place ≢ place_of own.entry).
+      get_or-set_other slots (place_of own.entry) place (freed_of lease (get_or slots (place_of own.entry) d)) e ne
+      ∙ slot_stays event place (get_or slots place e) (none place) (λ grant h. frees_it grant ∙ only_its_own lease place e grant own given ne m h))
+      (cases_eq place (place_of own.entry))
     where
       by_holder : (published : Option ℕ) (holder : Option Grant) (left : ℕ) → freed_of lease (record { published = published; holder = holder; left = left }) ≡ slot_after event (place_of own.entry) (record { published = published; holder = holder; left = left })
       by_holder published None left = slot_stays event (place_of own.entry) (record { published = published; holder = None; left = left }) (none (place_of own.entry)) (λ grant h. absurd (none-some grant h))
@@ -104,10 +104,10 @@ module _ (terms : Terms) (events : List Event) (leases : List Grant) (slots : Li
           go : (b : Bool) → is_numbered lease grant ≡ b → cond b (record { published = published; holder = None; left = left }) (record { published = published; holder = Some grant; left = left }) ≡ slot_after event (place_of own.entry) (record { published = published; holder = Some grant; left = left })
           go true h =
               same_slot _ _ _ _ _ _ (sym (ap (option_or published) (none (place_of own.entry)) ∙ option_or_none published))
-                (sym (ap (λ b. cond (not b) (Some grant) None) (frees_it grant ∙ h))) refl
+              (sym (ap (λ b. cond (not b) (Some grant) None) (frees_it grant ∙ h))) refl
           go false h =
               same_slot _ _ _ _ _ _ (sym (ap (option_or published) (none (place_of own.entry)) ∙ option_or_none published))
-                (sym (ap (λ b. cond (not b) (Some grant) None) (frees_it grant ∙ h))) refl
+              (sym (ap (λ b. cond (not b) (Some grant) None) (frees_it grant ∙ h))) refl
 
       own_slot : (slot : Slot) → freed_of lease slot ≡ slot_after event (place_of own.entry) slot
       own_slot slot = by_holder slot.published slot.holder slot.left
@@ -127,8 +127,8 @@ module _ (terms : Terms) (events : List Event) (leases : List Grant) (slots : Li
   kept_unknown lease none =
       let event : Event = record { asked = GiveUp lease; reply = UnknownLease } in
       kept_after terms events event refl leases slots slots kept (unknown_reply lease none) refl
-        (λ place d l. slot_stays event place (get_or slots place d) refl (λ grant h. never_given lease place d grant none l h))
-        (λ entry deal k h b. absurd (none-some k h)) (λ place k h. absurd (none-some k h))
+      (λ place d l. slot_stays event place (get_or slots place d) refl (λ grant h. never_given lease place d grant none l h))
+      (λ entry deal k h b. absurd (none-some k h)) (λ place k h. absurd (none-some k h))
 
   by_held : (lease : ℕ) (held : Bool) → given_by (record { asked = GiveUp lease; reply = cond held GaveUp NotHeld }) ≡ None
   by_held lease true = refl
@@ -140,6 +140,6 @@ module _ (terms : Terms) (events : List Event) (leases : List Grant) (slots : Li
       let held = is_holder lease (get_or slots (place_of own.entry) d).holder in
       let event : Event = record { asked = GiveUp lease; reply = cond held GaveUp NotHeld } in
       kept_after terms events event (by_held lease held) leases slots (set slots (place_of own.entry) (freed_of lease (get_or slots (place_of own.entry) d))) kept (own_reply lease d own given l)
-        (length-set slots (place_of own.entry) (freed_of lease (get_or slots (place_of own.entry) d)))
-        (released event lease own d (λ grant. refl) (λ place. refl) given l)
-        (λ entry deal k h b. absurd (none-some k h)) (λ place k h. absurd (none-some k h))
+      (length-set slots (place_of own.entry) (freed_of lease (get_or slots (place_of own.entry) d)))
+      (released event lease own d (λ grant. refl) (λ place. refl) given l)
+      (λ entry deal k h b. absurd (none-some k h)) (λ place k h. absurd (none-some k h))

@@ -46,7 +46,7 @@ shown_as entry deal shown h =
 pub proven_as : (entry : Entry) (deal : Deal) (k : ℕ) (o : Option Deal) (shown : Shown) → IsProven shown → is_shown_for o entry shown ≡ true → o ≡ Some deal → shown.k ≡ k → IsProven (record { layout = deal; declarer = entry.declarer; trump = entry.trump; k = k })
 proven_as entry deal k o shown proven h e same =
     subst (λ (n : ℕ). IsProven (record { layout = deal; declarer = entry.declarer; trump = entry.trump; k = n })) same
-      (subst (λ (s : Shown). IsProven s) (shown_as entry deal shown (ap (λ (d : Option Deal). is_shown_for d entry shown) (sym e) ∙ h)) proven)
+    (subst (λ (s : Shown). IsProven s) (shown_as entry deal shown (ap (λ (d : Option Deal). is_shown_for d entry shown) (sym e) ∙ h)) proven)
 
 module _ (terms : Terms) (events : List Event) (leases : List Grant) (slots : List Slot) (kept : IsKept terms events leases slots) where
   pub unknown_hand_in : (lease : ℕ) (entry : Entry) (evidence : Evidence) → find (is_numbered lease) leases ≡ None → UnknownLease ≡ hand_in_reply terms events (grant_of events lease) entry evidence
@@ -74,7 +74,7 @@ module _ (terms : Terms) (events : List Event) (leases : List Grant) (slots : Li
       → is_some (get_or slots (place_of own.entry) d).published ≡ other → hand_in_reply terms events (grant_of events lease) entry evidence ≡ cond other AlreadyPublished (evidence_reply evidence)
   counts lease d entry evidence own other given same e l p =
       known lease entry evidence own true other given (and_from (is_same_entry own.entry entry) (is_evidence_for terms.boards entry evidence) same e)
-        (ap (λ (o : Option ℕ). is_some o) (sym (slot_number d entry own same l)) ∙ p)
+      (ap (λ (o : Option ℕ). is_some o) (sym (slot_number d entry own same l)) ∙ p)
 
   -- a refusal leaves all
   pub kept_refused : (lease : ℕ) (entry : Entry) (evidence : Evidence) (reply : Reply) → given_as reply ≡ None → ((grant : Grant) → is_freed_by_hand_in grant lease entry reply ≡ false) → ((place : ℕ) → published_as place entry reply ≡ None)
@@ -82,9 +82,9 @@ module _ (terms : Terms) (events : List Event) (leases : List Grant) (slots : Li
   kept_refused lease entry evidence reply none frees_none publishes_none is =
       let event : Event = record { asked = HandIn lease entry evidence; reply = reply } in
       kept_after terms events event none leases slots slots kept is refl
-        (λ place d l. slot_stays event place (get_or slots place d) (publishes_none place) (λ grant h. frees_none grant))
-        (λ other deal k h b. absurd (none-some k (sym (publishes_none (place_of other)) ∙ h)))
-        (λ place k h. absurd (none-some k (sym (publishes_none place) ∙ h)))
+      (λ place d l. slot_stays event place (get_or slots place d) (publishes_none place) (λ grant h. frees_none grant))
+      (λ other deal k h b. absurd (none-some k (sym (publishes_none (place_of other)) ∙ h)))
+      (λ place k h. absurd (none-some k (sym (publishes_none place) ∙ h)))
 
   -- what shows nothing takes its lease back
   pub kept_faulty : (lease : ℕ) (d : Slot) (entry : Entry) (fault : HandFault) (own : Grant) → find (is_numbered lease) leases ≡ Some own → place_of own.entry < length slots
@@ -93,29 +93,29 @@ module _ (terms : Terms) (events : List Event) (leases : List Grant) (slots : Li
   kept_faulty lease d entry fault own given l is =
       let event : Event = record { asked = HandIn lease entry (Faulty fault); reply = BadCertificate fault } in
       kept_after terms events event refl leases slots (set slots (place_of own.entry) (freed_of lease (get_or slots (place_of own.entry) d))) kept is
-        (length-set slots (place_of own.entry) (freed_of lease (get_or slots (place_of own.entry) d)))
-        (released terms events leases slots kept event lease own d (λ grant. refl) (λ place. refl) given l)
-        (λ other deal k h b. absurd (none-some k h)) (λ place k h. absurd (none-some k h))
+      (length-set slots (place_of own.entry) (freed_of lease (get_or slots (place_of own.entry) d)))
+      (released terms events leases slots kept event lease own d (λ grant. refl) (λ place. refl) given l)
+      (λ other deal k h b. absurd (none-some k h)) (λ place k h. absurd (none-some k h))
 
   -- what counts is published
   pub kept_published : (lease : ℕ) (d : Slot) (entry : Entry) (shown : Shown) (own : Grant) → IsProven shown → is_same_entry own.entry entry ≡ true → is_evidence_for terms.boards entry (Shows shown) ≡ true → place_of own.entry < length slots
       → is_some (get_or slots (place_of own.entry) d).published ≡ false
       → Published shown.k ≡ hand_in_reply terms events (grant_of events lease) entry (Shows shown)
       → IsKept terms (events ++ record { asked = HandIn lease entry (Shows shown); reply = Published shown.k } ∷ []) leases
-        (set slots (place_of own.entry) (record { published = Some shown.k; holder = None; left = (get_or slots (place_of own.entry) d).left }))
+      (set slots (place_of own.entry) (record { published = Some shown.k; holder = None; left = (get_or slots (place_of own.entry) d).left }))
   kept_published lease d entry shown own proven same e l unpublished is =
       let event : Event = record { asked = HandIn lease entry (Shows shown); reply = Published shown.k } in
       let changed : Slot = record { published = Some shown.k; holder = None; left = (get_or slots (place_of own.entry) d).left } in
       kept_after terms events event refl leases slots (set slots (place_of own.entry) changed) kept is
-        (length-set slots (place_of own.entry) changed)
-        (λ place c m. at_place place c m)
-        (λ other deal k h b.
-            let both = cond_some (nat_eq (place_of entry) (place_of other)) shown.k k h in
-            let one = same_entry entry other (eqb-true (place_of entry) (place_of other) both.0) in
-            proven_as other deal k (deal_of terms.boards other.board) shown proven (ap (λ (x : Entry). is_evidence_for terms.boards x (Shows shown)) (sym one) ∙ e) b both.1)
-        (λ place k h.
-            let both = cond_some (nat_eq (place_of entry) place) shown.k k h in
-            omega (arith, eqb-true (place_of entry) place both.0, here, l))
+      (length-set slots (place_of own.entry) changed)
+      (λ place c m. at_place place c m)
+      (λ other deal k h b.
+      let both = cond_some (nat_eq (place_of entry) (place_of other)) shown.k k h in
+      let one = same_entry entry other (eqb-true (place_of entry) (place_of other) both.0) in
+      proven_as other deal k (deal_of terms.boards other.board) shown proven (ap (λ (x : Entry). is_evidence_for terms.boards x (Shows shown)) (sym one) ∙ e) b both.1)
+      (λ place k h.
+      let both = cond_some (nat_eq (place_of entry) place) shown.k k h in
+      omega (arith, eqb-true (place_of entry) place both.0, here, l))
     where
       here : place_of own.entry ≡ place_of entry
       here = eqb-true (place_of own.entry) (place_of entry) same
@@ -133,10 +133,10 @@ module _ (terms : Terms) (events : List Event) (leases : List Grant) (slots : Li
           let slot = get_or slots (place_of own.entry) c in
           let one : get_or slots (place_of own.entry) d ≡ slot = kept.slots_are (place_of own.entry) d l ∙ sym (kept.slots_are (place_of own.entry) c l) in
           same_slot _ _ _ _ _ _
-            (sym (ap (λ o. option_or o (cond (nat_eq (place_of entry) (place_of own.entry)) (Some shown.k) None)) (no_number slot.published (ap (λ (s : Slot). is_some s.published) (sym one) ∙ unpublished))
-              ∙ ap (λ b. cond b (Some shown.k) None) (eq-eqb (place_of entry) (place_of own.entry) (sym here))))
-            (no_holder (place_of own.entry) slot.holder (λ grant h. (holder_found terms events leases slots kept (place_of own.entry) c grant l h).1 ∙ here))
-            (ap (λ (s : Slot). s.left) one)
+          (sym (ap (λ o. option_or o (cond (nat_eq (place_of entry) (place_of own.entry)) (Some shown.k) None)) (no_number slot.published (ap (λ (s : Slot). is_some s.published) (sym one) ∙ unpublished))
+          ∙ ap (λ b. cond b (Some shown.k) None) (eq-eqb (place_of entry) (place_of own.entry) (sym here))))
+          (no_holder (place_of own.entry) slot.holder (λ grant h. (holder_found terms events leases slots kept (place_of own.entry) c grant l h).1 ∙ here))
+          (ap (λ (s : Slot). s.left) one)
 
       at_place : (place : ℕ) (c : Slot) → place < length slots
           → get_or (set slots (place_of own.entry) (record { published = Some shown.k; holder = None; left = (get_or slots (place_of own.entry) d).left })) place c
@@ -145,17 +145,17 @@ module _ (terms : Terms) (events : List Event) (leases : List Grant) (slots : Li
           let changed : Slot = record { published = Some shown.k; holder = None; left = (get_or slots (place_of own.entry) d).left } in
           let event : Event = record { asked = HandIn lease entry (Shows shown); reply = Published shown.k } in
           ⊎_elim
-            (λ (at_own : place ≡ place_of own.entry).
-                ap (λ n. get_or (set slots (place_of own.entry) changed) n c) at_own
-                ∙ get_or-set_same slots (place_of own.entry) changed c l
-                ∙ own_slot c
-                ∙ ap (λ n. slot_after event n (get_or slots n c)) (sym at_own))
-            (λ (ne : place ≢ place_of own.entry).
-                get_or-set_other slots (place_of own.entry) place changed c ne
-                ∙ slot_stays event place (get_or slots place c)
-                  (ap (λ b. cond b (Some shown.k) None) (ne_eqb (place_of entry) place (λ x. ne (sym x ∙ sym here))))
-                  (λ grant h. ne_eqb (place_of grant.entry) (place_of entry) (λ x. ne (sym (holder_found terms events leases slots kept place c grant m h).1 ∙ (x ∙ sym here)))))
-            (cases_eq place (place_of own.entry))
+          (λ (at_own : place ≡ place_of own.entry).
+          ap (λ n. get_or (set slots (place_of own.entry) changed) n c) at_own
+          ∙ get_or-set_same slots (place_of own.entry) changed c l
+          ∙ own_slot c
+          ∙ ap (λ n. slot_after event n (get_or slots n c)) (sym at_own))
+          (λ (ne : place ≢ place_of own.entry).
+          get_or-set_other slots (place_of own.entry) place changed c ne
+          ∙ slot_stays event place (get_or slots place c)
+          (ap (λ b. cond b (Some shown.k) None) (ne_eqb (place_of entry) place (λ x. ne (sym x ∙ sym here))))
+          (λ grant h. ne_eqb (place_of grant.entry) (place_of entry) (λ x. ne (sym (holder_found terms events leases slots kept place c grant m h).1 ∙ (x ∙ sym here)))))
+          (cases_eq place (place_of own.entry))
 
   pub shows_reply : (lease : ℕ) (d : Slot) (entry : Entry) (evidence : Evidence) (shown : Shown) (own : Grant) → evidence ≡ Shows shown → find (is_numbered lease) leases ≡ Some own → is_same_entry own.entry entry ≡ true → is_evidence_for terms.boards entry evidence ≡ true → place_of own.entry < length slots
       → is_some (get_or slots (place_of own.entry) d).published ≡ false → Published shown.k ≡ hand_in_reply terms events (grant_of events lease) entry evidence
@@ -170,12 +170,12 @@ module _ (terms : Terms) (events : List Event) (leases : List Grant) (slots : Li
   pub kept_shows : (lease : ℕ) (d : Slot) (entry : Entry) (evidence : Evidence) (shown : Shown) (own : Grant) → evidence ≡ Shows shown → IsProvenEvidence evidence → find (is_numbered lease) leases ≡ Some own → is_same_entry own.entry entry ≡ true → is_evidence_for terms.boards entry evidence ≡ true → place_of own.entry < length slots
       → is_some (get_or slots (place_of own.entry) d).published ≡ false
       → IsKept terms (events ++ record { asked = HandIn lease entry evidence; reply = Published shown.k } ∷ []) leases
-        (set slots (place_of own.entry) (record { published = Some shown.k; holder = None; left = (get_or slots (place_of own.entry) d).left }))
+      (set slots (place_of own.entry) (record { published = Some shown.k; holder = None; left = (get_or slots (place_of own.entry) d).left }))
   kept_shows lease d entry evidence shown own is proven given same e l unpublished =
       let after = set slots (place_of own.entry) (record { published = Some shown.k; holder = None; left = (get_or slots (place_of own.entry) d).left }) in
       subst (λ (x : Evidence). IsKept terms (events ++ record { asked = HandIn lease entry x; reply = Published shown.k } ∷ []) leases after) (sym is)
-        (kept_published lease d entry shown own (subst (λ (x : Evidence). IsProvenEvidence x) is proven) same (ap (is_evidence_for terms.boards entry) (sym is) ∙ e) l unpublished
-          (shows_reply lease d entry (Shows shown) shown own refl given same (ap (is_evidence_for terms.boards entry) (sym is) ∙ e) l unpublished))
+      (kept_published lease d entry shown own (subst (λ (x : Evidence). IsProvenEvidence x) is proven) same (ap (is_evidence_for terms.boards entry) (sym is) ∙ e) l unpublished
+      (shows_reply lease d entry (Shows shown) shown own refl given same (ap (is_evidence_for terms.boards entry) (sym is) ∙ e) l unpublished))
 
   pub kept_shows_nothing : (lease : ℕ) (d : Slot) (entry : Entry) (evidence : Evidence) (fault : HandFault) (own : Grant) → evidence ≡ Faulty fault → find (is_numbered lease) leases ≡ Some own → is_same_entry own.entry entry ≡ true → is_evidence_for terms.boards entry evidence ≡ true → place_of own.entry < length slots
       → is_some (get_or slots (place_of own.entry) d).published ≡ false
@@ -183,8 +183,8 @@ module _ (terms : Terms) (events : List Event) (leases : List Grant) (slots : Li
   kept_shows_nothing lease d entry evidence fault own is given same e l unpublished =
       let after = set slots (place_of own.entry) (freed_of lease (get_or slots (place_of own.entry) d)) in
       subst (λ (x : Evidence). IsKept terms (events ++ record { asked = HandIn lease entry x; reply = BadCertificate fault } ∷ []) leases after) (sym is)
-        (kept_faulty lease d entry fault own given l
-          (faulty_reply lease d entry (Faulty fault) fault own refl given same (ap (is_evidence_for terms.boards entry) (sym is) ∙ e) l unpublished))
+      (kept_faulty lease d entry fault own given l
+      (faulty_reply lease d entry (Faulty fault) fault own refl given same (ap (is_evidence_for terms.boards entry) (sym is) ∙ e) l unpublished))
 
   pub published_reply : (lease : ℕ) (d : Slot) (entry : Entry) (evidence : Evidence) (own : Grant) → find (is_numbered lease) leases ≡ Some own → is_same_entry own.entry entry ≡ true → is_evidence_for terms.boards entry evidence ≡ true → place_of own.entry < length slots
       → is_some (get_or slots (place_of own.entry) d).published ≡ true → AlreadyPublished ≡ hand_in_reply terms events (grant_of events lease) entry evidence

@@ -65,19 +65,19 @@ module _ (now : ℕ) (before slots : List Slot) (from place : ℕ) (slot : Slot)
   pub swept_done : (other : ℕ) (d : Slot) → other < place + 1 → get_or (set slots place (freed slot)) other d ≡ freed_if_past now (get_or before other d)
   swept_done other d l =
       ⊎_elim
-        (λ (e : other ≡ place).
-            ap (λ n. get_or (set slots place (freed slot)) n d) e
-            ∙ get_or-set_same slots place (freed slot) d first.within
-            ∙ ap freed (is_slot d ∙ rest place d first.from_on)
-            ∙ sym (cond-true (is_past_slot now (get_or before place d)) (freed (get_or before place d)) (get_or before place d) (ap (is_past_slot now) (sym (rest place d first.from_on)) ∙ first.passes d))
-            ∙ ap (λ n. freed_if_past now (get_or before n d)) (sym e))
-        (λ (ne : other ≢ place).
-            get_or-set_other slots place other (freed slot) d ne
-            ∙ ⊎_elim
-              (λ (h : other < from). done other d h)
-              (λ (h : from ≤ other). rest other d h ∙ sym (cond-false (is_past_slot now (get_or before other d)) (freed (get_or before other d)) (get_or before other d) (not_past other d h (omega arith))))
-              (cases_lt other from))
-        (cases_eq other place)
+      (λ (e : other ≡ place).
+      ap (λ n. get_or (set slots place (freed slot)) n d) e
+      ∙ get_or-set_same slots place (freed slot) d first.within
+      ∙ ap freed (is_slot d ∙ rest place d first.from_on)
+      ∙ sym (cond-true (is_past_slot now (get_or before place d)) (freed (get_or before place d)) (get_or before place d) (ap (is_past_slot now) (sym (rest place d first.from_on)) ∙ first.passes d))
+      ∙ ap (λ n. freed_if_past now (get_or before n d)) (sym e))
+      (λ (ne : other ≢ place).
+      get_or-set_other slots place other (freed slot) d ne
+      ∙ ⊎_elim
+      (λ (h : other < from). done other d h)
+      (λ (h : from ≤ other). rest other d h ∙ sym (cond-false (is_past_slot now (get_or before other d)) (freed (get_or before other d)) (get_or before other d) (not_past other d h (omega arith))))
+      (cases_lt other from))
+      (cases_eq other place)
 
   pub swept_rest : (other : ℕ) (d : Slot) → place + 1 ≤ other → get_or (set slots place (freed slot)) other d ≡ get_or before other d
   swept_rest other d l =
@@ -101,14 +101,14 @@ module _ (now : ℕ) (before slots : List Slot) (from : ℕ)
   swept_at : (other : ℕ) (d : Slot) → other < length slots → get_or slots other d ≡ freed_if_past now (get_or before other d)
   swept_at other d l =
       ⊎_elim
-        (λ (h : other < from). done other d h)
-        (λ (h : from ≤ other). rest other d h ∙ sym (cond-false (is_past_slot now (get_or before other d)) (freed (get_or before other d)) (get_or before other d) (none_before other d h l)))
-        (cases_lt other from)
+      (λ (h : other < from). done other d h)
+      (λ (h : from ≤ other). rest other d h ∙ sym (cond-false (is_past_slot now (get_or before other d)) (freed (get_or before other d)) (get_or before other d) (none_before other d h l)))
+      (cases_lt other from)
 
   pub swept_all : slots ≡ map (freed_if_past now) before
   swept_all =
       same_lists slots (map (freed_if_past now) before) (same ∙ sym (length-map before (freed_if_past now)))
-        (λ other d l. swept_at other d l ∙ sym (get_or-map (freed_if_past now) before other d d (omega arith)))
+      (λ other d l. swept_at other d l ∙ sym (get_or-map (freed_if_past now) before other d d (omega arith)))
 
   pub counted_all : from ≤ length before → count_by (is_past_slot now) (take from before) ≡ count_by (is_past_slot now) before
   counted_all h =
@@ -121,9 +121,9 @@ pub set_step : (slots after : List Slot) (place : ℕ) (slot : Slot) (wanted : �
 set_step slots after place slot wanted a l is done other d h =
     ap (λ (all : List Slot). get_or all other d) a
     ∙ ⊎_elim
-      (λ (e : other ≡ place). ap (λ n. get_or (set slots place slot) n d) e ∙ get_or-set_same slots place slot d l ∙ is ∙ ap wanted (sym e))
-      (λ (ne : other ≢ place). get_or-set_other slots place other slot d ne ∙ done other d (omega arith))
-      (cases_eq other place)
+    (λ (e : other ≡ place). ap (λ n. get_or (set slots place slot) n d) e ∙ get_or-set_same slots place slot d l ∙ is ∙ ap wanted (sym e))
+    (λ (ne : other ≢ place). get_or-set_other slots place other slot d ne ∙ done other d (omega arith))
+    (cases_eq other place)
 
 pub set_rest : (slots after : List Slot) (place : ℕ) (slot : Slot) → after ≡ set slots place slot → (other : ℕ) (d : Slot) → place + 1 ≤ other → get_or after other d ≡ get_or slots other d
 set_rest slots after place slot a other d h =

@@ -32,7 +32,7 @@ slot_of terms events place =
     record {
       published = published_at place events;
       holder = find (is_for_place place) (held_after events);
-      left = (if is_some (deal_of terms.boards (place / 20)) then terms.tries else 0) - times_leased events place
+      left = (if is_some (deal_of terms.boards (place / 20)) then terms.tries else 0) - times_leased events place;
     }
 
 -- each published number is proven of the deal of its board

@@ -123,12 +123,7 @@ fn is_shown_for(deal: &Option<Layout>, entry: &Entry, shown: &Shown) -> bool
 impl Book {
     /// A book over these boards, at most 4,096, without a history. A lease lasts a term, and an entry is leased at most
     /// as often as `tries` says, 1 to 1,000.
-    pub fn new(
-        alloc: Global,
-        boards: Vec<Board>,
-        term: u64,
-        tries: u32,
-    ) -> Result<Book, BookFault>
+    pub fn new(alloc: Global, boards: Vec<Board>, term: u64, tries: u32) -> Result<Book, BookFault>
         ensures { IsMade (record { boards = boards.items; term = term; tries = tries }) result }
     {
         if boards.len() > 4096 {
@@ -215,11 +210,7 @@ impl Book {
     {
         make_room(&mut self.events)?;
         let freed = self.slots.free_past(now);
-        Ok(add(
-            &mut self.events,
-            Asked::Expire { now },
-            Reply::Freed(freed),
-        ))
+        Ok(add(&mut self.events, Asked::Expire { now }, Reply::Freed(freed)))
     }
 
     /// Takes a lease back.

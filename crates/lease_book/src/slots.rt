@@ -86,13 +86,7 @@ fn tries_of(boards: &[Board], tries: u32, place: usize) -> u32
     ensures { result ≡ tries_of boards.now tries place }
 {
     match boards.get(place / PER_BOARD) {
-        Some(board) => {
-            if board.deal.is_some() {
-                tries
-            } else {
-                0
-            }
-        }
+        Some(board) => { if board.deal.is_some() { tries } else { 0 } }
         None => 0,
     }
 }

@@ -19,7 +19,7 @@ invariant_of-self-in_default c =
     let book = c.self.inside in
     let none = sym (ap (find (is_numbered c.args.lease)) c.as_slice.ensures.value) ∙ sym c.given.ensures ∙ c.in_default.is in
     kept_in _ book.events.items _ _ (GiveUp c.args.lease) UnknownLease book.leases.items book.slots c.add.ensures.events c.make_room.ensures.events
-      (kept_unknown _ book.events.items book.leases.items book.slots c.self.invariant c.args.lease none)
+    (kept_unknown _ book.events.items book.leases.items book.slots c.self.invariant c.args.lease none)
 
 pub place-place-requires : goal.place-place-requires
 place-place-requires c =
@@ -42,7 +42,7 @@ invariant_of-self-2 c =
     let slots = rw c.place-place.ensures at c.take_back-reply.ensures.slots no_slot in
     rw slots
     (kept_in _ book.events.items _ _ (GiveUp c.args.lease) c.take_back-reply.result book.leases.items _ c.add-2.ensures.events c.make_room.ensures.events
-      (rw reply (kept_given_up _ book.events.items book.leases.items book.slots c.self.invariant c.args.lease no_slot c.in-Some.grant given within)))
+    (rw reply (kept_given_up _ book.events.items book.leases.items book.slots c.self.invariant c.args.lease no_slot c.in-Some.grant given within)))
 
 pub returns-clause-ok : goal.returns-clause-ok
 returns-clause-ok c =
@@ -51,4 +51,4 @@ returns-clause-ok c =
     let within = own_place _ book.events.items book.leases.items book.slots c.self.invariant c.args.lease c.in-Some.grant given in
     let reply = rw c.place-place.ensures at c.take_back-reply.ensures.reply no_slot in
     replied _ book.events.items _ _ c.args.self.now (GiveUp c.args.lease) c.take_back-reply.result c.add-2.result c.self.view_is c.add-2.ensures.events c.make_room.ensures.events c.add-2.ensures.reply
-      (reply ∙ own_reply _ book.events.items book.leases.items book.slots c.self.invariant c.args.lease no_slot c.in-Some.grant given within)
+    (reply ∙ own_reply _ book.events.items book.leases.items book.slots c.self.invariant c.args.lease no_slot c.in-Some.grant given within)

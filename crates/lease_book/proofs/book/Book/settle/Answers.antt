@@ -18,7 +18,7 @@ invariant_of-self-in_default c =
     let evidence = c.evidence_of-evidence.result in
     let none = sym (ap (find (is_numbered c.args.lease)) c.as_slice.ensures.value) ∙ sym c.given.ensures ∙ c.in_default.is in
     (kept_in _ book.events.items _ _ (HandIn c.args.lease c.args.entry evidence) UnknownLease book.leases.items book.slots c.add.ensures.events c.make_room.ensures.events
-      (kept_refused _ book.events.items book.leases.items book.slots c.self.invariant c.args.lease c.args.entry evidence UnknownLease refl (λ grant. refl) (λ place. refl) (unknown_hand_in _ book.events.items book.leases.items book.slots c.self.invariant c.args.lease c.args.entry evidence none)))
+    (kept_refused _ book.events.items book.leases.items book.slots c.self.invariant c.args.lease c.args.entry evidence UnknownLease refl (λ grant. refl) (λ place. refl) (unknown_hand_in _ book.events.items book.leases.items book.slots c.self.invariant c.args.lease c.args.entry evidence none)))
 
 pub returns-in_default-clause-ok : goal.returns-in_default-clause-ok
 returns-in_default-clause-ok c =
@@ -27,7 +27,7 @@ returns-in_default-clause-ok c =
     let none = sym (ap (find (is_numbered c.args.lease)) c.as_slice.ensures.value) ∙ sym c.given.ensures ∙ c.in_default.is in
     rw (← c.evidence_of-evidence.ensures.same)
     (replied _ book.events.items _ _ c.args.self.now (HandIn c.args.lease c.args.entry evidence) UnknownLease c.add.result c.self.view_is c.add.ensures.events c.make_room.ensures.events c.add.ensures.reply
-      (unknown_hand_in _ book.events.items book.leases.items book.slots c.self.invariant c.args.lease c.args.entry evidence none))
+    (unknown_hand_in _ book.events.items book.leases.items book.slots c.self.invariant c.args.lease c.args.entry evidence none))
 
 pub invariant_of-self-then-not-is_same : goal.invariant_of-self-then-not-is_same
 invariant_of-self-then-not-is_same c =
@@ -35,7 +35,7 @@ invariant_of-self-then-not-is_same c =
     let evidence = c.evidence_of-evidence.result in
     let given = sym (ap (find (is_numbered c.args.lease)) c.as_slice.ensures.value) ∙ sym c.given.ensures ∙ c.in-Some.is in
     (kept_in _ book.events.items _ _ (HandIn c.args.lease c.args.entry evidence) OtherEntry book.leases.items book.slots c.add-then-not-is_same.ensures.events c.make_room.ensures.events
-      (kept_refused _ book.events.items book.leases.items book.slots c.self.invariant c.args.lease c.args.entry evidence OtherEntry refl (λ grant. refl) (λ place. refl) (other_entry _ book.events.items book.leases.items book.slots c.self.invariant c.args.lease c.args.entry evidence c.in-Some.grant given (sym c.if-not-is_same.ensures))))
+    (kept_refused _ book.events.items book.leases.items book.slots c.self.invariant c.args.lease c.args.entry evidence OtherEntry refl (λ grant. refl) (λ place. refl) (other_entry _ book.events.items book.leases.items book.slots c.self.invariant c.args.lease c.args.entry evidence c.in-Some.grant given (sym c.if-not-is_same.ensures))))
 
 pub returns-then-not-is_same-clause-ok : goal.returns-then-not-is_same-clause-ok
 returns-then-not-is_same-clause-ok c =
@@ -44,7 +44,7 @@ returns-then-not-is_same-clause-ok c =
     let given = sym (ap (find (is_numbered c.args.lease)) c.as_slice.ensures.value) ∙ sym c.given.ensures ∙ c.in-Some.is in
     rw (← c.evidence_of-evidence.ensures.same)
     (replied _ book.events.items _ _ c.args.self.now (HandIn c.args.lease c.args.entry evidence) OtherEntry c.add-then-not-is_same.result c.self.view_is c.add-then-not-is_same.ensures.events c.make_room.ensures.events c.add-then-not-is_same.ensures.reply
-      (other_entry _ book.events.items book.leases.items book.slots c.self.invariant c.args.lease c.args.entry evidence c.in-Some.grant given (sym c.if-not-is_same.ensures)))
+    (other_entry _ book.events.items book.leases.items book.slots c.self.invariant c.args.lease c.args.entry evidence c.in-Some.grant given (sym c.if-not-is_same.ensures)))
 
 pub invariant_of-self-then-not-is_evidence_for : goal.invariant_of-self-then-not-is_evidence_for
 invariant_of-self-then-not-is_evidence_for c =
@@ -53,7 +53,7 @@ invariant_of-self-then-not-is_evidence_for c =
     let given = sym (ap (find (is_numbered c.args.lease)) c.as_slice.ensures.value) ∙ sym c.given.ensures ∙ c.in-Some.is in
     let right = ap (λ boards. is_evidence_for boards c.args.entry evidence) (sym c.as_slice-2.ensures.value) ∙ sym c.if-not-is_evidence_for.ensures in
     (kept_in _ book.events.items _ _ (HandIn c.args.lease c.args.entry evidence) OtherEntry book.leases.items book.slots c.add-then-not-is_evidence_for.ensures.events c.make_room.ensures.events
-      (kept_refused _ book.events.items book.leases.items book.slots c.self.invariant c.args.lease c.args.entry evidence OtherEntry refl (λ grant. refl) (λ place. refl) (other_evidence _ book.events.items book.leases.items book.slots c.self.invariant c.args.lease c.args.entry evidence c.in-Some.grant given right)))
+    (kept_refused _ book.events.items book.leases.items book.slots c.self.invariant c.args.lease c.args.entry evidence OtherEntry refl (λ grant. refl) (λ place. refl) (other_evidence _ book.events.items book.leases.items book.slots c.self.invariant c.args.lease c.args.entry evidence c.in-Some.grant given right)))
 
 pub returns-then-not-is_evidence_for-clause-ok : goal.returns-then-not-is_evidence_for-clause-ok
 returns-then-not-is_evidence_for-clause-ok c =
@@ -63,7 +63,7 @@ returns-then-not-is_evidence_for-clause-ok c =
     let right = ap (λ boards. is_evidence_for boards c.args.entry evidence) (sym c.as_slice-2.ensures.value) ∙ sym c.if-not-is_evidence_for.ensures in
     rw (← c.evidence_of-evidence.ensures.same)
     (replied _ book.events.items _ _ c.args.self.now (HandIn c.args.lease c.args.entry evidence) OtherEntry c.add-then-not-is_evidence_for.result c.self.view_is c.add-then-not-is_evidence_for.ensures.events c.make_room.ensures.events c.add-then-not-is_evidence_for.ensures.reply
-      (other_evidence _ book.events.items book.leases.items book.slots c.self.invariant c.args.lease c.args.entry evidence c.in-Some.grant given right))
+    (other_evidence _ book.events.items book.leases.items book.slots c.self.invariant c.args.lease c.args.entry evidence c.in-Some.grant given right))
 
 pub place-place-requires : goal.place-place-requires
 place-place-requires c =
@@ -104,7 +104,7 @@ invariant_of-self-then-is_some c =
     let slot : c.slot-slot.result ≡ get_or book.slots (place_of c.in-Some.grant.entry) no_slot = c.slot-slot.ensures no_slot ∙ ap (λ n. get_or book.slots n no_slot) c.place-place.ensures in
     let published = ap (λ (s : Slot). is_some s.published) (sym slot) ∙ sym c.is_some.ensures ∙ c.if-is_some.true in
     (kept_in _ book.events.items _ _ (HandIn c.args.lease c.args.entry evidence) AlreadyPublished book.leases.items book.slots c.add-then-is_some.ensures.events c.make_room.ensures.events
-      (kept_refused _ book.events.items book.leases.items book.slots c.self.invariant c.args.lease c.args.entry evidence AlreadyPublished refl (λ grant. refl) (λ place. refl) (published_reply _ book.events.items book.leases.items book.slots c.self.invariant c.args.lease no_slot c.args.entry evidence c.in-Some.grant given same right within published)))
+    (kept_refused _ book.events.items book.leases.items book.slots c.self.invariant c.args.lease c.args.entry evidence AlreadyPublished refl (λ grant. refl) (λ place. refl) (published_reply _ book.events.items book.leases.items book.slots c.self.invariant c.args.lease no_slot c.args.entry evidence c.in-Some.grant given same right within published)))
 
 pub returns-then-is_some-clause-ok : goal.returns-then-is_some-clause-ok
 returns-then-is_some-clause-ok c =
@@ -118,7 +118,7 @@ returns-then-is_some-clause-ok c =
     let published = ap (λ (s : Slot). is_some s.published) (sym slot) ∙ sym c.is_some.ensures ∙ c.if-is_some.true in
     rw (← c.evidence_of-evidence.ensures.same)
     (replied _ book.events.items _ _ c.args.self.now (HandIn c.args.lease c.args.entry evidence) AlreadyPublished c.add-then-is_some.result c.self.view_is c.add-then-is_some.ensures.events c.make_room.ensures.events c.add-then-is_some.ensures.reply
-      (published_reply _ book.events.items book.leases.items book.slots c.self.invariant c.args.lease no_slot c.args.entry evidence c.in-Some.grant given same right within published))
+    (published_reply _ book.events.items book.leases.items book.slots c.self.invariant c.args.lease no_slot c.args.entry evidence c.in-Some.grant given same right within published))
 
 pub invariant_of-self-in-Shows : goal.invariant_of-self-in-Shows
 invariant_of-self-in-Shows c =
@@ -132,7 +132,7 @@ invariant_of-self-in-Shows c =
     let unpublished = ap (λ (s : Slot). is_some s.published) (sym slot) ∙ sym c.is_some.ensures ∙ c.if-is_some.false in
     rw (numbered_slots book.slots c.set.new.self c.place-place.result (place_of c.in-Some.grant.entry) c.in-Shows.shown.k c.slot-slot.result c.with_number.result no_slot c.set.ensures c.with_number.ensures slot c.place-place.ensures)
     (kept_in _ book.events.items _ _ (HandIn c.args.lease c.args.entry evidence) (Published c.in-Shows.shown.k) book.leases.items _ c.add-in-Shows.ensures.events c.make_room.ensures.events
-      (kept_shows _ book.events.items book.leases.items book.slots c.self.invariant c.args.lease no_slot c.args.entry evidence c.in-Shows.shown c.in-Some.grant c.in-Shows.is c.evidence_of-evidence.ensures.proven given same right within unpublished))
+    (kept_shows _ book.events.items book.leases.items book.slots c.self.invariant c.args.lease no_slot c.args.entry evidence c.in-Shows.shown c.in-Some.grant c.in-Shows.is c.evidence_of-evidence.ensures.proven given same right within unpublished))
 
 pub invariant_of-self-in-Faulty : goal.invariant_of-self-in-Faulty
 invariant_of-self-in-Faulty c =
@@ -146,7 +146,7 @@ invariant_of-self-in-Faulty c =
     let unpublished = ap (λ (s : Slot). is_some s.published) (sym slot) ∙ sym c.is_some.ensures ∙ c.if-is_some.false in
     rw (rw c.place-place.ensures at c.take_back-held.ensures.slots no_slot)
     (kept_in _ book.events.items _ _ (HandIn c.args.lease c.args.entry evidence) (BadCertificate c.in-Faulty.fault) book.leases.items _ c.add-in-Faulty.ensures.events c.make_room.ensures.events
-      (kept_shows_nothing _ book.events.items book.leases.items book.slots c.self.invariant c.args.lease no_slot c.args.entry evidence c.in-Faulty.fault c.in-Some.grant c.in-Faulty.is given same right within unpublished))
+    (kept_shows_nothing _ book.events.items book.leases.items book.slots c.self.invariant c.args.lease no_slot c.args.entry evidence c.in-Faulty.fault c.in-Some.grant c.in-Faulty.is given same right within unpublished))
 
 pub returns-in-Shows-clause-ok : goal.returns-in-Shows-clause-ok
 returns-in-Shows-clause-ok c =
@@ -160,7 +160,7 @@ returns-in-Shows-clause-ok c =
     let unpublished = ap (λ (s : Slot). is_some s.published) (sym slot) ∙ sym c.is_some.ensures ∙ c.if-is_some.false in
     rw (← c.evidence_of-evidence.ensures.same)
     (replied _ book.events.items _ _ c.args.self.now (HandIn c.args.lease c.args.entry evidence) (Published c.in-Shows.shown.k) c.add-in-Shows.result c.self.view_is c.add-in-Shows.ensures.events c.make_room.ensures.events c.add-in-Shows.ensures.reply
-      (shows_reply _ book.events.items book.leases.items book.slots c.self.invariant c.args.lease no_slot c.args.entry evidence c.in-Shows.shown c.in-Some.grant c.in-Shows.is given same right within unpublished))
+    (shows_reply _ book.events.items book.leases.items book.slots c.self.invariant c.args.lease no_slot c.args.entry evidence c.in-Shows.shown c.in-Some.grant c.in-Shows.is given same right within unpublished))
 
 pub returns-in-Faulty-clause-ok : goal.returns-in-Faulty-clause-ok
 returns-in-Faulty-clause-ok c =
@@ -174,4 +174,4 @@ returns-in-Faulty-clause-ok c =
     let unpublished = ap (λ (s : Slot). is_some s.published) (sym slot) ∙ sym c.is_some.ensures ∙ c.if-is_some.false in
     rw (← c.evidence_of-evidence.ensures.same)
     (replied _ book.events.items _ _ c.args.self.now (HandIn c.args.lease c.args.entry evidence) (BadCertificate c.in-Faulty.fault) c.add-in-Faulty.result c.self.view_is c.add-in-Faulty.ensures.events c.make_room.ensures.events c.add-in-Faulty.ensures.reply
-      (faulty_reply _ book.events.items book.leases.items book.slots c.self.invariant c.args.lease no_slot c.args.entry evidence c.in-Faulty.fault c.in-Some.grant c.in-Faulty.is given same right within unpublished))
+    (faulty_reply _ book.events.items book.leases.items book.slots c.self.invariant c.args.lease no_slot c.args.entry evidence c.in-Faulty.fault c.in-Some.grant c.in-Faulty.is given same right within unpublished))

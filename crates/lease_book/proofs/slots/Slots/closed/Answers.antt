@@ -5,8 +5,7 @@ use Rattle.lease_book.proofs.slots.Slots.closed.Goals as goal
 
 pub invariant_of-result : goal.invariant_of-result
 invariant_of-result c =
-    let slots = c.in_ok-slots.ensures.items_if_clones_equal (search rules) in
-    (
+    let slots = c.in_ok-slots.ensures.items_if_clones_equal (search rules) in (
       c.in_ok-deadlines.ensures ∙ moments_none deadline_of (new_slot 0) c.args.count refl ∙ ap (map deadline_of) (sym slots),
-      c.in_ok-openings.ensures ∙ moments_none opening_of (new_slot 0) c.args.count refl ∙ ap (map opening_of) (sym slots)
+      c.in_ok-openings.ensures ∙ moments_none opening_of (new_slot 0) c.args.count refl ∙ ap (map opening_of) (sym slots),
     )
