@@ -1,7 +1,6 @@
 -- What an event changes of what is kept beside the history.
-use Rattle.std.proofs.Common.{◌≡◌, ℕ, ◌+◌, ◌-◌, ◌*◌, ◌/◌, ◌<◌, ◌≤◌, ◌≢◌, Bool, true, false, not, cond, List, [], ◌∷◌, ◌++◌, length, get_or, count_by, Option, None, Some, is_some, refl, sym, ◌∙◌, ap, subst, ◌⊎◌, inl, inr, ⊎_elim, arith}
-use Rattle.std.specs.Prelude.{Result}
-use Rattle.std.specs.List.{filter, find, list_any, cons_option}
+use Rattle.std.proofs.Common.{◌≡◌, ℕ, ◌-◌, ◌*◌, ◌/◌, ◌<◌, ◌≤◌, cond, List, [], ◌∷◌, ◌++◌, length, get_or, count_by, Option, None, Some, is_some, refl, sym, ◌∙◌, ap, subst, ◌⊎◌, inl, inr, ⊎_elim, arith}
+use Rattle.std.specs.List.{filter, find, cons_option}
 use Rattle.std.specs.Option.{option_or}
 use Rattle.std.proofs.lemmas.List.{append-nil}
 use Rattle.std.proofs.lemmas.Option.{none-some}
@@ -12,10 +11,10 @@ use Rattle.lease_book.specs.declared.events.Event.{Event}
 use Rattle.lease_book.specs.declared.slots.Slot.{Slot}
 use Rattle.lease_book.specs.Entries.{place_of}
 use Rattle.lease_book.specs.Proofs.{IsProven}
-use Rattle.lease_book.specs.Histories.{Terms, given_by, given_in, held_after, published_by, published_at, published_in, times_leased, deal_of, is_numbered, is_for_place}
+use Rattle.lease_book.specs.Histories.{Terms, given_by, given_in, held_after, published_by, published_at, published_in, times_leased, deal_of, is_for_place}
 use Rattle.lease_book.specs.Replies.{IsReply}
 use Rattle.lease_book.specs.Slots.{new_slot, tries_of}
-use Rattle.lease_book.specs.Keeping.{Among, AreApart, slot_of, AreProven, IsKept}
+use Rattle.lease_book.specs.Keeping.{Among, AreApart, slot_of, IsKept}
 use Rattle.lease_book.proofs.HistoryLaws.{is_left_by, given_push, held_push, published_push, legal_push}
 use Rattle.lease_book.proofs.HeldLaws.{keep_if, among_filter, apart_filter, find_filter}
 

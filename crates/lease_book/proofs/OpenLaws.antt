@@ -1,10 +1,10 @@
 -- Open entries, and the lease of the least.
-use Rattle.std.proofs.Common.{◌≡◌, ℕ, zero, suc, ◌+◌, ◌-◌, ◌*◌, ◌/◌, ◌<◌, ◌≤◌, ◌≢◌, Bool, true, false, not, cond, ◌&&◌, List, [], ◌∷◌, ◌++◌, length, get_or, set, count_by, Option, None, Some, is_some, is_none, refl, sym, ◌∙◌, ap, subst, ◌⊎◌, inl, inr, ⊎_elim, arith}
+use Rattle.std.proofs.Common.{◌≡◌, ℕ, ◌+◌, ◌-◌, ◌/◌, ◌<◌, ◌≤◌, ◌≢◌, Bool, true, false, not, cond, ◌&&◌, List, [], ◌∷◌, ◌++◌, length, get_or, set, count_by, None, Some, is_some, is_none, refl, sym, ◌∙◌, ap, subst, ◌⊎◌, inl, inr, ⊎_elim, arith}
 use Rattle.std.specs.Prelude.{nat_lt, min, ◌^◌}
-use Rattle.std.specs.List.{filter, find, list_any, sum_by}
+use Rattle.std.specs.List.{filter, find, list_any}
 use Rattle.std.specs.Option.{option_or}
 use Rattle.std.proofs.lemmas.Bool.{both_ways, cases_eq, cases_lt, and_parts, ltb-true, lt-ltb, le-ltb, eq-eqb, ne_eqb, not-true}
-use Rattle.std.proofs.lemmas.List.{get_or-set_same, get_or-set_other, length-set, length_push}
+use Rattle.std.proofs.lemmas.List.{get_or-set_same, get_or-set_other, length-set}
 use Rattle.std.proofs.lemmas.List.Folds.{find-append}
 use Rattle.std.proofs.lemmas.List.Sums.{sum_by_push}
 use Rattle.std.proofs.lemmas.Option.{none-some, slice_get_past}
@@ -16,15 +16,15 @@ use Rattle.lease_book.specs.declared.events.Reply.TheVariants.{Given, Nothing}
 use Rattle.lease_book.specs.declared.events.Event.{Event}
 use Rattle.lease_book.specs.declared.slots.Slot.{Slot}
 use Rattle.lease_book.specs.Entries.{place_of}
-use Rattle.lease_book.specs.Histories.{Terms, given_by, given_in, held_after, published_by, published_at, published_in, times_leased, deal_of, deal_of_board, is_numbered, is_for_place, is_open}
-use Rattle.lease_book.specs.Replies.{IsReply, IsNextLease}
+use Rattle.lease_book.specs.Histories.{Terms, given_in, held_after, published_at, published_in, times_leased, deal_of, deal_of_board, is_numbered, is_for_place, is_open}
+use Rattle.lease_book.specs.Replies.{IsNextLease}
 use Rattle.lease_book.specs.Slots.{is_open_slot, NonePasses, IsFirst}
 use Rattle.lease_book.specs.Keeping.{Among, AreApart, slot_of, IsKept}
 use Rattle.lease_book.proofs.SlotLaws.{no_slot}
 use Rattle.lease_book.proofs.EntryLaws.{board_of, contract_below}
 use Rattle.lease_book.proofs.HistoryLaws.{is_left_by, given_push, held_push, published_push, legal_push, option_or_none}
 use Rattle.lease_book.proofs.HeldLaws.{is_none_find, find_none, among_append, apart_push, find_above, numbered_push}
-use Rattle.lease_book.proofs.BookLaws.{slot_after, same_slot, kept_after}
+use Rattle.lease_book.proofs.BookLaws.{same_slot, kept_after}
 use Rattle.lease_book.proofs.ReleaseLaws.{same_bool, slot_stays}
 
 tries_left : (h : Bool) (tries times : ℕ) → nat_lt 0 (cond h tries 0 - times) ≡ (h && nat_lt times tries)

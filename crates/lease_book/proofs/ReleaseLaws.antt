@@ -1,21 +1,20 @@
 -- A lease that is given up, or whose hand-in shows nothing.
-use Rattle.std.proofs.Common.{◌≡◌, ℕ, ◌+◌, ◌-◌, ◌<◌, ◌≤◌, ◌≢◌, Bool, true, false, not, cond, List, [], ◌∷◌, ◌++◌, length, get_or, set, Option, None, Some, is_some, refl, sym, ◌∙◌, ap, subst, ◌⊎◌, inl, inr, ⊎_elim, arith}
-use Rattle.std.specs.List.{find, list_any}
+use Rattle.std.proofs.Common.{◌≡◌, ℕ, ◌<◌, ◌≢◌, Bool, true, false, not, cond, List, [], ◌∷◌, ◌++◌, length, get_or, set, Option, None, Some, is_some, refl, sym, ◌∙◌, ap, ⊎_elim}
+use Rattle.std.specs.List.{find}
 use Rattle.std.specs.Option.{option_or}
-use Rattle.std.proofs.lemmas.Bool.{false≢true, eqb-true, eq-eqb, ne_eqb, both_ways, cases_eq, cases_Bool, false_from_ne_true, cond-true, cond-false}
+use Rattle.std.proofs.lemmas.Bool.{false≢true, eqb-true, cases_eq, false_from_ne_true}
 use Rattle.std.proofs.lemmas.List.{get_or-set_same, get_or-set_other, length-set}
 use Rattle.std.proofs.lemmas.Option.{none-some, same_Some}
-use Rattle.lease_book.specs.declared.entries.Entry.{Entry}
 use Rattle.lease_book.specs.declared.events.Grant.{Grant}
 use Rattle.lease_book.specs.declared.events.Asked.TheVariants.{GiveUp}
 use Rattle.lease_book.specs.declared.events.Reply.TheVariants.{GaveUp, NotHeld, UnknownLease}
 use Rattle.lease_book.specs.declared.events.Event.{Event}
 use Rattle.lease_book.specs.declared.slots.Slot.{Slot}
 use Rattle.lease_book.specs.Entries.{place_of}
-use Rattle.lease_book.specs.Histories.{Terms, given_by, given_in, grant_of, is_held, held_after, frees, published_by, is_numbered, is_for_place}
-use Rattle.lease_book.specs.Replies.{IsReply, give_up_reply}
-use Rattle.lease_book.specs.Slots.{is_holder, freed, freed_of}
-use Rattle.lease_book.specs.Keeping.{Among, AreApart, slot_of, IsKept}
+use Rattle.lease_book.specs.Histories.{Terms, given_by, grant_of, is_held, held_after, frees, published_by, is_numbered, is_for_place}
+use Rattle.lease_book.specs.Replies.{give_up_reply}
+use Rattle.lease_book.specs.Slots.{is_holder, freed_of}
+use Rattle.lease_book.specs.Keeping.{Among, IsKept}
 use Rattle.lease_book.proofs.HistoryLaws.{is_left_by, option_or_none}
 use Rattle.lease_book.proofs.HeldLaws.{keep_if, among_any, any_among, find_among, find_apart}
 use Rattle.lease_book.proofs.BookLaws.{slot_after, same_slot, kept_after}

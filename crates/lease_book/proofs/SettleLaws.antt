@@ -1,11 +1,11 @@
 -- What is handed in.
-use Rattle.std.proofs.Common.{◌≡◌, ℕ, ◌+◌, ◌-◌, ◌<◌, ◌≤◌, ◌≢◌, Bool, true, false, not, cond, ◌&&◌, List, [], ◌∷◌, ◌++◌, length, get_or, set, Option, None, Some, is_some, refl, sym, ◌∙◌, ap, subst, ◌⊎◌, inl, inr, ⊎_elim, arith}
+use Rattle.std.proofs.Common.{◌≡◌, ℕ, ◌<◌, ◌≢◌, Bool, true, false, not, cond, ◌&&◌, List, [], ◌∷◌, ◌++◌, length, get_or, set, Option, None, Some, is_some, refl, sym, ◌∙◌, ap, subst, ⊎_elim, arith}
 use Rattle.std.specs.Prelude.{nat_eq}
 use Rattle.std.specs.List.{find}
 use Rattle.std.specs.Option.{option_or}
-use Rattle.std.proofs.lemmas.Bool.{false≢true, both_ways, eqb-true, eq-eqb, ne_eqb, cases_eq, and_parts, and_from, and_left, and_right}
+use Rattle.std.proofs.lemmas.Bool.{eqb-true, eq-eqb, ne_eqb, cases_eq, and_parts, and_from, and_left, and_right}
 use Rattle.std.proofs.lemmas.List.{get_or-set_same, get_or-set_other, length-set}
-use Rattle.std.proofs.lemmas.Option.{none-some, same_Some, cond_some}
+use Rattle.std.proofs.lemmas.Option.{none-some, cond_some}
 use Rattle.cards.specs.Deal.{Deal, is_same_deal}
 use Rattle.cards.specs.SameDeal.{is_same_deal-Decides}
 use Rattle.cards.specs.declared.seats.Seat.{Seat}
@@ -23,12 +23,12 @@ use Rattle.lease_book.specs.declared.events.Event.{Event}
 use Rattle.lease_book.specs.declared.slots.Slot.{Slot}
 use Rattle.lease_book.specs.Entries.{contract_place, place_of, is_same_entry}
 use Rattle.lease_book.specs.Proofs.{IsProven, IsProvenEvidence}
-use Rattle.lease_book.specs.Histories.{Terms, given_as, grant_of, held_after, published_as, published_at, published_in, deal_of, is_numbered, is_for_place, is_freed_by_hand_in}
-use Rattle.lease_book.specs.Replies.{IsReply, is_shown_for, is_evidence_for, evidence_reply, hand_in_reply}
+use Rattle.lease_book.specs.Histories.{Terms, given_as, grant_of, published_as, published_at, published_in, deal_of, is_numbered, is_freed_by_hand_in}
+use Rattle.lease_book.specs.Replies.{is_shown_for, is_evidence_for, evidence_reply, hand_in_reply}
 use Rattle.lease_book.specs.Slots.{freed_of}
 use Rattle.lease_book.specs.Keeping.{IsKept}
 use Rattle.lease_book.proofs.EntryLaws.{same_contract, same_entry}
-use Rattle.lease_book.proofs.HistoryLaws.{is_left_by, option_or_none}
+use Rattle.lease_book.proofs.HistoryLaws.{is_left_by}
 use Rattle.lease_book.proofs.HeldLaws.{keep_if}
 use Rattle.lease_book.proofs.BookLaws.{slot_after, same_slot, kept_after}
 use Rattle.lease_book.proofs.ReleaseLaws.{slot_stays, holder_found, released, grant_is}

@@ -1,11 +1,11 @@
 -- The slots and the rows beside them.
-use Rattle.std.proofs.Common.{◌≡◌, ℕ, zero, suc, ◌+◌, ◌-◌, ◌<◌, ◌≤◌, ◌≢◌, Bool, true, false, cond, List, [], ◌∷◌, length, map, get_or, set, take, take_all, replicate, count_by, Option, None, Some, MatchOption, refl, sym, ◌∙◌, ap, subst, ⊎_elim, arith}
+use Rattle.std.proofs.Common.{◌≡◌, ℕ, zero, suc, ◌+◌, ◌-◌, ◌<◌, ◌≤◌, ◌≢◌, Bool, true, false, cond, List, ◌∷◌, length, map, get_or, set, take, take_all, replicate, count_by, Option, None, Some, MatchOption, refl, sym, ◌∙◌, ap, ⊎_elim, arith}
 use Rattle.std.proofs.lemmas.List.{get_or-map, length-map, same_lists, get_or-set_same, get_or-set_other}
 use Rattle.std.proofs.lemmas.Bool.{cases_eq, cases_lt, cond-true, cond-false}
 use Rattle.std.proofs.lemmas.List.Sums.{count_by_more_no, count_by_more_yes}
 use Rattle.due_rows.specs.Moments.{is_due, moment_at, NoneIsDue, IsFirstDue}
 use Rattle.lease_book.specs.declared.slots.Slot.{Slot}
-use Rattle.lease_book.specs.Slots.{deadline_of, opening_of, is_open_slot, is_past_slot, NonePasses, IsFirst, freed, freed_if_past}
+use Rattle.lease_book.specs.Slots.{opening_of, is_open_slot, is_past_slot, NonePasses, IsFirst, freed, freed_if_past}
 
 pub no_slot : Slot
 no_slot = record { published = None; holder = None; left = 0 }

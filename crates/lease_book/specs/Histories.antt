@@ -1,5 +1,5 @@
 -- What follows from a list of events: which leases were given, which are held, what is published, what is open.
-use Rattle.std.specs.Prelude.{◌≡◌, ℕ, Bool, true, false, not, ◌&&◌, List, [], ◌∷◌, ◌++◌, Option, None, Some, is_some, is_none, if◌then◌else◌, nat_eq, nat_le, nat_lt, count_by, slice_get}
+use Rattle.std.specs.Prelude.{ℕ, Bool, false, not, ◌&&◌, List, [], ◌∷◌, ◌++◌, Option, None, Some, is_some, is_none, if◌then◌else◌, nat_eq, nat_le, nat_lt, count_by, slice_get}
 use Rattle.std.specs.List.{filter_map, find, list_any}
 use Rattle.std.specs.Option.{option_or}
 use Rattle.cards.specs.Deal.{Deal}
@@ -11,7 +11,7 @@ use Rattle.lease_book.specs.declared.events.Asked.TheVariants.{Lease, Expire, Gi
 use Rattle.lease_book.specs.declared.events.Reply.{Reply}
 use Rattle.lease_book.specs.declared.events.Reply.TheVariants.{Given, Nothing, Freed, GaveUp, UnknownLease, NotHeld, OtherEntry, AlreadyPublished, BadCertificate, Published}
 use Rattle.lease_book.specs.declared.events.Event.{Event}
-use Rattle.lease_book.specs.Entries.{place_of, is_same_entry}
+use Rattle.lease_book.specs.Entries.{place_of}
 
 -- what a book is over: its boards, how long a lease lasts, and how often an entry may be leased
 pub record Terms : Type 0 where

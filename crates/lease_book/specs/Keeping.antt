@@ -1,5 +1,5 @@
 -- What a book keeps beside its history, and what that has to be.
-use Rattle.std.specs.Prelude.{◌≡◌, ℕ, suc, ◌+◌, ◌-◌, ◌*◌, ◌/◌, ◌<◌, ◌≤◌, Bool, false, List, [], ◌∷◌, length, Option, None, Some, is_some, ◌⊎◌, if◌then◌else◌, slice_index_or}
+use Rattle.std.specs.Prelude.{◌≡◌, ℕ, suc, ◌-◌, ◌*◌, ◌/◌, ◌<◌, ◌≤◌, false, List, [], ◌∷◌, length, None, Some, is_some, ◌⊎◌, if◌then◌else◌, slice_index_or}
 use Rattle.std.specs.List.{find, list_any}
 use Rattle.cards.specs.Deal.{Deal}
 use Rattle.lease_book.specs.declared.entries.Entry.{Entry}

@@ -1,6 +1,5 @@
-use Rattle.std.proofs.Common.{◌≡◌, ℕ, ◌+◌, ◌-◌, ◌<◌, length, get_or, sym, ◌∙◌, ap, arith, None}
+use Rattle.std.proofs.Common.{◌≡◌, ◌+◌, ◌-◌, sym, ◌∙◌, ap, arith}
 use Rattle.std.specs.List.{find}
-use Rattle.lease_book.specs.declared.events.Grant.{Grant}
 use Rattle.lease_book.specs.Histories.{is_numbered}
 use Rattle.lease_book.proofs.HeldLaws.{find_numbered, find_below, find_above}
 use Rattle.lease_book.proofs.book.given.Goals as goal

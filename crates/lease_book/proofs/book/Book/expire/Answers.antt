@@ -1,4 +1,4 @@
-use Rattle.std.proofs.Common.{◌≡◌, sym, ◌∙◌, ap, map, count_by}
+use Rattle.std.proofs.Common.{◌∙◌, ap}
 use Rattle.lease_book.specs.declared.events.Asked.TheVariants.{Expire}
 use Rattle.lease_book.specs.declared.events.Reply.TheVariants.{Freed}
 use Rattle.lease_book.proofs.Answering.{kept_in, replied}

@@ -1,13 +1,8 @@
-use Rattle.std.proofs.Common.{◌≡◌, ◌<◌, length, set, get_or, sym, ◌∙◌, ap, subst, arith, None, Some, Option}
+use Rattle.std.proofs.Common.{sym, ◌∙◌, ap}
 use Rattle.std.specs.List.{find}
 use Rattle.lease_book.specs.declared.events.Asked.TheVariants.{GiveUp}
 use Rattle.lease_book.specs.declared.events.Reply.TheVariants.{UnknownLease}
-use Rattle.lease_book.specs.declared.events.Reply.{Reply}
-use Rattle.lease_book.specs.declared.slots.Slot.{Slot}
-use Rattle.std.proofs.Common.{List}
 use Rattle.lease_book.specs.Histories.{is_numbered}
-use Rattle.lease_book.specs.Replies.{IsReply}
-use Rattle.lease_book.specs.Keeping.{IsKept}
 use Rattle.lease_book.proofs.SlotLaws.{no_slot}
 use Rattle.lease_book.proofs.EntryLaws.{own_place, small_board}
 use Rattle.lease_book.proofs.Answering.{kept_in, replied}

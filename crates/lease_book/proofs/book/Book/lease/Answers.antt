@@ -1,9 +1,8 @@
-use Rattle.std.proofs.Common.{◌≡◌, ◌+◌, ◌<◌, List, [], ◌∷◌, ◌++◌, length, set, get_or, sym, ◌∙◌, ap, subst, arith, None, Some}
+use Rattle.std.proofs.Common.{◌≡◌, ◌+◌, ◌<◌, List, [], ◌∷◌, ◌++◌, length, ◌∙◌, ap, arith}
 use Rattle.lease_book.specs.declared.events.Asked.TheVariants.{Lease}
 use Rattle.lease_book.specs.declared.events.Reply.TheVariants.{Nothing, Given}
 use Rattle.lease_book.specs.declared.events.Grant.{Grant}
 use Rattle.lease_book.specs.Entries.{place_of}
-use Rattle.lease_book.specs.Keeping.{IsKept}
 use Rattle.lease_book.proofs.SlotLaws.{no_slot}
 use Rattle.lease_book.proofs.Answering.{kept_in, replied}
 use Rattle.lease_book.proofs.OpenLaws.{nothing_open, kept_nothing, try_left, next_lease, kept_leased, leased_slots}

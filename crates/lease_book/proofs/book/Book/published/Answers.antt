@@ -1,4 +1,4 @@
-use Rattle.std.proofs.Common.{◌≡◌, sym, ◌∙◌, ap, arith, ◌<◌, ◌≤◌, length}
+use Rattle.std.proofs.Common.{◌∙◌, ap, arith, ◌<◌, length}
 use Rattle.lease_book.specs.declared.slots.Slot.{Slot}
 use Rattle.lease_book.specs.Entries.{place_of}
 use Rattle.lease_book.proofs.SlotLaws.{no_slot}

@@ -1,4 +1,4 @@
-use Rattle.std.proofs.Common.{◌≡◌, ◌<◌, length, set, get_or, is_some, sym, ◌∙◌, ap, subst, refl, arith, None, Some}
+use Rattle.std.proofs.Common.{◌≡◌, get_or, is_some, sym, ◌∙◌, ap, refl, arith}
 use Rattle.std.specs.List.{find}
 use Rattle.lease_book.specs.declared.events.Asked.TheVariants.{HandIn}
 use Rattle.lease_book.specs.declared.events.Reply.TheVariants.{UnknownLease, OtherEntry, AlreadyPublished, BadCertificate, Published}

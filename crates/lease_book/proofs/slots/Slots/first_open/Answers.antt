@@ -1,4 +1,3 @@
-use Rattle.std.proofs.Common.{sym}
 use Rattle.lease_book.specs.Slots.{is_open_slot, opening_of}
 use Rattle.lease_book.proofs.SlotLaws.{first_in_row, opening_is_due}
 use Rattle.lease_book.proofs.slots.Slots.first_open.Goals as goal

@@ -1,4 +1,4 @@
-use Rattle.std.proofs.Common.{sym, refl}
+use Rattle.std.proofs.Common.{refl}
 use Rattle.lease_book.specs.Slots.{is_past_slot, deadline_of}
 use Rattle.lease_book.proofs.SlotLaws.{first_in_row}
 use Rattle.lease_book.proofs.slots.Slots.first_past.Goals as goal

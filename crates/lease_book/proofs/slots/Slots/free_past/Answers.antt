@@ -1,5 +1,4 @@
-use Rattle.std.proofs.Common.{◌∙◌, ap, sym, get_or, arith, rules}
-use Rattle.lease_book.specs.declared.slots.Slot.{Slot}
+use Rattle.std.proofs.Common.{◌∙◌, ap, get_or, arith, rules}
 use Rattle.lease_book.proofs.SlotLaws.{swept_done, swept_rest, swept_count, swept_all, counted_all}
 use Rattle.lease_book.proofs.slots.Slots.free_past.Goals as goal
 
