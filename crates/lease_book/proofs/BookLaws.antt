@@ -62,12 +62,15 @@ module _ (terms : Terms) (events : List Event) (event : Event) (none : given_by 
       ((place : ℕ) (d : Slot) → place < length slots → get_or after place d ≡ slot_after event place (get_or slots place d)) →
       ((entry : Entry) (deal : Deal) (k : ℕ) → published_by (place_of entry) event.asked event.reply ≡ Some k → deal_of terms.boards entry.board ≡ Some deal
       → IsProven (record { layout = deal; declarer = entry.declarer; trump = entry.trump; k = k })) →
-      ((place k : ℕ) → published_by place event.asked event.reply ≡ Some k → place < length slots) →
+      ((place k : ℕ) → published_by place event.asked event.reply ≡ Some k → (place < length slots) × (k ≤ 13)) →
       IsKept terms (events ++ event ∷ []) leases after
   kept_after leases slots after kept reply same changed new there =
       record {
         legal = legal_push terms events event kept.legal reply;
         proven = λ entry deal k h b. proven_of entry deal k b (option_or_some (published_in events entry) (published_by (place_of entry) event.asked event.reply) k (sym (published_push (place_of entry) events event) ∙ h));
+        at_most_13 = λ place k h.
+            ⊎_elim (kept.at_most_13 place k) (λ now. (there place k now).1)
+            (option_or_some (published_at place events) (published_by place event.asked event.reply) k (sym (published_push place events event) ∙ h));
         few_boards = kept.few_boards;
         sized = same ∙ kept.sized;
         given = kept.given ∙ sym given_same;
@@ -86,7 +89,7 @@ module _ (terms : Terms) (events : List Event) (event : Event) (none : given_by 
       not_there place l (Some k) e h =
           ⊎_elim
           (λ (old : published_at place events ≡ Some k). absurd (none-some k (sym (kept.only_there place l) ∙ old)))
-          (λ (now : published_by place event.asked event.reply ≡ Some k). absurd (omega (arith, there place k now)))
+          (λ (now : published_by place event.asked event.reply ≡ Some k). absurd (omega (arith, (there place k now).0)))
           (option_or_some (published_at place events) (published_by place event.asked event.reply) k e)
 
       proven_of : (entry : Entry) (deal : Deal) (k : ℕ) → deal_of terms.boards entry.board ≡ Some deal → (published_in events entry ≡ Some k) ⊎ (published_by (place_of entry) event.asked event.reply ≡ Some k)
@@ -101,6 +104,7 @@ kept_new terms slots few sized are =
     record {
       legal = tt;
       proven = λ entry deal k h b. absurd (none-some k h);
+      at_most_13 = λ place k h. absurd (none-some k h);
       few_boards = few;
       sized = sized;
       given = refl;

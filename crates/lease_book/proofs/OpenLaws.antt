@@ -140,6 +140,7 @@ module _ (terms : Terms) (events : List Event) (leases : List Grant) (slots : Li
       record {
         legal = legal_push terms events (record { asked = Lease now; reply = Given lease entry deadline }) kept.legal next;
         proven = λ other deal k h b. kept.proven other deal k (sym (published_same (place_of other)) ∙ h) b;
+        at_most_13 = λ place k h. kept.at_most_13 place k (sym (published_same place) ∙ h);
         few_boards = kept.few_boards;
         sized = long ∙ kept.sized;
         given = ap (λ (gs : List Grant). gs ++ new ∷ []) kept.given ∙ sym given_more;

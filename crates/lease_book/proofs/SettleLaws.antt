@@ -1,5 +1,5 @@
 -- What is handed in.
-use Rattle.std.proofs.Common.{◌≡◌, ℕ, ◌<◌, ◌≢◌, Bool, true, false, not, cond, ◌&&◌, List, [], ◌∷◌, ◌++◌, length, get_or, set, Option, None, Some, is_some, refl, sym, ◌∙◌, ap, subst, ⊎_elim, arith}
+use Rattle.std.proofs.Common.{◌≡◌, ℕ, ◌<◌, ◌≤◌, ◌≢◌, Bool, true, false, not, cond, ◌&&◌, List, [], ◌∷◌, ◌++◌, length, get_or, set, Option, None, Some, is_some, refl, sym, ◌∙◌, ap, subst, ⊎_elim, arith}
 use Rattle.std.specs.Prelude.{nat_eq}
 use Rattle.std.specs.List.{find}
 use Rattle.std.specs.Option.{option_or}
@@ -98,7 +98,7 @@ module _ (terms : Terms) (events : List Event) (leases : List Grant) (slots : Li
       (λ other deal k h b. absurd (none-some k h)) (λ place k h. absurd (none-some k h))
 
   -- what counts is published
-  pub kept_published : (lease : ℕ) (d : Slot) (entry : Entry) (shown : Shown) (own : Grant) → IsProven shown → is_same_entry own.entry entry ≡ true → is_evidence_for terms.boards entry (Shows shown) ≡ true → place_of own.entry < length slots
+  pub kept_published : (lease : ℕ) (d : Slot) (entry : Entry) (shown : Shown) (own : Grant) → IsProven shown × (shown.k ≤ 13) → is_same_entry own.entry entry ≡ true → is_evidence_for terms.boards entry (Shows shown) ≡ true → place_of own.entry < length slots
       → is_some (get_or slots (place_of own.entry) d).published ≡ false
       → Published shown.k ≡ hand_in_reply terms events (grant_of events lease) entry (Shows shown)
       → IsKept terms (events ++ record { asked = HandIn lease entry (Shows shown); reply = Published shown.k } ∷ []) leases
@@ -112,10 +112,10 @@ module _ (terms : Terms) (events : List Event) (leases : List Grant) (slots : Li
       (λ other deal k h b.
       let both = cond_some (nat_eq (place_of entry) (place_of other)) shown.k k h in
       let one = same_entry entry other (eqb-true (place_of entry) (place_of other) both.0) in
-      proven_as other deal k (deal_of terms.boards other.board) shown proven (ap (λ (x : Entry). is_evidence_for terms.boards x (Shows shown)) (sym one) ∙ e) b both.1)
+      proven_as other deal k (deal_of terms.boards other.board) shown proven.0 (ap (λ (x : Entry). is_evidence_for terms.boards x (Shows shown)) (sym one) ∙ e) b both.1)
       (λ place k h.
       let both = cond_some (nat_eq (place_of entry) place) shown.k k h in
-      omega (arith, eqb-true (place_of entry) place both.0, here, l))
+      (omega (arith, eqb-true (place_of entry) place both.0, here, l), omega (arith, both.1, proven.1)))
     where
       here : place_of own.entry ≡ place_of entry
       here = eqb-true (place_of own.entry) (place_of entry) same

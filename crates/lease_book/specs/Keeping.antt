@@ -45,6 +45,7 @@ AreProven terms events =
 pub record IsKept (terms : Terms) (events : List Event) (leases : List Grant) (slots : List Slot) : Type 0 where
   pub legal : IsLegal terms events
   pub proven : AreProven terms events
+  pub at_most_13 : (place k : ℕ) → published_at place events ≡ Some k → k ≤ 13
   pub few_boards : length terms.boards ≤ 4096
   pub sized : length slots ≡ 20 * length terms.boards
   pub given : leases ≡ given_in events

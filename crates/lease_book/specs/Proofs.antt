@@ -1,5 +1,5 @@
 -- What a book asks of whatever it publishes.
-use Rattle.std.specs.Prelude.{Result, Ok, Err}
+use Rattle.std.specs.Prelude.{◌≤◌, Result, Ok, Err}
 use Rattle.checker.specs.declared.entries.Shown.{Shown}
 use Rattle.checker.specs.declared.hand_faults.HandFault.{HandFault}
 use Rattle.strategies.specs.Values.{IsValue}
@@ -15,7 +15,7 @@ abbrev pub evidence_of : Result Shown HandFault → Evidence
 evidence_of (Ok shown) = Shows shown
 evidence_of (Err fault) = Faulty fault
 
--- where it shows something, that is proven
+-- where it shows something, that is proven, and no more tricks than there are
 abbrev pub IsProvenEvidence : Evidence → Type 0
-IsProvenEvidence (Shows shown) = IsProven shown
+IsProvenEvidence (Shows shown) = IsProven shown × (shown.k ≤ 13)
 IsProvenEvidence (Faulty fault) = Unit {0}

@@ -1,6 +1,6 @@
 //! The book of leases.
 
-ghost use Rattle.std.specs.Prelude.{◌≡◌, ◌<◌, ◌≤◌, ◌*◌, ◌-◌, ◌^◌, ℕ, [], length, slice_set, slice_index_or, IfOk, OnErr, Some, MatchResult, MatchBool, if◌then◌else◌, Err};
+ghost use Rattle.std.specs.Prelude.{◌≡◌, ◌<◌, ◌≤◌, ◌*◌, ◌-◌, ◌^◌, ℕ, [], length, slice_set, slice_index_or, IfOk, IfSome, OnErr, Some, MatchResult, MatchBool, if◌then◌else◌, Err};
 ghost use Rattle.std.specs.List.{find};
 ghost use Rattle.cards.specs.Deal.{Deal};
 ghost use Rattle.lease_book.specs.Entries.{place_of};
@@ -87,7 +87,9 @@ fn evidence_of(verdict: &Verdict) -> Evidence
     match verdict {
         Ok(proven) => {
             proven.invariant();
-            Evidence::Shows(proven.shown())
+            let shown = proven.shown();
+            let _at_most_13 = shown.layout.len();
+            Evidence::Shows(shown)
         }
         Err(fault) => Evidence::Faulty(*fault),
     }
@@ -163,6 +165,7 @@ impl Book {
     /// The number published for an entry, which is proven on the deal of its board.
     pub fn published(&self, entry: Entry) -> Option<u8>
         ensures number { result ≡ published_in self.now.events entry }
+        ensures at_most_13 { IfSome result (λ k. k ≤ 13) }
         ensures proven { AreProven self.now.terms self.now.events }
     {
         if entry.board >= self.boards.len() {
