@@ -8,3 +8,5 @@ pub mod Answering
 pub mod OpenLaws
 pub mod ExpireLaws
 pub mod SettleLaws
+pub mod LegalLaws
+pub mod PublicationLaws

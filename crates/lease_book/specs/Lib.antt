@@ -5,3 +5,5 @@ pub mod Replies
 pub mod Slots
 pub mod Books
 pub mod Keeping
+pub mod GoodHandIns
+pub mod Laws

@@ -9,6 +9,7 @@ mod book;
 mod entries;
 mod events;
 mod faults;
+mod laws;
 mod slots;
 
 pub use book::Book;
@@ -16,3 +17,4 @@ pub use checker::OutOfMemory;
 pub use entries::Entry;
 pub use events::{Asked, Event, Evidence, Grant, Reply};
 pub use faults::BookFault;
+pub use laws::{gives_few_leases, names_one_reply, publishes_first_good, publishes_once};

@@ -1,0 +1,41 @@
+-- What follows from the definitions, for every list of events.
+use Rattle.std.specs.Prelude.{◌≡◌, ℕ, ◌*◌, ◌≤◌, List, length, Option}
+use Rattle.std.specs.List.{filter_map}
+use Rattle.std.specs.Option.{option_to_list}
+use Rattle.lease_book.specs.declared.entries.Entry.{Entry}
+use Rattle.lease_book.specs.declared.events.Asked.{Asked}
+use Rattle.lease_book.specs.declared.events.Reply.{Reply}
+use Rattle.lease_book.specs.declared.events.Event.{Event}
+use Rattle.lease_book.specs.Entries.{place_of}
+use Rattle.lease_book.specs.Histories.{Terms, given_in, published_by, published_in}
+use Rattle.lease_book.specs.Replies.{IsReply, IsLegal}
+use Rattle.lease_book.specs.GoodHandIns.{first_good}
+
+-- after one history one reply is named for a request
+abbrev pub NamesOneReply : Type 0
+NamesOneReply =
+    (terms : Terms) (before : List Event) (asked : Asked) (one other : Reply)
+    → IsReply terms before asked one → IsReply terms before asked other
+    → one ≡ other
+
+-- a legal history publishes the number of the first good hand-in for an entry, and no other
+abbrev pub PublishesFirstGood : Type 0
+PublishesFirstGood =
+    (terms : Terms) (events : List Event) (entry : Entry) → IsLegal terms events
+    → published_in events entry ≡ first_good terms events entry
+
+-- what an event publishes for an entry
+abbrev pub published_for : Entry → Event → Option ℕ
+published_for entry event = published_by (place_of entry) event.asked event.reply
+
+-- a legal history publishes a number for an entry once, or never
+abbrev pub PublishesOnce : Type 0
+PublishesOnce =
+    (terms : Terms) (events : List Event) (entry : Entry) → IsLegal terms events
+    → filter_map (published_for entry) events ≡ option_to_list (published_in events entry)
+
+-- a legal history gives no more leases than the entries have tries, so that who leases on is answered Nothing in the end
+abbrev pub GivesFewLeases : Type 0
+GivesFewLeases =
+    (terms : Terms) (events : List Event) → IsLegal terms events
+    → length (given_in events) ≤ terms.tries * (20 * length terms.boards)

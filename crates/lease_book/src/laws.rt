@@ -1,0 +1,25 @@
+//! What follows from the definitions. Each is a function that does nothing: its contract is the law.
+
+ghost use Rattle.lease_book.specs.Laws.{NamesOneReply, PublishesFirstGood, PublishesOnce, GivesFewLeases};
+
+/// After one history one reply is named for a request.
+pub fn names_one_reply()
+    ensures { NamesOneReply }
+{}
+
+/// A legal history publishes for an entry the number of the first good hand-in: the first under a lease that was given
+/// for the entry before, that shows a number on the entry's deal. It publishes none where there is none.
+pub fn publishes_first_good()
+    ensures { PublishesFirstGood }
+{}
+
+/// A legal history publishes a number for an entry once, or never.
+pub fn publishes_once()
+    ensures { PublishesOnce }
+{}
+
+/// A legal history gives no more leases than the tries of all entries together. So who asks for a lease again and again
+/// is answered [`Nothing`](crate::Reply::Nothing) in the end.
+pub fn gives_few_leases()
+    ensures { GivesFewLeases }
+{}
