@@ -1,3 +1,4 @@
 pub mod DealText
 pub mod TablesText
+pub mod BookResults
 pub mod ReadBack

@@ -1,9 +1,10 @@
 //! The tables of boards as a PBN text.
 //!
-//! [`write_sheet`] prints the boards of a [`Sheet`] with the results that are known of them. It takes no
-//! memory; after a fault of the sink a beginning of the text has gone out.
+//! [`write_sheet`] prints the boards of a [`Sheet`] with the results that are known of them, and [`write_tables`] those
+//! of a book of leases. They take no memory; after a fault of the sink a beginning of the text has gone out.
 #![tactic(auto)]
 
+mod books;
 mod deals;
 mod laws;
 mod pieces;
@@ -12,6 +13,7 @@ mod sheet_text;
 mod sheets;
 mod tables;
 
+pub use books::write_tables;
 pub use laws::{boards_are_read_back, said_boards_are_read_back};
 pub use sheet_text::write_sheet;
 pub use sheets::{Report, Sheet};
