@@ -10,3 +10,7 @@ pub mod ExpireLaws
 pub mod SettleLaws
 pub mod LegalLaws
 pub mod PublicationLaws
+pub mod VerdictLaws
+pub mod PlaceLaws
+pub mod FirstGoodLaws
+pub mod ReplayLaws

@@ -31,9 +31,13 @@ AreBoards boards = length boards ≤ 4096
 abbrev pub AreTries : ℕ → Type 0
 AreTries tries = (1 ≤ tries) × (tries ≤ 1000)
 
+-- the first fault of the terms, or memory was wanting
+abbrev pub IsRefused : Terms → BookFault → Type 0
+IsRefused terms TooManyBoards = 4096 < length terms.boards
+IsRefused terms Tries = AreBoards terms.boards × ((terms.tries ≡ 0) ⊎ (1000 < terms.tries))
+IsRefused terms OutOfMemory = AreBoards terms.boards × AreTries terms.tries
+
 -- a new book with these terms and no history, or the first fault
 abbrev pub IsMade : Terms → Result Ledger BookFault → Type 0
 IsMade terms (Ok book) = AreBoards terms.boards × AreTries terms.tries × (book ≡ record { terms = terms; events = [] })
-IsMade terms (Err TooManyBoards) = 4096 < length terms.boards
-IsMade terms (Err Tries) = AreBoards terms.boards × ((terms.tries ≡ 0) ⊎ (1000 < terms.tries))
-IsMade terms (Err OutOfMemory) = AreBoards terms.boards × AreTries terms.tries
+IsMade terms (Err fault) = IsRefused terms fault

@@ -7,3 +7,5 @@ pub mod Books
 pub mod Keeping
 pub mod GoodHandIns
 pub mod Laws
+pub mod Requests
+pub mod Replays

@@ -10,6 +10,8 @@ mod entries;
 mod events;
 mod faults;
 mod laws;
+mod replays;
+mod requests;
 mod slots;
 
 pub use book::Book;
@@ -18,3 +20,5 @@ pub use entries::Entry;
 pub use events::{Asked, Event, Evidence, Grant, Reply};
 pub use faults::BookFault;
 pub use laws::{gives_few_leases, names_one_reply, publishes_first_good, publishes_once};
+pub use replays::replay;
+pub use requests::{GraphText, Request};
