@@ -1,0 +1,2 @@
+pub mod PublicationLaws
+pub mod WorkLaws

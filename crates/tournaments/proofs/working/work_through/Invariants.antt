@@ -1,0 +1,10 @@
+-- Each turn adds an event at least.
+use Rattle.std.proofs.Common.{◌≡◌, ◌≤◌, length}
+use Rattle.tournaments.proofs.working.work_through.Given as goal
+
+abbrev pub invariant-loop-turn : goal.invariant-loop-turn
+invariant-loop-turn g l =
+    record {
+      terms : l.book.terms ≡ l.initial.book.terms;
+      turns : l._turn ≤ length l.book.events;
+    }

@@ -1,0 +1,4 @@
+pub mod Publications
+pub mod Making
+pub mod Texts
+pub mod Working

@@ -1,0 +1,70 @@
+-- What is made of a tournament's text: the text of its tables.
+use Rattle.std.specs.Prelude.{◌≡◌, ℕ, List, length, Result, Ok, Err}
+use Rattle.cards.specs.Devices.{Device, Adds, AddsBeginning, one_more}
+use Rattle.pbn_deals.specs.declared.boards.Board.{Board}
+use Rattle.pbn_deals.specs.Reading.{TextAnswers}
+use Rattle.streams.specs.Inputs.{IsReadToEnd}
+use Rattle.streams.specs.declared.inputs.InputFault.{InputFault}
+use Rattle.streams.specs.declared.inputs.InputFault.TheVariants as input
+use Rattle.lease_book.specs.declared.events.Event.{Event}
+use Rattle.lease_book.specs.Books.{Ledger}
+use Rattle.lease_book.specs.Histories.{Terms}
+use Rattle.tables.specs.declared.sheets.Report.{Report}
+use Rattle.tables.specs.BookResults.{book_results}
+use Rattle.tables.specs.TablesText.{tables_text, complete_count}
+use Rattle.tournaments.specs.declared.faults.MakeFault.{MakeFault}
+use Rattle.tournaments.specs.declared.faults.MakeFault.TheVariants.{OutOfMemory, Read, Pbn, Write}
+use Rattle.tournaments.specs.Publications.{IsTrueHistory, IsGivenOut}
+
+-- why a source could not be read
+abbrev pub input_fault : InputFault → MakeFault
+input_fault input.OutOfMemory = OutOfMemory
+input_fault input.Read = Read
+
+-- the source was read to its end, and these are the boards of its text
+pub record HasBoards (old new : Device) (boards : List Board) : Type 0 where
+  pub text : List ℕ
+  pub all : IsReadToEnd old new text
+  pub read : TextAnswers text (Ok boards)
+
+-- the text of the boards, with the numbers that the history publishes
+abbrev pub history_text : List Board → List Event → List ℕ
+history_text boards events = tables_text boards (book_results events)
+
+-- the report counts the boards, and those of which all twenty numbers are published
+pub record Counts (boards : List Board) (events : List Event) (report : Report) : Type 0 where
+  pub boards_are : report.boards ≡ length boards
+  pub complete_are : report.complete ≡ complete_count boards (book_results events)
+
+-- a whole run over the boards: a history of theirs in which all entries were given out
+pub record IsWholeRun (terms : Terms) (events : List Event) : Type 0 where
+  pub history : IsTrueHistory terms events
+  pub given_out : IsGivenOut events
+
+-- The source was read to its end, the book is one over the boards of its text, with this term and these tries, after a
+-- whole run, and the sink has got the text of the boards with the numbers that the book's history publishes.
+pub record FillsTables (term tries : ℕ) (source source' sink sink' : Device) (report : Report) (book : Ledger) : Type 0 where
+  pub boards : List Board
+  pub read : HasBoards source source' boards
+  pub terms : book.terms ≡ record { boards = boards; term = term; tries = tries }
+  pub run : IsWholeRun book.terms book.events
+  pub written : Adds sink sink' (history_text boards book.events)
+  pub counts : Counts boards book.events report
+
+-- after such a run a beginning of the text was written, before the sink failed
+pub record FillsBeginning (term tries : ℕ) (source source' sink sink' : Device) : Type 0 where
+  pub boards : List Board
+  pub read : HasBoards source source' boards
+  pub events : List Event
+  pub run : IsWholeRun (record { boards = boards; term = term; tries = tries }) events
+  pub written : AddsBeginning sink sink' (history_text boards events)
+
+-- What was answered, what the source has given and what the sink has got. With all refusals but the last nothing was
+-- written.
+abbrev pub MakesTables : ℕ → ℕ → Device → Device → Device → Device → Result (Report × Ledger) MakeFault → Type 0
+MakesTables term tries source source' sink sink' (Ok (report, book)) = FillsTables term tries source source' sink sink' report book
+MakesTables term tries source source' sink sink' (Err OutOfMemory) = (source'.failed ≡ source.failed) × (sink' ≡ sink)
+MakesTables term tries source source' sink sink' (Err Read) = (source'.failed ≡ one_more source.failed) × (sink' ≡ sink)
+MakesTables term tries source source' sink sink' (Err (Pbn fault)) =
+    (text : List ℕ) × IsReadToEnd source source' text × TextAnswers text (Err fault) × (sink' ≡ sink)
+MakesTables term tries source source' sink sink' (Err Write) = FillsBeginning term tries source source' sink sink'

@@ -1,0 +1,45 @@
+//! The tables on one thread.
+
+ghost use Rattle.std.specs.Prelude.{◌<◌};
+ghost use Rattle.lease_book.specs.Books.{AreTries};
+ghost use Rattle.tournaments.specs.Making.{MakesTables};
+
+use crate::clocks::Clock;
+use crate::faults::MakeFault;
+use crate::histories::is_true_history;
+use crate::texts::{open_book, take_boards};
+use crate::working::work_through;
+use cards::{Sink, Source};
+use lease_book::Book;
+use partition_solver::Solver;
+use std::alloc::Global;
+use streams::read_all;
+use tables::{Report, write_tables};
+
+/// Reads the boards of a PBN text to its end, has the solver work on each entry in turn, as often as `tries` says and
+/// within a budget of its own steps, and writes the tables of what was shown. The book of the run is handed out.
+///
+/// Whatever the solver answers and the clock tells, a number that is written is the double-dummy value of its deal: an
+/// answer whose certificates don't show it is dropped. With all refusals but a failed sink nothing was written.
+pub fn make_single<I: Source, O: Sink, S: Solver, C: Clock>(
+    alloc: Global,
+    input: &mut I,
+    output: &mut O,
+    term: u64,
+    tries: u32,
+    budget: u64,
+    solver: &S,
+    clock: &C,
+) -> Result<(Report, Book), MakeFault>
+    requires tries { AreTries tries }
+    requires budget { 0 < budget }
+    ensures { MakesTables term tries (I.state input.old) (I.state input.new) (O.state output.old) (O.state output.new) result }
+{
+    let text = read_all(alloc, input)?;
+    let boards = take_boards(alloc, text.as_slice())?;
+    let mut book = open_book(alloc, boards, term, tries)?;
+    work_through(alloc, &mut book, budget, solver, clock)?;
+    is_true_history(&book);
+    let report = write_tables(&book, output)?;
+    Ok((report, book))
+}

@@ -1,0 +1,74 @@
+//! The work on the entries of a book, one after another.
+
+ghost use Rattle.std.specs.Prelude.{OnOk};
+ghost use Rattle.tournaments.specs.Working.{GivesOut, GoesOn};
+
+use crate::clocks::Clock;
+use checker::{HandFault, OutOfMemory, Verdict, check_entry};
+use lease_book::{Book, Entry, Reply};
+use partition_solver::Solver;
+use pbn_deals::Board;
+use std::alloc::Global;
+
+/// The verdict on the solver's answer for an entry, if it has one: none where the board has no deal, where nothing was
+/// found within the budget, and where the solver had no memory.
+fn verdict_on<S: Solver>(
+    alloc: Global,
+    boards: &[Board],
+    entry: Entry,
+    budget: u64,
+    solver: &S,
+) -> Option<Verdict> {
+    let layout = boards.get(entry.board)?.deal.as_ref()?;
+    let Ok(Some(answer)) = solver.solve(alloc, layout, entry.declarer, entry.trump, budget) else {
+        return None;
+    };
+    let checked = check_entry(
+        layout,
+        entry.declarer,
+        entry.trump,
+        answer.k,
+        &answer.declarer,
+        &answer.defenders,
+    );
+    Some(checked.map_err(HandFault::Entry))
+}
+
+/// Hands in what the solver answers for the entry of a lease, or gives the lease up.
+fn work_on<S: Solver>(
+    alloc: Global,
+    book: &mut Book,
+    lease: u64,
+    entry: Entry,
+    budget: u64,
+    solver: &S,
+) -> Result<(), OutOfMemory>
+    ensures { OnOk result (GoesOn book.old book.new) }
+{
+    match verdict_on(alloc, book.boards(), entry, budget, solver) {
+        Some(verdict) => book.settle(lease, entry, verdict)?,
+        None => book.give_up(lease)?,
+    };
+    Ok(())
+}
+
+/// Leases one entry after another and works on it, until none is open and no lease has run out.
+pub(crate) fn work_through<S: Solver, C: Clock>(
+    alloc: Global,
+    book: &mut Book,
+    budget: u64,
+    solver: &S,
+    clock: &C,
+) -> Result<(), OutOfMemory>
+    ensures { OnOk result (GivesOut book.old book.new) }
+{
+    for _turn in 0..u64::MAX {
+        if let Reply::Given { lease, entry, .. } = book.lease(clock.now())? {
+            work_on(alloc, book, lease, entry, budget, solver)?;
+        } else if let Reply::Freed(0) = book.expire(clock.now())? {
+            return Ok(());
+        }
+    }
+    let _events = book.history();
+    unreachable!()
+}
