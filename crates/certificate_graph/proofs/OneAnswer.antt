@@ -67,7 +67,7 @@ mutual
   few_branch_names count NoBranch few names = tt
   few_branch_names count (Branch card tree rest) few names = (few_names count tree few names.0, few_branch_names count rest few names.1)
 
-node_form : (count : ℕ) (node : Node) → count ≤ 10 ^ 7 → IsNode count node → IsNodeForm node
+pub node_form : (count : ℕ) (node : Node) → count ≤ 10 ^ 7 → IsNode count node → IsNodeForm node
 node_form count node few is = record {
   pattern = pattern_form node.pattern is.pattern;
   need = is.need;

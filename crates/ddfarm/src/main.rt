@@ -1,16 +1,9 @@
 //! Double-dummy results of bridge deals, from the command line.
 //!
-//! `run_command` does the work over an input, an output and an error output, so that tests can run it over memory;
-//! `main` gives it the words and the streams of the process, and flushes the output at the end.
+//! `main` gives `run_command` the words and the streams of the process, and flushes the output at the end.
 #![tactic(auto)]
 
-mod commands;
-mod help;
-#[cfg(test)]
-mod tests;
-mod words;
-
-use commands::run_command;
+use command_line::run_command;
 use runs::{RunFault, close_output, tell};
 use std::io::{BufWriter, ErrorKind};
 use std::process::ExitCode;

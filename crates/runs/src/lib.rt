@@ -10,8 +10,6 @@ mod faults;
 mod plain;
 mod running;
 mod statuses;
-#[cfg(test)]
-mod tests;
 mod verdict_lines;
 
 pub use answers::{read_answer, text_is_one_answer};

@@ -1,7 +1,7 @@
 //! What is done for the words of a command line.
 
 ghost use Rattle.clap.specs.Values.{kind_of};
-ghost use Rattle.ddfarm.specs.Commands.{MeetsWords, EndsWords};
+ghost use Rattle.command_line.specs.Commands.{MeetsWords, EndsWords};
 
 use crate::words::run_of;
 use cards::{Sink, Source, write_all};

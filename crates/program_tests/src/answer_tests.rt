@@ -1,7 +1,8 @@
 //! Texts of answers, and how they are cut.
 
-use crate::read_answer;
-use std::test::Fail;
+use crate::expect::expect_eq;
+use runs::read_answer;
+use std::process::Abort;
 
 /// A text, and the number and the two texts that it is cut into.
 type Cut = (&'static [u8], u8, &'static [u8], &'static [u8]);
@@ -37,13 +38,23 @@ const OTHERS: [&[u8]; 14] = [
     b"\nresult 1\n",
 ];
 
+/// Each text is cut into its parts.
+fn expect_cuts(rt: &impl Abort, cuts: &[Cut]) {
+    for (text, tricks, declarers, defenders) in cuts {
+        let wanted = Some((*tricks, *declarers, *defenders));
+        expect_eq(rt, &read_answer(text), &wanted);
+    }
+}
+
+/// None of the texts is an answer.
+fn expect_none(rt: &impl Abort, texts: &[&[u8]]) {
+    for text in texts {
+        expect_eq(rt, &read_answer(text), &None);
+    }
+}
+
 #[test]
-fn answers_are_cut(rt: HostRuntime) -> Result<(), Fail> {
-    for (text, tricks, declarers, defenders) in CUTS.iter() {
-        assert_eq!(rt; read_answer(text), Some((*tricks, *declarers, *defenders)));
-    }
-    for text in OTHERS.iter() {
-        assert_eq!(rt; read_answer(text), None);
-    }
-    Ok(())
+fn answers_are_cut(rt: HostRuntime) {
+    expect_cuts(&rt, CUTS.as_slice());
+    expect_none(&rt, OTHERS.as_slice());
 }

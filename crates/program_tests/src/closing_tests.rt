@@ -1,0 +1,84 @@
+//! How runs end whose last bytes can't go out.
+
+use crate::expect::{ROOM, expect_eq};
+use cards::{Buffer, Sink};
+use runs::{Status, close_output};
+use std::alloc::Global;
+use std::io;
+use std::io::BufWriter;
+use std::process::Abort;
+use std::test::Fail;
+use streams::WriterSink;
+
+/// A writer that takes no byte, or one that fails.
+#[derive(Drop)]
+struct Broken {
+    takes_none: bool,
+}
+
+impl io::Write for Broken {
+    fn write(&mut self, _buf: &[u8]) -> io::Result<usize> {
+        if self.takes_none {
+            return Ok(0);
+        }
+        Err(io::Error::from(io::ErrorKind::BrokenPipe))
+    }
+
+    fn flush(&mut self) -> io::Result<()> {
+        Ok(())
+    }
+}
+
+/// Closes an output with five bytes in its buffer.
+fn expect_closed<W: io::Write + Drop>(
+    rt: &impl Abort,
+    alloc: Global,
+    writer: W,
+    status: Status,
+    wanted: (Status, &str),
+) -> Result<(), Fail> {
+    let mut errors = Buffer::new(alloc, ROOM, ROOM)?;
+    let mut sink = WriterSink::new(BufWriter::new(alloc, writer)?);
+    expect_eq(rt, &sink.write(b"NS 1\n"), &Ok(5));
+    expect_eq(rt, &close_output(status, &mut sink, &mut errors), &wanted.0);
+    expect_eq(rt, &errors.bytes(), &wanted.1.as_bytes());
+    Ok(())
+}
+
+/// How runs end, with which exit status, and how they end where the last bytes can't go out, and what is told of it.
+const ENDS: [(Status, u8, Status, &str); 5] = [
+    (Status::Done, 0, Status::Failed, "ddfarm: writing failed\n"),
+    (
+        Status::Incomplete,
+        3,
+        Status::Failed,
+        "ddfarm: writing failed\n",
+    ),
+    (Status::Failed, 1, Status::Failed, ""),
+    (Status::Refused, 2, Status::Refused, ""),
+    (
+        Status::Rejected,
+        4,
+        Status::Failed,
+        "ddfarm: writing failed\n",
+    ),
+];
+
+/// A run whose last bytes can't go out has failed, and is told so, once.
+#[test]
+fn failed_flush(rt: HostRuntime) -> Result<(), Fail> {
+    for (status, code, ended, told) in ENDS {
+        expect_eq(&rt, &status.code(), &code);
+        for takes_none in [false, true] {
+            expect_closed(
+                &rt,
+                rt.alloc(),
+                Broken { takes_none },
+                status,
+                (ended, told),
+            )?;
+        }
+        expect_closed(&rt, rt.alloc(), Vec::new(rt.alloc()), status, (status, ""))?;
+    }
+    Ok(())
+}

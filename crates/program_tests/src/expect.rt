@@ -1,0 +1,71 @@
+//! What runs are expected to print, to tell and to end with. A call of these costs the prover next to nothing, an
+//! `assert_eq!` a second or more.
+
+use cards::{Buffer, Bytes};
+use command_line::run_command;
+use runs::{Run, Status, do_run};
+use std::alloc::Global;
+use std::fmt::Debug;
+use std::process::Abort;
+use std::test::Fail;
+
+/// Room for all that a run prints.
+pub const ROOM: usize = 8192;
+
+/// How a run ends, what is on its output, and what is on its error output.
+pub type End<'a> = (Status, &'a str, &'a str);
+
+/// The value is the one that is wanted.
+pub fn expect_eq<T: PartialEq + Debug>(rt: &impl Abort, got: &T, wanted: &T) {
+    assert_eq!(rt; *got, *wanted);
+}
+
+/// The run has ended so, with these texts on its outputs.
+pub fn expect_end(
+    rt: &impl Abort,
+    status: Status,
+    output: &Buffer,
+    errors: &Buffer,
+    wanted: End<'_>,
+) -> Result<(), Fail> {
+    assert_eq!(rt; str::from_utf8(output.bytes())?, wanted.1, "on the output");
+    assert_eq!(rt;
+        str::from_utf8(errors.bytes())?,
+        wanted.2,
+        "on the error output"
+    );
+    assert_eq!(rt; status, wanted.0);
+    Ok(())
+}
+
+/// Does the run over an input and an output with this much room.
+pub fn expect_run(
+    rt: &impl Abort,
+    alloc: Global,
+    run: Run<'_>,
+    text: &[u8],
+    room: usize,
+    wanted: End<'_>,
+) -> Result<(), Fail> {
+    let mut input = Bytes::new(text, 7);
+    let mut output = Buffer::new(alloc, room, 3)?;
+    let mut errors = Buffer::new(alloc, ROOM, 7)?;
+    let status = do_run(alloc, run, &mut input, &mut output, &mut errors);
+    expect_end(rt, status, &output, &errors, wanted)
+}
+
+/// Does what the words ask for, over an input and an output with this much room.
+pub fn expect_words(
+    rt: &impl Abort,
+    alloc: Global,
+    words: &[&str],
+    text: &[u8],
+    room: usize,
+    wanted: End<'_>,
+) -> Result<(), Fail> {
+    let mut input = Bytes::new(text, 7);
+    let mut output = Buffer::new(alloc, room, 3)?;
+    let mut errors = Buffer::new(alloc, ROOM, 7)?;
+    let status = run_command(alloc, words, &mut input, &mut output, &mut errors);
+    expect_end(rt, status, &output, &errors, wanted)
+}

@@ -1,0 +1,19 @@
+//! Tests of the program by what its runs print and tell and how they end, over memory.
+//!
+//! They stand apart from the crates that they test: a crate with tests of its own is proved twice.
+#![tactic(auto)]
+
+#[cfg(test)]
+mod answer_tests;
+#[cfg(test)]
+mod check_tests;
+#[cfg(test)]
+mod closing_tests;
+#[cfg(test)]
+mod expect;
+#[cfg(test)]
+mod plain_tests;
+#[cfg(test)]
+mod table_tests;
+#[cfg(test)]
+mod word_tests;
