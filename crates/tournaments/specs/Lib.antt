@@ -1,4 +1,5 @@
 pub mod Publications
 pub mod Making
+pub mod Replaying
 pub mod Texts
 pub mod Working

@@ -1,0 +1,59 @@
+//! The tables of a whole list of requests.
+
+ghost use Rattle.std.specs.Prelude.{◌≡◌, IfOk, IfErr};
+ghost use Rattle.lease_book.specs.Books.{AreBoards, AreTries};
+ghost use Rattle.tournaments.specs.declared.faults.MakeFault.TheVariants.{OutOfMemory};
+ghost use Rattle.tournaments.specs.Replaying.{ReplaysTables};
+ghost use Rattle.tournaments.specs.Texts.{IsReplayedBook};
+
+use crate::faults::MakeFault;
+use crate::histories::is_true_history;
+use crate::texts::take_boards;
+use cards::Sink;
+use lease_book::{Book, BookFault, Request, replay};
+use pbn_deals::Board;
+use std::alloc::Global;
+use tables::{Report, write_tables};
+
+/// The book of a whole list of requests, unless memory runs out.
+fn replay_book(
+    alloc: Global,
+    boards: Vec<Board>,
+    term: u64,
+    tries: u32,
+    requests: &[Request],
+) -> Result<Book, MakeFault>
+    requires boards { AreBoards boards.items }
+    requires tries { AreTries tries }
+    ensures book { IfOk result (IsReplayedBook (record { boards = boards.items; term = term; tries = tries }) requests.now) }
+    ensures fault { IfErr result (λ fault. fault ≡ OutOfMemory) }
+{
+    match replay(alloc, boards, term, tries, requests) {
+        Ok((book, _)) => Ok(book),
+        Err(BookFault::OutOfMemory) => Err(MakeFault::OutOfMemory),
+        Err(BookFault::TooManyBoards) => unreachable!(),
+        Err(BookFault::Tries) => unreachable!(),
+    }
+}
+
+/// Has a book over the boards of a PBN text answer a whole list of requests, in their order, and writes the tables.
+///
+/// Whatever the requests are, and in whatever order leases, expiries, repeats and damaged or foreign certificates come, a
+/// number that is written is that of the first good hand-in for its entry, and the double-dummy value of its deal. With
+/// all refusals but a failed sink nothing was written.
+pub fn replay_tables<O: Sink>(
+    alloc: Global,
+    text: &[u8],
+    term: u64,
+    tries: u32,
+    requests: &[Request],
+    output: &mut O,
+) -> Result<Report, MakeFault>
+    requires { AreTries tries }
+    ensures { ReplaysTables text.now term tries requests.now (O.state output.old) (O.state output.new) result }
+{
+    let boards = take_boards(alloc, text)?;
+    let book = replay_book(alloc, boards, term, tries, requests)?;
+    is_true_history(&book);
+    Ok(write_tables(&book, output)?)
+}
