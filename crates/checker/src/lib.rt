@@ -16,14 +16,8 @@ mod laws;
 mod parts;
 mod played;
 mod soundness;
-#[cfg(test)]
-mod tests;
 mod turns;
-#[cfg(test)]
-mod value_tests;
 mod walks;
-#[cfg(test)]
-mod worked_answers;
 
 pub use entries::{Proven, Shown, check_entry};
 pub use entry_faults::{EntryFault, PartFault};

@@ -1,5 +1,5 @@
 //! What no clause says: that the letters, the numbers and the refusals are those that a bridge player expects.
-use crate::expect::{expect_bytes, expect_eq};
+use crate::expect::{expect_bytes, expect_eq, expect_printed};
 use cards::{
     Buffer, Bytes, Card, DeviceFault, Layout, LayoutFault, Rank, Seat, Side, Sink, Source, Suit,
     Trump, write_all, write_number,
@@ -14,18 +14,6 @@ const SPADES: u64 = 0x1fff;
 /// A board on which each seat holds a whole suit.
 const WHOLE_SUITS: [u64; 4] = [SPADES, SPADES << 13, SPADES << 26, SPADES << 39];
 
-/// The item is printed so.
-fn expect_printed<T: Display>(
-    rt: &impl Abort,
-    alloc: Global,
-    item: &T,
-    wanted: &str,
-) -> Result<(), Fail> {
-    let text = format!(in alloc; "{item}")?;
-    assert_eq!(rt; text.as_str(), wanted);
-    Ok(())
-}
-
 /// The items are printed so, each by one letter.
 fn expect_letters<T: Display>(
     rt: &impl Abort,
@@ -33,7 +21,7 @@ fn expect_letters<T: Display>(
     items: &[T],
     letters: &[&str],
 ) -> Result<(), Fail> {
-    assert_eq!(rt; items.len(), letters.len());
+    expect_eq(rt, &items.len(), &letters.len());
     for (item, letter) in items.iter().zip(letters) {
         expect_printed(rt, alloc, item, letter)?;
     }
@@ -103,15 +91,6 @@ fn layouts(rt: HostRuntime) -> Result<(), Fail> {
     Ok(())
 }
 
-/// The hands are refused, by this fault.
-fn expect_refusal(rt: &impl Abort, hands: [u64; 4], wanted: LayoutFault) {
-    assert_eq!(rt;
-        Layout::from_hands(hands).err(),
-        Some(wanted),
-        "at {hands:?}"
-    );
-}
-
 #[test]
 fn refused_hands(rt: HostRuntime) {
     for (hands, want) in [
@@ -124,7 +103,7 @@ fn refused_hands(rt: HostRuntime) {
         ([0, 0, 0, 0], LayoutFault::HandSize),
         ([0x3fff, 0x3fff << 14, 0, 0], LayoutFault::HandSize),
     ] {
-        expect_refusal(&rt, hands, want);
+        expect_eq(&rt, &Layout::from_hands(hands), &Err(want));
     }
 }
 

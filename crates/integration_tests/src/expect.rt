@@ -1,8 +1,9 @@
 //! What tests expect. A call of these costs the prover next to nothing, an `assert_eq!` a second or more.
 
 use std::alloc::{AllocError, Global};
-use std::fmt::Debug;
+use std::fmt::{Debug, Display};
 use std::process::Abort;
+use std::test::Fail;
 
 /// The value is the one that is wanted.
 pub fn expect_eq<T: PartialEq + Debug>(rt: &impl Abort, got: &T, wanted: &T) {
@@ -12,6 +13,18 @@ pub fn expect_eq<T: PartialEq + Debug>(rt: &impl Abort, got: &T, wanted: &T) {
 /// The bytes are those that are wanted.
 pub fn expect_bytes(rt: &impl Abort, got: &[u8], wanted: &[u8]) {
     assert_eq!(rt; got, wanted);
+}
+
+/// The item is printed so.
+pub fn expect_printed<T: Display>(
+    rt: &impl Abort,
+    alloc: Global,
+    item: &T,
+    wanted: &str,
+) -> Result<(), Fail> {
+    let text = format!(in alloc; "{item}")?;
+    expect_bytes(rt, text.as_bytes(), wanted.as_bytes());
+    Ok(())
 }
 
 /// The parts in one text.

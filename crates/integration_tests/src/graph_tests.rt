@@ -1,5 +1,6 @@
 //! Texts with their graphs and their faults, worked out by hand from the form of a text.
 
+use crate::certificates::{ACE, FINESSE, NOTHING};
 use crate::expect::{expect_bytes, expect_eq};
 use arrayvec::ArrayVec;
 use cards::{Buffer, DeviceFault, Seat, Side, Suit, Trump};
@@ -9,30 +10,6 @@ use patterns::{Pattern, SuitPart};
 use std::alloc::{AllocError, Global};
 use std::process::Abort;
 use std::test::Fail;
-
-/// A finesse: South leads, North covers West's card, and wins two tricks.
-const FINESSE: &[u8] = b"DDC 1
-trump NT
-side NS
-nodes 2
-S 2 2.2.2.2/NWN 0.0.0.0/ 0.0.0.0/ 0.0.0.0/ Sx(SbSa(Sx{N1})SxSc(Sx{N1}))
-N 1 1.1.1.1/N 0.0.0.0/ 0.0.0.0/ 0.0.0.0/ Sa(SxSx(Sx{}))
-";
-
-/// An ace, that wins its trick.
-const ACE: &[u8] = b"DDC 1
-trump NT
-side NS
-nodes 1
-E 1 1.1.1.1/N 0.0.0.0/ 0.0.0.0/ 0.0.0.0/ (SxSx(SxSa{}))
-";
-
-/// A side that needs nothing.
-const NOTHING: &[u8] = b"DDC 1
-trump NT
-side EW
-nodes 0
-";
 
 /// A text, and its fault.
 #[derive(Drop)]

@@ -6,6 +6,10 @@
 #[cfg(test)]
 mod card_tests;
 #[cfg(test)]
+mod certificates;
+#[cfg(test)]
+mod checker_tests;
+#[cfg(test)]
 mod due_row_tests;
 #[cfg(test)]
 mod expect;
@@ -25,3 +29,7 @@ mod store_tests;
 mod stream_tests;
 #[cfg(test)]
 mod table_tests;
+#[cfg(test)]
+mod value_tests;
+#[cfg(test)]
+mod worked_answers;
