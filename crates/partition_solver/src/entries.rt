@@ -1,41 +1,42 @@
 //! What the search remembers: for each shape, lead and side the patterns found, with what the side can win.
 
+use crate::blocks::{Block, Entry, PLACES, deep_mask};
 use crate::deals::Owners;
+use crate::played_patterns::Remains;
 use std::alloc::{AllocError, Global};
 
-/// How many entries and shapes are kept at most.
-const MOST_ENTRIES: usize = 3_000_000;
+/// How many blocks and shapes are kept at most. A block takes 88 bytes, a slot 40, of which a table has at least twice as
+/// many as there are shapes.
+const MOST_BLOCKS: usize = 1 << 20;
 
-const MOST_SHAPES: usize = 1_000_000;
+const MOST_SHAPES: usize = 1 << 18;
 /// How many slots are looked at for a shape.
 const PROBES: usize = 64;
 
-/// All lists of one shape: by the seat that leads and the side that wins. An entry's number 0 ends a list.
+/// All lists of one shape: by the seat that leads and the side that wins. The number 0 ends a list.
 #[derive(Clone, Copy, Debug, Default)]
 pub(crate) struct Slot {
     key: u64,
     heads: [u32; 8],
 }
 
-/// A pattern of a shape: the owners down to four depths, and how many tricks the side can win.
-#[derive(Clone, Copy, Debug, Default)]
-pub(crate) struct Entry {
-    pub near: u64,
-    pub mask: u64,
-    pub deep: u64,
-    pub deep_mask: u64,
-    next: u32,
-    pub depths: u16,
-    pub need: u8,
-    pub generality: u8,
-}
-
-/// The entries by shape.
+/// The entries by shape. An entry's number is that of its block times four, and its place in it.
 #[derive(Drop)]
 pub(crate) struct Entries {
     slots: Vec<Slot>,
     shapes: usize,
-    list: Vec<Entry>,
+    blocks: Vec<Block>,
+    /// The owners behind the eighth, by block.
+    deep: Vec<[u64; PLACES]>,
+}
+
+/// An entry on its way into a list: itself, or the one that it has moved.
+#[derive(Clone, Copy, Debug)]
+struct Waiting {
+    new: Entry,
+    moved: Entry,
+    stands: bool,
+    free: bool,
 }
 
 /// The list of a lead and a side.
@@ -43,63 +44,17 @@ pub(crate) fn list_of(lead: usize, ours: bool) -> usize {
     (lead & 3) * 2 + if ours { 0 } else { 1 }
 }
 
-/// The bits of the first owners of a suit, up to eight, down to this depth.
-fn near_bits(depth: u16) -> u64 {
-    1u64.wrapping_shl(u32::from(depth.min(8)) * 2)
-        .wrapping_sub(1)
+/// The block and the place of an entry.
+fn parts_of(number: u32) -> (usize, usize) {
+    (
+        (number >> 2) as usize,
+        ((number & 3) as usize).min(PLACES - 1),
+    )
 }
 
-/// The bits of the owners behind the eighth.
-fn deep_bits(depth: u16) -> u64 {
-    1u64.wrapping_shl(u32::from(depth.max(8) & 15) * 2 & 15)
-        .wrapping_sub(1)
-}
-
-impl Entry {
-    /// An entry with the owners down to these depths.
-    pub(crate) fn new(owners: Owners, depths: u16, need: u8) -> Entry {
-        let suits = [
-            depths & 15,
-            depths >> 4 & 15,
-            depths >> 8 & 15,
-            depths >> 12,
-        ];
-        let mask = near_bits(suits[0])
-            | near_bits(suits[1]).wrapping_shl(16)
-            | near_bits(suits[2]).wrapping_shl(32)
-            | near_bits(suits[3]).wrapping_shl(48);
-        let deep_mask = deep_bits(suits[0])
-            | deep_bits(suits[1]).wrapping_shl(16)
-            | deep_bits(suits[2]).wrapping_shl(32)
-            | deep_bits(suits[3]).wrapping_shl(48);
-        Entry {
-            near: owners.near & mask,
-            mask,
-            deep: owners.deep & deep_mask,
-            deep_mask,
-            next: 0,
-            depths,
-            need,
-            generality: ((suits[0] + suits[1] + suits[2] + suits[3]) & 63) as u8,
-        }
-    }
-
-    /// Whether the owners begin as the entry says.
-    pub(crate) fn matches(&self, owners: Owners) -> bool {
-        (self.near ^ owners.near) & self.mask == 0
-            && (self.deep ^ owners.deep) & self.deep_mask == 0
-    }
-
-    /// Whether the entry says at least what the other says.
-    fn serves(&self, other: &Entry) -> bool {
-        self.need >= other.need
-            && self.mask & !other.mask == 0
-            && self.deep_mask & !other.deep_mask == 0
-            && self.matches(Owners {
-                near: other.near,
-                deep: other.deep,
-            })
-    }
+/// The number of an entry.
+pub(crate) fn number_of(block: usize, place: usize) -> u32 {
+    ((block & 0x0fff_ffff) as u32) << 2 | (place & 3) as u32
 }
 
 impl Entries {
@@ -109,23 +64,30 @@ impl Entries {
         for _ in 0..4096 {
             slots.push(Slot::default())?;
         }
-        let mut list = Vec::new(alloc);
-        list.push(Entry::default())?;
+        let mut blocks = Vec::new(alloc);
+        blocks.push(Block::default())?;
+        let mut deep = Vec::new(alloc);
+        deep.push([0; PLACES])?;
         Ok(Entries {
             slots,
             shapes: 0,
-            list,
+            blocks,
+            deep,
         })
     }
 
     /// How many numbers entries have.
-    pub(crate) fn len(&self) -> usize {
-        self.list.len()
+    pub(crate) fn numbers(&self) -> usize {
+        self.blocks.len().wrapping_mul(4)
     }
 
     /// The entry with this number.
     pub(crate) fn entry(&self, number: u32) -> Entry {
-        self.list.get(number as usize).copied().unwrap_or_default()
+        let (block, place) = parts_of(number);
+        match (self.blocks.get(block), self.deep.get(block)) {
+            (Some(block), Some(deep)) => block.entry(place, deep[place.min(PLACES - 1)]),
+            _ => Entry::default(),
+        }
     }
 
     /// The place of the shape's slot, or of the free one where it would stand.
@@ -151,31 +113,60 @@ impl Entries {
 
     /// The number of the first entry of a list that serves.
     pub(crate) fn find(&self, slot: &Slot, list: usize, owners: Owners, need: i32) -> Option<u32> {
-        let mut number = slot.heads[list & 7];
-        for _ in 0..self.list.len() {
+        let mut number = slot.heads[list & 7] as usize;
+        for _ in 0..self.blocks.len() {
             if number == 0 {
                 return None;
             }
-            let entry = self.list.get(number as usize)?;
-            if (entry.near ^ owners.near) & entry.mask == 0
-                && i32::from(entry.need) >= need
-                && (entry.deep ^ owners.deep) & entry.deep_mask == 0
-            {
-                return Some(number);
+            let block = self.blocks.get(number)?;
+            for place in 0..PLACES {
+                if block.begins(place, owners.near)
+                    && i32::from(block.need[place]) >= need
+                    && self.goes_on(number, place, block.depths[place], owners.deep)
+                {
+                    return Some(number_of(number, place));
+                }
             }
-            number = entry.next;
+            number = block.next as usize;
         }
         None
     }
 
-    /// The first entry of a list, 0 where there is none.
-    pub(crate) fn first(&self, slot: &Slot, list: usize) -> u32 {
-        slot.heads[list & 7]
+    /// Whether these owners behind the eighth are those of the entry.
+    pub(crate) fn goes_on(&self, block: usize, place: usize, depths: u16, deep: u64) -> bool {
+        if depths & 0x8888 == 0 {
+            return true;
+        }
+        let kept = self
+            .deep
+            .get(block)
+            .map_or(0, |kept| kept[place.min(PLACES - 1)]);
+        (kept ^ deep) & deep_mask(depths) == 0
     }
 
-    /// The entry behind this one in its list, 0 where there is none.
-    pub(crate) fn next(&self, number: u32) -> u32 {
-        self.list.get(number as usize).map_or(0, |entry| entry.next)
+    /// Whether the entry says no more of the owners than what is known of what remains.
+    pub(crate) fn is_known(&self, block: usize, place: usize, remains: Remains) -> bool {
+        let Some(entries) = self.blocks.get(block) else {
+            return false;
+        };
+        let place = place.min(PLACES - 1);
+        let near = (entries.near[place] ^ remains.owners.near) | !remains.known.near;
+        let depths = entries.depths[place];
+        if near & entries.mask[place] != 0 || depths & 0x8888 == 0 {
+            return near & entries.mask[place] == 0;
+        }
+        let kept = self.deep.get(block).map_or(0, |kept| kept[place]);
+        ((kept ^ remains.owners.deep) | !remains.known.deep) & deep_mask(depths) == 0
+    }
+
+    /// The first block of a list, 0 where there is none.
+    pub(crate) fn first(&self, slot: &Slot, list: usize) -> usize {
+        slot.heads[list & 7] as usize
+    }
+
+    /// A block.
+    pub(crate) fn block(&self, number: usize) -> Option<&Block> {
+        self.blocks.get(number)
     }
 
     /// Twice as many slots.
@@ -218,17 +209,6 @@ impl Entries {
         Ok(Some(place))
     }
 
-    /// Makes a number follow another one in a list, or begin the list.
-    fn link(&mut self, place: usize, list: usize, before: u32, number: u32) {
-        if before == 0 {
-            if let Some(slot) = self.slots.get_mut(place) {
-                slot.heads[list & 7] = number;
-            }
-        } else if let Some(entry) = self.list.get_mut(before as usize) {
-            entry.next = number;
-        }
-    }
-
     /// Adds an entry behind those of its list that are more general; those that it serves are dropped.
     pub(crate) fn add(
         &mut self,
@@ -237,37 +217,86 @@ impl Entries {
         list: usize,
         entry: Entry,
     ) -> Result<(), AllocError> {
-        if self.list.len() >= MOST_ENTRIES {
-            return Ok(());
-        }
-        let new = self.list.len() as u32;
         let Some(place) = self.make_slot(alloc, key)? else {
             return Ok(());
         };
-        self.list.push(entry)?;
-        let mut before = 0;
-        let mut number = self.slots.get(place).map_or(0, |slot| slot.heads[list & 7]);
-        let mut stands = false;
-        for _ in 0..MOST_ENTRIES {
-            let Some(other) = self.list.get(number as usize).copied() else {
-                break;
-            };
-            if !stands && (number == 0 || other.generality > entry.generality) {
-                self.link(place, list, before, new);
-                self.link(place, list, new, number);
-                before = new;
-                stands = true;
-            }
+        let head = self.slots.get(place).map_or(0, |slot| slot.heads[list & 7]);
+        let mut waiting = Waiting {
+            new: entry,
+            moved: entry,
+            stands: false,
+            free: true,
+        };
+        let mut last = 0;
+        let mut number = head as usize;
+        for _ in 0..self.blocks.len() {
             if number == 0 {
                 break;
             }
-            if entry.serves(&other) {
-                self.link(place, list, before, other.next);
-            } else {
-                before = number;
+            self.put_in(number, &mut waiting);
+            last = number;
+            number = self
+                .blocks
+                .get(number)
+                .map_or(0, |block| block.next as usize);
+        }
+        if !waiting.free {
+            return Ok(());
+        }
+        if self.blocks.len() >= MOST_BLOCKS {
+            return Ok(());
+        }
+        let new = self.blocks.len();
+        let (block, deep) = Block::of(waiting.moved);
+        self.blocks.push(block)?;
+        self.deep.push(deep)?;
+        let next = (new & 0x0fff_ffff) as u32;
+        if last == 0 {
+            if let Some(slot) = self.slots.get_mut(place) {
+                slot.heads[list & 7] = next;
             }
-            number = other.next;
+        } else if let Some(block) = self.blocks.get_mut(last) {
+            block.next = next;
         }
         Ok(())
+    }
+
+    /// Puts the entry that waits into a block where it belongs there, and takes out what has to go on.
+    fn put_in(&mut self, number: usize, waiting: &mut Waiting) {
+        let (Some(block), Some(deep)) = (self.blocks.get_mut(number), self.deep.get_mut(number))
+        else {
+            return;
+        };
+        for place in 0..PLACES {
+            let other = block.entry(place, deep[place]);
+            if other.need == 0 {
+                if waiting.free && waiting.stands {
+                    block.set(place, waiting.moved);
+                    deep[place] = waiting.moved.deep;
+                    waiting.free = false;
+                }
+                continue;
+            }
+            let goes = waiting.new.serves(&other);
+            if waiting.free && (waiting.stands || other.generality() > waiting.new.generality()) {
+                block.set(place, waiting.moved);
+                deep[place] = waiting.moved.deep;
+                waiting.stands = true;
+                waiting.moved = other;
+                waiting.free = !goes;
+            } else if goes {
+                block.set(place, Entry::default());
+                deep[place] = 0;
+            }
+        }
+        if block.next == 0 && waiting.free && !waiting.stands {
+            for place in 0..PLACES {
+                if waiting.free && block.need[place] == 0 {
+                    block.set(place, waiting.moved);
+                    deep[place] = waiting.moved.deep;
+                    waiting.free = false;
+                }
+            }
+        }
     }
 }

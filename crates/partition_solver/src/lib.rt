@@ -5,6 +5,7 @@
 //! returns, whatever the layout, the budget and the memory. `docs/SOLVER.md` tells the algorithm.
 #![tactic(auto)]
 
+mod blocks;
 mod deals;
 mod entries;
 mod graph_writing;

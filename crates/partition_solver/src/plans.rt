@@ -1,8 +1,10 @@
 //! The proof of an entry: one trick on its pattern, worked out anew from what the search remembers.
 
-use crate::entries::{Slot, list_of};
-use crate::played_patterns::{LOW, PatternTrick, PlainCard, Remains};
+use crate::blocks::PLACES;
+use crate::entries::{Slot, list_of, number_of};
+use crate::played_patterns::{LOWS, PatternTrick, PlainCard, Remains};
 use crate::search::Search;
+use crate::words::SUIT;
 use cards::Suit;
 use std::alloc::{AllocError, Global};
 
@@ -40,6 +42,14 @@ pub(crate) struct Plan {
     pub lanes: [usize; 4],
 }
 
+/// The entries that go on after a trick, by the seat that won it, 0 where none is needed, and how many new nodes they are.
+#[derive(Clone, Copy, Debug)]
+struct Leaf {
+    lengths: u64,
+    entries: [u32; 4],
+    cost: u32,
+}
+
 /// What a tree has to show: so many tricks, with fewer new nodes than the limit.
 #[derive(Clone, Copy, Debug)]
 pub(crate) struct Goal {
@@ -60,9 +70,14 @@ fn lane_of(suits: [Suit; 4], suit: Suit) -> usize {
     }
 }
 
+/// The cards of one suit.
+fn lane_of_word(cards: u64, lane: usize) -> u32 {
+    (cards.wrapping_shr((lane & 3) as u32 * 16) & SUIT) as u32
+}
+
 /// The highest place of each run of touching tops of one seat, and the low card.
-fn tops_of_runs(legal: u32) -> u32 {
-    legal & (!legal.wrapping_shl(1) | 1u32.wrapping_shl(LOW))
+fn tops_of_runs(legal: u64) -> u64 {
+    legal & (!(legal & !LOWS).wrapping_shl(1) | LOWS)
 }
 
 impl Plan {
@@ -70,7 +85,7 @@ impl Plan {
     pub(crate) fn new(alloc: Global, search: &Search, ours: bool) -> Result<Plan, AllocError> {
         let suits = search.deal.suits;
         let mut numbers = Vec::new(alloc);
-        for _ in 0..search.entries.len() {
+        for _ in 0..search.entries.numbers() {
             numbers.push(0)?;
         }
         Ok(Plan {
@@ -108,6 +123,9 @@ impl Plan {
             return self.add_leaf(search, trick, goal);
         }
         if (trick.seat & 1 == 0) == self.ours {
+            if trick.played == 3 {
+                return self.add_last(search, trick, goal);
+            }
             self.add_own(search, fuel - 1, trick, goal)
         } else {
             self.add_reply(search, fuel - 1, trick, goal)
@@ -149,25 +167,23 @@ impl Plan {
         let begin = self.pieces.len();
         let mut least = goal;
         let mut found = None;
-        for number in 0..4usize {
-            let lane = self.lanes[number];
-            let mut legal = tops_of_runs(trick.legal(lane));
-            for _ in 0..16 {
-                if legal == 0 || least.limit == 0 {
-                    break;
-                }
-                let place = legal.trailing_zeros();
-                legal &= legal.wrapping_sub(1);
-                let card = PlainCard { lane, place };
-                let from = self.pieces.len();
-                let cost = self.add_card(search, fuel - 1, trick, least, Piece::Own(card), card)?;
-                if let Some(new) = cost {
-                    self.keep(begin, from);
-                    least.limit = new;
-                    found = cost;
-                } else {
-                    self.pieces.truncate(from);
-                }
+        let mut waiting = tops_of_runs(trick.legal_cards());
+        let first = trick.hint & waiting;
+        for _ in 0..64 {
+            if waiting == 0 || least.limit == 0 {
+                break;
+            }
+            let bit = trick.choose(waiting, first);
+            waiting &= !bit;
+            let card = PlainCard::of(bit);
+            let from = self.pieces.len();
+            let cost = self.add_card(search, fuel - 1, trick, least, Piece::Own(card), card)?;
+            if let Some(new) = cost {
+                self.keep(begin, from);
+                least.limit = new;
+                found = cost;
+            } else {
+                self.pieces.truncate(from);
             }
         }
         Ok(found)
@@ -206,9 +222,10 @@ impl Plan {
         self.pieces.push(Piece::Reply(0))?;
         let mut count = 0usize;
         let mut sum = 0u32;
+        let cards = trick.legal_cards();
         for number in 0..4usize {
             let lane = self.lanes[number];
-            let mut legal = trick.legal(lane);
+            let mut legal = lane_of_word(cards, lane);
             for _ in 0..16 {
                 if legal == 0 {
                     break;
@@ -234,6 +251,41 @@ impl Plan {
         Ok(Some(sum))
     }
 
+    /// Adds the last card of a trick, where it is the side's: the one whose children need the fewest new nodes.
+    fn add_last(
+        &mut self,
+        search: &mut Search,
+        trick: &PatternTrick,
+        goal: Goal,
+    ) -> Result<Option<u32>, AllocError> {
+        let mut waiting = tops_of_runs(trick.legal_cards());
+        let mut least = goal;
+        let mut best = None;
+        for _ in 0..64 {
+            if waiting == 0 || least.limit == 0 {
+                break;
+            }
+            let bit = trick.choose(waiting, 0);
+            waiting &= !bit;
+            let card = PlainCard::of(bit);
+            let after = trick.after(card, search.deal.trumps != 0);
+            if let Some(leaf) = self.leaf(search, &after, least) {
+                least.limit = leaf.cost;
+                best = Some((card, leaf));
+            }
+        }
+        let Some((card, leaf)) = best else {
+            return Ok(None);
+        };
+        if search.steps == 0 {
+            return Ok(None);
+        }
+        search.steps -= 1;
+        self.pieces.push(Piece::Own(card))?;
+        self.push_leaf(&leaf)?;
+        Ok(Some(leaf.cost))
+    }
+
     /// Adds the children after a trick.
     fn add_leaf(
         &mut self,
@@ -241,11 +293,42 @@ impl Plan {
         trick: &PatternTrick,
         goal: Goal,
     ) -> Result<Option<u32>, AllocError> {
-        let begin = self.pieces.len();
-        self.pieces.push(Piece::Leaf(0))?;
+        let Some(leaf) = self.leaf(search, trick, goal) else {
+            return Ok(None);
+        };
+        self.push_leaf(&leaf)?;
+        Ok(Some(leaf.cost))
+    }
+
+    /// Adds the pieces of a leaf.
+    fn push_leaf(&mut self, leaf: &Leaf) -> Result<(), AllocError> {
+        let count = leaf
+            .entries
+            .as_slice()
+            .iter()
+            .filter(|entry| **entry != 0)
+            .count();
+        self.pieces.push(Piece::Leaf(count))?;
+        for seat in 0..4usize {
+            if leaf.entries[seat] != 0 {
+                self.pieces.push(Piece::Child(Known {
+                    lengths: leaf.lengths,
+                    entry: leaf.entries[seat],
+                    lead: seat,
+                }))?;
+            }
+        }
+        Ok(())
+    }
+
+    /// The children after a trick. None where what is remembered does not show them with fewer new nodes than the limit.
+    fn leaf(&self, search: &Search, trick: &PatternTrick, goal: Goal) -> Option<Leaf> {
         let winners = trick.winners();
-        let mut count = 0usize;
-        let mut cost = 0u32;
+        let mut leaf = Leaf {
+            lengths: trick.lengths,
+            entries: [0; 4],
+            cost: 0,
+        };
         let mut after = None;
         for seat in 0..4usize {
             let won = if (seat & 1 == 0) == self.ours { 1 } else { 0 };
@@ -254,34 +337,20 @@ impl Plan {
                 continue;
             }
             if after.is_none() {
-                after = search
-                    .entries
-                    .slot(trick.lengths)
-                    .map(|slot| (slot, trick.remains()));
+                after = Some((search.entries.slot(trick.lengths)?, trick.remains()));
             }
-            let Some((slot, remains)) = after else {
-                return Ok(None);
-            };
-            let Some(entry) = self.child(search, slot, remains, seat, rest) else {
-                return Ok(None);
-            };
+            let (slot, remains) = after?;
+            let entry = self.child(search, slot, remains, seat, rest)?;
             if self.number(entry) == 0 {
-                cost = cost.wrapping_add(1);
+                leaf.cost = leaf.cost.wrapping_add(1);
             }
-            self.pieces.push(Piece::Child(Known {
-                lengths: trick.lengths,
-                entry,
-                lead: seat,
-            }))?;
-            count = count.wrapping_add(1);
+            leaf.entries[seat] = entry;
         }
-        if cost >= goal.limit {
-            return Ok(None);
+        if leaf.cost < goal.limit {
+            Some(leaf)
+        } else {
+            None
         }
-        if let Some(piece) = self.pieces.get_mut(begin) {
-            *piece = Piece::Leaf(count);
-        }
-        Ok(Some(cost))
     }
 
     /// An entry that goes on after the trick: one that has a node already, else the most general.
@@ -295,20 +364,28 @@ impl Plan {
     ) -> Option<u32> {
         let mut number = search.entries.first(slot, list_of(winner, self.ours));
         let mut first = None;
-        for _ in 0..search.entries.len() {
+        for _ in 0..search.entries.numbers() {
+            let Some(block) = search.entries.block(number) else {
+                break;
+            };
             if number == 0 {
                 break;
             }
-            let entry = search.entries.entry(number);
-            if i32::from(entry.need) >= need && remains.are_covered_by(&entry) {
-                if self.number(number) != 0 {
-                    return Some(number);
+            for place in 0..PLACES {
+                if i32::from(block.need[place]) < need
+                    || !search.entries.is_known(number, place, remains)
+                {
+                    continue;
+                }
+                let entry = number_of(number, place);
+                if self.number(entry) != 0 {
+                    return Some(entry);
                 }
                 if first.is_none() {
-                    first = Some(number);
+                    first = Some(entry);
                 }
             }
-            number = search.entries.next(number);
+            number = block.next as usize;
         }
         first
     }

@@ -1,8 +1,8 @@
 //! A trick played on a remembered pattern.
 
+use crate::blocks::Entry;
 use crate::deals::Owners;
-use crate::entries::Entry;
-use crate::words::SUIT;
+use crate::words::{SUIT, highest, lowest};
 
 /// A card of a pattern: a top by its place among the owners of its suit, from 0, or with the place `LOW` a low card. The
 /// suit is named by its number in the word.
@@ -14,6 +14,20 @@ pub(crate) struct PlainCard {
 
 /// The place of a low card.
 pub(crate) const LOW: u32 = 15;
+
+/// The places of all low cards.
+pub(crate) const LOWS: u64 = 0x8000_8000_8000_8000;
+
+impl PlainCard {
+    /// The card of a bit.
+    pub(crate) fn of(bit: u64) -> PlainCard {
+        let number = bit.trailing_zeros() & 63;
+        PlainCard {
+            lane: (number >> 4) as usize,
+            place: number & 15,
+        }
+    }
+}
 
 /// A trick on a pattern.
 #[derive(Clone, Copy, Debug)]
@@ -34,22 +48,15 @@ pub(crate) struct PatternTrick {
     pub seat: usize,
     /// How many cards lie on the table.
     pub played: u32,
+    /// The card that showed it in the search, where the side leads.
+    pub hint: u64,
 }
 
 /// What a trick leaves: the owners, and the bits of those that are known.
 #[derive(Clone, Copy, Debug)]
 pub(crate) struct Remains {
-    owners: Owners,
-    known: Owners,
-}
-
-impl Remains {
-    /// Whether the entry says no more of the owners than is known.
-    pub(crate) fn are_covered_by(&self, entry: &Entry) -> bool {
-        entry.mask & !self.known.near == 0
-            && entry.deep_mask & !self.known.deep == 0
-            && entry.matches(self.owners)
-    }
+    pub owners: Owners,
+    pub known: Owners,
 }
 
 /// A suit's part of a word.
@@ -99,6 +106,11 @@ impl PatternTrick {
             lows: 0,
             seat: lead,
             played: 0,
+            hint: if entry.lead < 64 {
+                1u64.wrapping_shl(u32::from(entry.lead))
+            } else {
+                0
+            },
         }
     }
 
@@ -123,18 +135,19 @@ impl PatternTrick {
         self.depths[lane & 3]
     }
 
-    /// The cards of a suit that the seat to play may play, a bit for each place, the low card's at `LOW`.
-    pub(crate) fn legal(&self, lane: usize) -> u32 {
-        if let Some(led) = self.led {
-            if led != lane && self.length(led) != 0 {
-                return 0;
+    /// The cards that the seat to play may play, sixteen bits a suit, a bit for each place, the low card's at `LOW`.
+    pub(crate) fn legal_cards(&self) -> u64 {
+        let mut cards = self.tops[self.seat & 3];
+        for lane in 0..4usize {
+            if lane_of(cards, lane).count_ones() < self.length(lane) {
+                cards |= 0x8000u64.wrapping_shl(lane as u32 * 16);
             }
         }
-        let mut cards = lane_of(self.tops[self.seat & 3], lane);
-        if cards.count_ones() < self.length(lane) {
-            cards |= 1u32.wrapping_shl(LOW);
-        }
-        cards
+        let Some(led) = self.led else {
+            return cards;
+        };
+        let follows = cards & SUIT.wrapping_shl((led & 3) as u32 * 16);
+        if follows != 0 { follows } else { cards }
     }
 
     /// The trick after the seat to play has played the card.
@@ -165,7 +178,32 @@ impl PatternTrick {
         }
         next.seat = seat + 1 & 3;
         next.played = self.played.wrapping_add(1);
+        next.hint = 0;
         next
+    }
+
+    /// Which of the cards is tried next.
+    pub(crate) fn choose(&self, waiting: u64, first: u64) -> u64 {
+        if waiting & first != 0 {
+            return first;
+        }
+        if self.played == 0 {
+            return lowest(waiting);
+        }
+        let partner = self.seat.wrapping_add(2) & 3;
+        let stands = self.played > 1 && self.winners() & 1u32.wrapping_shl(partner as u32) != 0;
+        let start = (self.deciding & 3) as u32 * 16;
+        let higher = 1u64
+            .wrapping_shl(start.wrapping_add(self.best))
+            .wrapping_sub(1);
+        let winning = waiting & SUIT.wrapping_shl(start) & higher;
+        if self.played == 3 && !stands && winning != 0 {
+            return highest(winning);
+        }
+        if self.played == 2 && !stands && winning != 0 {
+            return lowest(winning);
+        }
+        highest(waiting)
     }
 
     /// A bit for each seat that may have won.

@@ -1,10 +1,11 @@
 //! The search: whether North and South can win so many of the tricks left.
 
+use crate::blocks::{Entry, NO_LEAD};
 use crate::deals::{Deal, Owners};
-use crate::entries::{Entries, Entry, list_of};
+use crate::entries::{Entries, list_of};
 use crate::moves::{Moves, whole_runs};
 use crate::tricks::Trick;
-use crate::words::{SUIT, below, lowest, suit_of};
+use crate::words::{SUIT, below, lowest, start_of, suit_of};
 use cards::{Layout, Trump};
 use std::alloc::{AllocError, Global};
 
@@ -25,10 +26,10 @@ pub(crate) struct Search {
     pub entries: Entries,
     /// How many cards may still be tried.
     pub steps: u64,
-    hints: Vec<u32>,
+    hints: Vec<u8>,
 }
 
-const HINTS: usize = 1 << 14;
+const HINTS: usize = 1 << 18;
 
 /// With how many tricks left other possible winners are searched.
 const SEARCHED: i32 = 7;
@@ -51,6 +52,18 @@ fn depths_of(left: u64, relevant: u64) -> u16 {
         | depth_of(left, relevant, 48).wrapping_shl(12)
 }
 
+/// The card as a pattern of these depths names it: its suit times sixteen, and its place, or 15 for a low card.
+fn lead_of(left: u64, depths: u16, card: u64) -> u8 {
+    if card == 0 {
+        return NO_LEAD;
+    }
+    let start = start_of(card);
+    let above = (left & suit_of(card) & !below(card) & !card).count_ones();
+    let depth = u32::from(depths.wrapping_shr(start >> 2) & 15);
+    let place = if above < depth { above } else { 15 };
+    ((start | place) & 63) as u8
+}
+
 /// How many tricks a side wants that North and South want so many of.
 fn goal_of(trick: &Trick, ours: bool) -> i32 {
     if ours {
@@ -65,6 +78,15 @@ fn is_ours(seat: usize) -> bool {
     seat & 1 == 0
 }
 
+/// The answer where a side wants nothing.
+fn nothing_needed(ours: bool) -> Found {
+    Found {
+        ours,
+        bound: 0,
+        relevant: 0,
+    }
+}
+
 /// A trick that the seat wins, where it counts for the side.
 fn trick_for(seat: usize, ours: bool) -> i32 {
     if is_ours(seat) == ours { 1 } else { 0 }
@@ -75,7 +97,7 @@ fn hint_place(trick: &Trick) -> usize {
     let key = trick.lengths
         ^ (trick.seat as u64).wrapping_shl(61)
         ^ u64::from(trick.want.unsigned_abs()).wrapping_shl(57);
-    (key.wrapping_mul(0x9e37_79b9_7f4a_7c15) >> 50) as usize
+    (key.wrapping_mul(0x9e37_79b9_7f4a_7c15) >> 46) as usize
 }
 
 /// How many cards a set has.
@@ -133,11 +155,7 @@ impl Search {
     fn known(&self, trick: &Trick) -> Option<Found> {
         for ours in [true, false] {
             if goal_of(trick, ours) <= 0 {
-                return Some(Found {
-                    ours,
-                    bound: 0,
-                    relevant: 0,
-                });
+                return Some(nothing_needed(ours));
             }
         }
         let slot = self.entries.slot(trick.lengths)?;
@@ -149,6 +167,19 @@ impl Search {
             }
         }
         None
+    }
+
+    /// What is known of the start of a trick, where this side gets what it wants.
+    fn known_for(&self, trick: &Trick, ours: bool) -> Option<Found> {
+        let goal = goal_of(trick, ours);
+        if goal <= 0 {
+            return Some(nothing_needed(ours));
+        }
+        let slot = self.entries.slot(trick.lengths)?;
+        let owners = self.deal.owners(trick.left);
+        let list = list_of(trick.seat, ours);
+        let number = self.entries.find(slot, list, owners, goal)?;
+        Some(self.told(trick.left, ours, number))
     }
 
     /// What an entry says of these cards.
@@ -165,12 +196,13 @@ impl Search {
     fn remember(&mut self, trick: &Trick, found: Found, card: u64) -> Result<(), AllocError> {
         if let Some(hint) = self.hints.get_mut(hint_place(trick)) {
             if card != 0 {
-                *hint = card.trailing_zeros() + 1;
+                *hint = (card.trailing_zeros() & 63) as u8 + 1;
             }
         }
         let owners = self.deal.owners(trick.left);
         let depths = depths_of(trick.left, found.relevant);
-        let entry = Entry::new(owners, depths, (found.bound & 15) as u8);
+        let lead = lead_of(trick.left, depths, card);
+        let entry = Entry::new(owners, depths, (found.bound & 15) as u8, lead);
         self.entries.add(
             self.alloc,
             trick.lengths,
@@ -185,7 +217,7 @@ impl Search {
             return 0;
         }
         match self.hints.get(hint_place(trick)).copied() {
-            Some(place) if place != 0 => 1u64.wrapping_shl(place.wrapping_sub(1)),
+            Some(place) if place != 0 => 1u64.wrapping_shl(u32::from(place) - 1),
             _ => 0,
         }
     }
@@ -211,6 +243,15 @@ impl Search {
             relevant: 0,
         };
         let mut success = 0;
+        if trick.played == 3 {
+            if let Some((after, found)) = self.ask(trick, moves) {
+                if self.steps == 0 {
+                    return Ok(None);
+                }
+                self.steps -= 1;
+                return Ok(Some(self.ended(fuel - 1, &after, found)?));
+            }
+        }
         for _ in 0..16 {
             let Some(tried) = moves.next(trick, trumps) else {
                 break;
@@ -236,6 +277,21 @@ impl Search {
             self.remember(trick, answer, success)?;
         }
         Ok(Some(answer))
+    }
+
+    /// A card of the last hand that is known to succeed: the trick with it, and what is known of the rest.
+    fn ask(&self, trick: &Trick, mut moves: Moves) -> Option<(Trick, Found)> {
+        let trumps = self.deal.trumps;
+        let mover = trick.is_ours();
+        for _ in 0..16 {
+            let tried = moves.next(trick, trumps)?;
+            let after = trick.after(tried.card, trumps);
+            let next = after.next(after.winner);
+            if let Some(found) = self.known_for(&next, mover) {
+                return Some((after, found));
+            }
+        }
+        None
     }
 
     /// Goes on after a card.
