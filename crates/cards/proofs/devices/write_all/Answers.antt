@@ -1,4 +1,5 @@
 use Rattle.std.proofs.Common.{arith, length-drop}
+use Rattle.std.proofs.lemmas.List.{take_all}
 use Rattle.cards.proofs.DeviceLemmas.{Adds-more, take-drop_rest}
 use Rattle.cards.proofs.devices.write_all.Goals as goal
 
@@ -11,3 +12,6 @@ loop-gone-preserved g c =
       within = omega (arith, taken.within, length-drop gone text);
       adds = Adds-more text gone c.in_ok-gone.field-0 c.loop-gone.invariant.adds taken.adds;
     }
+
+pub returns : goal.returns
+returns g c = rw (take_all c.loop-gone.gone c.args.text.now (omega arith)) at c.loop-gone.invariant.adds

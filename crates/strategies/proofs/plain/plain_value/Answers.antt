@@ -1,4 +1,4 @@
-use Rattle.std.proofs.Common.{◌≡◌, arith, ap, subst, ℕ}
+use Rattle.std.proofs.Common.{◌≡◌, arith, ap, rules, subst, ℕ}
 use Rattle.cards.specs.declared.seats.Side.TheVariants.{NorthSouth, EastWest}
 use Rattle.cards.specs.Deal.{size_of}
 use Rattle.play_rules.specs.History.{Opening}
@@ -21,3 +21,9 @@ returns-clause-value c =
     IsPlainValue-from_table c.new-table.result _ c.len-size.result c.new-table.ensures.opening c.new-table.ensures.history (omega (arith, deal, c.len-size.ensures.size))
     (subst (λ (n : ℕ). CanWin c.new-table.result.opening NorthSouth n c.new-table.result.history) all c.loop-value.invariant)
     (won_by c.new-table.result EastWest _ c.new-table.ensures.reached (omega (arith, deal, c.len-size.ensures.size)))
+
+pub returns-then-not-can_take-clause-too_large : goal.returns-then-not-can_take-clause-too_large
+returns-then-not-can_take-clause-too_large c = (λ _. omega (arith, c.len-size.ensures.size), λ _. search rules)
+
+pub returns-clause-too_large : goal.returns-clause-too_large
+returns-clause-too_large c = (λ _. omega (arith, c.len-size.ensures.size), λ _. search rules)

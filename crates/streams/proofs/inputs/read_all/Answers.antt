@@ -1,4 +1,4 @@
-use Rattle.std.proofs.Common.{◌≡◌, ◌∙◌, arith, length, length-take}
+use Rattle.std.proofs.Common.{◌≡◌, ◌∙◌, arith, length, length-take, rules}
 use Rattle.streams.proofs.InputLemmas.{takes_twice}
 use Rattle.streams.proofs.inputs.read_all.Goals as goal
 
@@ -24,3 +24,6 @@ loop-turn-preserved g c =
       turns = omega (arith, c.in_default.ensures.len, length-take count buffer, within);
       room = room;
     }
+
+pub returns-in-Err-clause-all : goal.returns-in-Err-clause-all
+returns-in-Err-clause-all g c = search rules

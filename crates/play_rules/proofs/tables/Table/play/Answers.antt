@@ -1,4 +1,4 @@
-use Rattle.std.proofs.Common.{subst}
+use Rattle.std.proofs.Common.{rules, subst}
 use Rattle.play_rules.specs.Position.{Position}
 use Rattle.play_rules.specs.Legal.{CanPlay}
 use Rattle.play_rules.proofs.PositionLaws.{held-from_still_held, FailsToFollow-from_Revokes, CanPlay-from_tests}
@@ -15,3 +15,6 @@ push-requires-clause-legal c = subst (λ (p : Position). CanPlay p.opening p.his
 
 pub returns-clause-cases : goal.returns-clause-cases
 returns-clause-cases c = (c.if-is_over.ensures, subst (λ (p : Position). CanPlay p.opening p.history c.args.card) c.self.view_is (CanPlay-from_tests _ _ c.args.card c.self.invariant c.if-not-is_held.ensures (rw c.as_slice.ensures.value at c.if-revokes.ensures)))
+
+pub returns-then-is_over-clause-cases : goal.returns-then-is_over-clause-cases
+returns-then-is_over-clause-cases c = search rules
