@@ -22,6 +22,8 @@ mod pbn_tests;
 #[cfg(test)]
 mod play_tests;
 #[cfg(test)]
+mod request_tests;
+#[cfg(test)]
 mod solver_tests;
 #[cfg(test)]
 mod store_tests;
@@ -29,6 +31,8 @@ mod store_tests;
 mod stream_tests;
 #[cfg(test)]
 mod table_tests;
+#[cfg(test)]
+mod tournament_tests;
 #[cfg(test)]
 mod value_tests;
 #[cfg(test)]

@@ -10,7 +10,7 @@ use std::process::Abort;
 use std::test::Fail;
 
 /// A file as a tournament writes it. Two names and the list of boards take memory.
-const CR_LF: &[u8] = b"% PBN 2.1\r
+pub(crate) const CR_LF: &[u8] = b"% PBN 2.1\r
 [Event \"x\"]\r
 [board \"7\"]\r
 { a comment\r

@@ -16,7 +16,7 @@ const ONE_SUIT_EACH: &[u8] =
     b"N:AKQJT98765432... .AKQJT98765432.. ..AKQJT98765432. ...AKQJT98765432";
 
 /// Its table, of 320 bytes.
-const TABLE: &[u8] = b"% PBN 2.1
+pub(crate) const TABLE: &[u8] = b"% PBN 2.1
 [Board \"1\"]
 [Deal \"N:AKQJT98765432... .AKQJT98765432.. ..AKQJT98765432. ...AKQJT98765432\"]
 [OptimumResultTable \"Declarer;Denomination\\2R;Result\\2R\"]
