@@ -1,5 +1,5 @@
 // Prints random boards with DDS's numbers, a line an entry: LAYOUT|DECLARER|TRUMP|TRICKS. On the error output it tells the
-// processor time that CalcDDtable took, per board.
+// microseconds of the processor that CalcDDtable took, a line a board.
 // Usage: make_boards BOARDS SEED [CARDS]. One thread.
 #include <dds/dll.h>
 
@@ -46,7 +46,6 @@ int main(int count, char** words) {
   std::mt19937 dice(std::atoi(words[2]));
   int cards = count > 3 ? std::atoi(words[3]) : 13;
   SetMaxThreads(1);
-  double total = 0;
   for (int board = 0; board < boards; ++board) {
     std::string layout = RandomLayout(dice, cards);
     ddTableDealPBN deal;
@@ -54,12 +53,11 @@ int main(int count, char** words) {
     ddTableResults results;
     std::clock_t start = std::clock();
     if (CalcDDtablePBN(deal, &results) != RETURN_NO_FAULT) return 1;
-    total += static_cast<double>(std::clock() - start) / CLOCKS_PER_SEC;
+    std::fprintf(stderr, "%.0f\n", 1e6 * static_cast<double>(std::clock() - start) / CLOCKS_PER_SEC);
     const char* trumps[5] = {"S", "H", "D", "C", "NT"};
     for (int trump = 0; trump < 5; ++trump)
       for (int seat = 0; seat < 4; ++seat)
         // CalcDDtable takes the defenders' tricks from thirteen, whatever the size of the hands.
         std::printf("%s|%c|%s|%d\n", layout.c_str(), "NESW"[seat], trumps[trump], results.resTable[trump][seat] - (13 - cards));
   }
-  std::fprintf(stderr, "DDS: %.1f ms a board\n", 1000 * total / boards);
 }

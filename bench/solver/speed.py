@@ -2,7 +2,8 @@
 """Times the solver and the checker beside DDS's CalcDDtable over the same random boards, one thread, and compares the numbers.
 
 Usage: bench/solver/speed.py [BOARDS [SEED [CARDS]]], by default 100 boards of seed 2026. It needs Debian's libdds-dev and g++.
-It copies the crates into a folder of its own, proves and builds speed.rt.txt there, and prints the processor time of both.
+It copies the crates into a folder of its own, proves and builds speed.rt.txt there, and prints what came of the entries and the
+processor time of both: mean, median and worst board.
 """
 
 import shutil
@@ -13,15 +14,24 @@ from pathlib import Path
 
 ROOT = Path(__file__).resolve().parent.parent.parent
 HERE = Path(__file__).resolve().parent
-CRATES = ("cards", "pbn_deals", "patterns", "pattern_step", "certificate_graph", "checker", "partition_solver")
+CRATES = (
+    "cards",
+    "play_rules",
+    "strategies",
+    "patterns",
+    "pattern_step",
+    "certificate_graph",
+    "checker",
+    "partition_solver",
+)
 
 
 def boards(folder, words):
-    """DDS's lines, and what it tells of its time."""
+    """DDS's lines, and its microseconds of each board."""
     program = folder / "make_boards"
     subprocess.run(["g++", "-O2", "-o", str(program), str(HERE / "make_boards.cpp"), "-ldds"], check=True)
     run = subprocess.run([str(program), *words], check=True, capture_output=True, text=True)
-    return run.stdout.splitlines(), run.stderr.strip()
+    return run.stdout.splitlines(), [int(line) for line in run.stderr.split()]
 
 
 def hands_of(layout):
@@ -59,16 +69,33 @@ def build(folder, lines):
     return crate / "out" / "solver_speed"
 
 
+def told(name, micros):
+    """Mean, median and worst board."""
+    ordered = sorted(micros)
+    mean, median, worst = sum(ordered) / len(ordered), ordered[len(ordered) // 2], ordered[-1]
+    print(f"{name}: {mean / 1000:.1f} ms a board, median {median / 1000:.1f}, worst {worst / 1000:.1f}")
+
+
+def report(run, theirs):
+    """What came of our run beside DDS's times."""
+    rows = [[int(word) for word in line.split()] for line in run.splitlines()]
+    entries, wrong, unanswered, refused, nodes = (sum(row[place] for row in rows) for place in range(5))
+    print(f"{entries} entries: {wrong} wrong, {unanswered} without an answer, {refused} refused, {nodes / entries:.0f} nodes each")
+    told("DDS", theirs)
+    told("solving", [row[5] for row in rows])
+    told("checking", [row[6] for row in rows])
+    print(f"solving and checking: {sum(row[5] + row[6] for row in rows) / sum(theirs):.2f} times DDS")
+
+
 def main():
     words = sys.argv[1:] or ["100", "2026"]
     if len(words) == 1:
         words.append("2026")
     with tempfile.TemporaryDirectory() as name:
         folder = Path(name)
-        lines, told = boards(folder, words)
-        print(told)
+        lines, theirs = boards(folder, words)
         run = subprocess.run([str(build(folder, lines))], check=True, capture_output=True, text=True)
-        print("ours, times in microseconds of the processor:", run.stdout.strip())
+        report(run.stdout, theirs)
 
 
 if __name__ == "__main__":

@@ -76,6 +76,11 @@ impl Entries {
         })
     }
 
+    /// How many blocks there are.
+    pub(crate) fn blocks(&self) -> u64 {
+        self.blocks.len() as u64
+    }
+
     /// How many numbers entries have.
     pub(crate) fn numbers(&self) -> usize {
         self.blocks.len().wrapping_mul(4)

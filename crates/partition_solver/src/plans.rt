@@ -8,6 +8,9 @@ use crate::words::SUIT;
 use cards::Suit;
 use std::alloc::{AllocError, Global};
 
+/// How many steps the writing of both graphs may take, by the blocks of entries.
+const STEPS_A_BLOCK: u64 = 40;
+
 /// A piece of a tree, in the order of its text.
 #[derive(Clone, Copy, Debug, PartialEq, Eq)]
 pub(crate) enum Piece {
@@ -38,6 +41,8 @@ pub(crate) struct Plan {
     /// By the number of an entry that of its node, from 1.
     pub numbers: Vec<u32>,
     pub ours: bool,
+    /// Whether the first card that shows a tree is taken, since steps are short.
+    thrifty: bool,
     /// Where the suits lie in a word, spades first.
     pub lanes: [usize; 4],
 }
@@ -92,6 +97,7 @@ impl Plan {
             pieces: Vec::new(alloc),
             numbers,
             ours,
+            thrifty: search.steps < STEPS_A_BLOCK.saturating_mul(search.entries.blocks()),
             lanes: [
                 lane_of(suits, Suit::Spades),
                 lane_of(suits, Suit::Hearts),
@@ -170,7 +176,7 @@ impl Plan {
         let mut waiting = tops_of_runs(trick.legal_cards());
         let first = trick.hint & waiting;
         for _ in 0..64 {
-            if waiting == 0 || least.limit == 0 {
+            if waiting == 0 || least.limit == 0 || self.thrifty && found.is_some() {
                 break;
             }
             let bit = trick.choose(waiting, first);

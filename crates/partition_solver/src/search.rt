@@ -245,10 +245,6 @@ impl Search {
         let mut success = 0;
         if trick.played == 3 {
             if let Some((after, found)) = self.ask(trick, moves) {
-                if self.steps == 0 {
-                    return Ok(None);
-                }
-                self.steps -= 1;
                 return Ok(Some(self.ended(fuel - 1, &after, found)?));
             }
         }
