@@ -225,7 +225,6 @@ impl Entries {
         let Some(place) = self.make_slot(alloc, key)? else {
             return Ok(());
         };
-        let head = self.slots.get(place).map_or(0, |slot| slot.heads[list & 7]);
         let mut waiting = Waiting {
             new: entry,
             moved: entry,
@@ -233,6 +232,7 @@ impl Entries {
             free: true,
         };
         let mut last = 0;
+        let head = self.slots.get(place).map_or(0, |slot| slot.heads[list & 7]);
         let mut number = head as usize;
         for _ in 0..self.blocks.len() {
             if number == 0 {
@@ -245,17 +245,29 @@ impl Entries {
                 .get(number)
                 .map_or(0, |block| block.next as usize);
         }
-        if !waiting.free {
+        if waiting.free {
+            self.append(alloc, place, list, last, waiting.moved)?;
+        }
+        Ok(())
+    }
+
+    /// Adds a block with an entry behind the last one of a list. Nothing is added where there are too many.
+    fn append(
+        &mut self,
+        alloc: Global,
+        place: usize,
+        list: usize,
+        last: usize,
+        entry: Entry,
+    ) -> Result<(), AllocError> {
+        let number = self.blocks.len();
+        if number >= MOST_BLOCKS {
             return Ok(());
         }
-        if self.blocks.len() >= MOST_BLOCKS {
-            return Ok(());
-        }
-        let new = self.blocks.len();
-        let (block, deep) = Block::of(waiting.moved);
+        let (block, deep) = Block::of(entry);
         self.blocks.push(block)?;
         self.deep.push(deep)?;
-        let next = (new & 0x0fff_ffff) as u32;
+        let next = (number & 0x0fff_ffff) as u32;
         if last == 0 {
             if let Some(slot) = self.slots.get_mut(place) {
                 slot.heads[list & 7] = next;

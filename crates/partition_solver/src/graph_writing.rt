@@ -199,7 +199,7 @@ impl Writing {
         if fuel == 0 {
             return Ok(None);
         }
-        let mut branches = Vec::new(self.alloc);
+        let mut branches = Vec::with_capacity(self.alloc, count.min(52))?;
         for _ in 0..count {
             let Some(Piece::Branch(card)) = self.plan.pieces.get(*place).copied() else {
                 return Ok(None);
@@ -218,7 +218,7 @@ impl Writing {
 
     /// The leaf of so many children.
     fn leaf(&self, count: usize, place: &mut usize) -> Result<Tree, AllocError> {
-        let mut children = Vec::new(self.alloc);
+        let mut children = Vec::with_capacity(self.alloc, count.min(4))?;
         for _ in 0..count {
             if let Some(Piece::Child(known)) = self.plan.pieces.get(*place).copied() {
                 children.push(Child {

@@ -234,45 +234,55 @@ impl Search {
                 return Ok(Some(found));
             }
         }
-        let trumps = self.deal.trumps;
-        let mover = trick.is_ours();
-        let mut moves = Moves::of(&self.deal, trick, self.hint(trick));
-        let mut answer = Found {
-            ours: !mover,
-            bound: 99,
-            relevant: 0,
-        };
-        let mut success = 0;
+        let moves = Moves::of(&self.deal, trick, self.hint(trick));
         if trick.played == 3 {
             if let Some((after, found)) = self.ask(trick, moves) {
                 return Ok(Some(self.ended(fuel - 1, &after, found)?));
             }
         }
+        let Some((answer, success)) = self.try_cards(fuel - 1, trick, moves)? else {
+            return Ok(None);
+        };
+        if trick.played == 0 {
+            self.remember(trick, answer, success)?;
+        }
+        Ok(Some(answer))
+    }
+
+    /// Tries the cards of a turn: the answer, and the card that succeeded, 0 where none did.
+    #[cycle(searching)]
+    fn try_cards(
+        &mut self,
+        fuel: u32,
+        trick: &Trick,
+        mut moves: Moves,
+    ) -> Result<Option<(Found, u64)>, AllocError> {
+        let mover = trick.is_ours();
+        let mut answer = Found {
+            ours: !mover,
+            bound: 99,
+            relevant: 0,
+        };
         for _ in 0..16 {
-            let Some(tried) = moves.next(trick, trumps) else {
+            let Some(tried) = moves.next(trick, self.deal.trumps) else {
                 break;
             };
-            if self.steps == 0 {
+            if fuel == 0 || self.steps == 0 {
                 return Ok(None);
             }
             self.steps -= 1;
-            let after = trick.after(tried.card, trumps);
+            let after = trick.after(tried.card, self.deal.trumps);
             let Some(found) = self.follow(fuel - 1, &after)? else {
                 return Ok(None);
             };
             if found.ours == mover {
-                answer = found;
-                success = tried.card;
-                break;
+                return Ok(Some((found, tried.card)));
             }
             answer.bound = answer.bound.min(found.bound);
             answer.relevant |= whole_runs(tried, found.relevant);
             moves.skip(tried, found.relevant);
         }
-        if trick.played == 0 {
-            self.remember(trick, answer, success)?;
-        }
-        Ok(Some(answer))
+        Ok(Some((answer, 0)))
     }
 
     /// A card of the last hand that is known to succeed: the trick with it, and what is known of the rest.
@@ -396,7 +406,7 @@ impl Search {
                 break;
             }
             trick.want = trick.want.max(least.wrapping_add(1)).min(most);
-            let Some(found) = self.search(240, &trick)? else {
+            let Some(found) = self.search(300, &trick)? else {
                 return Ok(None);
             };
             if found.ours {

@@ -3,7 +3,7 @@
 use crate::graph_writing::write_graph;
 use crate::search::Search;
 use cards::{Layout, Seat, Trump};
-use certificate_graph::Answer;
+use certificate_graph::{Answer, Graph};
 use std::alloc::{AllocError, Global};
 
 /// Something that looks for the tricks that declarer's side takes, and for the graphs that show them. Nothing is
@@ -45,18 +45,19 @@ impl Solver for Partition {
         let Some(east) = write_graph(alloc, &mut search, trump, leader, false, theirs)? else {
             return Ok(None);
         };
-        let answer = match declarer {
-            Seat::North | Seat::South => Answer {
-                k: (ours & 15) as u8,
-                declarer: north,
-                defenders: east,
-            },
-            Seat::East | Seat::West => Answer {
-                k: (theirs & 15) as u8,
-                declarer: east,
-                defenders: north,
-            },
-        };
-        Ok(Some(answer))
+        Ok(Some(answer_of(declarer, (ours, north), (theirs, east))))
+    }
+}
+
+/// The answer for a declarer, from the tricks and the graph of North and South and those of East and West.
+fn answer_of(declarer: Seat, ours: (i32, Graph), theirs: (i32, Graph)) -> Answer {
+    let (won, declarers, defenders) = match declarer {
+        Seat::North | Seat::South => (ours.0, ours.1, theirs.1),
+        Seat::East | Seat::West => (theirs.0, theirs.1, ours.1),
+    };
+    Answer {
+        k: (won & 15) as u8,
+        declarer: declarers,
+        defenders,
     }
 }

@@ -14,3 +14,6 @@ decreases-whoever l = l.fuel
 
 abbrev pub decreases-led_by : goal.decreases-led_by
 decreases-led_by l = l.fuel
+
+abbrev pub decreases-try_cards : goal.decreases-try_cards
+decreases-try_cards l = l.fuel
