@@ -19,6 +19,27 @@ South leads at no-trump. West holds the king before North's ace and queen, so th
 finesse wins, and NS 2 is printed: two tricks for North and South, none for East
 and West.";
 
+pub const SOLVE_ABOUT: &str = "\
+Finds how many tricks declarer's side takes of a layout, with certificates";
+
+pub const SOLVE_USAGE: &str = "ddfarm solve [--budget STEPS] LAYOUT DECLARER TRUMP >answer.txt";
+
+pub const SOLVE_EXAMPLE: &str = "\
+Example:
+  ddfarm solve \"N:A... K... Q... J...\" N NT
+writes an answer to the standard output: a line `result 1`, since North takes 1
+trick, the certificate of declarer's side, an empty line, and that of the defenders.
+`ddfarm check` reads such a text and accepts it.
+
+Exit status:
+  0  an answer was found
+  1  memory or a device failed
+  2  the command line is refused
+  3  no answer was found in so many steps";
+
+pub const BUDGET: &str = "\
+How many steps a search for an answer may take, each one card tried: 1 to 1000000000";
+
 pub const TABLE_ABOUT: &str = "\
 Reads the boards of a tournament in PBN and writes them, so far without tables";
 

@@ -3,7 +3,7 @@
 use crate::help;
 use cards::{Seat, Trump};
 use clap::error::ErrorKind;
-use clap::{Arg, ArgMatches, Command, Error};
+use clap::{Arg, ArgMatches, Command, Error, value_parser};
 use runs::Run;
 use std::alloc::{AllocError, Global};
 use std::convert::AsStr;
@@ -22,6 +22,7 @@ fn command<'a>(alloc: Global) -> Result<Command<'a>, AllocError> {
         .arg_required_else_help(true)
         .disable_help_subcommand(true)
         .subcommand(plain_command(alloc)?)?
+        .subcommand(solve_command(alloc)?)?
         .subcommand(table_command(alloc))?
         .subcommand(check_command(alloc)?)
 }
@@ -33,6 +34,17 @@ fn plain_command<'a>(alloc: Global) -> Result<Command<'a>, AllocError> {
         .arg(layout_arg(alloc))?
         .arg(leader_arg(alloc))?
         .arg(trump_arg(alloc))
+}
+
+fn solve_command<'a>(alloc: Global) -> Result<Command<'a>, AllocError> {
+    Command::new(alloc, "solve")
+        .about(help::SOLVE_ABOUT)
+        .override_usage(help::SOLVE_USAGE)
+        .after_help(help::SOLVE_EXAMPLE)
+        .arg(layout_arg(alloc))?
+        .arg(declarer_arg(alloc))?
+        .arg(trump_arg(alloc))?
+        .arg(budget_arg(alloc))
 }
 
 fn check_command<'a>(alloc: Global) -> Result<Command<'a>, AllocError> {
@@ -70,6 +82,15 @@ fn trump_arg<'a>(alloc: Global) -> Arg<'a> {
         .help(help::TRUMP)
 }
 
+fn budget_arg<'a>(alloc: Global) -> Arg<'a> {
+    Arg::new(alloc, "budget")
+        .long("budget")
+        .value_name("STEPS")
+        .value_parser(value_parser!(u64).range(1..=1_000_000_000))
+        .default_value("10000000")
+        .help(help::BUDGET)
+}
+
 fn table_command<'a>(alloc: Global) -> Command<'a> {
     Command::new(alloc, "table")
         .about(help::TABLE_ABOUT)
@@ -94,11 +115,26 @@ fn matched_run<'a>(matches: &ArgMatches<'a>) -> Option<Run<'a>> {
     if let Some(check) = matches.subcommand_matches("check") {
         return checked_run(check);
     }
-    let plain = matches.subcommand_matches("plain")?;
+    if let Some(solve) = matches.subcommand_matches("solve") {
+        return solved_run(solve);
+    }
+    plain_run(matches.subcommand_matches("plain")?)
+}
+
+fn plain_run<'a>(plain: &ArgMatches<'a>) -> Option<Run<'a>> {
     Some(Run::Plain {
         layout: plain.get_str("LAYOUT")?,
         leader: Seat::of_letter(plain.get_str("LEADER")?)?,
         trump: Trump::of_letters(plain.get_str("TRUMP")?)?,
+    })
+}
+
+fn solved_run<'a>(solve: &ArgMatches<'a>) -> Option<Run<'a>> {
+    Some(Run::Solve {
+        layout: solve.get_str("LAYOUT")?,
+        declarer: Seat::of_letter(solve.get_str("DECLARER")?)?,
+        trump: Trump::of_letters(solve.get_str("TRUMP")?)?,
+        budget: solve.get_one::<u64>("budget")?,
     })
 }
 

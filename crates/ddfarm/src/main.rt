@@ -4,6 +4,7 @@
 #![tactic(auto)]
 
 use command_line::run_command;
+use partition_solver::Partition;
 use runs::{RunFault, close_output, tell};
 use std::io::{BufWriter, ErrorKind};
 use std::process::ExitCode;
@@ -29,6 +30,7 @@ fn main(rt: HostRuntime) -> ExitCode {
         Ok(words) => run_command(
             rt.alloc(),
             words.as_slice(),
+            &Partition,
             &mut input,
             &mut output,
             &mut errors,

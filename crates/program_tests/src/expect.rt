@@ -1,10 +1,12 @@
 //! What runs are expected to print, to tell and to end with. A call of these costs the prover next to nothing, an
 //! `assert_eq!` a second or more.
 
-use cards::{Buffer, Bytes};
+use cards::{Buffer, Bytes, Layout, Seat, Trump};
+use certificate_graph::Answer;
 use command_line::run_command;
+use partition_solver::Solver;
 use runs::{Run, Status, do_run};
-use std::alloc::Global;
+use std::alloc::{AllocError, Global};
 use std::fmt::Debug;
 use std::process::Abort;
 use std::test::Fail;
@@ -14,6 +16,22 @@ pub const ROOM: usize = 8192;
 
 /// How a run ends, what is on its output, and what is on its error output.
 pub type End<'a> = (Status, &'a str, &'a str);
+
+/// A solver that finds nothing.
+pub struct Nothing;
+
+impl Solver for Nothing {
+    fn solve(
+        &self,
+        _alloc: Global,
+        _layout: &Layout,
+        _declarer: Seat,
+        _trump: Trump,
+        _budget: u64,
+    ) -> Result<Option<Answer>, AllocError> {
+        Ok(None)
+    }
+}
 
 /// The value is the one that is wanted.
 pub fn expect_eq<T: PartialEq + Debug>(rt: &impl Abort, got: &T, wanted: &T) {
@@ -50,7 +68,7 @@ pub fn expect_run(
     let mut input = Bytes::new(text, 7);
     let mut output = Buffer::new(alloc, room, 3)?;
     let mut errors = Buffer::new(alloc, ROOM, 7)?;
-    let status = do_run(alloc, run, &mut input, &mut output, &mut errors);
+    let status = do_run(alloc, run, &Nothing, &mut input, &mut output, &mut errors);
     expect_end(rt, status, &output, &errors, wanted)
 }
 
@@ -66,6 +84,6 @@ pub fn expect_words(
     let mut input = Bytes::new(text, 7);
     let mut output = Buffer::new(alloc, room, 3)?;
     let mut errors = Buffer::new(alloc, ROOM, 7)?;
-    let status = run_command(alloc, words, &mut input, &mut output, &mut errors);
+    let status = run_command(alloc, words, &Nothing, &mut input, &mut output, &mut errors);
     expect_end(rt, status, &output, &errors, wanted)
 }

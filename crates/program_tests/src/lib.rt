@@ -14,6 +14,8 @@ mod expect;
 #[cfg(test)]
 mod plain_tests;
 #[cfg(test)]
+mod solve_tests;
+#[cfg(test)]
 mod table_tests;
 #[cfg(test)]
 mod word_tests;

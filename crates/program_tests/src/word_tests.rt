@@ -1,6 +1,6 @@
 //! What the words of a command line come to.
 
-use crate::expect::{End, ROOM, expect_end, expect_eq, expect_words};
+use crate::expect::{End, Nothing, ROOM, expect_end, expect_eq, expect_words};
 use cards::{Buffer, Bytes};
 use command_line::run_command;
 use runs::Status;
@@ -190,8 +190,52 @@ fn words_of_table(rt: HostRuntime) -> Result<(), Fail> {
     expect_ends(&rt, rt.alloc(), TABLES.as_slice())
 }
 
+/// The words of `solve` have a solver asked, which finds nothing here.
+const SOLVES: [(&[&str], &str, End<'static>); 4] = [
+    (
+        &["ddfarm", "solve", "N:A... K... Q... J...", "N", "NT"],
+        "",
+        (Status::Incomplete, "", "ddfarm: no answer\n"),
+    ),
+    (
+        &[
+            "ddfarm",
+            "solve",
+            "N:A... K... Q... J...",
+            "N",
+            "NT",
+            "--budget",
+            "1",
+        ],
+        "",
+        (Status::Incomplete, "", "ddfarm: no answer\n"),
+    ),
+    (
+        &[
+            "ddfarm",
+            "solve",
+            "--budget=1000000000",
+            "N:A... K... Q... J...",
+            "N",
+            "NT",
+        ],
+        "",
+        (Status::Incomplete, "", "ddfarm: no answer\n"),
+    ),
+    (
+        &["ddfarm", "solve", "N:A... A... Q... J...", "N", "NT"],
+        "",
+        (Status::Refused, "", "ddfarm: layout: 5 CardTwice\n"),
+    ),
+];
+
+#[test]
+fn words_of_solve(rt: HostRuntime) -> Result<(), Fail> {
+    expect_ends(&rt, rt.alloc(), SOLVES.as_slice())
+}
+
 /// Words that are refused, and how what is told of them begins.
-const REFUSED_WORDS: [(&[&str], &str); 10] = [
+const REFUSED_WORDS: [(&[&str], &str); 14] = [
     (
         &["ddfarm", "check", "N:A", "n", "NT"],
         "error: invalid value 'n' for '<DECLARER>'\n",
@@ -201,8 +245,32 @@ const REFUSED_WORDS: [(&[&str], &str); 10] = [
         "error: unexpected argument 'answer.txt' found\n\nUsage: ddfarm check LAYOUT DECLARER TRUMP <answer.txt\n",
     ),
     (
+        &["ddfarm", "tables"],
+        "error: unrecognized subcommand 'tables'\n",
+    ),
+    (
         &["ddfarm", "solve"],
-        "error: unrecognized subcommand 'solve'\n",
+        "error: the following required arguments were not provided:\n",
+    ),
+    (
+        &["ddfarm", "solve", "N:A", "N", "NT", "--budget", "0"],
+        "error: invalid value '0' for '--budget <STEPS>'",
+    ),
+    (
+        &[
+            "ddfarm",
+            "solve",
+            "N:A",
+            "N",
+            "NT",
+            "--budget",
+            "1000000001",
+        ],
+        "error: invalid value '1000000001' for '--budget <STEPS>'",
+    ),
+    (
+        &["ddfarm", "solve", "N:A", "N", "NT", "--budget", "many"],
+        "error: invalid value 'many' for '--budget <STEPS>'",
     ),
     (
         &["ddfarm", "plain"],
@@ -237,7 +305,7 @@ fn expect_refused(rt: &impl Abort, alloc: Global, rows: &[(&[&str], &str)]) -> R
         let mut input = Bytes::new(b"", 1);
         let mut output = Buffer::new(alloc, ROOM, 3)?;
         let mut errors = Buffer::new(alloc, ROOM, 7)?;
-        let status = run_command(alloc, words, &mut input, &mut output, &mut errors);
+        let status = run_command(alloc, words, &Nothing, &mut input, &mut output, &mut errors);
         expect_eq(rt, &status, &Status::Refused);
         let text = str::from_utf8(errors.bytes())?;
         assert!(rt; text.starts_with(told), "at {words:?}: {text}");
@@ -252,7 +320,7 @@ fn refused_words(rt: HostRuntime) -> Result<(), Fail> {
 }
 
 /// Words that ask for help, and some of what is shown.
-const HELP: [(&[&str], &str); 8] = [
+const HELP: [(&[&str], &str); 10] = [
     (&["ddfarm", "-h"], "Usage: ddfarm <COMMAND>\n"),
     (&["ddfarm", "--help"], "  plain  Prints how many tricks"),
     (
@@ -272,6 +340,11 @@ const HELP: [(&[&str], &str); 8] = [
         "  7 RootPattern   the layout doesn't match the pattern of node 0\n",
     ),
     (
+        &["ddfarm", "solve", "--help"],
+        "Usage: ddfarm solve [--budget STEPS] LAYOUT DECLARER TRUMP >answer.txt\n",
+    ),
+    (&["ddfarm", "solve", "-h"], "[default: 10000000]"),
+    (
         &["ddfarm", "plain", "-h"],
         "Usage: ddfarm plain <LAYOUT> <LEADER> <TRUMP>\n",
     ),
@@ -287,7 +360,7 @@ fn expect_shown(rt: &impl Abort, alloc: Global, rows: &[(&[&str], &str)]) -> Res
         let mut input = Bytes::new(b"", 1);
         let mut output = Buffer::new(alloc, ROOM, 3)?;
         let mut errors = Buffer::new(alloc, ROOM, 7)?;
-        let status = run_command(alloc, words, &mut input, &mut output, &mut errors);
+        let status = run_command(alloc, words, &Nothing, &mut input, &mut output, &mut errors);
         expect_eq(rt, &status, &Status::Done);
         let text = str::from_utf8(output.bytes())?;
         assert!(rt; text.contains(*named), "at {words:?}: {text}");
@@ -309,7 +382,14 @@ fn plain_leaves_the_input(rt: HostRuntime) -> Result<(), Fail> {
     let mut output = Buffer::new(rt.alloc(), ROOM, 3)?;
     let mut errors = Buffer::new(rt.alloc(), ROOM, 7)?;
     let words = FINESSE.as_slice();
-    let status = run_command(rt.alloc(), words, &mut input, &mut output, &mut errors);
+    let status = run_command(
+        rt.alloc(),
+        words,
+        &Nothing,
+        &mut input,
+        &mut output,
+        &mut errors,
+    );
     expect_eq(&rt, &status, &Status::Done);
     let left = read_all(rt.alloc(), &mut input).map_err(|_| "nothing is left")?;
     expect_eq(&rt, &left.as_slice(), &lines.as_slice());
@@ -353,6 +433,7 @@ fn a_full_error_output_is_not_told(rt: HostRuntime) -> Result<(), Fail> {
     let status = run_command(
         rt.alloc(),
         words.as_slice(),
+        &Nothing,
         &mut input,
         &mut output,
         &mut errors,

@@ -2,3 +2,4 @@ pub mod BlankLemmas
 pub mod TellLemmas
 pub mod AnswerLaws
 pub mod CheckLemmas
+pub mod SolveLemmas

@@ -7,7 +7,7 @@ use Rattle.streams.specs.Inputs.{IsReadToEnd}
 use Rattle.tables.specs.declared.sheets.Report.{Report}
 use Rattle.tables.specs.TablesText.{Results, tables_text}
 use Rattle.runs.specs.declared.faults.RunFault.{RunFault}
-use Rattle.runs.specs.declared.faults.RunFault.TheVariants.{OutOfMemory, Read, Write, NotText, Layout, TooLarge, Pbn, NoResult}
+use Rattle.runs.specs.declared.faults.RunFault.TheVariants.{OutOfMemory, Read, Write, NotText, Layout, TooLarge, Pbn, NoResult, NoAnswer}
 
 -- nothing is published of any board
 abbrev pub no_results : ℕ → Results
@@ -35,3 +35,4 @@ MakesBlank source source' sink sink' (Err NotText) = ⊥
 MakesBlank source source' sink sink' (Err (Layout fault)) = ⊥
 MakesBlank source source' sink sink' (Err TooLarge) = ⊥
 MakesBlank source source' sink sink' (Err NoResult) = ⊥
+MakesBlank source source' sink sink' (Err NoAnswer) = ⊥

@@ -11,7 +11,7 @@ use Rattle.checker.specs.declared.entries.Shown.{Shown}
 use Rattle.checker.specs.declared.hand_faults.HandFault.{HandFault}
 use Rattle.checker.specs.Verdicts.{IsVerdict}
 use Rattle.runs.specs.declared.faults.RunFault.{RunFault}
-use Rattle.runs.specs.declared.faults.RunFault.TheVariants.{OutOfMemory, Read, Write, NotText, Layout, TooLarge, Pbn, NoResult}
+use Rattle.runs.specs.declared.faults.RunFault.TheVariants.{OutOfMemory, Read, Write, NotText, Layout, TooLarge, Pbn, NoResult, NoAnswer}
 use Rattle.runs.specs.declared.statuses.Status.{Status}
 use Rattle.runs.specs.Answers.{IsAnswer, LacksResult}
 use Rattle.runs.specs.VerdictLines.{verdict_line, verdict_status}
@@ -70,3 +70,4 @@ ChecksAnswer value declarer trump source source' sink sink' (Err NoResult) =
 ChecksAnswer value declarer trump source source' sink sink' (Err NotText) = ⊥
 ChecksAnswer value declarer trump source source' sink sink' (Err TooLarge) = ⊥
 ChecksAnswer value declarer trump source source' sink sink' (Err (Pbn fault)) = ⊥
+ChecksAnswer value declarer trump source source' sink sink' (Err NoAnswer) = ⊥

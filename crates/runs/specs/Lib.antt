@@ -4,4 +4,5 @@ pub mod Blanks
 pub mod Answers
 pub mod VerdictLines
 pub mod Checks
+pub mod Solves
 pub mod Runs

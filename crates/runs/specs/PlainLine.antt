@@ -7,7 +7,7 @@ use Rattle.cards.specs.Devices.{Device, Adds, AddsBeginning}
 use Rattle.pbn_deals.specs.LayoutValue.{SaysLayout}
 use Rattle.strategies.specs.Values.{IsPlainValue}
 use Rattle.runs.specs.declared.faults.RunFault.{RunFault}
-use Rattle.runs.specs.declared.faults.RunFault.TheVariants.{OutOfMemory, Read, Write, NotText, Layout, TooLarge, Pbn, NoResult}
+use Rattle.runs.specs.declared.faults.RunFault.TheVariants.{OutOfMemory, Read, Write, NotText, Layout, TooLarge, Pbn, NoResult, NoAnswer}
 
 -- the line: `NS `, the digit of the number, LF
 abbrev pub line_of : ℕ → List ℕ
@@ -40,3 +40,4 @@ MeetsPlainLine value leader trump old new (Err Read) = ⊥
 MeetsPlainLine value leader trump old new (Err NotText) = ⊥
 MeetsPlainLine value leader trump old new (Err (Pbn fault)) = ⊥
 MeetsPlainLine value leader trump old new (Err NoResult) = ⊥
+MeetsPlainLine value leader trump old new (Err NoAnswer) = ⊥

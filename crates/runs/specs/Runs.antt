@@ -8,11 +8,12 @@ use Rattle.runs.specs.declared.faults.RunFault.TheVariants.{Write}
 use Rattle.runs.specs.declared.statuses.Status.{Status}
 use Rattle.runs.specs.declared.statuses.Status.TheVariants.{Done, Failed, Refused, Incomplete, Rejected}
 use Rattle.runs.specs.declared.running.Run.{Run}
-use Rattle.runs.specs.declared.running.Run.TheVariants.{Plain, Tables, Check}
+use Rattle.runs.specs.declared.running.Run.TheVariants.{Plain, Solve, Tables, Check}
 use Rattle.runs.specs.Statuses.{fault_status, told_line, IsTold}
 use Rattle.runs.specs.PlainLine.{MeetsPlainLine}
 use Rattle.runs.specs.Blanks.{MakesBlank}
 use Rattle.runs.specs.Checks.{ChecksAnswer}
+use Rattle.runs.specs.Solves.{SolvesLayout}
 
 -- a table is incomplete, or all are complete
 abbrev pub report_status : Report → Status
@@ -24,6 +25,10 @@ Does (Plain layout leader trump) source source' sink sink' (Ok status) =
     (status ≡ Done) × (source' ≡ source) × MeetsPlainLine layout.now leader trump sink sink' (Ok tt)
 Does (Plain layout leader trump) source source' sink sink' (Err fault) =
     (source' ≡ source) × MeetsPlainLine layout.now leader trump sink sink' (Err fault)
+Does (Solve layout declarer trump budget) source source' sink sink' (Ok status) =
+    (status ≡ Done) × (source' ≡ source) × SolvesLayout layout.now sink sink' (Ok tt)
+Does (Solve layout declarer trump budget) source source' sink sink' (Err fault) =
+    (source' ≡ source) × SolvesLayout layout.now sink sink' (Err fault)
 Does Tables source source' sink sink' (Ok status) =
     (report : Report) × (status ≡ report_status report) × MakesBlank source source' sink sink' (Ok report)
 Does Tables source source' sink sink' (Err fault) = MakesBlank source source' sink sink' (Err fault)

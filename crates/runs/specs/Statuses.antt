@@ -18,7 +18,7 @@ status_code Refused = 2
 status_code Incomplete = 3
 status_code Rejected = 4
 
--- memory or a device has failed, or the words or the input are refused
+-- memory or a device has failed, the words or the input are refused, or there is no answer
 abbrev pub fault_status : RunFault → Status
 fault_status fault.OutOfMemory = Failed
 fault_status fault.Read = Failed
@@ -28,6 +28,7 @@ fault_status (fault.Layout refusal) = Refused
 fault_status fault.TooLarge = Refused
 fault_status (fault.Pbn refusal) = Refused
 fault_status fault.NoResult = Refused
+fault_status fault.NoAnswer = Incomplete
 
 -- why an input could not be read
 abbrev pub input_fault : InputFault → RunFault
@@ -49,6 +50,7 @@ said_of (fault.Layout refusal) = codes "layout: " ++ fault_text refusal
 said_of fault.TooLarge = codes "plain takes at most 4 cards a hand"
 said_of (fault.Pbn refusal) = behind_line (fault_line refusal) (fault_text refusal)
 said_of fault.NoResult = codes "first line is not a result line"
+said_of fault.NoAnswer = codes "no answer"
 
 -- the line that tells it
 abbrev pub told_line : RunFault → List ℕ

@@ -32,6 +32,8 @@ pub enum RunFault {
     Pbn(PbnFault),
     /// The first line of an answer is not a result line.
     NoResult,
+    /// The solver has found no answer.
+    NoAnswer,
 }
 
 impl From<InputFault> for RunFault {
@@ -77,6 +79,7 @@ pub fn tell<E: Sink>(fault: RunFault, errors: &mut E) -> Status
         | RunFault::TooLarge
         | RunFault::Pbn(_)
         | RunFault::NoResult => Status::Refused,
+        RunFault::NoAnswer => Status::Incomplete,
     }
 }
 
@@ -102,6 +105,7 @@ fn write_fault<E: Sink>(fault: RunFault, errors: &mut E) -> Result<(), DeviceFau
         RunFault::TooLarge => write_all(errors, b"plain takes at most 4 cards a hand"),
         RunFault::Pbn(refusal) => write_text_refusal(refusal, errors),
         RunFault::NoResult => write_all(errors, b"first line is not a result line"),
+        RunFault::NoAnswer => write_all(errors, b"no answer"),
     }
 }
 

@@ -9,6 +9,7 @@ mod checks;
 mod faults;
 mod plain;
 mod running;
+mod solves;
 mod statuses;
 mod verdict_lines;
 
@@ -18,4 +19,5 @@ pub use checks::check_answer;
 pub use faults::{RunFault, tell};
 pub use plain::plain_line;
 pub use running::{Run, close_output, do_run, show};
+pub use solves::{answers_are_read_back, solve_layout};
 pub use statuses::Status;

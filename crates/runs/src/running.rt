@@ -8,8 +8,10 @@ use crate::blanks::make_blank;
 use crate::checks::check_answer;
 use crate::faults::{RunFault, tell};
 use crate::plain::plain_line;
+use crate::solves::solve_layout;
 use crate::statuses::Status;
 use cards::{Seat, Sink, Source, Trump, write_all};
+use partition_solver::Solver;
 use std::alloc::Global;
 use std::io::{BufWriter, Write};
 use streams::WriterSink;
@@ -23,6 +25,13 @@ pub enum Run<'a> {
         layout: &'a str,
         leader: Seat,
         trump: Trump,
+    },
+    /// An answer for a layout, found in so many steps.
+    Solve {
+        layout: &'a str,
+        declarer: Seat,
+        trump: Trump,
+        budget: u64,
     },
     /// The tables of the boards of the input.
     Tables,
@@ -38,9 +47,10 @@ pub enum Run<'a> {
 ///
 /// What can't be done is told on the error output, with nothing on the output but the beginning that a failed output has
 /// taken; else the error output is as it was. Where the error output fails, nobody is left to be told.
-pub fn do_run<I: Source, O: Sink, E: Sink>(
+pub fn do_run<P: Solver, I: Source, O: Sink, E: Sink>(
     alloc: Global,
     run: Run<'_>,
+    solver: &P,
     input: &mut I,
     output: &mut O,
     errors: &mut E,
@@ -48,16 +58,17 @@ pub fn do_run<I: Source, O: Sink, E: Sink>(
     ensures { MeetsRun run.entry (I.state input.old) (I.state input.new) (O.state output.old) (O.state output.new)
         (E.state errors.old) (E.state errors.new) result }
 {
-    match answer_run(alloc, run, input, output) {
+    match answer_run(alloc, run, solver, input, output) {
         Ok(status) => status,
         Err(fault) => tell(fault, errors),
     }
 }
 
 /// Does what is asked, and tells nothing.
-fn answer_run<I: Source, O: Sink>(
+fn answer_run<P: Solver, I: Source, O: Sink>(
     alloc: Global,
     run: Run<'_>,
+    solver: &P,
     input: &mut I,
     output: &mut O,
 ) -> Result<Status, RunFault>
@@ -70,6 +81,16 @@ fn answer_run<I: Source, O: Sink>(
             trump,
         } => {
             plain_line(layout.as_bytes(), leader, trump, output)?;
+            Ok(Status::Done)
+        }
+        Run::Solve {
+            layout,
+            declarer,
+            trump,
+            budget,
+        } => {
+            let value = layout.as_bytes();
+            solve_layout(alloc, value, declarer, trump, budget, solver, output)?;
             Ok(Status::Done)
         }
         Run::Tables => Ok(status_of(make_blank(alloc, input, output)?)),

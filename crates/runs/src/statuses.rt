@@ -12,7 +12,7 @@ pub enum Status {
     Failed,
     /// The command line or the input was refused.
     Refused,
-    /// All was done, but a table is incomplete.
+    /// All was done, but a table is incomplete; or there is no answer.
     Incomplete,
     /// All was done, and the answer that was checked is wrong.
     Rejected,

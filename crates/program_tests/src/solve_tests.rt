@@ -1,0 +1,214 @@
+//! Answers that are found, written and then checked.
+
+use crate::expect::{End, ROOM, expect_end, expect_eq, expect_run};
+use cards::{Buffer, Bytes, Layout, Seat, Side, Suit, Trump};
+use certificate_graph::{Answer, Graph};
+use partition_solver::{Partition, Solver};
+use pbn_deals::read_layout;
+use runs::{Run, Status, do_run};
+use std::alloc::{AllocError, Global};
+use std::process::Abort;
+use std::test::Fail;
+use strategies::plain_value;
+
+/// Room for an answer of four cards a hand.
+const ANSWER_ROOM: usize = 65536;
+
+/// Steps that are enough for such an answer.
+const STEPS: u64 = 10_000_000;
+
+const ACE: &str = "N:A... K... Q... J...";
+
+const FINESSE: &str = "N:AQ... 65... 32... K4...";
+
+/// Endings of one to four cards a hand: a trump, a finesse, squeezes.
+const ENDINGS: [&str; 6] = [
+    ACE,
+    "N:2... .A.. 3... .K..",
+    FINESSE,
+    "N:AQ... K5... 32... 64...",
+    "N:AJ.K.. ..432. 2.2..A KQ.A..",
+    "N:AJ.K.. KQ.A.. 2.2..A ..432.",
+];
+
+const TRUMPS: [Trump; 5] = [
+    Trump::Nt,
+    Trump::Suit(Suit::Spades),
+    Trump::Suit(Suit::Hearts),
+    Trump::Suit(Suit::Diamonds),
+    Trump::Suit(Suit::Clubs),
+];
+
+/// The tricks of declarer's side, by the plain search, whose number is proved.
+fn tricks_of(text: &str, declarer: Seat, trump: Trump) -> Result<u8, Fail> {
+    let layout = read_layout(text.as_bytes())?;
+    let tricks = plain_value(&layout, declarer.next(), trump)?;
+    match declarer.side() {
+        Side::NorthSouth => Ok(tricks),
+        Side::EastWest => Ok((layout.len() as u8).wrapping_sub(tricks)),
+    }
+}
+
+/// Has the solver look for an answer, over an output with this much room.
+fn expect_solved(
+    rt: &impl Abort,
+    alloc: Global,
+    run: Run<'_>,
+    solver: &impl Solver,
+    room: usize,
+    wanted: End<'_>,
+) -> Result<(), Fail> {
+    let mut input = Bytes::new(b"", 7);
+    let mut output = Buffer::new(alloc, room, 3)?;
+    let mut errors = Buffer::new(alloc, ROOM, 7)?;
+    let status = do_run(alloc, run, solver, &mut input, &mut output, &mut errors);
+    expect_end(rt, status, &output, &errors, wanted)
+}
+
+/// An answer is found, and `check` accepts it with this number.
+fn expect_accepted(
+    rt: &impl Abort,
+    alloc: Global,
+    layout: &str,
+    declarer: Seat,
+    trump: Trump,
+) -> Result<(), Fail> {
+    let run = Run::Solve {
+        layout,
+        declarer,
+        trump,
+        budget: STEPS,
+    };
+    let mut input = Bytes::new(b"", 7);
+    let mut answer = Buffer::new(alloc, ANSWER_ROOM, 300)?;
+    let mut errors = Buffer::new(alloc, ROOM, 7)?;
+    let status = do_run(alloc, run, &Partition, &mut input, &mut answer, &mut errors);
+    expect_eq(rt, &status, &Status::Done);
+    let tricks = tricks_of(layout, declarer, trump)?;
+    let line = format!(in alloc; "accepted {tricks}\n")?;
+    let check = Run::Check {
+        layout,
+        declarer,
+        trump,
+    };
+    expect_run(
+        rt,
+        alloc,
+        check,
+        answer.bytes(),
+        ROOM,
+        (Status::Done, line.as_str(), ""),
+    )
+}
+
+#[test]
+fn answers_are_accepted(rt: HostRuntime) -> Result<(), Fail> {
+    for layout in ENDINGS {
+        for declarer in Seat::ALL {
+            for trump in TRUMPS {
+                expect_accepted(&rt, rt.alloc(), layout, declarer, trump)?;
+            }
+        }
+    }
+    Ok(())
+}
+
+/// East's contract on the layout without trumps.
+fn east(layout: &str, budget: u64) -> Run<'_> {
+    Run::Solve {
+        layout,
+        declarer: Seat::East,
+        trump: Trump::Nt,
+        budget,
+    }
+}
+
+#[test]
+fn three_steps_are_too_few(rt: HostRuntime) -> Result<(), Fail> {
+    let wanted = (Status::Incomplete, "", "ddfarm: no answer\n");
+    expect_solved(&rt, rt.alloc(), east(FINESSE, 3), &Partition, ROOM, wanted)
+}
+
+/// Gives so many tricks for every layout, and certificates without nodes; or finds no memory.
+#[derive(Drop)]
+struct Claims {
+    tricks: Option<u8>,
+}
+
+impl Solver for Claims {
+    fn solve(
+        &self,
+        alloc: Global,
+        _layout: &Layout,
+        declarer: Seat,
+        trump: Trump,
+        _budget: u64,
+    ) -> Result<Option<Answer>, AllocError> {
+        let Some(k) = self.tricks else {
+            return Err(AllocError);
+        };
+        let ours = Graph::new(trump, declarer.side(), Vec::new(alloc));
+        let theirs = Graph::new(trump, declarer.next().side(), Vec::new(alloc));
+        match (ours, theirs) {
+            (Ok(declarer), Ok(defenders)) => Ok(Some(Answer {
+                k,
+                declarer,
+                defenders,
+            })),
+            _ => Ok(None),
+        }
+    }
+}
+
+/// What is written of thirteen tricks that nothing shows.
+const THIRTEEN: &str = "result 13
+DDC 1
+trump NT
+side EW
+nodes 0
+
+DDC 1
+trump NT
+side NS
+nodes 0
+";
+
+/// A solver is trusted for nothing, but that a hand has no fourteenth trick.
+#[test]
+fn unfounded_claims(rt: HostRuntime) -> Result<(), Fail> {
+    for (tricks, wanted) in [
+        (Some(13), (Status::Done, THIRTEEN, "")),
+        (Some(14), (Status::Incomplete, "", "ddfarm: no answer\n")),
+        (Some(255), (Status::Incomplete, "", "ddfarm: no answer\n")),
+        (None, (Status::Failed, "", "ddfarm: out of memory\n")),
+    ] {
+        let solver = Claims { tricks };
+        expect_solved(&rt, rt.alloc(), east(ACE, STEPS), &solver, ROOM, wanted)?;
+    }
+    Ok(())
+}
+
+#[test]
+fn refused_layouts(rt: HostRuntime) -> Result<(), Fail> {
+    for (layout, told) in [
+        ("N:A... A... Q... J...", "ddfarm: layout: 5 CardTwice\n"),
+        ("N:... ... ... ...", "ddfarm: layout: 6 HandSize\n"),
+        ("", "ddfarm: layout: 4 DealForm\n"),
+    ] {
+        let solver = Claims { tricks: None };
+        let wanted = (Status::Refused, "", told);
+        expect_solved(&rt, rt.alloc(), east(layout, STEPS), &solver, ROOM, wanted)?;
+    }
+    Ok(())
+}
+
+#[test]
+fn a_full_output_of_an_answer(rt: HostRuntime) -> Result<(), Fail> {
+    for room in 0..THIRTEEN.len() {
+        let printed = THIRTEEN.get(..room).unwrap_or("");
+        let wanted = (Status::Failed, printed, "ddfarm: writing failed\n");
+        let solver = Claims { tricks: Some(13) };
+        expect_solved(&rt, rt.alloc(), east(ACE, STEPS), &solver, room, wanted)?;
+    }
+    Ok(())
+}
