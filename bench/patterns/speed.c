@@ -116,10 +116,12 @@ static double now(void) {
 }
 
 static void time_group(int group) {
-    Pattern patterns[8], rests[8];
+    static const int whole[4] = {13, 13, 13, 13};
+    Pattern patterns[8], packed[8], rests[8];
     Card tricks[8][4], list[13];
     for (int i = 0; i < 8; i++) {
         patterns[i] = of_layout(hands[group][i], all_depths[group]);
+        packed[i] = of_layout(hands[group][i], whole);
         legal(&patterns[i], 0, -1, list);
         tricks[i][0] = list[0];
         for (int seat = 1; seat < 4; seat++) {
@@ -131,6 +133,9 @@ static void time_group(int group) {
     double start = now();
     for (uint32_t c = 0; c < CALLS; c++) sum += matches(&patterns[c % 8], hands[group][(c + (c / 8 & 1)) % 8]);
     printf("matches %.0f %lu\n", now() - start, sum);
+    sum = 0, start = now();
+    for (uint32_t c = 0; c < CALLS; c++) sum += covers(&patterns[c % 8], &packed[(c + (c / 8 & 1)) % 8]);
+    printf("packed %.0f %lu\n", now() - start, sum);
     sum = 0, start = now();
     for (uint32_t c = 0; c < CALLS; c++) sum += legal(&patterns[c % 8], c / 8 % 4, c & 64 ? 1 : -1, list);
     printf("legal %.0f %lu\n", now() - start, sum);

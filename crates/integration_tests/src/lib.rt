@@ -18,11 +18,15 @@ mod graph_tests;
 #[cfg(test)]
 mod memory_tests;
 #[cfg(test)]
+mod pattern_tests;
+#[cfg(test)]
 mod pbn_tests;
 #[cfg(test)]
 mod play_tests;
 #[cfg(test)]
 mod request_tests;
+#[cfg(test)]
+mod small_layout_tests;
 #[cfg(test)]
 mod solver_tests;
 #[cfg(test)]
@@ -33,6 +37,8 @@ mod stream_tests;
 mod table_tests;
 #[cfg(test)]
 mod tournament_tests;
+#[cfg(test)]
+mod trick_tests;
 #[cfg(test)]
 mod value_tests;
 #[cfg(test)]

@@ -5,3 +5,5 @@ pub mod PatCardLaws
 pub mod TrickLaws
 pub mod TurnLaws
 pub mod PlaceLaws
+pub mod TopPlaces
+pub mod TrickBitLaws

@@ -137,28 +137,6 @@ top_counts shape pattern seat suit n h held =
     let below = sum_by-take-le (λ x. cond (is_same_seat seat x) 1 0) owners (n + 1) in
     omega (arith, len, counted, below)
 
--- what one place adds to the tops
-pub tops_in-owned : (shape : Shape) (seat : Seat) (suit : Suit) (n : ℕ) → n < 13 → slice_get (suit_of shape suit).owners n ≡ Some seat →
-    tops_in shape seat suit (n + 1) ≡ tops_in shape seat suit n ++ Top suit n ∷ []
-tops_in-owned shape seat suit n h held =
-    tops_in-more shape seat suit n h
-    ∙ ap (λ b. tops_in shape seat suit n ++ cond b (Top suit n ∷ []) []) (ap (is_held_by seat) held ∙ is_same_seat_self seat)
-
-pub tops_in-other : (shape : Shape) (seat : Seat) (suit : Suit) (n : ℕ) → n < 13 → (slice_get (suit_of shape suit).owners n ≡ Some seat → ⊥) →
-    tops_in shape seat suit (n + 1) ≡ tops_in shape seat suit n
-tops_in-other shape seat suit n h apart =
-    tops_in-more shape seat suit n h
-    ∙ (ap (λ b. tops_in shape seat suit n ++ cond b (Top suit n ∷ []) []) (not_held (slice_get (suit_of shape suit).owners n) apart)
-    ∙ append-nil (tops_in shape seat suit n))
-  where
-    not_held : (holder : Option Seat) → (holder ≡ Some seat → ⊥) → is_held_by seat holder ≡ false
-    not_held None f = refl
-    not_held (Some other) f = go (is_same_seat seat other) refl
-      where
-        go : (b : Bool) → is_same_seat seat other ≡ b → b ≡ false
-        go true e = absurd (f (ap Some (sym (same_from_is_same seat other e))))
-        go false e = refl
-
 -- the low card of a seat that has one, and of one that has none
 pub low_in-some : (shape : Shape) (seat : Seat) (suit : Suit) → tops_of (suit_of shape suit) seat < len_of (suit_of shape suit) seat → low_in shape seat suit ≡ Low suit ∷ []
 low_in-some shape seat suit h = ap (λ b. cond b (Low suit ∷ []) []) (lt-ltb _ _ h)

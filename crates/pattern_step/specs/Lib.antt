@@ -5,3 +5,4 @@ pub mod Tricks
 pub mod HighestTops
 pub mod LayoutCards
 pub mod Laws
+pub mod TrickBits

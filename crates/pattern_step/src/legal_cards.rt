@@ -54,14 +54,15 @@ fn add_suit(cards: &mut ArrayVec<PatCard, 13>, pattern: &Pattern, seat: Seat, su
     ensures { cards.new.items ≡ cards.old.items ++ cards_in pattern.now seat suit }
 {
     pattern.invariant();
-    let mut tops = 0u8;
-    for place in 0..pattern.owner_count(suit) {
-        if owns(pattern, suit, place, seat) {
-            cards.push(PatCard::Top(suit, place as u8));
-            tops += 1;
-        }
+    let held = pattern.suit(suit);
+    let before = cards.len();
+    let mut places = held.places_of(seat);
+    while places != 0 {
+        let bit = places.trailing_zeros();
+        cards.push(PatCard::Top(suit, (bit / 2) as u8));
+        places &= places - 1;
     }
-    if tops < pattern.len(suit, seat) {
+    if cards.len() - before < held.len(seat) as usize {
         cards.push(PatCard::Low(suit));
     }
 }

@@ -10,10 +10,6 @@ mod legal_cards;
 mod legality;
 mod pat_cards;
 mod seat_sets;
-#[cfg(test)]
-mod small_layouts;
-#[cfg(test)]
-mod tests;
 mod trick_rests;
 mod trick_winners;
 

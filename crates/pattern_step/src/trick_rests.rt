@@ -1,15 +1,18 @@
 //! What is left after a trick.
 
-ghost use Rattle.std.specs.Prelude.{◌≡◌, ◌≢◌, ◌<◌, ℕ, length};
+ghost use Rattle.std.specs.Prelude.{◌≡◌, ◌≤◌, ◌-◌, ◌+◌, ◌*◌, ◌/◌, ◌%◌, ◌^◌, ◌<◌, ℕ, length};
 ghost use Rattle.std.specs.List.{list_any};
+ghost use Rattle.cards.specs.declared.suits.Suit.{Suit};
 ghost use Rattle.cards.specs.declared.seats.Seat.{Seat};
-ghost use Rattle.patterns.specs.Shapes.{suit_of, len_of};
-ghost use Rattle.patterns.specs.Removals.{is_among};
-ghost use Rattle.pattern_step.specs.Tricks.{AreLegalInTurn, IsLeft, IsLeftOf, len_left};
+ghost use Rattle.cards.specs.Pack.{suit_number};
+ghost use Rattle.patterns.specs.Shapes.{len_of};
+ghost use Rattle.patterns.specs.Words.{suit_in};
+ghost use Rattle.patterns.specs.Removals.{is_among, owners_but};
+ghost use Rattle.pattern_step.specs.Tricks.{AreLegalInTurn, IsLeft};
 ghost use Rattle.pattern_step.specs.PatCards.{is_top};
+ghost use Rattle.pattern_step.specs.TrickBits.{card_lens, trick_lens};
 
 use crate::pat_cards::PatCard;
-use crate::trick_winners::{is_played, played_by};
 use cards::{Seat, Suit};
 use patterns::{Pattern, Rest, SuitWord};
 
@@ -21,69 +24,59 @@ pub fn rest(pattern: &Pattern, leader: Seat, cards: &[PatCard; 4]) -> Rest
     ensures { IsLeft pattern.now leader cards.now result }
 {
     pattern.invariant();
+    let lens = trick_lens(leader, cards);
+    let places = trick_places(cards);
     Rest::of_suits(
-        left(pattern, leader, cards, Suit::Spades),
-        left(pattern, leader, cards, Suit::Hearts),
-        left(pattern, leader, cards, Suit::Diamonds),
-        left(pattern, leader, cards, Suit::Clubs),
+        left(pattern.suit(Suit::Spades), Suit::Spades, lens, places),
+        left(pattern.suit(Suit::Hearts), Suit::Hearts, lens, places),
+        left(pattern.suit(Suit::Diamonds), Suit::Diamonds, lens, places),
+        left(pattern.suit(Suit::Clubs), Suit::Clubs, lens, places),
     )
 }
 
-/// What is left of one suit.
-fn left(pattern: &Pattern, leader: Seat, cards: &[PatCard; 4], suit: Suit) -> SuitWord
-    ensures { IsLeftOf (suit_of pattern.now suit) leader cards.now suit result }
-{
-    pattern.invariant();
-    if !is_played(cards, suit) {
-        return pattern.suit(suit);
-    }
-    let all = pattern.suit(suit).without(places_played(cards, suit));
-    let north = played_from(all, leader, cards, suit, Seat::North);
-    let east = played_from(north, leader, cards, suit, Seat::East);
-    let south = played_from(east, leader, cards, suit, Seat::South);
-    played_from(south, leader, cards, suit, Seat::West)
-}
-
-/// The suit with a card less of the seat, if the seat played one of it.
-fn played_from(
-    held: SuitWord,
-    leader: Seat,
-    cards: &[PatCard; 4],
-    suit: Suit,
-    seat: Seat,
-) -> SuitWord
-    requires { length held.lens ≡ 4 }
+/// What is left of one suit, of sixteen bits for each: the lengths played, and the places of the tops played.
+fn left(held: SuitWord, suit: Suit, lens: u64, places: u64) -> SuitWord
+    requires { (seat : Seat) → len_of (suit_in (lens / 2 ^ (16 * suit_number suit) % 2 ^ 16)) seat ≤ len_of held seat }
     ensures four { length result.lens ≡ 4 }
-    ensures own { len_of result seat ≡ len_left held leader cards.now suit seat }
-    ensures others { (other : Seat) → other ≢ seat → len_of result other ≡ len_of held other }
-    ensures owners { result.owners ≡ held.owners }
+    ensures lens { (seat : Seat) → len_of result seat ≡ len_of held seat - len_of (suit_in (lens / 2 ^ (16 * suit_number suit) % 2 ^ 16)) seat }
+    ensures owners { result.owners ≡ owners_but (places / 2 ^ (16 * suit_number suit)) held.owners }
 {
-    if played_by(leader, cards, seat).is_of(suit) {
-        held.less(seat)
-    } else {
-        held
-    }
+    let from = 16 * suit.number();
+    held.less(lens >> from & 0xffff).without(places >> from)
 }
 
-/// The places of the suit whose tops were played, a bit each, that of place 0 lowest.
-fn places_played(cards: &[PatCard; 4], suit: Suit) -> u64
-    ensures { (place : ℕ) → place < 13 → is_among result place ≡ list_any (is_top suit place) cards.now }
+/// The lengths that the cards take from their players, sixteen bits a suit, spades lowest, in each as in a word.
+fn trick_lens(leader: Seat, cards: &[PatCard; 4]) -> u64
+    ensures { (suit : Suit) → result / 2 ^ (16 * suit_number suit) % 2 ^ 16 ≡ trick_lens leader cards.now suit }
 {
-    let mut places = 0;
-    for card in cards {
-        places |= place_bit(*card, suit);
-    }
-    places
+    let second = leader.next();
+    let third = second.next();
+    card_lens(leader, cards[0])
+        + card_lens(second, cards[1])
+        + card_lens(third, cards[2])
+        + card_lens(third.next(), cards[3])
 }
 
-/// The bit of the card's place, if it is a top of the suit.
-fn place_bit(card: PatCard, suit: Suit) -> u64
-    ensures { (place : ℕ) → place < 13 → is_among result place ≡ is_top suit place card }
+/// The length of one that the card takes from its player.
+fn card_lens(seat: Seat, card: PatCard) -> u64
+    ensures { result ≡ card_lens seat card }
 {
-    if let Some(place) = card.top_of(suit) {
-        if place < 13 {
-            return 1 << place;
-        }
+    1 << (16 * card.suit().number() + 4 * seat.number())
+}
+
+/// The places of the tops among the cards, sixteen bits a suit, spades lowest, in each that of place 0 lowest.
+fn trick_places(cards: &[PatCard; 4]) -> u64
+    ensures { (suit : Suit) (place : ℕ) → place < 13 → is_among (result / 2 ^ (16 * suit_number suit)) place ≡ list_any (is_top suit place) cards.now }
+{
+    place_bit(cards[0]) | place_bit(cards[1]) | place_bit(cards[2]) | place_bit(cards[3])
+}
+
+/// The bit of the card's place, if it is a top.
+fn place_bit(card: PatCard) -> u64
+    ensures { (suit : Suit) (place : ℕ) → place < 13 → is_among (result / 2 ^ (16 * suit_number suit)) place ≡ is_top suit place card }
+{
+    match card {
+        PatCard::Top(suit, place) if place < 13 => 1 << (16 * suit.number() + place as usize),
+        _ => 0,
     }
-    0
 }

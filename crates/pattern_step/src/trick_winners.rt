@@ -50,7 +50,7 @@ fn low_players(leader: Seat, cards: &[PatCard; 4], suit: Suit) -> SeatSet
 }
 
 /// Whether a card of the suit was played.
-pub(crate) fn is_played(cards: &[PatCard; 4], suit: Suit) -> bool
+fn is_played(cards: &[PatCard; 4], suit: Suit) -> bool
     ensures { result ≡ list_any (is_of_suit suit) cards.now }
 {
     cards.iter().any(|card| card.is_of(suit))
@@ -87,7 +87,7 @@ fn lesser(least: Option<u8>, place: u8) -> u8
 }
 
 /// The card that the seat played.
-pub(crate) fn played_by(leader: Seat, cards: &[PatCard; 4], seat: Seat) -> PatCard
+fn played_by(leader: Seat, cards: &[PatCard; 4], seat: Seat) -> PatCard
     ensures { result ≡ played_by leader cards.now seat }
 {
     cards[(seat.number() + 4 - leader.number()) % 4]

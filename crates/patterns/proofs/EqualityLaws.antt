@@ -1,8 +1,7 @@
 -- `==` says whether suits are the same: all that it compares is all that a suit is.
-use Rattle.std.proofs.Common.{◌≡◌, ◌-◌, Bool, true, ◌&&◌, ℕ, List, length, replicate, take, refl, nat_eq, sym, ◌∙◌, ap}
+use Rattle.std.proofs.Common.{◌≡◌, Bool, true, ◌&&◌, ℕ, List, refl, nat_eq, sym, ◌∙◌, ap}
 use Rattle.std.specs.Bool.{Decides}
 use Rattle.std.specs.Cmp.Lexicographic.{pointwise}
-use Rattle.std.proofs.Math.Seq.{take-append_seam}
 use Rattle.std.proofs.lemmas.Bool.Decides.{Decides-and, Decides-like, Decides-eqb}
 use Rattle.std.proofs.lemmas.Slice.Eq.{slice_eq-Decides}
 use denote.Enum.Bare.{sameb}
@@ -10,7 +9,6 @@ use Rattle.cards.specs.contracts.seats.Seat.{the_type}
 use Rattle.cards.specs.declared.suits.Suit.{Suit}
 use Rattle.cards.specs.declared.suits.Suit.TheVariants.{Spades, Hearts, Diamonds, Clubs}
 use Rattle.cards.specs.declared.seats.Seat.{Seat}
-use Rattle.cards.specs.declared.seats.Seat.TheVariants.{North}
 use Rattle.cards.specs.Seats.{is_same_seat}
 use Rattle.patterns.specs.Shapes.{SuitShape, Shape, suit_of, IsShape}
 use Rattle.patterns.specs.Words.{word_of, HasWord, HaveWords}

@@ -7,3 +7,5 @@ pub mod SuitWords
 pub mod PartLaws
 pub mod ShapeWordLaws
 pub mod Removals
+pub mod OwnedPlaces
+pub mod PackedLaws

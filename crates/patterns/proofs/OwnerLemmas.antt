@@ -3,7 +3,7 @@ use Rattle.std.proofs.Common.{◌≡◌, ℕ, ◌+◌, ◌-◌, ◌<◌, ◌≤�
 use Rattle.std.specs.Option.{option_to_list}
 use Rattle.std.specs.List.{filter_map}
 use Rattle.std.proofs.lemmas.Bool.{eqb-true, eq-eqb}
-use Rattle.std.proofs.lemmas.List.{length-take, length-take-le, take_all, take_more, append-nil, append_assoc, get_or_at, get_or-take}
+use Rattle.std.proofs.lemmas.List.{length-take, length-take-le, take_all, take_more, append-nil, append_assoc, get_or_at}
 use Rattle.std.proofs.lemmas.List.Prefix.{front_fits, front_reads}
 use Rattle.cards.specs.declared.seats.Seat.{Seat}
 use Rattle.cards.specs.declared.seats.Seat.TheVariants.{North}

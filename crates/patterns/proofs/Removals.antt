@@ -1,11 +1,12 @@
 -- Owners taken out of a word one by one, the lowest place first; each later place moves down by one.
-use Rattle.std.proofs.Common.{◌≡◌, ℕ, zero, suc, ◌+◌, ◌-◌, ◌*◌, ◌/◌, ◌%◌, ◌^◌, ◌<◌, ◌≤◌, ◌↔◌, Bool, true, false, not, cond, List, [], ◌∷◌, ◌++◌, length, take, drop, map, filter, eqb, refl, sym, ◌∙◌, ap, subst, inl, inr, arith}
+use Rattle.std.proofs.Common.{◌≡◌, ℕ, zero, suc, ◌+◌, ◌-◌, ◌*◌, ◌/◌, ◌%◌, ◌^◌, ◌<◌, ◌≤◌, Bool, true, false, not, cond, List, [], ◌∷◌, ◌++◌, length, take, drop, map, filter, eqb, refl, sym, ◌∙◌, ap, subst, inl, inr, arith}
 use Rattle.std.specs.List.{enumerate_from}
 use Rattle.std.specs.Prelude.{bit_and}
-use Rattle.std.specs.Int.{bit_at, trailing_zeros, w64}
-use Rattle.std.proofs.lemmas.Bool.{eqb-true, eq-eqb, ne_eqb, cases_lt}
-use Rattle.std.proofs.lemmas.Nat.{and_mask, one_shl, mod_below, pow-add, pow_pos, shr-shr, shr_split, mod-pow-add}
-use Rattle.std.proofs.lemmas.Nat.Bits.{bit_at-trailing_zeros, bit_at-suc, bit_at_lowest, bit_at_above}
+use Rattle.std.specs.Int.{bit_at, bit_not, trailing_zeros, w64}
+use Rattle.std.specs.Int.Bits.{and_self}
+use Rattle.std.proofs.lemmas.Bool.{eq-eqb, ne_eqb, cases_lt}
+use Rattle.std.proofs.lemmas.Nat.{and_mask, and_block, and_le_l, and_le_r, one_shl, mod_below, pow-add, pow_pos, shr-shr, shr_split, mod-pow-add}
+use Rattle.std.proofs.lemmas.Nat.Bits.{bit_at-trailing_zeros, bit_at-suc, bit_at_lowest, bit_at_above, and_high_mask}
 use Rattle.std.proofs.Math.Nat.{pow-le-pow_right}
 use Rattle.cards.specs.declared.seats.Seat.{Seat}
 use Rattle.patterns.specs.Words.{seat_at, owners_in, suit_in, IsSuitWord}
@@ -193,28 +194,71 @@ put_back word k n within below =
     }
 
 -- the bits without the owner in a place, as the code computes them
-pub record BitsTaken (n p : ℕ) : Type 0 where
-  pub below : bit_and n (1 * 2 ^ (2 * p) % 2 ^ 64 - 1) ≡ n % 2 ^ (2 * p)
-  pub above : n / 2 ^ (2 * p + 2) * 2 ^ (2 * p) % 2 ^ 64 ≡ n / 2 ^ (2 * p + 2) * 2 ^ (2 * p)
+pub record BitsTaken (n p below : ℕ) : Type 0 where
+  pub first : bit_and n below ≡ n % 2 ^ (2 * p)
+  pub later : bit_and (n / 2 ^ 2) (bit_not w64 below) ≡ n / 2 ^ (2 * p + 2) * 2 ^ (2 * p)
   pub fits : bits_but n p < 2 ^ 64
 
-pub bits_taken : (n p : ℕ) → p < 31 → n < 2 ^ 64 → BitsTaken n p
+pub bits_taken : (n p : ℕ) → p < 31 → n < 2 ^ 64 → BitsTaken n p (1 * 2 ^ (2 * p) % 2 ^ 64 - 1)
 bits_taken n p small wide =
     let two : 0 < 2 = omega arith in
     let e : 2 * p ≤ 60 = omega arith in
     let unit : 2 ^ (2 * p) ≤ 2 ^ 60 = pow-le-pow_right two e in
+    let some = pow_pos (2 * p) in
     let split = shr_split n (2 * p + 2) in
     let up : n / 2 ^ (2 * p + 2) * 2 ^ (2 * p + 2) ≡ 4 * (n / 2 ^ (2 * p + 2) * 2 ^ (2 * p)) = ap (λ m. n / 2 ^ (2 * p + 2) * m) (pow-add 2 (2 * p) 2) ∙ grind arith in
-    let low = mod_below n (2 ^ (2 * p)) (pow_pos (2 * p)) in
-    record {
-      below = ap (λ m. bit_and n (m - 1)) (one_shl (2 * p) 64 (omega arith)) ∙ and_mask n (2 * p);
-      above = omega (arith, split, up);
+    let low = mod_below n (2 ^ (2 * p)) some in
+    let others : bit_not w64 (2 ^ (2 * p) - 1) ≡ 2 ^ 64 - 2 ^ (2 * p) = omega arith in
+    let turned : 2 + 2 * p ≡ 2 * p + 2 = omega arith in
+    let high : bit_and (n / 2 ^ 2) (2 ^ 64 - 2 ^ (2 * p)) ≡ n / 2 ^ (2 * p + 2) * 2 ^ (2 * p) =
+    and_high_mask 64 (2 * p) (omega arith) (n / 2 ^ 2) (omega arith) ∙ ap (λ m. m * 2 ^ (2 * p)) (shr-shr n 2 (2 * p) ∙ ap (λ m. n / 2 ^ m) turned) in
+    rw (one_shl (2 * p) 64 (omega arith)) (record {
+      first = and_mask n (2 * p);
+      later = ap (bit_and (n / 2 ^ 2)) others ∙ high;
       fits = omega (arith, split, up, low, unit);
-    }
+    })
+
+-- a number without its lowest bit
+and_pred : (q t : ℕ) → bit_and ((2 * q + 1) * 2 ^ t) ((2 * q + 1) * 2 ^ t - 1) ≡ 2 * q * 2 ^ t
+and_pred q t =
+    let some = pow_pos t in
+    let whole : (2 * q + 1) * 2 ^ t ≡ (2 * q + 1) * 2 ^ t + 0 = omega arith in
+    let split : (2 * q + 1) * 2 ^ t ≡ 2 * q * 2 ^ t + 2 ^ t = grind arith in
+    let less : (2 * q + 1) * 2 ^ t - 1 ≡ 2 * q * 2 ^ t + (2 ^ t - 1) = omega (arith, split) in
+    let e : 2 * q + 1 ≡ q * 2 ^ 1 + 1 = omega arith in
+    let e' : 2 * q ≡ q * 2 ^ 1 + 0 = omega arith in
+    let high : bit_and (2 * q + 1) (2 * q) ≡ 2 * q =
+    ap (λ m. bit_and m (2 * q)) e ∙ (ap (bit_and (q * 2 ^ 1 + 1)) e' ∙ (and_block 1 q q 1 0 (omega arith) (omega arith) ∙ omega (arith, and_self q, and_le_r 1 0))) in
+    let none : bit_and 0 (2 ^ t - 1) ≡ 0 = omega (arith, and_le_l 0 (2 ^ t - 1)) in
+    ap (bit_and ((2 * q + 1) * 2 ^ t)) less
+    ∙ (ap (λ m. bit_and m (2 * q * 2 ^ t + (2 ^ t - 1))) whole
+    ∙ (and_block t (2 * q + 1) (2 * q) 0 (2 ^ t - 1) some (omega arith) ∙ (ap (λ m. m * 2 ^ t + bit_and 0 (2 ^ t - 1)) high ∙ omega (arith, none))))
+
+without_lowest : (n t : ℕ) → n % 2 ^ t ≡ 0 → bit_at n t ≡ 1 → bit_and n (n - 1) ≡ n - 2 ^ t
+without_lowest n t none one =
+    let q = n / 2 ^ t / 2 in
+    let odd : n / 2 ^ t ≡ 2 * q + 1 = omega (arith, one) in
+    let whole : n ≡ (2 * q + 1) * 2 ^ t = sym (shr_split n t) ∙ (ap (λ m. n / 2 ^ t * 2 ^ t + m) none ∙ (omega arith ∙ ap (λ m. m * 2 ^ t) odd)) in
+    let split : (2 * q + 1) * 2 ^ t ≡ 2 * q * 2 ^ t + 2 ^ t = grind arith in
+    ap (λ m. bit_and m (m - 1)) whole ∙ (and_pred q t ∙ omega (arith, whole, split))
+
+pub lowest_cleared : (m : ℕ) → 0 < m → m < 2 ^ 64 → bit_and m (m - 1) ≡ m - 2 ^ trailing_zeros w64 m
+lowest_cleared m some wide =
+    let tz = bit_at-trailing_zeros w64 m some wide in
+    without_lowest m (trailing_zeros w64 m) (none_below (trailing_zeros w64 m) m tz.2) tz.1
 
 -- the places that are left are those moved down, as the code computes them
-pub places_moved : (m p : ℕ) → m < 2 ^ 64 → m / 2 ^ (p + 1) * 2 ^ p % 2 ^ 64 ≡ moved_down m p
-places_moved m p wide =
+pub places_moved : (m : ℕ) → 0 < m → m < 2 ^ 64 → bit_and m (m - 1) / 2 ^ 1 ≡ moved_down m (trailing_zeros w64 m)
+places_moved m some wide =
+    let p = trailing_zeros w64 m in
+    let tz = bit_at-trailing_zeros w64 m some wide in
+    let none : m % 2 ^ p ≡ 0 = none_below p m tz.2 in
     let split = shr_split m (p + 1) in
     let up : m / 2 ^ (p + 1) * 2 ^ (p + 1) ≡ 2 * moved_down m p = ap (λ q. m / 2 ^ (p + 1) * q) (pow-add 2 p 1) ∙ grind arith in
-    omega (arith, split, up)
+    let low : m % 2 ^ (p + 1) ≡ 2 ^ p = lowest m p none tz.1 in
+    omega (arith, lowest_cleared m some wide, split, up, low)
+  where
+    lowest : (m p : ℕ) → m % 2 ^ p ≡ 0 → bit_at m p ≡ 1 → m % 2 ^ (p + 1) ≡ 2 ^ p
+    lowest m p none one =
+        let e : p + 1 ≡ 1 + p = omega arith in
+        ap (λ k. m % 2 ^ k) e ∙ (mod-pow-add m 1 p ∙ (ap (λ b. b * 2 ^ p + m % 2 ^ p) one ∙ omega (arith, none)))

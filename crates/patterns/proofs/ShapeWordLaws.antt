@@ -1,12 +1,12 @@
 -- Four suits and their words.
-use Rattle.std.proofs.Common.{◌≡◌, ℕ, ◌↔◌, List, [], ◌∷◌, Result, Ok, Err, inl, inr, ap, subst, ◌∙◌, arith}
+use Rattle.std.proofs.Common.{◌≡◌, ℕ, ◌↔◌, Result, Ok, Err, inl, inr, ap, subst, ◌∙◌, arith}
 use Rattle.std.specs.Prelude.{slice_index}
 use Rattle.cards.specs.declared.suits.Suit.{Suit}
 use Rattle.cards.specs.declared.suits.Suit.TheVariants.{Spades, Hearts, Diamonds, Clubs}
 use Rattle.cards.specs.Pack.{suit_number}
 use Rattle.patterns.specs.Shapes.{Shape, suit_of, IsShape}
 use Rattle.patterns.specs.Parts.{IsFault}
-use Rattle.patterns.specs.Words.{word_of, words_of, shape_in, IsSuitWord, IsWrongWord, AreWords, MeetsWords}
+use Rattle.patterns.specs.Words.{word_of, words_of, shape_in, IsSuitWord, IsWrongWord, MeetsWords}
 use Rattle.patterns.specs.declared.faults.PatternFault.{PatternFault}
 use Rattle.patterns.specs.declared.faults.PatternFault.TheVariants.{Lengths, Cards, Owners, Words}
 use Rattle.patterns.proofs.SeatLaws.{for_each_suit}

@@ -14,7 +14,7 @@ use Rattle.cards.specs.Seats.{seat_number}
 use Rattle.patterns.specs.Shapes.{SuitShape, Shape, len_of, tops_of, suit_size, BeginsWith, CoversSuit}
 use Rattle.patterns.proofs.SeatLaws.{for_each_seat}
 use Rattle.patterns.proofs.HolderLaws.{counts_add_up}
-use Rattle.patterns.specs.WordLaws.{place_more, number_at, length-owners_in, owner_bits-owners_in, word_of-suit_in, four_are, words_of-shape_in}
+use Rattle.patterns.specs.WordLaws.{place_more, length-owners_in, owner_bits-owners_in, four_are, words_of-shape_in}
 use Rattle.patterns.specs.Words.{seat_at, owners_in, owner_bits, owner_count, suit_in, word_of, HasWord, IsSuitWord, IsWrongWord, words_of, shape_in, AreWords}
 
 pub at_number : (seat : Seat) → seat_at (seat_number seat) ≡ seat
@@ -268,3 +268,52 @@ owner_told word i suit told less =
     let count = length-owners_in_of word in
     let len = ap (λ (s : SuitShape). length s.owners) told in
     sym (get_or-owners_in (owner_count word) (word / 2 ^ 20) i (omega arith)) ∙ ap (λ (s : SuitShape). get_or s.owners i North) told
+
+-- lengths taken from a word, each no greater than its own
+pub record LensTaken (word lens : ℕ) : Type 0 where
+  pub fits : lens ≤ word
+  pub high : (word - lens) / 2 ^ 16 ≡ word / 2 ^ 16
+  pub each : (seat : Seat) → len_of (suit_in (word - lens)) seat ≡ len_of (suit_in word) seat - len_of (suit_in lens) seat
+
+pub lens_taken : (word lens : ℕ) → lens < 2 ^ 16 → ((seat : Seat) → len_of (suit_in lens) seat ≤ len_of (suit_in word) seat) → LensTaken word lens
+lens_taken word lens below within =
+    let n : lens % 2 ^ 4 ≤ word % 2 ^ 4 = within North in
+    let e : lens / 2 ^ 4 % 2 ^ 4 ≤ word / 2 ^ 4 % 2 ^ 4 = within East in
+    let s : lens / 2 ^ 8 % 2 ^ 4 ≤ word / 2 ^ 8 % 2 ^ 4 = within South in
+    let w : lens / 2 ^ 12 % 2 ^ 4 ≤ word / 2 ^ 12 % 2 ^ 4 = within West in
+    let whole = fields (word % 2 ^ 4) (word / 2 ^ 4 % 2 ^ 4) (word / 2 ^ 8 % 2 ^ 4) (word / 2 ^ 12 % 2 ^ 4) (word / 2 ^ 16)
+    (lens % 2 ^ 4) (lens / 2 ^ 4 % 2 ^ 4) (lens / 2 ^ 8 % 2 ^ 4) (lens / 2 ^ 12 % 2 ^ 4) n e s w
+    (omega arith) (omega arith) (omega arith) (omega arith) (omega arith) (omega arith) in
+    let parts = left (word % 2 ^ 4 - lens % 2 ^ 4) (word / 2 ^ 4 % 2 ^ 4 - lens / 2 ^ 4 % 2 ^ 4) (word / 2 ^ 8 % 2 ^ 4 - lens / 2 ^ 8 % 2 ^ 4) (word / 2 ^ 12 % 2 ^ 4 - lens / 2 ^ 12 % 2 ^ 4) (word / 2 ^ 16)
+    (omega arith) (omega arith) (omega arith) (omega arith) whole.left in
+    record { fits = whole.fits; high = parts.high; each = for_each_seat _ parts.north parts.east parts.south parts.west }
+  where
+    -- the fields of what is left
+    left : (n e s w high : ℕ) → n < 16 → e < 16 → s < 16 → w < 16 → word - lens ≡ n + 2 ^ 4 * e + 2 ^ 8 * s + 2 ^ 12 * w + 2 ^ 16 * high →
+        record { high : (word - lens) / 2 ^ 16 ≡ high; north : (word - lens) % 2 ^ 4 ≡ n; east : (word - lens) / 2 ^ 4 % 2 ^ 4 ≡ e; south : (word - lens) / 2 ^ 8 % 2 ^ 4 ≡ s; west : (word - lens) / 2 ^ 12 % 2 ^ 4 ≡ w }
+    left n e s w high bn be bs bw is = record { high = omega arith; north = omega arith; east = omega arith; south = omega arith; west = omega arith }
+
+    fields : (n e s w high n' e' s' w' : ℕ) → n' ≤ n → e' ≤ e → s' ≤ s → w' ≤ w → n < 16 → e < 16 → s < 16 → w < 16 →
+        word ≡ n + 2 ^ 4 * e + 2 ^ 8 * s + 2 ^ 12 * w + 2 ^ 16 * high → lens ≡ n' + 2 ^ 4 * e' + 2 ^ 8 * s' + 2 ^ 12 * w' →
+        record { fits : lens ≤ word; left : word - lens ≡ (n - n') + 2 ^ 4 * (e - e') + 2 ^ 8 * (s - s') + 2 ^ 12 * (w - w') + 2 ^ 16 * high }
+    fields n e s w high n' e' s' w' hn he hs hw bn be bs bw is_word is_lens = record { fits = omega arith; left = omega arith }
+
+-- and the suit that is told by what is left
+pub record SuitLeft (suit : SuitShape) (word lens : ℕ) : Type 0 where
+  pub fits : lens ≤ word
+  pub is_word : IsSuitWord (word - lens)
+  pub each : (seat : Seat) → len_of (suit_in (word - lens)) seat ≡ len_of suit seat - len_of (suit_in lens) seat
+  pub owners : (suit_in (word - lens)).owners ≡ suit.owners
+
+pub suit_left : (word lens : ℕ) (suit : SuitShape) → suit_in word ≡ suit → IsSuitWord word → lens < 2 ^ 16 → ((seat : Seat) → len_of (suit_in lens) seat ≤ len_of suit seat) → SuitLeft suit word lens
+suit_left word lens suit told is below within =
+    let taken = lens_taken word lens below (subst (λ (s : SuitShape). (seat : Seat) → len_of (suit_in lens) seat ≤ len_of s seat) (sym told) within) in
+    let high = taken.high in
+    let count : owner_count (word - lens) ≡ owner_count word = ap (λ n. n % 2 ^ 4) high in
+    let bits : (word - lens) / 2 ^ 20 ≡ word / 2 ^ 20 = sym (shr-shr (word - lens) 16 4) ∙ (ap (λ n. n / 2 ^ 4) high ∙ shr-shr word 16 4) in
+    record {
+      fits = taken.fits;
+      is_word = record { within = rw count is.within; blank = rw (count, bits) is.blank };
+      each = λ seat. taken.each seat ∙ ap (λ (s : SuitShape). len_of s seat - len_of (suit_in lens) seat) told;
+      owners = rw (count, bits) (ap (λ (s : SuitShape). s.owners) told);
+    }

@@ -5,7 +5,7 @@ use Rattle.std.specs.Prelude.{◌≡◌, ℕ, zero, suc, ◌+◌, ◌*◌, ◌/�
 use Rattle.cards.specs.declared.suits.Suit.{Suit}
 use Rattle.cards.specs.declared.seats.Seat.{Seat}
 use Rattle.cards.specs.declared.seats.Seat.TheVariants.{North, East, South, West}
-use Rattle.cards.specs.Seats.{seat_number}
+use Rattle.cards.specs.Seats.{seat_number, is_same_seat}
 use Rattle.cards.specs.Pack.{suit_number}
 use Rattle.patterns.specs.Shapes.{SuitShape, Shape, suit_of, len_of, IsShape}
 use Rattle.patterns.specs.Parts.{IsFault}
@@ -25,6 +25,11 @@ owners_in (suc count) bits = seat_at (bits % 4) ∷ owners_in count (bits / 4)
 abbrev pub owner_bits : List Seat → ℕ
 owner_bits [] = 0
 owner_bits (owner ∷ owners) = seat_number owner + 4 * owner_bits owners
+
+-- the places in which the seat is the owner: place i has bit 2 i, and all other bits are 0
+abbrev pub places_of : Seat → List Seat → ℕ
+places_of seat [] = 0
+places_of seat (owner ∷ owners) = (if is_same_seat seat owner then 1 else 0) + 4 * places_of seat owners
 
 -- how many owners a word has
 abbrev pub owner_count : ℕ → ℕ

@@ -144,4 +144,10 @@ impl Pattern {
     {
         self.held.suit(suit).owner(place)
     }
+
+    pub(crate) fn held(&self) -> &ShapeWords
+        ensures { result.now ≡ self.now }
+    {
+        &self.held
+    }
 }

@@ -5,19 +5,18 @@
 //! value for a set of positions, as in Ginsberg's Partition Search, AAAI 1996). A rest is what a trick leaves of
 //! a pattern, and a pattern covers the rests of which it says no more than they do. Contracts see patterns and
 //! rests alike as four suits, each of four lengths and a list of owners. Each suit is held in one word, of which
-//! only `words` and `from_words` speak.
+//! only `words`, `from_words` and `SuitWord` speak.
 #![tactic(auto)]
 
 mod faults;
 mod holdings;
 mod laws;
 mod layout_patterns;
+mod packed_layouts;
 mod rests;
 mod shape_words;
 mod suit_parts;
 mod suit_words;
-#[cfg(test)]
-mod tests;
 
 pub use faults::PatternFault;
 pub use laws::{
@@ -25,6 +24,7 @@ pub use laws::{
     equal_words_are_one_rest, words_make_their_pattern, words_make_their_rest,
 };
 pub use layout_patterns::Pattern;
+pub use packed_layouts::PackedLayout;
 pub use rests::Rest;
 pub use suit_parts::SuitPart;
 pub use suit_words::SuitWord;

@@ -9,7 +9,7 @@ ghost use Rattle.cards.specs.Seats.{seat_number};
 ghost use Rattle.patterns.specs.Holders.{holders_of, MatchesSuit, suit_of_layout};
 ghost use Rattle.patterns.specs.Holdings.{holders_in};
 ghost use Rattle.patterns.specs.Parts.{suit_shape, HasItsOwners, HasExcessOwner};
-ghost use Rattle.patterns.specs.Words.{suit_in, seat_at, HasWord, IsSuitWord, IsWrongWord};
+ghost use Rattle.patterns.specs.Words.{suit_in, seat_at, places_of, HasWord, IsSuitWord, IsWrongWord};
 ghost use Rattle.patterns.specs.Removals.{owners_but};
 
 use crate::holdings::{holder, holdings};
@@ -47,6 +47,9 @@ impl Model for SuitWord {
 const COUNT: u32 = 16;
 
 const OWNERS: u32 = 20;
+
+/// The lower of the two bits of each of thirteen places.
+const EACH_PLACE: u64 = 0x1555555;
 
 impl SuitWord {
     /// The suit that a word tells.
@@ -139,18 +142,16 @@ impl SuitWord {
         owner_at(self.word >> OWNERS, place)
     }
 
-    /// The suit with a card less of the seat; one that has none keeps none. The owners stay.
-    pub fn less(self, seat: Seat) -> SuitWord
+    /// The suit with all lengths less these, which stand as in a word; each has to be within its own. The owners stay.
+    pub fn less(self, lens: u64) -> SuitWord
+        requires below { lens < 2 ^ 16 }
+        requires within { (seat : Seat) → len_of (suit_in lens) seat ≤ len_of self seat }
         ensures four { length result.lens ≡ 4 }
-        ensures own { len_of result seat ≡ len_of self seat - 1 }
-        ensures others { (other : Seat) → other ≢ seat → len_of result other ≡ len_of self other }
+        ensures lens { (seat : Seat) → len_of result seat ≡ len_of self seat - len_of (suit_in lens) seat }
         ensures owners { result.owners ≡ self.owners }
     {
-        if self.len(seat) == 0 {
-            return self;
-        }
         SuitWord {
-            word: self.word - (1 << (4 * seat.number())),
+            word: self.word - lens,
         }
     }
 
@@ -166,7 +167,7 @@ impl SuitWord {
         while taken != 0 {
             let place = taken.trailing_zeros();
             bits = without_place(bits, place);
-            taken = taken >> (place + 1) << place;
+            taken = (taken & (taken - 1)) >> 1;
             count -= 1;
         }
         SuitWord {
@@ -185,17 +186,20 @@ impl SuitWord {
             + u16::from(self.len(Seat::West))
     }
 
+    /// The places in which the seat is the owner. Place i has bit 2 i, and all other bits are 0.
+    pub fn places_of(&self, seat: Seat) -> u64
+        ensures { result ≡ places_of seat self.now.owners }
+    {
+        let places = EACH_PLACE & ((1 << (2 * nibble(self.word, COUNT))) - 1);
+        let apart = (self.word >> OWNERS) ^ (EACH_PLACE * seat.number() as u64);
+        places - ((apart | apart >> 1) & places)
+    }
+
     /// How often the seat is an owner.
     pub fn tops(&self, seat: Seat) -> u8
         ensures { result ≡ tops_of self.now seat }
     {
-        let mut tops = 0;
-        for place in 0..self.owner_count() {
-            if self.owner_in(place) == seat {
-                tops += 1;
-            }
-        }
-        tops
+        self.places_of(seat).count_ones() as u8
     }
 
     /// Whether no seat is an owner more often than it has cards.
@@ -296,7 +300,8 @@ fn without_place(bits: u64, place: u32) -> u64
     requires { place < 31 }
     ensures { result ≡ bits % 2 ^ (2 * place) + bits / 2 ^ (2 * place + 2) * 2 ^ (2 * place) }
 {
-    (bits & ((1 << (2 * place)) - 1)) + (bits >> (2 * place + 2) << (2 * place))
+    let below = (1 << (2 * place)) - 1;
+    (bits & below) + (bits >> 2 & !below)
 }
 
 /// The seat whose number stands in the two bits of this place.

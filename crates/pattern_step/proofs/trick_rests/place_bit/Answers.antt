@@ -1,5 +1,5 @@
-use Rattle.pattern_step.proofs.PlaceLaws.{top_bit, far_top}
+use Rattle.pattern_step.proofs.TrickBitLaws.{top_bit}
 use Rattle.pattern_step.proofs.trick_rests.place_bit.Goals as goal
 
-pub returns-then-place-lt13 : goal.returns-then-place-lt13
-returns-then-place-lt13 c = λ place less. top_bit c.args.card c.args.suit c.in-Some.place place c.in-Some.ensures c.if-place-lt13.true
+pub returns-in-Top : goal.returns-in-Top
+returns-in-Top c = λ suit place near. top_bit c.args.card c.in-Top.suit suit c.number.result c.in-Top.place place c.in-Top.is c.number.ensures.place c.if-place-lt13.true near

@@ -1,4 +1,4 @@
-use Rattle.std.proofs.Common.{sym, subst, inr}
+use Rattle.std.proofs.Common.{subst, inr}
 use Rattle.std.proofs.lemmas.Result.{err_from_is_err_and}
 use Rattle.patterns.specs.Shapes.{Shape}
 use Rattle.patterns.specs.Parts.{IsFault}

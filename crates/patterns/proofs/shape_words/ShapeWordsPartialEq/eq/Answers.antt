@@ -1,4 +1,4 @@
-use Rattle.std.proofs.Common.{◌≡◌, ◌∙◌, List, ℕ, ap, sym, nat_eq}
+use Rattle.std.proofs.Common.{◌∙◌, List, ℕ, ap, sym, nat_eq}
 use Rattle.std.specs.Cmp.Lexicographic.{pointwise}
 use Rattle.patterns.specs.Words.{words_of}
 use Rattle.patterns.proofs.SuitWords.{words_told}

@@ -1,7 +1,6 @@
-use Rattle.std.proofs.Common.{◌≡◌, ◌≤◌, ◌-◌, ◌*◌, ◌/◌, ◌%◌, ◌^◌, IsTrue, ◌↔◌, refl, sym, ◌∙◌, ap, arith}
-use Rattle.std.specs.Prelude.{bit_and}
+use Rattle.std.proofs.Common.{◌≡◌, ◌≤◌, ◌%◌, ◌^◌, IsTrue, ◌↔◌, refl}
 use Rattle.std.proofs.lemmas.Bool.{eq-eqb, ne_eqb}
-use Rattle.std.proofs.lemmas.Nat.{and_mask, one_shl}
+use Rattle.std.proofs.lemmas.Nat.{and_mask}
 use Rattle.patterns.specs.Words.{owner_count}
 use Rattle.patterns.proofs.SeatLaws.{told_alike, and_then, and_else}
 use Rattle.patterns.proofs.SuitWords.{covers_by_words, told_equal, told_le, among_owners}

@@ -1,6 +1,5 @@
-use Rattle.std.proofs.Common.{◌≡◌, ◌≤◌, ℕ, Bool, true, false, leb, IsTrue, ◌↔◌, MatchBool, refl, ap}
+use Rattle.std.proofs.Common.{◌≡◌, ◌≤◌, ℕ, Bool, true, false, leb, IsTrue, ◌↔◌, MatchBool, refl}
 use Rattle.std.proofs.lemmas.Bool.{leb-true, leb-false, le-leb, lt-leb}
-use Rattle.cards.specs.declared.seats.Seat.{Seat}
 use Rattle.cards.specs.declared.seats.Seat.TheVariants.{North, East, South, West}
 use Rattle.patterns.specs.Shapes.{SuitShape, tops_of, len_of}
 use Rattle.patterns.specs.Parts.{HasItsOwners, HasExcessOwner}

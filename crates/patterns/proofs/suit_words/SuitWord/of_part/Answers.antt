@@ -1,6 +1,5 @@
-use Rattle.std.proofs.Common.{◌≡◌, ◌∙◌, List, length, take, sym, ap, arith}
+use Rattle.std.proofs.Common.{◌≡◌, ◌∙◌, ap, arith}
 use Rattle.std.proofs.lemmas.List.{take_all}
-use Rattle.cards.specs.declared.seats.Seat.{Seat}
 use Rattle.patterns.specs.Parts.{suit_shape}
 use Rattle.patterns.specs.Words.{suit_in, owner_bits}
 use Rattle.patterns.proofs.SuitWords.{more_bits, put_together, IsSuitWord-word_of, suit_in-word_of}

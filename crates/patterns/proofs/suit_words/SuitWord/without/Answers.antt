@@ -6,7 +6,7 @@ use Rattle.patterns.specs.Shapes.{SuitShape}
 use Rattle.patterns.specs.Words.{owners_in, owner_count, suit_in}
 use Rattle.patterns.specs.WordLaws.{length-owners_in}
 use Rattle.patterns.specs.Removals.{owners_but}
-use Rattle.patterns.proofs.Removals.{kept, kept-none, kept-mod, TakenOut, taken_out, owners_but-kept, put_back, bits_but, moved_down, places_moved}
+use Rattle.patterns.proofs.Removals.{kept, kept-none, kept-mod, taken_out, owners_but-kept, put_back, places_moved}
 use Rattle.patterns.proofs.suit_words.SuitWord.without.Goals as goal
 
 pub loop-taken-init : goal.loop-taken-init
@@ -31,25 +31,19 @@ without_place-bits-requires c =
     let step = taken_out l.count l.bits l.taken (trailing_zeros w64 l.taken) l.invariant.bits l.invariant.places l.invariant.within (omega (arith, c.loop-taken-test.true)) refl in
     omega (arith, step.inside, l.invariant.within)
 
-pub overflow_shr-taken : goal.overflow_shr-taken
-overflow_shr-taken c =
-    let l = c.loop-taken in
-    let step = taken_out l.count l.bits l.taken (trailing_zeros w64 l.taken) l.invariant.bits l.invariant.places l.invariant.within (omega (arith, c.loop-taken-test.true)) refl in
-    omega (arith, step.inside, l.invariant.within)
-
 pub loop-taken-smaller : goal.loop-taken-smaller
 loop-taken-smaller c =
     let l = c.loop-taken in
     let p = trailing_zeros w64 l.taken in
     let step = taken_out l.count l.bits l.taken p l.invariant.bits l.invariant.places l.invariant.within (omega (arith, c.loop-taken-test.true)) refl in
-    rw (places_moved l.taken p l.auto.taken-fits.fits) step.fewer
+    rw (places_moved l.taken (omega (arith, c.loop-taken-test.true)) l.auto.taken-fits.fits) step.fewer
 
 pub loop-taken-preserved : goal.loop-taken-preserved
 loop-taken-preserved c =
     let l = c.loop-taken in
     let p = trailing_zeros w64 l.taken in
     let step = taken_out l.count l.bits l.taken p l.invariant.bits l.invariant.places l.invariant.within (omega (arith, c.loop-taken-test.true)) refl in
-    let moved = places_moved l.taken p l.auto.taken-fits.fits in
+    let moved = places_moved l.taken (omega (arith, c.loop-taken-test.true)) l.auto.taken-fits.fits in
     let bits = c.without_place-bits.ensures in
     record {
       within = omega (arith, l.invariant.within);

@@ -1,10 +1,10 @@
 //! All layouts of one or two cards a hand in two suits, and patterns of each depth: `legal`, `winners`, `rest`,
 //! `covers` and `matches` are compared with a slow reading of their definitions over the real cards.
 
-use crate::{PatCard, SeatSet, are_legal, legal, rest, winners};
 use arrayvec::ArrayVec;
 use cards::{Layout, LayoutFault, Seat, Suit, Trump};
-use patterns::{Pattern, Rest};
+use pattern_step::{PatCard, SeatSet, are_legal, legal, rest, winners};
+use patterns::{PackedLayout, Pattern, Rest};
 use std::process::Abort;
 use std::test::Fail;
 
@@ -310,7 +310,9 @@ fn check_matches(
     if turned.is_fair() {
         let same = turned.matches_suit(small, Suit::Spades, depths[0])
             && turned.matches_suit(small, Suit::Hearts, depths[1]);
-        assert!(rt; pattern.matches(&turned.layout(&[])?) == same);
+        let layout = turned.layout(&[])?;
+        assert!(rt; pattern.matches(&layout) == same);
+        assert!(rt; PackedLayout::of(&layout).matches(pattern) == same);
     }
     Ok(())
 }

@@ -1,8 +1,9 @@
-//! What no clause says: worked examples with answers made by hand.
+//! Worked examples of patterns, with answers made by hand.
 
-use crate::{Pattern, PatternFault, Rest, SuitPart};
+use crate::expect::expect_eq;
 use arrayvec::ArrayVec;
 use cards::{Card, Layout, Rank, Seat, Suit};
+use patterns::{PackedLayout, Pattern, PatternFault, Rest, SuitPart};
 use std::test::Fail;
 
 const NORTH: Seat = Seat::North;
@@ -66,22 +67,29 @@ fn finesse() -> Result<Layout, cards::LayoutFault> {
 fn makes_the_pattern_of_a_layout(rt: HostRuntime) -> Result<(), Fail> {
     let layout = finesse()?;
     let short = Pattern::of_layout(&layout, [3, 0, 0, 0]);
-    assert_eq!(rt; short, spades([2, 2, 2, 2], &[NORTH, WEST, NORTH])?);
+    expect_eq(&rt, &short, &spades([2, 2, 2, 2], &[NORTH, WEST, NORTH])?);
     let whole = Pattern::of_layout(&layout, [13, 0, 0, 0]);
     let owners = [NORTH, WEST, NORTH, EAST, EAST, WEST, SOUTH, SOUTH];
-    assert_eq!(rt; whole.part(Suit::Spades), part([2, 2, 2, 2], &owners));
-    assert_eq!(rt; whole.part(Suit::Hearts), empty());
+    expect_eq(&rt, &whole.part(Suit::Spades), &part([2, 2, 2, 2], &owners));
+    expect_eq(&rt, &whole.part(Suit::Hearts), &empty());
     Ok(())
 }
 
 #[test]
 fn matches_by_the_highest_cards_of_all_hands(rt: HostRuntime) -> Result<(), Fail> {
     let layout = finesse()?;
-    assert!(rt; spades([2, 2, 2, 2], &[])?.matches(&layout));
-    assert!(rt; spades([2, 2, 2, 2], &[NORTH, WEST, NORTH])?.matches(&layout));
-    assert!(rt; !spades([2, 2, 2, 2], &[NORTH, NORTH])?.matches(&layout));
-    assert!(rt; !spades([2, 2, 2, 2], &[NORTH, WEST, WEST])?.matches(&layout));
-    assert!(rt; !spades([1, 1, 1, 1], &[NORTH])?.matches(&layout));
+    let packed = PackedLayout::of(&layout);
+    for (pattern, matches) in [
+        (spades([2, 2, 2, 2], &[])?, true),
+        (spades([2, 2, 2, 2], &[NORTH, WEST, NORTH])?, true),
+        (spades([2, 2, 2, 2], &[NORTH, NORTH])?, false),
+        (spades([2, 2, 2, 2], &[NORTH, WEST, WEST])?, false),
+        (spades([1, 1, 1, 1], &[NORTH])?, false),
+        (Pattern::of_layout(&layout, [8, 0, 0, 0]), true),
+    ] {
+        assert!(rt; pattern.matches(&layout) == matches);
+        assert!(rt; packed.matches(&pattern) == matches);
+    }
     Ok(())
 }
 
@@ -101,17 +109,23 @@ fn covers_a_rest_that_says_no_less(rt: HostRuntime) -> Result<(), Fail> {
 
 #[test]
 fn refuses_what_is_no_pattern(rt: HostRuntime) {
-    assert_eq!(rt; spades([4, 4, 3, 3], &[]), Err(PatternFault::Lengths));
-    assert_eq!(rt; spades([1, 1, 1, 0], &[]), Err(PatternFault::Cards));
-    assert_eq!(rt;
-        spades([1, 1, 1, 1], &[NORTH, NORTH]),
-        Err(PatternFault::Owners)
+    expect_eq(&rt, &spades([4, 4, 3, 3], &[]), &Err(PatternFault::Lengths));
+    expect_eq(&rt, &spades([1, 1, 1, 0], &[]), &Err(PatternFault::Cards));
+    expect_eq(
+        &rt,
+        &spades([1, 1, 1, 1], &[NORTH, NORTH]),
+        &Err(PatternFault::Owners),
     );
-    assert_eq!(rt; spades([0, 0, 0, 0], &[]), Err(PatternFault::Cards));
-    assert_eq!(rt; spades([14, 0, 0, 0], &[]), Err(PatternFault::Lengths));
-    assert_eq!(rt;
-        rest_of_spades([1, 1, 1, 1], &[SOUTH, SOUTH]),
-        Err(PatternFault::Owners)
+    expect_eq(&rt, &spades([0, 0, 0, 0], &[]), &Err(PatternFault::Cards));
+    expect_eq(
+        &rt,
+        &spades([14, 0, 0, 0], &[]),
+        &Err(PatternFault::Lengths),
+    );
+    expect_eq(
+        &rt,
+        &rest_of_spades([1, 1, 1, 1], &[SOUTH, SOUTH]),
+        &Err(PatternFault::Owners),
     );
     let suit_each = [
         part([13, 0, 0, 0], &[]),
@@ -119,22 +133,23 @@ fn refuses_what_is_no_pattern(rt: HostRuntime) {
         part([0, 0, 13, 0], &[]),
         part([0, 0, 0, 13], &[]),
     ];
-    assert_eq!(rt; Rest::from_parts(suit_each), Err(PatternFault::Cards));
+    expect_eq(&rt, &Rest::from_parts(suit_each), &Err(PatternFault::Cards));
     assert!(rt; rest_of_spades([0, 0, 0, 0], &[]).is_ok());
 }
 
 #[test]
 fn tells_its_parts(rt: HostRuntime) -> Result<(), Fail> {
     let pattern = spades([2, 2, 2, 2], &[NORTH, WEST, NORTH])?;
-    assert_eq!(rt; pattern.len(Suit::Spades, WEST), 2);
-    assert_eq!(rt; pattern.len(Suit::Clubs, WEST), 0);
-    assert_eq!(rt; pattern.tops(Suit::Spades, NORTH), 2);
-    assert_eq!(rt; pattern.owner_count(Suit::Spades), 3);
-    assert_eq!(rt; pattern.owner(Suit::Spades, 1), Some(WEST));
-    assert_eq!(rt; pattern.owner(Suit::Spades, 3), None);
-    assert_eq!(rt;
-        rest_of_spades([1, 1, 1, 1], &[EAST])?.part(Suit::Spades),
-        part([1, 1, 1, 1], &[EAST])
+    expect_eq(&rt, &pattern.len(Suit::Spades, WEST), &2);
+    expect_eq(&rt, &pattern.len(Suit::Clubs, WEST), &0);
+    expect_eq(&rt, &pattern.tops(Suit::Spades, NORTH), &2);
+    expect_eq(&rt, &pattern.owner_count(Suit::Spades), &3);
+    expect_eq(&rt, &pattern.owner(Suit::Spades, 1), &Some(WEST));
+    expect_eq(&rt, &pattern.owner(Suit::Spades, 3), &None);
+    expect_eq(
+        &rt,
+        &rest_of_spades([1, 1, 1, 1], &[EAST])?.part(Suit::Spades),
+        &part([1, 1, 1, 1], &[EAST]),
     );
     Ok(())
 }
@@ -162,8 +177,12 @@ fn tells_unequal_suits_apart(rt: HostRuntime) -> Result<(), Fail> {
     let pattern = Pattern::from_parts(suits_with_owners(0, &[]))?;
     let rest = Rest::from_parts(suits_with_owners(0, &[]))?;
     for suit in 0..4 {
-        assert_eq!(rt; Pattern::from_parts(suits_with_owners(suit, &[]))?, pattern);
-        assert_eq!(rt; Rest::from_parts(suits_with_owners(suit, &[]))?, rest);
+        expect_eq(
+            &rt,
+            &Pattern::from_parts(suits_with_owners(suit, &[]))?,
+            &pattern,
+        );
+        expect_eq(&rt, &Rest::from_parts(suits_with_owners(suit, &[]))?, &rest);
         let north = Pattern::from_parts(suits_with_owners(suit, &[NORTH]))?;
         let west = Pattern::from_parts(suits_with_owners(suit, &[WEST]))?;
         assert!(rt; north != pattern);
@@ -182,7 +201,7 @@ fn tells_unequal_lengths_apart(rt: HostRuntime) -> Result<(), Fail> {
     assert!(rt; part([1, 1, 1, 2], &[]) != even);
     assert!(rt; part([1, 1, 1, 1], &[NORTH]) != even);
     assert!(rt; part([1, 1, 1, 1], &[NORTH]) != part([1, 1, 1, 1], &[EAST]));
-    assert_eq!(rt; part([1, 1, 1, 1], &[]), even);
+    expect_eq(&rt, &part([1, 1, 1, 1], &[]), &even);
     let long = Rest::from_parts([
         part([2, 0, 1, 1], &[]),
         part([0, 2, 1, 1], &[]),
@@ -208,31 +227,34 @@ fn spade_word(word: u64) -> Result<Pattern, PatternFault> {
 #[test]
 fn tells_a_suit_in_a_word(rt: HostRuntime) -> Result<(), Fail> {
     let short = spade_word(0x11111)?;
-    assert_eq!(rt;
-        spade_word(0xC32222)?,
-        spades([2, 2, 2, 2], &[NORTH, WEST, NORTH])?
+    expect_eq(
+        &rt,
+        &spade_word(0xC32222)?,
+        &spades([2, 2, 2, 2], &[NORTH, WEST, NORTH])?,
     );
-    assert_eq!(rt; short, spades([1, 1, 1, 1], &[NORTH])?);
+    expect_eq(&rt, &short, &spades([1, 1, 1, 1], &[NORTH])?);
     assert!(rt; short.covers(&Rest::from_words([0xC21111, 0, 0, 0])?));
     assert!(rt; !spade_word(0xC21111)?.covers(&Rest::from_words([0x11111, 0, 0, 0])?));
-    assert_eq!(rt; spade_word(0x411111), Err(PatternFault::Words));
-    assert_eq!(rt; spade_word(0xE1111), Err(PatternFault::Words));
-    assert_eq!(rt; spade_word(0x51111), Err(PatternFault::Owners));
+    expect_eq(&rt, &spade_word(0x411111), &Err(PatternFault::Words));
+    expect_eq(&rt, &spade_word(0xE1111), &Err(PatternFault::Words));
+    expect_eq(&rt, &spade_word(0x51111), &Err(PatternFault::Owners));
     Ok(())
 }
 
 #[test]
 fn gives_the_words_that_it_was_made_of(rt: HostRuntime) -> Result<(), Fail> {
     let rest_words = [0x121111, 0, 0xE441111, 0];
-    assert_eq!(rt; *spade_word(0xC32222)?.words(), [0xC32222, 0, 0, 0]);
-    assert_eq!(rt; *Rest::from_words(rest_words)?.words(), rest_words);
-    assert_eq!(rt;
-        Rest::from_words(rest_words)?.part(Suit::Diamonds),
-        part([1, 1, 1, 1], &[NORTH, EAST, SOUTH, WEST])
+    expect_eq(&rt, spade_word(0xC32222)?.words(), &[0xC32222, 0, 0, 0]);
+    expect_eq(&rt, Rest::from_words(rest_words)?.words(), &rest_words);
+    expect_eq(
+        &rt,
+        &Rest::from_words(rest_words)?.part(Suit::Diamonds),
+        &part([1, 1, 1, 1], &[NORTH, EAST, SOUTH, WEST]),
     );
-    assert_eq!(rt;
-        *spades([1, 1, 1, 1], &[EAST, SOUTH])?.words(),
-        [0x921111, 0, 0, 0]
+    expect_eq(
+        &rt,
+        spades([1, 1, 1, 1], &[EAST, SOUTH])?.words(),
+        &[0x921111, 0, 0, 0],
     );
     // North in the second place leaves no bit but in the number of owners.
     assert!(rt; spade_word(0x22222)? != spade_word(0x12222)?);
@@ -242,22 +264,25 @@ fn gives_the_words_that_it_was_made_of(rt: HostRuntime) -> Result<(), Fail> {
 
 #[test]
 fn refuses_words_in_order(rt: HostRuntime) -> Result<(), Fail> {
-    assert_eq!(rt; spade_word(1 << 63), Err(PatternFault::Words));
-    assert_eq!(rt;
-        Pattern::from_words([0x3344, 0, 0, 0xE0000]),
-        Err(PatternFault::Words)
+    expect_eq(&rt, &spade_word(1 << 63), &Err(PatternFault::Words));
+    expect_eq(
+        &rt,
+        &Pattern::from_words([0x3344, 0, 0, 0xE0000]),
+        &Err(PatternFault::Words),
     );
-    assert_eq!(rt; spade_word(0x3344), Err(PatternFault::Lengths));
-    assert_eq!(rt; spade_word(0x0111), Err(PatternFault::Cards));
-    assert_eq!(rt; spade_word(0), Err(PatternFault::Cards));
+    expect_eq(&rt, &spade_word(0x3344), &Err(PatternFault::Lengths));
+    expect_eq(&rt, &spade_word(0x0111), &Err(PatternFault::Cards));
+    expect_eq(&rt, &spade_word(0), &Err(PatternFault::Cards));
     assert!(rt; Rest::from_words([0; 4]).is_ok());
-    assert_eq!(rt;
-        Rest::from_words([0x000D, 0x00D0, 0x0D00, 0xD000]),
-        Err(PatternFault::Cards)
+    expect_eq(
+        &rt,
+        &Rest::from_words([0x000D, 0x00D0, 0x0D00, 0xD000]),
+        &Err(PatternFault::Cards),
     );
-    assert_eq!(rt;
-        *Pattern::from_words([0x000D, 0x00D0, 0x0D00, 0xD000])?.words(),
-        [0x000D, 0x00D0, 0x0D00, 0xD000]
+    expect_eq(
+        &rt,
+        Pattern::from_words([0x000D, 0x00D0, 0x0D00, 0xD000])?.words(),
+        &[0x000D, 0x00D0, 0x0D00, 0xD000],
     );
     Ok(())
 }
@@ -267,17 +292,19 @@ fn takes_cards_and_owners_out_of_a_word(rt: HostRuntime) -> Result<(), Fail> {
     let pattern = spades([2, 2, 2, 2], &[NORTH, WEST, NORTH])?;
     let held = pattern.suit(Suit::Spades);
     let west_alone = held.without(0b101);
-    assert_eq!(rt; west_alone.owner_count(), 1);
-    assert_eq!(rt; west_alone.owner(0), Some(WEST));
-    assert_eq!(rt; west_alone.len(NORTH), 2);
+    expect_eq(&rt, &west_alone.owner_count(), &1);
+    expect_eq(&rt, &west_alone.owner(0), &Some(WEST));
+    expect_eq(&rt, &west_alone.len(NORTH), &2);
     let norths = held.without(0b010);
-    assert_eq!(rt; norths.owner_count(), 2);
-    assert_eq!(rt; norths.owner(1), Some(NORTH));
-    assert_eq!(rt; held.without(1 << 5).owner_count(), 3);
-    assert_eq!(rt; held.without(u64::MAX).owner_count(), 0);
-    assert_eq!(rt; held.less(WEST).len(WEST), 1);
-    assert_eq!(rt; held.less(WEST).len(SOUTH), 2);
-    assert_eq!(rt; held.less(WEST).tops(NORTH), 2);
-    assert_eq!(rt; pattern.suit(Suit::Hearts).less(NORTH).len(NORTH), 0);
+    expect_eq(&rt, &norths.owner_count(), &2);
+    expect_eq(&rt, &norths.owner(1), &Some(NORTH));
+    expect_eq(&rt, &held.without(1 << 5).owner_count(), &3);
+    expect_eq(&rt, &held.without(u64::MAX).owner_count(), &0);
+    expect_eq(&rt, &held.less(0x1000).len(WEST), &1);
+    expect_eq(&rt, &held.less(0x1000).len(SOUTH), &2);
+    expect_eq(&rt, &held.less(0x1000).tops(NORTH), &2);
+    expect_eq(&rt, &held.less(0x2121).len(NORTH), &1);
+    expect_eq(&rt, &held.less(0x2121).len(WEST), &0);
+    expect_eq(&rt, &pattern.suit(Suit::Hearts).less(0).len(NORTH), &0);
     Ok(())
 }

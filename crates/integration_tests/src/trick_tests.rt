@@ -1,9 +1,11 @@
-//! What no clause says: worked tricks with answers made by hand.
+//! Worked tricks on patterns, with answers made by hand.
 
-use crate::{PatCard, SeatSet, are_legal, is_legal, legal, rest, winners};
+use crate::expect::expect_eq;
 use arrayvec::ArrayVec;
 use cards::{Seat, Suit, Trump};
+use pattern_step::{PatCard, SeatSet, are_legal, is_legal, legal, rest, winners};
 use patterns::{Pattern, PatternFault, SuitPart};
+use std::process::Abort;
 use std::test::Fail;
 
 const NORTH: Seat = Seat::North;
@@ -60,38 +62,48 @@ fn set(seats: &[Seat]) -> SeatSet {
     set
 }
 
+/// These are the cards.
+fn expect_cards(rt: &impl Abort, got: &[PatCard], wanted: &[PatCard]) {
+    assert_eq!(rt; got, wanted);
+}
+
 #[test]
 fn tells_the_legal_cards(rt: HostRuntime) -> Result<(), Fail> {
     let finesse = finesse()?;
     let west = legal(&finesse, WEST, Some(Suit::Spades));
-    assert_eq!(rt;
+    expect_cards(
+        &rt,
         west.as_slice(),
-        [top(Suit::Spades, 1), low(Suit::Spades)].as_slice()
+        [top(Suit::Spades, 1), low(Suit::Spades)].as_slice(),
     );
     let north = legal(&finesse, NORTH, Some(Suit::Spades));
-    assert_eq!(rt;
+    expect_cards(
+        &rt,
         north.as_slice(),
-        [top(Suit::Spades, 0), top(Suit::Spades, 2)].as_slice()
+        [top(Suit::Spades, 0), top(Suit::Spades, 2)].as_slice(),
     );
     // a seat without the suit led, and one that leads, may play any card
-    assert_eq!(rt;
+    expect_cards(
+        &rt,
         legal(&finesse, WEST, Some(Suit::Clubs)).as_slice(),
-        west.as_slice()
+        west.as_slice(),
     );
-    assert_eq!(rt; legal(&finesse, WEST, None).as_slice(), west.as_slice());
+    expect_cards(&rt, legal(&finesse, WEST, None).as_slice(), west.as_slice());
     let both = pattern(
         part([1, 0, 1, 1], &[NORTH]),
         part([1, 2, 1, 1], &[EAST, NORTH]),
     )?;
     let any = [top(Suit::Spades, 0), top(Suit::Hearts, 1)];
-    assert_eq!(rt; legal(&both, NORTH, None).as_slice(), any.as_slice());
-    assert_eq!(rt;
+    expect_cards(&rt, legal(&both, NORTH, None).as_slice(), any.as_slice());
+    expect_cards(
+        &rt,
         legal(&both, NORTH, Some(Suit::Hearts)).as_slice(),
-        [top(Suit::Hearts, 1)].as_slice()
+        [top(Suit::Hearts, 1)].as_slice(),
     );
-    assert_eq!(rt;
+    expect_cards(
+        &rt,
         legal(&both, SOUTH, None).as_slice(),
-        [low(Suit::Spades), low(Suit::Hearts)].as_slice()
+        [low(Suit::Spades), low(Suit::Hearts)].as_slice(),
     );
     Ok(())
 }
@@ -108,9 +120,13 @@ fn moves_the_owners_up(rt: HostRuntime) -> Result<(), Fail> {
         low(Suit::Spades),
     ];
     assert!(rt; are_legal(&finesse, SOUTH, &beaten));
-    assert_eq!(rt; winners(&finesse, Trump::Nt, SOUTH, &beaten), set(&[NORTH]));
+    expect_eq(
+        &rt,
+        &winners(&finesse, Trump::Nt, SOUTH, &beaten),
+        &set(&[NORTH]),
+    );
     let left = rest(&finesse, SOUTH, &beaten);
-    assert_eq!(rt; left.part(Suit::Spades), part([1, 1, 1, 1], &[NORTH]));
+    expect_eq(&rt, &left.part(Suit::Spades), &part([1, 1, 1, 1], &[NORTH]));
     assert!(rt; child.covers(&left));
     // West ducks, and North finesses
     let ducked = [
@@ -120,10 +136,18 @@ fn moves_the_owners_up(rt: HostRuntime) -> Result<(), Fail> {
         low(Suit::Spades),
     ];
     assert!(rt; are_legal(&finesse, SOUTH, &ducked));
-    assert_eq!(rt; winners(&finesse, Trump::Nt, SOUTH, &ducked), set(&[NORTH]));
+    expect_eq(
+        &rt,
+        &winners(&finesse, Trump::Nt, SOUTH, &ducked),
+        &set(&[NORTH]),
+    );
     let left = rest(&finesse, SOUTH, &ducked);
-    assert_eq!(rt; left.part(Suit::Spades), part([1, 1, 1, 1], &[NORTH, WEST]));
-    assert_eq!(rt; left.part(Suit::Hearts), part([0, 0, 0, 0], &[]));
+    expect_eq(
+        &rt,
+        &left.part(Suit::Spades),
+        &part([1, 1, 1, 1], &[NORTH, WEST]),
+    );
+    expect_eq(&rt, &left.part(Suit::Hearts), &part([0, 0, 0, 0], &[]));
     assert!(rt; child.covers(&left));
     Ok(())
 }
@@ -141,7 +165,11 @@ fn leaves_what_a_pattern_does_not_cover(rt: HostRuntime) -> Result<(), Fail> {
     ];
     assert!(rt; are_legal(&finesse, SOUTH, &wasted));
     let left = rest(&finesse, SOUTH, &wasted);
-    assert_eq!(rt; left.part(Suit::Spades), part([1, 1, 1, 1], &[WEST, NORTH]));
+    expect_eq(
+        &rt,
+        &left.part(Suit::Spades),
+        &part([1, 1, 1, 1], &[WEST, NORTH]),
+    );
     assert!(rt; !child.covers(&left));
     // after the last trick nothing is left, and no pattern covers nothing
     let last = [
@@ -151,9 +179,13 @@ fn leaves_what_a_pattern_does_not_cover(rt: HostRuntime) -> Result<(), Fail> {
         low(Suit::Spades),
     ];
     assert!(rt; are_legal(&child, NORTH, &last));
-    assert_eq!(rt; winners(&child, Trump::Nt, NORTH, &last), set(&[NORTH]));
+    expect_eq(
+        &rt,
+        &winners(&child, Trump::Nt, NORTH, &last),
+        &set(&[NORTH]),
+    );
     let nothing = rest(&child, NORTH, &last);
-    assert_eq!(rt; nothing.part(Suit::Spades), part([0, 0, 0, 0], &[]));
+    expect_eq(&rt, &nothing.part(Suit::Spades), &part([0, 0, 0, 0], &[]));
     assert!(rt; !child.covers(&nothing));
     Ok(())
 }
@@ -167,9 +199,10 @@ fn leaves_low_cards_to_any_of_their_players(rt: HostRuntime) -> Result<(), Fail>
         low(Suit::Spades),
         low(Suit::Spades),
     ];
-    assert_eq!(rt;
-        winners(&without_ranks, Trump::Nt, NORTH, &lows),
-        set(&[NORTH, EAST, SOUTH, WEST])
+    expect_eq(
+        &rt,
+        &winners(&without_ranks, Trump::Nt, NORTH, &lows),
+        &set(&[NORTH, EAST, SOUTH, WEST]),
     );
     let one_top = pattern(part([1, 1, 1, 1], &[EAST]), part([0, 0, 0, 0], &[]))?;
     let high = [
@@ -178,7 +211,11 @@ fn leaves_low_cards_to_any_of_their_players(rt: HostRuntime) -> Result<(), Fail>
         low(Suit::Spades),
         low(Suit::Spades),
     ];
-    assert_eq!(rt; winners(&one_top, Trump::Nt, EAST, &high), set(&[EAST]));
+    expect_eq(
+        &rt,
+        &winners(&one_top, Trump::Nt, EAST, &high),
+        &set(&[EAST]),
+    );
     Ok(())
 }
 
@@ -214,14 +251,20 @@ fn decides_by_trump(rt: HostRuntime) -> Result<(), Fail> {
         top(Suit::Hearts, 1),
         low(Suit::Spades),
     ];
-    assert_eq!(rt;
-        winners(&ending, Trump::Suit(Suit::Spades), EAST, &cards),
-        set(&[NORTH, SOUTH])
+    expect_eq(
+        &rt,
+        &winners(&ending, Trump::Suit(Suit::Spades), EAST, &cards),
+        &set(&[NORTH, SOUTH]),
     );
-    assert_eq!(rt; winners(&ending, Trump::Nt, EAST, &cards), set(&[EAST]));
-    assert_eq!(rt;
-        winners(&ending, Trump::Suit(Suit::Clubs), EAST, &cards),
-        set(&[EAST])
+    expect_eq(
+        &rt,
+        &winners(&ending, Trump::Nt, EAST, &cards),
+        &set(&[EAST]),
+    );
+    expect_eq(
+        &rt,
+        &winners(&ending, Trump::Suit(Suit::Clubs), EAST, &cards),
+        &set(&[EAST]),
     );
     Ok(())
 }
@@ -232,9 +275,9 @@ fn tells_unequal_cards_and_sets_apart(rt: HostRuntime) {
     assert!(rt; top(Suit::Spades, 0) != top(Suit::Spades, 1));
     assert!(rt; top(Suit::Spades, 0) != low(Suit::Spades));
     assert!(rt; low(Suit::Spades) != low(Suit::Clubs));
-    assert_eq!(rt; top(Suit::Clubs, 12), top(Suit::Clubs, 12));
+    expect_eq(&rt, &top(Suit::Clubs, 12), &top(Suit::Clubs, 12));
     for seat in [NORTH, EAST, SOUTH, WEST] {
         assert!(rt; set(&[seat]) != SeatSet::new());
-        assert_eq!(rt; set(&[seat, seat]), set(&[seat]));
+        expect_eq(&rt, &set(&[seat, seat]), &set(&[seat]));
     }
 }
