@@ -11,7 +11,7 @@ const MOST_BLOCKS: usize = 1 << 20;
 
 const MOST_SHAPES: usize = 1 << 18;
 /// How many slots are looked at for a shape.
-const PROBES: usize = 64;
+const PROBES: usize = 256;
 
 /// All lists of one shape: by the seat that leads and the side that wins. The number 0 ends a list.
 #[derive(Clone, Copy, Debug, Default)]
@@ -98,8 +98,9 @@ impl Entries {
     /// The place of the shape's slot, or of the free one where it would stand.
     fn place_of(&self, key: u64) -> Option<usize> {
         let mask = self.slots.len().wrapping_sub(1);
-        let hash = key.wrapping_mul(0x9e37_79b9_7f4a_7c15);
-        let mut place = (hash ^ hash >> 32) as usize & mask;
+        let mixed = key.wrapping_mul(0x9e37_79b9_7f4a_7c15);
+        let hash = (mixed ^ mixed >> 32).wrapping_mul(0x9e37_79b9_7f4a_7c15);
+        let mut place = (hash >> 32) as usize & mask;
         for _ in 0..PROBES {
             let slot = self.slots.get(place)?;
             if slot.key == key || slot.key == 0 {
