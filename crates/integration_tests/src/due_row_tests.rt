@@ -1,5 +1,6 @@
 //! Rows against a slow search.
 
+use crate::fixed_numbers::next;
 use due_rows::DueRow;
 use std::alloc::Global;
 use std::process::Abort;
@@ -16,11 +17,6 @@ fn slow_first(moments: &[Option<u64>], now: u64, from: usize) -> Option<usize> {
         }
     }
     None
-}
-
-/// The next of a fixed run of numbers below 2^31.
-fn next(number: u64) -> u64 {
-    (number % 2_147_483_648 * 1_103_515_245 + 12_345) % 2_147_483_648
 }
 
 /// A run of changes to a row of so many places and one more, each followed by searches from each place.

@@ -14,7 +14,11 @@ mod due_row_tests;
 #[cfg(test)]
 mod expect;
 #[cfg(test)]
+mod fixed_numbers;
+#[cfg(test)]
 mod graph_tests;
+#[cfg(test)]
+mod lease_tests;
 #[cfg(test)]
 mod memory_tests;
 #[cfg(test)]

@@ -1,0 +1,123 @@
+//! Boards of one card a hand, all of a suit, and the certificates of their entries.
+
+use crate::expect::joined;
+use cards::{Seat, Side, Trump};
+use lease_book::{Entry, GraphText, Request};
+use pbn_deals::{Board, BoardName, read_layout};
+use std::alloc::{AllocError, Global};
+use std::test::Fail;
+
+/// North has the ace.
+pub const NORTH_HIGH: &str = "N:A... K... Q... J...";
+
+/// East has the ace.
+pub const EAST_HIGH: &str = "N:K... A... Q... J...";
+
+/// The boards of these layouts, in order; one without a layout has no deal.
+pub fn boards(alloc: Global, layouts: &[Option<&str>]) -> Result<Vec<Board>, Fail> {
+    let mut boards = Vec::new(alloc);
+    for layout in layouts {
+        let deal = match layout {
+            Some(text) => Some(read_layout(text.as_bytes())?),
+            None => None,
+        };
+        boards.push(Board {
+            name: BoardName::new(Vec::new(alloc)),
+            deal,
+        })?;
+    }
+    Ok(boards)
+}
+
+/// The text of a graph for a side that needs nothing.
+pub fn nothing(alloc: Global, trump: Trump, side: Side) -> Result<Vec<u8>, AllocError> {
+    joined(
+        alloc,
+        &[
+            b"DDC 1\ntrump ",
+            trump.letters().as_bytes(),
+            b"\nside ",
+            side.letters().as_bytes(),
+            b"\nnodes 0\n",
+        ],
+    )
+}
+
+/// The text of a graph that shows the trick of this holder's ace, where this seat leads: the side plays its cards, and the
+/// opponents have one each.
+fn ace(alloc: Global, trump: Trump, holder: Seat, leader: Seat) -> Result<Vec<u8>, AllocError> {
+    let mut text = joined(
+        alloc,
+        &[
+            b"DDC 1\ntrump ",
+            trump.letters().as_bytes(),
+            b"\nside ",
+            holder.side().letters().as_bytes(),
+            b"\nnodes 1\n",
+            leader.letter().as_bytes(),
+            b" 1 1.1.1.1/",
+            holder.letter().as_bytes(),
+            b" 0.0.0.0/ 0.0.0.0/ 0.0.0.0/ ",
+        ],
+    )?;
+    let mut seat = leader;
+    for _ in 0..4 {
+        if seat.side() != holder.side() {
+            text.push(b'(')?;
+        }
+        text.extend_from_slice(if seat == holder { b"Sa" } else { b"Sx" })?;
+        seat = seat.next();
+    }
+    text.extend_from_slice(b"{}))\n")?;
+    Ok(text)
+}
+
+/// A number with the two texts that are to show it.
+#[derive(Drop)]
+pub struct Answer {
+    pub k: u8,
+    pub declarer: Vec<u8>,
+    pub defenders: Vec<u8>,
+}
+
+impl Answer {
+    /// What shows the value of a contract where this seat has the ace.
+    pub fn of(
+        alloc: Global,
+        holder: Seat,
+        declarer: Seat,
+        trump: Trump,
+    ) -> Result<Answer, AllocError> {
+        let trick = ace(alloc, trump, holder, declarer.next())?;
+        let none = nothing(alloc, trump, holder.side().other())?;
+        Ok(if declarer.side() == holder.side() {
+            Answer {
+                k: 1,
+                declarer: trick,
+                defenders: none,
+            }
+        } else {
+            Answer {
+                k: 0,
+                declarer: none,
+                defenders: trick,
+            }
+        })
+    }
+
+    /// The request that hands it in.
+    pub fn hand_in(self, lease: u64, entry: Entry) -> Request {
+        let Answer {
+            k,
+            declarer,
+            defenders,
+        } = self;
+        Request::HandIn {
+            lease,
+            entry,
+            k,
+            declarer: GraphText::new(declarer),
+            defenders: GraphText::new(defenders),
+        }
+    }
+}

@@ -1,0 +1,212 @@
+//! A long list of requests, some stale, repeated, damaged or for another entry: each reply and each publication is the one
+//! that a slow search of the list finds.
+
+use super::certificates::{Answer, EAST_HIGH, NORTH_HIGH, boards};
+use super::slow_book::{Ask, DECLARERS, Past, Rules, TRUMPS, entry_of, leased, published, reply};
+use crate::expect::expect_eq;
+use crate::fixed_numbers::next;
+use cards::{Seat, Trump};
+use checker::judge;
+use lease_book::{Book, Entry, Reply, Request, replay};
+use pbn_deals::Board;
+use std::alloc::{AllocError, Global};
+use std::process::Abort;
+use std::test::Fail;
+
+/// The layouts of the boards; the second has no deal.
+const LAYOUTS: [Option<&str>; 3] = [Some(NORTH_HIGH), None, Some(EAST_HIGH)];
+
+/// Whether each of them has a deal.
+const DEALS: [bool; 3] = [true, false, true];
+
+/// One of a few, by a number.
+fn pick<T: Copy>(some: &[T], number: u64, other: T) -> T {
+    let place = (number % 64) as usize;
+    match some.get(place % some.len().max(1)) {
+        Some(one) => *one,
+        None => other,
+    }
+}
+
+/// Some entry of one of four boards, of which the last isn't there.
+fn some_entry(number: u64) -> Entry {
+    Entry {
+        board: (number / 8 % 4) as usize,
+        declarer: pick(&DECLARERS, number / 32, Seat::North),
+        trump: pick(&TRUMPS, number / 128, Trump::Nt),
+    }
+}
+
+/// What is handed in for an entry: in one of nine cases what is right, and else something damaged.
+fn some_answer(alloc: Global, entry: Entry, number: u64) -> Result<Answer, AllocError> {
+    let holder = if entry.board == 0 {
+        Seat::North
+    } else {
+        Seat::East
+    };
+    let mut answer = Answer::of(alloc, holder, entry.declarer, entry.trump)?;
+    match number % 9 {
+        0 => {}
+        1 => answer.k = 1 - answer.k.min(1),
+        2 => answer.k = 2,
+        3 => {
+            let _cut = answer.declarer.pop();
+        }
+        4 => {
+            let _cut = answer.defenders.pop();
+        }
+        5 => answer = Answer::of(alloc, holder.next(), entry.declarer, entry.trump)?,
+        6 => answer = Answer::of(alloc, holder, entry.declarer.next(), entry.trump)?,
+        7 => {
+            let other = pick(&TRUMPS, number / 16, Trump::Nt);
+            answer = Answer::of(alloc, holder, entry.declarer, other)?;
+        }
+        _ => answer.defenders.clear(),
+    }
+    Ok(answer)
+}
+
+/// The number of a lease: in one of sixteen cases none that was given, in half of the others one of the last twenty.
+fn some_lease(past: &[Past], number: u64) -> u64 {
+    let given = leased(past, None);
+    let choice = number / 16;
+    match number % 16 {
+        0 => given.saturating_add(1 + choice % 3),
+        1..=7 => given.saturating_sub(choice % 20),
+        _ => choice % given.saturating_add(1),
+    }
+}
+
+/// The next request of the list, where these went before.
+fn some_request(alloc: Global, past: &[Past], number: u64) -> Result<Request, AllocError> {
+    let step = past.len() as u64;
+    let now = (step / 2 + number / 64 % 40).saturating_sub(20);
+    let lease = some_lease(past, number / 4096);
+    Ok(match number / 16 % 8 {
+        0 | 1 | 2 => Request::Lease { now },
+        3 => Request::Expire { now },
+        4 => Request::GiveUp { lease },
+        _ => {
+            let other = next(number);
+            let named = match entry_of(past, lease) {
+                Some(entry) if other / 64 % 8 != 0 => entry,
+                _ => some_entry(other / 512),
+            };
+            some_answer(alloc, named, other / 1024)?.hand_in(lease, named)
+        }
+    })
+}
+
+/// What the request asks, by the verdict on what it hands in.
+fn asked(alloc: Global, boards: &[Board], request: &Request) -> Result<Ask, Fail> {
+    Ok(match request {
+        Request::Lease { now } => Ask::Lease(*now),
+        Request::Expire { now } => Ask::Expire(*now),
+        Request::GiveUp { lease } => Ask::GiveUp(*lease),
+        Request::HandIn {
+            lease,
+            entry,
+            k,
+            declarer,
+            defenders,
+        } => {
+            let deal = match boards.get(entry.board) {
+                Some(board) => board.deal.as_ref(),
+                None => None,
+            };
+            let verdict = judge(
+                alloc,
+                deal,
+                entry.declarer,
+                entry.trump,
+                *k,
+                declarer.as_bytes(),
+                defenders.as_bytes(),
+            )?;
+            match verdict {
+                Ok(proven) => Ask::Good(*lease, *entry, proven.shown().k),
+                Err(fault) => Ask::Bad(*lease, *entry, fault),
+            }
+        }
+    })
+}
+
+/// Which of ten kinds of replies it is.
+fn kind_of(reply: Reply) -> usize {
+    match reply {
+        Reply::Given { .. } => 0,
+        Reply::Nothing => 1,
+        Reply::Freed(_) => 2,
+        Reply::GaveUp => 3,
+        Reply::UnknownLease => 4,
+        Reply::NotHeld => 5,
+        Reply::OtherEntry => 6,
+        Reply::AlreadyPublished => 7,
+        Reply::BadCertificate(_) => 8,
+        Reply::Published(_) => 9,
+    }
+}
+
+/// The publications of the book are those that the search finds, for all entries, and for one of a board that isn't there.
+fn same_publications<R: Abort>(rt: &R, book: &Book, past: &[Past]) {
+    for board in 0..4 {
+        for declarer in DECLARERS {
+            for trump in TRUMPS {
+                let entry = Entry {
+                    board,
+                    declarer,
+                    trump,
+                };
+                expect_eq(rt, &book.published(entry), &published(past, entry));
+            }
+        }
+    }
+}
+
+/// A list of 800 requests. Counts its replies by their kinds.
+fn compare_list<R: Abort>(
+    rt: &R,
+    alloc: Global,
+    seed: u64,
+    kinds: &mut [u64; 10],
+) -> Result<(), Fail> {
+    let rules = Rules {
+        deals: &DEALS,
+        term: 30,
+        tries: 6,
+    };
+    let known = boards(alloc, &LAYOUTS)?;
+    let mut past = Vec::new(alloc);
+    let mut requests = Vec::new(alloc);
+    let mut number = seed;
+    for _ in 0..800 {
+        number = next(number);
+        let request = some_request(alloc, past.as_slice(), number)?;
+        let ask = asked(alloc, known.as_slice(), &request)?;
+        let reply = reply(rules, past.as_slice(), ask);
+        if let Some(count) = kinds.get_mut(kind_of(reply)) {
+            *count = count.saturating_add(1);
+        }
+        past.push(Past { ask, reply })?;
+        requests.push(request)?;
+    }
+    let (book, replies) = replay(alloc, known, 30, 6, requests.as_slice())?;
+    expect_eq(rt, &replies.len(), &past.len());
+    for (reply, event) in replies.iter().zip(past.as_slice()) {
+        expect_eq(rt, reply, &event.reply);
+    }
+    same_publications(rt, &book, past.as_slice());
+    Ok(())
+}
+
+#[test]
+fn replies_are_those_of_a_slow_search(rt: HostRuntime) -> Result<(), Fail> {
+    let mut kinds = [0u64; 10];
+    for seed in [11, 22, 33, 44] {
+        compare_list(&rt, rt.alloc(), seed, &mut kinds)?;
+    }
+    for count in kinds {
+        assert!(rt; count >= 20, "{kinds:?}");
+    }
+    Ok(())
+}

@@ -1,0 +1,209 @@
+//! The replies of a book by a slow search of all that went before, rule by rule.
+
+use cards::{Seat, Suit, Trump};
+use checker::HandFault;
+use lease_book::{Entry, Reply};
+
+/// A request, with the verdict on it where it hands something in.
+#[derive(Clone, Copy, Debug)]
+pub enum Ask {
+    Lease(u64),
+    Expire(u64),
+    GiveUp(u64),
+    /// Under this lease, for this entry, texts that show this number.
+    Good(u64, Entry, u8),
+    /// Under this lease, for this entry, texts with this fault.
+    Bad(u64, Entry, HandFault),
+}
+
+/// A request that was replied to.
+#[derive(Clone, Copy, Debug)]
+pub struct Past {
+    pub ask: Ask,
+    pub reply: Reply,
+}
+
+/// A lease that is held.
+#[derive(Clone, Copy)]
+struct Held {
+    lease: u64,
+    deadline: u64,
+}
+
+/// Declarers in the order of entries.
+pub const DECLARERS: [Seat; 4] = [Seat::North, Seat::South, Seat::East, Seat::West];
+
+/// Denominations in the order of entries.
+pub const TRUMPS: [Trump; 5] = [
+    Trump::Nt,
+    Trump::Suit(Suit::Spades),
+    Trump::Suit(Suit::Hearts),
+    Trump::Suit(Suit::Diamonds),
+    Trump::Suit(Suit::Clubs),
+];
+
+/// The entry that a lease was given for.
+pub fn entry_of(past: &[Past], lease: u64) -> Option<Entry> {
+    for event in past {
+        if let Reply::Given {
+            lease: given,
+            entry,
+            ..
+        } = event.reply
+            && given == lease
+        {
+            return Some(entry);
+        }
+    }
+    None
+}
+
+/// Whether an event frees a lease of this entry.
+fn frees(event: &Past, held: Held, entry: Entry) -> bool {
+    match (event.ask, event.reply) {
+        (Ask::Expire(now), _) => held.deadline <= now,
+        (Ask::GiveUp(lease), _) => lease == held.lease,
+        (Ask::Bad(lease, _, _), Reply::BadCertificate(_)) => lease == held.lease,
+        (Ask::Good(_, published, _), Reply::Published(_)) => published == entry,
+        _ => false,
+    }
+}
+
+/// The lease of the entry that was given last, if no event after it freed it.
+fn holder_of(past: &[Past], entry: Entry) -> Option<Held> {
+    let mut held = None;
+    for event in past {
+        if let Some(lease) = held
+            && frees(event, lease, entry)
+        {
+            held = None;
+        }
+        if let Reply::Given {
+            lease,
+            entry: given,
+            deadline,
+        } = event.reply
+            && given == entry
+        {
+            held = Some(Held { lease, deadline });
+        }
+    }
+    held
+}
+
+/// Whether a lease of the entry is held.
+fn is_held(past: &[Past], entry: Entry, lease: u64) -> bool {
+    match holder_of(past, entry) {
+        Some(holder) => holder.lease == lease,
+        None => false,
+    }
+}
+
+/// The number that was published for the entry first.
+pub fn published(past: &[Past], entry: Entry) -> Option<u8> {
+    for event in past {
+        if let (Ask::Good(_, named, _), Reply::Published(k)) = (event.ask, event.reply)
+            && named == entry
+        {
+            return Some(k);
+        }
+    }
+    None
+}
+
+/// How many leases were given that are for the entry, or for any.
+pub fn leased(past: &[Past], of: Option<Entry>) -> u64 {
+    let mut count = 0u64;
+    for event in past {
+        if let Reply::Given { entry, .. } = event.reply
+            && (of.is_none() || of == Some(entry))
+        {
+            count = count.saturating_add(1);
+        }
+    }
+    count
+}
+
+/// What a book is over: whether each board has a deal, the term, and the tries.
+#[derive(Clone, Copy)]
+pub struct Rules<'a> {
+    pub deals: &'a [bool],
+    pub term: u64,
+    pub tries: u64,
+}
+
+/// Whether an entry of a board with a deal is open.
+fn is_open(rules: Rules, past: &[Past], entry: Entry) -> bool {
+    leased(past, Some(entry)) < rules.tries
+        && published(past, entry).is_none()
+        && holder_of(past, entry).is_none()
+}
+
+/// The least open entry.
+fn first_open(rules: Rules, past: &[Past]) -> Option<Entry> {
+    for (board, has_deal) in rules.deals.iter().enumerate() {
+        for declarer in DECLARERS {
+            for trump in TRUMPS {
+                let entry = Entry {
+                    board,
+                    declarer,
+                    trump,
+                };
+                if *has_deal && is_open(rules, past, entry) {
+                    return Some(entry);
+                }
+            }
+        }
+    }
+    None
+}
+
+/// How many of the leases that were given are held and have a deadline of this moment or an earlier one.
+fn past_deadlines(past: &[Past], now: u64) -> u64 {
+    let mut count = 0u64;
+    for event in past {
+        if let Reply::Given {
+            lease,
+            entry,
+            deadline,
+        } = event.reply
+            && deadline <= now
+            && is_held(past, entry, lease)
+        {
+            count = count.saturating_add(1);
+        }
+    }
+    count
+}
+
+/// The reply to a request after all these.
+pub fn reply(rules: Rules, past: &[Past], ask: Ask) -> Reply {
+    match ask {
+        Ask::Lease(now) => match first_open(rules, past) {
+            Some(entry) => Reply::Given {
+                lease: leased(past, None).saturating_add(1),
+                entry,
+                deadline: now.saturating_add(rules.term),
+            },
+            None => Reply::Nothing,
+        },
+        Ask::Expire(now) => Reply::Freed(past_deadlines(past, now)),
+        Ask::GiveUp(lease) => match entry_of(past, lease) {
+            None => Reply::UnknownLease,
+            Some(entry) if is_held(past, entry, lease) => Reply::GaveUp,
+            Some(_) => Reply::NotHeld,
+        },
+        Ask::Good(lease, entry, k) => counted(past, lease, entry, Reply::Published(k)),
+        Ask::Bad(lease, entry, fault) => counted(past, lease, entry, Reply::BadCertificate(fault)),
+    }
+}
+
+/// The reply to a hand-in that gets this one where it counts.
+fn counted(past: &[Past], lease: u64, entry: Entry, reply: Reply) -> Reply {
+    match entry_of(past, lease) {
+        None => Reply::UnknownLease,
+        Some(given) if given != entry => Reply::OtherEntry,
+        Some(_) if published(past, entry).is_some() => Reply::AlreadyPublished,
+        Some(_) => reply,
+    }
+}
