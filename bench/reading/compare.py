@@ -1,6 +1,6 @@
 #!/usr/bin/env python3
 """Compares `ddfarm table` with the reader beside it (reader.py): status, standard output and standard error, to the byte.
-What was written has to be read back as itself.
+What was written has to be read back as itself. One try of one step finds no number, so each table is incomplete.
 
 Usage: bench/reading/compare.py COUNT [SEED]. COUNT random texts of each kind, and all rows of up to four tokens between two
 boards. The program has to be built (run ./ddfarm once). Ends with status 1 at the first difference.
@@ -21,7 +21,8 @@ LONGEST = 4
 
 def run(text):
     """What `ddfarm table` does on the text."""
-    done = subprocess.run([PROGRAM, "table"], input=text, capture_output=True, check=False)
+    command = [PROGRAM, "table", "--tries", "1", "--budget", "1"]
+    done = subprocess.run(command, input=text, capture_output=True, check=False)
     return done.returncode, done.stdout, done.stderr
 
 

@@ -2,7 +2,8 @@
 """Times `ddfarm table` on texts of 4,096 boards, of about 1 MB and about 10 MB, beside `wc -l` on the same files.
 
 Usage: bench/tables/speed.py. The program has to be built (run ./ddfarm once). Each figure is the best of five runs, with
-the output to a file. The longer text has the same boards with ninety lines of play more in each game.
+the output to a file. The longer text has the same boards with ninety lines of play more in each game. One try of one step
+finds no number: what is timed is reading, leasing and writing.
 """
 import os
 import random
@@ -69,7 +70,7 @@ def main():
             path, output = os.path.join(room, "text.pbn"), os.path.join(room, "tables.pbn")
             with open(path, "w", newline="") as file:
                 file.write(text(more_lines))
-            ours = best([PROGRAM, "table"], path, output)
+            ours = best([PROGRAM, "table", "--tries", "1", "--budget", "1"], path, output)
             theirs = best(["wc", "-l"], path, os.path.join(room, "count"))
             size, written = os.path.getsize(path), os.path.getsize(output)
             print(f"{size} bytes read, {written} written: ddfarm table {ours:.0f} ms, wc -l {theirs:.0f} ms")

@@ -11,15 +11,17 @@ use partition_solver::Solver;
 use runs::{RunFault, Status, do_run, show, tell};
 use std::alloc::Global;
 use std::convert::AsStr;
+use tournaments::Clock;
 
 /// Does what the words ask for, the first of them being the program's name, and answers how the run ends.
 ///
 /// What can't be done is told on the error output, with nothing on the output but the beginning that a failed output has
 /// taken; else the error output is as it was. Where the error output fails, nobody is left to be told.
-pub fn run_command<'a, S: AsStr, P: Solver, I: Source, O: Sink, E: Sink>(
+pub fn run_command<'a, S: AsStr, P: Solver, C: Clock, I: Source, O: Sink, E: Sink>(
     alloc: Global,
     words: &'a [S],
     solver: &P,
+    clock: &C,
     input: &mut I,
     output: &mut O,
     errors: &mut E,
@@ -28,7 +30,7 @@ pub fn run_command<'a, S: AsStr, P: Solver, I: Source, O: Sink, E: Sink>(
         (E.state errors.old) (E.state errors.new) result }
 {
     match run_of(alloc, words) {
-        Ok(asked) => do_run(alloc, asked, solver, input, output, errors),
+        Ok(asked) => do_run(alloc, asked, solver, clock, input, output, errors),
         Err(error) => tell_words(alloc, error, output, errors),
     }
 }

@@ -41,16 +41,17 @@ pub const BUDGET: &str = "\
 How many steps a search for an answer may take, each one card tried: 1 to 1000000000";
 
 pub const TABLE_ABOUT: &str = "\
-Reads the boards of a tournament in PBN and writes them, so far without tables";
+Reads the boards of a tournament in PBN and writes their double-dummy tables";
 
-pub const TABLE_USAGE: &str = "ddfarm table <club.pbn >tables.pbn";
+pub const TABLE_USAGE: &str = "ddfarm table [OPTIONS] <club.pbn >tables.pbn";
 
 pub const TABLE_EXAMPLE: &str = "\
 Example:
   ddfarm table <club.pbn >tables.pbn
 reads a PBN 2.1 text from the standard input and writes one to the standard
-output: of each board its name and its deal. No results are found yet, so in
-place of each table stands `; table incomplete: 0 of 20`, and the exit status is 3.
+output: of each board its name, its deal and its table, twenty numbers of tricks,
+each backed by certificates that were checked. Where some weren't found, a line such
+as `; table incomplete: 19 of 20` stands in place of the table.
 
 What is refused, each with its line:
   1 TagForm        what begins with `[` is not a tag pair
@@ -67,6 +68,12 @@ Exit status:
   1  memory or a device failed
   2  the command line or the text is refused
   3  a table is incomplete";
+
+pub const TERM: &str = "\
+How many seconds an entry is lent to a search before it is free again: 0 to 1000000000";
+
+pub const TRIES: &str = "\
+How often an entry is searched before it is left without a number: 1 to 1000";
 
 pub const CHECK_ABOUT: &str = "\
 Checks an answer: that declarer's side takes just so many tricks of a layout";

@@ -1,5 +1,8 @@
 //! Which run the words of a command line ask for.
 
+ghost use Rattle.std.specs.Prelude.{IfOk, IfSome};
+ghost use Rattle.runs.specs.Runs.{IsRun};
+
 use crate::help;
 use cards::{Seat, Trump};
 use clap::error::ErrorKind;
@@ -23,7 +26,7 @@ fn command<'a>(alloc: Global) -> Result<Command<'a>, AllocError> {
         .disable_help_subcommand(true)
         .subcommand(plain_command(alloc)?)?
         .subcommand(solve_command(alloc)?)?
-        .subcommand(table_command(alloc))?
+        .subcommand(table_command(alloc)?)?
         .subcommand(check_command(alloc)?)
 }
 
@@ -91,15 +94,38 @@ fn budget_arg<'a>(alloc: Global) -> Arg<'a> {
         .help(help::BUDGET)
 }
 
-fn table_command<'a>(alloc: Global) -> Command<'a> {
+fn term_arg<'a>(alloc: Global) -> Arg<'a> {
+    Arg::new(alloc, "term")
+        .long("term")
+        .value_name("SECONDS")
+        .value_parser(value_parser!(u64).range(0..=1_000_000_000))
+        .default_value("600")
+        .help(help::TERM)
+}
+
+fn tries_arg<'a>(alloc: Global) -> Arg<'a> {
+    Arg::new(alloc, "tries")
+        .long("tries")
+        .value_name("TRIES")
+        .value_parser(value_parser!(u32).range(1..=1000))
+        .default_value("3")
+        .help(help::TRIES)
+}
+
+fn table_command<'a>(alloc: Global) -> Result<Command<'a>, AllocError> {
     Command::new(alloc, "table")
         .about(help::TABLE_ABOUT)
         .override_usage(help::TABLE_USAGE)
         .after_help(help::TABLE_EXAMPLE)
+        .arg(term_arg(alloc))?
+        .arg(tries_arg(alloc))?
+        .arg(budget_arg(alloc))
 }
 
 /// The run that the words ask for, the first of them being the program's name.
-pub fn run_of<'a, S: AsStr>(alloc: Global, words: &'a [S]) -> Result<Run<'a>, Error> {
+pub fn run_of<'a, S: AsStr>(alloc: Global, words: &'a [S]) -> Result<Run<'a>, Error>
+    ensures { IfOk result IsRun }
+{
     let mut command = command(alloc)?;
     let matches = command.try_get_matches_from_mut(words)?;
     match matched_run(&matches) {
@@ -108,9 +134,11 @@ pub fn run_of<'a, S: AsStr>(alloc: Global, words: &'a [S]) -> Result<Run<'a>, Er
     }
 }
 
-fn matched_run<'a>(matches: &ArgMatches<'a>) -> Option<Run<'a>> {
-    if matches.subcommand_matches("table").is_some() {
-        return Some(Run::Tables);
+fn matched_run<'a>(matches: &ArgMatches<'a>) -> Option<Run<'a>>
+    ensures { IfSome result IsRun }
+{
+    if let Some(table) = matches.subcommand_matches("table") {
+        return tables_run(table);
     }
     if let Some(check) = matches.subcommand_matches("check") {
         return checked_run(check);
@@ -121,7 +149,9 @@ fn matched_run<'a>(matches: &ArgMatches<'a>) -> Option<Run<'a>> {
     plain_run(matches.subcommand_matches("plain")?)
 }
 
-fn plain_run<'a>(plain: &ArgMatches<'a>) -> Option<Run<'a>> {
+fn plain_run<'a>(plain: &ArgMatches<'a>) -> Option<Run<'a>>
+    ensures { IfSome result IsRun }
+{
     Some(Run::Plain {
         layout: plain.get_str("LAYOUT")?,
         leader: Seat::of_letter(plain.get_str("LEADER")?)?,
@@ -129,7 +159,9 @@ fn plain_run<'a>(plain: &ArgMatches<'a>) -> Option<Run<'a>> {
     })
 }
 
-fn solved_run<'a>(solve: &ArgMatches<'a>) -> Option<Run<'a>> {
+fn solved_run<'a>(solve: &ArgMatches<'a>) -> Option<Run<'a>>
+    ensures { IfSome result IsRun }
+{
     Some(Run::Solve {
         layout: solve.get_str("LAYOUT")?,
         declarer: Seat::of_letter(solve.get_str("DECLARER")?)?,
@@ -138,7 +170,25 @@ fn solved_run<'a>(solve: &ArgMatches<'a>) -> Option<Run<'a>> {
     })
 }
 
-fn checked_run<'a>(check: &ArgMatches<'a>) -> Option<Run<'a>> {
+fn tables_run<'a>(table: &ArgMatches<'a>) -> Option<Run<'a>>
+    ensures { IfSome result IsRun }
+{
+    let term = table.get_one::<u64>("term")?;
+    let tries = table.get_one::<u32>("tries")?;
+    let budget = table.get_one::<u64>("budget")?;
+    if tries == 0 || tries > 1000 || budget == 0 {
+        return None;
+    }
+    Some(Run::Tables {
+        term,
+        tries,
+        budget,
+    })
+}
+
+fn checked_run<'a>(check: &ArgMatches<'a>) -> Option<Run<'a>>
+    ensures { IfSome result IsRun }
+{
     Some(Run::Check {
         layout: check.get_str("LAYOUT")?,
         declarer: Seat::of_letter(check.get_str("DECLARER")?)?,

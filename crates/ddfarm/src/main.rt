@@ -8,7 +8,29 @@ use partition_solver::Partition;
 use runs::{RunFault, close_output, tell};
 use std::io::{BufWriter, ErrorKind};
 use std::process::ExitCode;
+use std::time::Instant;
 use streams::{ReaderSource, WriterSink};
+use tournaments::Clock;
+
+/// Whole seconds since the program's start.
+#[derive(Drop)]
+struct Seconds<'a> {
+    rt: &'a HostRuntime,
+    start: Option<Instant>,
+}
+
+impl Clock for Seconds<'_> {
+    /// 0 where the time can't be read.
+    fn now(&self) -> u64 {
+        let Some(start) = &self.start else {
+            return 0;
+        };
+        match start.elapsed(self.rt) {
+            Ok(time) => time.as_secs(),
+            Err(_) => 0,
+        }
+    }
+}
 
 /// The words that the process was started with.
 fn words_of_process(rt: &HostRuntime) -> Result<Vec<String>, RunFault> {
@@ -20,6 +42,10 @@ fn words_of_process(rt: &HostRuntime) -> Result<Vec<String>, RunFault> {
 }
 
 fn main(rt: HostRuntime) -> ExitCode {
+    let clock = Seconds {
+        rt: &rt,
+        start: Instant::now(&rt).ok(),
+    };
     let mut input = ReaderSource::new(rt.stdin());
     let mut errors = WriterSink::new(rt.stderr());
     let Ok(buffered) = BufWriter::new(rt.alloc(), rt.stdout()) else {
@@ -31,6 +57,7 @@ fn main(rt: HostRuntime) -> ExitCode {
             rt.alloc(),
             words.as_slice(),
             &Partition,
+            &clock,
             &mut input,
             &mut output,
             &mut errors,

@@ -1,6 +1,8 @@
 //! What runs are expected to print, to tell and to end with. A call of these costs the prover next to nothing, an
 //! `assert_eq!` a second or more.
 
+ghost use Rattle.runs.specs.Runs.{IsRun};
+
 use cards::{Buffer, Bytes, Layout, Seat, Trump};
 use certificate_graph::Answer;
 use command_line::run_command;
@@ -10,6 +12,7 @@ use std::alloc::{AllocError, Global};
 use std::fmt::Debug;
 use std::process::Abort;
 use std::test::Fail;
+use tournaments::Clock;
 
 /// Room for all that a run prints.
 pub const ROOM: usize = 8192;
@@ -30,6 +33,15 @@ impl Solver for Nothing {
         _budget: u64,
     ) -> Result<Option<Answer>, AllocError> {
         Ok(None)
+    }
+}
+
+/// A clock that stands still.
+pub struct Stopped;
+
+impl Clock for Stopped {
+    fn now(&self) -> u64 {
+        0
     }
 }
 
@@ -64,11 +76,21 @@ pub fn expect_run(
     text: &[u8],
     room: usize,
     wanted: End<'_>,
-) -> Result<(), Fail> {
+) -> Result<(), Fail>
+    requires { IsRun run }
+{
     let mut input = Bytes::new(text, 7);
     let mut output = Buffer::new(alloc, room, 3)?;
     let mut errors = Buffer::new(alloc, ROOM, 7)?;
-    let status = do_run(alloc, run, &Nothing, &mut input, &mut output, &mut errors);
+    let status = do_run(
+        alloc,
+        run,
+        &Nothing,
+        &Stopped,
+        &mut input,
+        &mut output,
+        &mut errors,
+    );
     expect_end(rt, status, &output, &errors, wanted)
 }
 
@@ -84,6 +106,14 @@ pub fn expect_words(
     let mut input = Bytes::new(text, 7);
     let mut output = Buffer::new(alloc, room, 3)?;
     let mut errors = Buffer::new(alloc, ROOM, 7)?;
-    let status = run_command(alloc, words, &Nothing, &mut input, &mut output, &mut errors);
+    let status = run_command(
+        alloc,
+        words,
+        &Nothing,
+        &Stopped,
+        &mut input,
+        &mut output,
+        &mut errors,
+    );
     expect_end(rt, status, &output, &errors, wanted)
 }

@@ -1,6 +1,9 @@
 //! The tricks of North and South in endings, and layouts that are refused.
 mod endings;
 
+ghost use Rattle.std.specs.Prelude.{IfSome};
+ghost use Rattle.runs.specs.Runs.{IsRun};
+
 use crate::expect::{ROOM, expect_eq, expect_run};
 use cards::{Buffer, Seat, Suit, Trump};
 use endings::{ENDINGS, Ending};
@@ -11,7 +14,9 @@ use std::process::Abort;
 use std::test::Fail;
 
 /// The run of `plain`, by the letters of the seat and of the denomination.
-fn plain<'a>(layout: &'a str, leader: &str, trump: &str) -> Option<Run<'a>> {
+fn plain<'a>(layout: &'a str, leader: &str, trump: &str) -> Option<Run<'a>>
+    ensures { IfSome result IsRun }
+{
     Some(Run::Plain {
         layout,
         leader: Seat::of_letter(leader)?,

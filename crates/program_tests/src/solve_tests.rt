@@ -1,6 +1,8 @@
 //! Answers that are found, written and then checked.
 
-use crate::expect::{End, ROOM, expect_end, expect_eq, expect_run};
+ghost use Rattle.runs.specs.Runs.{IsRun};
+
+use crate::expect::{End, ROOM, Stopped, expect_end, expect_eq, expect_run};
 use cards::{Buffer, Bytes, Layout, Seat, Side, Suit, Trump};
 use certificate_graph::{Answer, Graph};
 use partition_solver::{Partition, Solver};
@@ -57,11 +59,21 @@ fn expect_solved(
     solver: &impl Solver,
     room: usize,
     wanted: End<'_>,
-) -> Result<(), Fail> {
+) -> Result<(), Fail>
+    requires { IsRun run }
+{
     let mut input = Bytes::new(b"", 7);
     let mut output = Buffer::new(alloc, room, 3)?;
     let mut errors = Buffer::new(alloc, ROOM, 7)?;
-    let status = do_run(alloc, run, solver, &mut input, &mut output, &mut errors);
+    let status = do_run(
+        alloc,
+        run,
+        solver,
+        &Stopped,
+        &mut input,
+        &mut output,
+        &mut errors,
+    );
     expect_end(rt, status, &output, &errors, wanted)
 }
 
@@ -82,7 +94,15 @@ fn expect_accepted(
     let mut input = Bytes::new(b"", 7);
     let mut answer = Buffer::new(alloc, ANSWER_ROOM, 300)?;
     let mut errors = Buffer::new(alloc, ROOM, 7)?;
-    let status = do_run(alloc, run, &Partition, &mut input, &mut answer, &mut errors);
+    let status = do_run(
+        alloc,
+        run,
+        &Partition,
+        &Stopped,
+        &mut input,
+        &mut answer,
+        &mut errors,
+    );
     expect_eq(rt, &status, &Status::Done);
     let tricks = tricks_of(layout, declarer, trump)?;
     let line = format!(in alloc; "accepted {tricks}\n")?;
@@ -114,7 +134,9 @@ fn answers_are_accepted(rt: HostRuntime) -> Result<(), Fail> {
 }
 
 /// East's contract on the layout without trumps.
-fn east(layout: &str, budget: u64) -> Run<'_> {
+fn east(layout: &str, budget: u64) -> Run<'_>
+    ensures { IsRun result }
+{
     Run::Solve {
         layout,
         declarer: Seat::East,

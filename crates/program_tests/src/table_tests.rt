@@ -1,13 +1,27 @@
 //! What `table` prints of PBN texts, worked out by hand from the format.
 
-use crate::expect::{ROOM, expect_eq, expect_run};
+use crate::expect::{Nothing, ROOM, Stopped, expect_eq, expect_run};
 use cards::{Buffer, Bytes};
 use pbn_deals::PbnFault;
-use runs::{Run, RunFault, Status, make_blank};
+use runs::{Run, Status};
 use std::alloc::Global;
 use std::process::Abort;
 use std::test::Fail;
 use tables::Report;
+use tournaments::{MakeFault, make_single};
+
+const TERM: u64 = 600;
+
+const TRIES: u32 = 3;
+
+const STEPS: u64 = 10_000_000;
+
+/// The tables of the input, with a solver that finds nothing.
+const TABLES: Run<'static> = Run::Tables {
+    term: TERM,
+    tries: TRIES,
+    budget: STEPS,
+};
 
 /// A file as a tournament writes it: CR LF, a comment over a blank line, words in small letters, section data with
 /// brackets and quotes, a game without a Deal tag.
@@ -65,7 +79,7 @@ fn expect_boards(
     rows: &[(&[u8], Status, &str)],
 ) -> Result<(), Fail> {
     for (text, status, printed) in rows {
-        expect_run(rt, alloc, Run::Tables, text, ROOM, (*status, *printed, ""))?;
+        expect_run(rt, alloc, TABLES, text, ROOM, (*status, *printed, ""))?;
     }
     Ok(())
 }
@@ -100,14 +114,7 @@ const REFUSED: [(&[u8], &str); 7] = [
 /// Each text is refused.
 fn expect_refused(rt: &impl Abort, alloc: Global, rows: &[(&[u8], &str)]) -> Result<(), Fail> {
     for (text, told) in rows {
-        expect_run(
-            rt,
-            alloc,
-            Run::Tables,
-            text,
-            ROOM,
-            (Status::Refused, "", *told),
-        )?;
+        expect_run(rt, alloc, TABLES, text, ROOM, (Status::Refused, "", *told))?;
     }
     Ok(())
 }
@@ -132,7 +139,7 @@ fn a_full_output_of_tables(rt: HostRuntime) -> Result<(), Fail> {
     for room in 0..UNNAMED.len() {
         let printed = UNNAMED.get(..room).unwrap_or("");
         let wanted = (Status::Failed, printed, "ddfarm: writing failed\n");
-        expect_run(&rt, rt.alloc(), Run::Tables, b"[Deal \"?\"]", room, wanted)?;
+        expect_run(&rt, rt.alloc(), TABLES, b"[Deal \"?\"]", room, wanted)?;
     }
     Ok(())
 }
@@ -141,8 +148,17 @@ fn a_full_output_of_tables(rt: HostRuntime) -> Result<(), Fail> {
 fn expect_torn(rt: &impl Abort, alloc: Global, calls: u64) -> Result<(), Fail> {
     let mut input = Bytes::failing_after(CR_LF, 1, calls);
     let mut output = Buffer::new(alloc, ROOM, 3)?;
-    let made = make_blank(alloc, &mut input, &mut output);
-    expect_eq(rt, &made, &Err(RunFault::Read));
+    let made = make_single(
+        alloc,
+        &mut input,
+        &mut output,
+        TERM,
+        TRIES,
+        STEPS,
+        &Nothing,
+        &Stopped,
+    );
+    expect_eq(rt, &made.map(|made| made.0), &Err(MakeFault::Read));
     expect_eq(rt, &output.bytes(), &b"".as_slice());
     Ok(())
 }
@@ -160,16 +176,34 @@ fn a_torn_input(rt: HostRuntime) -> Result<(), Fail> {
 fn reports(rt: HostRuntime) -> Result<(), Fail> {
     let mut output = Buffer::new(rt.alloc(), ROOM, 3)?;
     let mut input = Bytes::new(CR_LF, 5);
-    let made = make_blank(rt.alloc(), &mut input, &mut output);
+    let made = make_single(
+        rt.alloc(),
+        &mut input,
+        &mut output,
+        TERM,
+        TRIES,
+        STEPS,
+        &Nothing,
+        &Stopped,
+    );
     let report = Report {
         boards: 2,
         complete: 0,
     };
-    expect_eq(&rt, &made, &Ok(report));
+    expect_eq(&rt, &made.map(|made| made.0), &Ok(report));
     let mut input = Bytes::new(b"\n{", 5);
-    let refused = make_blank(rt.alloc(), &mut input, &mut output);
-    let fault = RunFault::Pbn(PbnFault::OpenComment { line: 2 });
-    expect_eq(&rt, &refused, &Err(fault));
+    let refused = make_single(
+        rt.alloc(),
+        &mut input,
+        &mut output,
+        TERM,
+        TRIES,
+        STEPS,
+        &Nothing,
+        &Stopped,
+    );
+    let fault = MakeFault::Pbn(PbnFault::OpenComment { line: 2 });
+    expect_eq(&rt, &refused.map(|made| made.0), &Err(fault));
     expect_eq(&rt, &output.bytes(), &OF_CR_LF.as_bytes());
     Ok(())
 }

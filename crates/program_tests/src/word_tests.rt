@@ -1,6 +1,6 @@
 //! What the words of a command line come to.
 
-use crate::expect::{End, Nothing, ROOM, expect_end, expect_eq, expect_words};
+use crate::expect::{End, Nothing, ROOM, Stopped, expect_end, expect_eq, expect_words};
 use cards::{Buffer, Bytes};
 use command_line::run_command;
 use runs::Status;
@@ -167,7 +167,7 @@ fn words_of_check(rt: HostRuntime) -> Result<(), Fail> {
 }
 
 /// The words of `table` have the input read.
-const TABLES: [(&[&str], &str, End<'static>); 3] = [
+const TABLES: [(&[&str], &str, End<'static>); 5] = [
     (&["ddfarm", "table"], "", (Status::Done, "% PBN 2.1\n", "")),
     (
         &["ddfarm", "table"],
@@ -177,6 +177,31 @@ const TABLES: [(&[&str], &str, End<'static>); 3] = [
             "% PBN 2.1\n[Board \"\"]\n[Deal \"?\"]\n; table incomplete: 0 of 20\n\n",
             "",
         ),
+    ),
+    (
+        &[
+            "ddfarm",
+            "table",
+            "--term=0",
+            "--tries=1000",
+            "--budget=1000000000",
+        ],
+        "",
+        (Status::Done, "% PBN 2.1\n", ""),
+    ),
+    (
+        &[
+            "ddfarm",
+            "table",
+            "--budget",
+            "1",
+            "--tries",
+            "1",
+            "--term",
+            "1000000000",
+        ],
+        "",
+        (Status::Done, "% PBN 2.1\n", ""),
     ),
     (
         &["ddfarm", "table"],
@@ -235,7 +260,7 @@ fn words_of_solve(rt: HostRuntime) -> Result<(), Fail> {
 }
 
 /// Words that are refused, and how what is told of them begins.
-const REFUSED_WORDS: [(&[&str], &str); 14] = [
+const REFUSED_WORDS: [(&[&str], &str); 20] = [
     (
         &["ddfarm", "check", "N:A", "n", "NT"],
         "error: invalid value 'n' for '<DECLARER>'\n",
@@ -243,6 +268,30 @@ const REFUSED_WORDS: [(&[&str], &str); 14] = [
     (
         &["ddfarm", "check", "N:A", "N", "NT", "answer.txt"],
         "error: unexpected argument 'answer.txt' found\n\nUsage: ddfarm check LAYOUT DECLARER TRUMP <answer.txt\n",
+    ),
+    (
+        &["ddfarm", "table", "--term", "1000000001"],
+        "error: invalid value '1000000001' for '--term <SECONDS>'",
+    ),
+    (
+        &["ddfarm", "table", "--term", "-1"],
+        "error: unexpected argument '-1' found\n",
+    ),
+    (
+        &["ddfarm", "table", "--tries", "0"],
+        "error: invalid value '0' for '--tries <TRIES>'",
+    ),
+    (
+        &["ddfarm", "table", "--tries", "1001"],
+        "error: invalid value '1001' for '--tries <TRIES>'",
+    ),
+    (
+        &["ddfarm", "table", "--budget", "0"],
+        "error: invalid value '0' for '--budget <STEPS>'",
+    ),
+    (
+        &["ddfarm", "table", "--budget", "1", "--budget", "1"],
+        "error: the argument '--budget <STEPS>' cannot be used multiple times\n",
     ),
     (
         &["ddfarm", "tables"],
@@ -290,7 +339,7 @@ const REFUSED_WORDS: [(&[&str], &str); 14] = [
     ),
     (
         &["ddfarm", "table", "club.pbn"],
-        "error: unexpected argument 'club.pbn' found\n\nUsage: ddfarm table <club.pbn >tables.pbn\n",
+        "error: unexpected argument 'club.pbn' found\n\nUsage: ddfarm table [OPTIONS] <club.pbn >tables.pbn\n",
     ),
     (
         &["ddfarm", "--loud"],
@@ -305,7 +354,15 @@ fn expect_refused(rt: &impl Abort, alloc: Global, rows: &[(&[&str], &str)]) -> R
         let mut input = Bytes::new(b"", 1);
         let mut output = Buffer::new(alloc, ROOM, 3)?;
         let mut errors = Buffer::new(alloc, ROOM, 7)?;
-        let status = run_command(alloc, words, &Nothing, &mut input, &mut output, &mut errors);
+        let status = run_command(
+            alloc,
+            words,
+            &Nothing,
+            &Stopped,
+            &mut input,
+            &mut output,
+            &mut errors,
+        );
         expect_eq(rt, &status, &Status::Refused);
         let text = str::from_utf8(errors.bytes())?;
         assert!(rt; text.starts_with(told), "at {words:?}: {text}");
@@ -325,7 +382,7 @@ const HELP: [(&[&str], &str); 10] = [
     (&["ddfarm", "--help"], "  plain  Prints how many tricks"),
     (
         &["ddfarm", "table", "--help"],
-        "Usage: ddfarm table <club.pbn >tables.pbn\n",
+        "Usage: ddfarm table [OPTIONS] <club.pbn >tables.pbn\n",
     ),
     (
         &["ddfarm", "table", "--help"],
@@ -360,7 +417,15 @@ fn expect_shown(rt: &impl Abort, alloc: Global, rows: &[(&[&str], &str)]) -> Res
         let mut input = Bytes::new(b"", 1);
         let mut output = Buffer::new(alloc, ROOM, 3)?;
         let mut errors = Buffer::new(alloc, ROOM, 7)?;
-        let status = run_command(alloc, words, &Nothing, &mut input, &mut output, &mut errors);
+        let status = run_command(
+            alloc,
+            words,
+            &Nothing,
+            &Stopped,
+            &mut input,
+            &mut output,
+            &mut errors,
+        );
         expect_eq(rt, &status, &Status::Done);
         let text = str::from_utf8(output.bytes())?;
         assert!(rt; text.contains(*named), "at {words:?}: {text}");
@@ -386,6 +451,7 @@ fn plain_leaves_the_input(rt: HostRuntime) -> Result<(), Fail> {
         rt.alloc(),
         words,
         &Nothing,
+        &Stopped,
         &mut input,
         &mut output,
         &mut errors,
@@ -434,6 +500,7 @@ fn a_full_error_output_is_not_told(rt: HostRuntime) -> Result<(), Fail> {
         rt.alloc(),
         words.as_slice(),
         &Nothing,
+        &Stopped,
         &mut input,
         &mut output,
         &mut errors,

@@ -1,4 +1,3 @@
-pub mod BlankLemmas
 pub mod TellLemmas
 pub mod AnswerLaws
 pub mod CheckLemmas

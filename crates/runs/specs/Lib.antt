@@ -1,6 +1,5 @@
 pub mod Statuses
 pub mod PlainLine
-pub mod Blanks
 pub mod Answers
 pub mod VerdictLines
 pub mod Checks

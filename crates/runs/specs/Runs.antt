@@ -1,6 +1,9 @@
 -- What a run does for what was asked, and how it ends.
-use Rattle.std.specs.Prelude.{◌≡◌, Result, Ok, Err, nat_lt, if◌then◌else◌, ◌⊎◌, Option, List, ℕ}
+use Rattle.std.specs.Prelude.{◌≡◌, ◌<◌, ⊤, Result, Ok, Err, nat_lt, if◌then◌else◌, ◌⊎◌, Option, List, ℕ}
+use Rattle.lease_book.specs.Books.{AreTries, Ledger}
 use Rattle.tables.specs.declared.sheets.Report.{Report}
+use Rattle.tournaments.specs.declared.faults.MakeFault.{MakeFault}
+use Rattle.tournaments.specs.Making.{MakesTables}
 use Rattle.streams.specs.Flushes.{HandsOn}
 use Rattle.cards.specs.Devices.{Device, Fails, Adds, AddsBeginning}
 use Rattle.runs.specs.declared.faults.RunFault.{RunFault}
@@ -9,15 +12,21 @@ use Rattle.runs.specs.declared.statuses.Status.{Status}
 use Rattle.runs.specs.declared.statuses.Status.TheVariants.{Done, Failed, Refused, Incomplete, Rejected}
 use Rattle.runs.specs.declared.running.Run.{Run}
 use Rattle.runs.specs.declared.running.Run.TheVariants.{Plain, Solve, Tables, Check}
-use Rattle.runs.specs.Statuses.{fault_status, told_line, IsTold}
+use Rattle.runs.specs.Statuses.{fault_status, make_fault, told_line, IsTold}
 use Rattle.runs.specs.PlainLine.{MeetsPlainLine}
-use Rattle.runs.specs.Blanks.{MakesBlank}
 use Rattle.runs.specs.Checks.{ChecksAnswer}
 use Rattle.runs.specs.Solves.{SolvesLayout}
 
 -- a table is incomplete, or all are complete
 abbrev pub report_status : Report → Status
 report_status report = if nat_lt report.complete report.boards then Incomplete else Done
+
+-- an entry has 1 to 1,000 tries, of at least one step each
+abbrev pub IsRun : Run → Type 0
+IsRun (Plain layout leader trump) = ⊤
+IsRun (Solve layout declarer trump budget) = ⊤
+IsRun (Tables term tries budget) = AreTries tries × (0 < budget)
+IsRun (Check layout declarer trump) = ⊤
 
 -- What came of a run, and what its devices have given and got. A single layout leaves the input as it was.
 abbrev pub Does : Run → Device → Device → Device → Device → Result Status RunFault → Type 0
@@ -29,9 +38,11 @@ Does (Solve layout declarer trump budget) source source' sink sink' (Ok status) 
     (status ≡ Done) × (source' ≡ source) × SolvesLayout layout.now sink sink' (Ok tt)
 Does (Solve layout declarer trump budget) source source' sink sink' (Err fault) =
     (source' ≡ source) × SolvesLayout layout.now sink sink' (Err fault)
-Does Tables source source' sink sink' (Ok status) =
-    (report : Report) × (status ≡ report_status report) × MakesBlank source source' sink sink' (Ok report)
-Does Tables source source' sink sink' (Err fault) = MakesBlank source source' sink sink' (Err fault)
+Does (Tables term tries budget) source source' sink sink' (Ok status) =
+    (report : Report) × (book : Ledger) × (status ≡ report_status report)
+    × MakesTables term tries source source' sink sink' (Ok (report, book))
+Does (Tables term tries budget) source source' sink sink' (Err fault) =
+    (made : MakeFault) × (fault ≡ make_fault made) × MakesTables term tries source source' sink sink' (Err made)
 Does (Check layout declarer trump) source source' sink sink' answer = ChecksAnswer layout.now declarer trump source source' sink sink' answer
 
 -- how the run ends: a fault is told on the error output, which nothing else touches

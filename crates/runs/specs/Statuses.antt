@@ -5,6 +5,8 @@ use Rattle.cards.specs.Devices.{Device, Adds, AddsBeginning}
 use Rattle.pbn_deals.specs.Faults.{fault_text, fault_line}
 use Rattle.streams.specs.declared.inputs.InputFault.{InputFault}
 use Rattle.streams.specs.declared.inputs.InputFault.TheVariants as input
+use Rattle.tournaments.specs.declared.faults.MakeFault.{MakeFault}
+use Rattle.tournaments.specs.declared.faults.MakeFault.TheVariants as make
 use Rattle.runs.specs.declared.faults.RunFault.{RunFault}
 use Rattle.runs.specs.declared.faults.RunFault.TheVariants as fault
 use Rattle.runs.specs.declared.statuses.Status.{Status}
@@ -34,6 +36,13 @@ fault_status fault.NoAnswer = Incomplete
 abbrev pub input_fault : InputFault → RunFault
 input_fault input.OutOfMemory = fault.OutOfMemory
 input_fault input.Read = fault.Read
+
+-- why no tables were made
+abbrev pub make_fault : MakeFault → RunFault
+make_fault make.OutOfMemory = fault.OutOfMemory
+make_fault make.Read = fault.Read
+make_fault (make.Pbn refusal) = fault.Pbn refusal
+make_fault make.Write = fault.Write
 
 -- a place of the input before a text
 abbrev pub behind_line : Option ℕ → List ℕ → List ℕ

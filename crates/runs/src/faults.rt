@@ -12,6 +12,7 @@ use cards::{DeviceFault, Sink, write_all, write_number};
 use pbn_deals::PbnFault;
 use strategies::TooLarge;
 use streams::InputFault;
+use tournaments::MakeFault;
 
 /// Why a run fails or is refused.
 #[derive(Clone, Copy, Debug, PartialEq, Eq)]
@@ -54,6 +55,21 @@ impl From<DeviceFault> for RunFault {
 
     fn from(_fault: DeviceFault) -> RunFault {
         RunFault::Write
+    }
+}
+
+impl From<MakeFault> for RunFault {
+    ghost use Rattle.runs.specs.Statuses.{make_fault};
+
+    ghost from_gives = { λ fault answer. answer ≡ make_fault fault };
+
+    fn from(fault: MakeFault) -> RunFault {
+        match fault {
+            MakeFault::OutOfMemory => RunFault::OutOfMemory,
+            MakeFault::Read => RunFault::Read,
+            MakeFault::Pbn(refusal) => RunFault::Pbn(refusal),
+            MakeFault::Write => RunFault::Write,
+        }
     }
 }
 

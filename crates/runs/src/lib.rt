@@ -4,7 +4,6 @@
 #![tactic(auto)]
 
 mod answers;
-mod blanks;
 mod checks;
 mod faults;
 mod plain;
@@ -14,7 +13,6 @@ mod statuses;
 mod verdict_lines;
 
 pub use answers::{read_answer, text_is_one_answer};
-pub use blanks::make_blank;
 pub use checks::check_answer;
 pub use faults::{RunFault, tell};
 pub use plain::plain_line;

@@ -2,9 +2,8 @@
 
 ghost use Rattle.std.specs.Prelude.{◌≡◌};
 ghost use Rattle.streams.specs.Flushes.{contents_behind};
-ghost use Rattle.runs.specs.Runs.{Closes, Does, MeetsRun, Shows, report_status};
+ghost use Rattle.runs.specs.Runs.{Closes, Does, IsRun, MeetsRun, Shows, report_status};
 
-use crate::blanks::make_blank;
 use crate::checks::check_answer;
 use crate::faults::{RunFault, tell};
 use crate::plain::plain_line;
@@ -16,6 +15,7 @@ use std::alloc::Global;
 use std::io::{BufWriter, Write};
 use streams::WriterSink;
 use tables::Report;
+use tournaments::{Clock, make_single};
 
 /// What is asked of a run.
 #[derive(Clone, Copy)]
@@ -33,8 +33,13 @@ pub enum Run<'a> {
         trump: Trump,
         budget: u64,
     },
-    /// The tables of the boards of the input.
-    Tables,
+    /// The tables of the boards of the input: the term of a lease in the clock's unit, the tries that an entry has, and the steps
+    /// that a try may take.
+    Tables {
+        term: u64,
+        tries: u32,
+        budget: u64,
+    },
     /// Whether the answer that is the input is right.
     Check {
         layout: &'a str,
@@ -47,31 +52,35 @@ pub enum Run<'a> {
 ///
 /// What can't be done is told on the error output, with nothing on the output but the beginning that a failed output has
 /// taken; else the error output is as it was. Where the error output fails, nobody is left to be told.
-pub fn do_run<P: Solver, I: Source, O: Sink, E: Sink>(
+pub fn do_run<P: Solver, C: Clock, I: Source, O: Sink, E: Sink>(
     alloc: Global,
     run: Run<'_>,
     solver: &P,
+    clock: &C,
     input: &mut I,
     output: &mut O,
     errors: &mut E,
 ) -> Status
+    requires { IsRun run }
     ensures { MeetsRun run.entry (I.state input.old) (I.state input.new) (O.state output.old) (O.state output.new)
         (E.state errors.old) (E.state errors.new) result }
 {
-    match answer_run(alloc, run, solver, input, output) {
+    match answer_run(alloc, run, solver, clock, input, output) {
         Ok(status) => status,
         Err(fault) => tell(fault, errors),
     }
 }
 
 /// Does what is asked, and tells nothing.
-fn answer_run<P: Solver, I: Source, O: Sink>(
+fn answer_run<P: Solver, C: Clock, I: Source, O: Sink>(
     alloc: Global,
     run: Run<'_>,
     solver: &P,
+    clock: &C,
     input: &mut I,
     output: &mut O,
 ) -> Result<Status, RunFault>
+    requires { IsRun run }
     ensures { Does run.entry (I.state input.old) (I.state input.new) (O.state output.old) (O.state output.new) result }
 {
     match run {
@@ -93,7 +102,14 @@ fn answer_run<P: Solver, I: Source, O: Sink>(
             solve_layout(alloc, value, declarer, trump, budget, solver, output)?;
             Ok(Status::Done)
         }
-        Run::Tables => Ok(status_of(make_blank(alloc, input, output)?)),
+        Run::Tables {
+            term,
+            tries,
+            budget,
+        } => {
+            let made = make_single(alloc, input, output, term, tries, budget, solver, clock)?;
+            Ok(status_of(made.0))
+        }
         Run::Check {
             layout,
             declarer,
