@@ -20,7 +20,8 @@ pub trait Solver {
     ) -> Result<Option<Answer>, AllocError>;
 }
 
-/// A partition search. A step of its budget is one card tried: in the search, or for a tree of a graph.
+/// A partition search. A step of its budget is one card tried, in the search or for a tree of a graph; the last card of a
+/// trick is free where it is only looked up.
 #[derive(Clone, Copy, Debug, Default)]
 pub struct Partition;
 
