@@ -47,7 +47,8 @@ pub(crate) struct Plan {
     pub lanes: [usize; 4],
 }
 
-/// The entries that go on after a trick, by the seat that won it, 0 where none is needed, and how many new nodes they are.
+/// The entries that go on after a trick, by the seat that won it, 0 where none is needed, and what
+/// the new nodes cost: one each, and one for each owner that they name.
 #[derive(Clone, Copy, Debug)]
 struct Leaf {
     lengths: u64,
@@ -55,7 +56,7 @@ struct Leaf {
     cost: u32,
 }
 
-/// What a tree has to show: so many tricks, with fewer new nodes than the limit.
+/// What a tree has to show: so many tricks, with new nodes that cost less than the limit.
 #[derive(Clone, Copy, Debug)]
 pub(crate) struct Goal {
     pub need: i32,
@@ -112,8 +113,8 @@ impl Plan {
         self.numbers.get(entry as usize).copied().unwrap_or(0)
     }
 
-    /// Adds the tree of what follows, and answers how many new nodes it needs. None where what is remembered does not
-    /// show it with fewer than the limit, or no steps are left; what was added is then of no use.
+    /// Adds the tree of what follows, and answers what its new nodes cost. None where what is remembered does not
+    /// show it for less than the limit, or no steps are left; what was added is then of no use.
     #[cycle(planning)]
     pub(crate) fn add_tree(
         &mut self,
@@ -158,7 +159,7 @@ impl Plan {
         self.add_tree(search, fuel - 1, &after, goal)
     }
 
-    /// Adds the card of the side whose tree needs the fewest new nodes.
+    /// Adds the card of the side whose tree's new nodes cost least.
     #[cycle(planning)]
     fn add_own(
         &mut self,
@@ -257,7 +258,7 @@ impl Plan {
         Ok(Some(sum))
     }
 
-    /// Adds the last card of a trick, where it is the side's: the one whose children need the fewest new nodes.
+    /// Adds the last card of a trick, where it is the side's: the one whose new children cost least.
     fn add_last(
         &mut self,
         search: &mut Search,
@@ -327,7 +328,7 @@ impl Plan {
         Ok(())
     }
 
-    /// The children after a trick. None where what is remembered does not show them with fewer new nodes than the limit.
+    /// The children after a trick. None where what is remembered does not show them for less than the limit.
     fn leaf(&self, search: &Search, trick: &PatternTrick, goal: Goal) -> Option<Leaf> {
         let winners = trick.winners();
         let mut leaf = Leaf {
@@ -348,7 +349,8 @@ impl Plan {
             let (slot, remains) = after?;
             let entry = self.child(search, slot, remains, seat, rest)?;
             if self.number(entry) == 0 {
-                leaf.cost = leaf.cost.wrapping_add(1);
+                let owners = search.entries.entry(entry).generality();
+                leaf.cost = leaf.cost.wrapping_add(u32::from(owners) + 1);
             }
             leaf.entries[seat] = entry;
         }

@@ -116,18 +116,19 @@ fn points_of(cards: u64) -> i32 {
         .wrapping_add(jacks)
 }
 
-/// Whether what all possible winners need is no deeper than what the winner's rank would make it, and leaves that out.
-fn is_no_deeper(after: &Trick, all: u64, found: u64) -> bool {
-    let suit = suit_of(after.best);
-    for start in [0u32, 16, 32, 48] {
-        let lane = SUIT.wrapping_shl(start);
-        let now = lowest(all & lane);
-        let before = lowest((found | after.best) & lane);
-        if now != 0 && (before == 0 || now < before || lane == suit && now <= after.best) {
-            return false;
-        }
+/// How many owners have to be known for these cards.
+fn owners_named(left: u64, relevant: u64) -> u32 {
+    let depths = u32::from(depths_of(left, relevant));
+    (depths & 15) + (depths >> 4 & 15) + (depths >> 8 & 15) + (depths >> 12)
+}
+
+/// The cards whose rank matters after a trick: those of the rest, and that of the winner where others played to its suit.
+fn relevant_after(after: &Trick, rest: u64) -> u64 {
+    if after.contenders & after.contenders.wrapping_sub(1) == 0 {
+        rest
+    } else {
+        rest | after.best
     }
-    true
 }
 
 impl Search {
@@ -285,19 +286,28 @@ impl Search {
         Ok(Some((answer, 0)))
     }
 
-    /// A card of the last hand that is known to succeed: the trick with it, and what is known of the rest.
+    /// A card of the last hand that is known to succeed, the one that needs the fewest owners: the trick with it, and
+    /// what is known of the rest.
     fn ask(&self, trick: &Trick, mut moves: Moves) -> Option<(Trick, Found)> {
         let trumps = self.deal.trumps;
         let mover = trick.is_ours();
+        let mut best = None;
+        let mut least = u32::MAX;
         for _ in 0..16 {
-            let tried = moves.next(trick, trumps)?;
+            let Some(tried) = moves.next(trick, trumps) else {
+                break;
+            };
             let after = trick.after(tried.card, trumps);
             let next = after.next(after.winner);
             if let Some(found) = self.known_for(&next, mover) {
-                return Some((after, found));
+                let owners = owners_named(trick.left, relevant_after(&after, found.relevant));
+                if owners < least {
+                    least = owners;
+                    best = Some((after, found));
+                }
             }
         }
-        None
+        best
     }
 
     /// Goes on after a card.
@@ -323,13 +333,14 @@ impl Search {
         whole.bound = found
             .bound
             .wrapping_add(trick_for(after.winner, found.ours));
-        if fuel == 0 || after.contenders & after.contenders.wrapping_sub(1) == 0 {
+        let relevant = relevant_after(after, found.relevant);
+        if fuel == 0 || relevant == found.relevant {
             return Ok(whole);
         }
         if let Some(other) = self.whoever(fuel - 1, after, whole)? {
             return Ok(other);
         }
-        whole.relevant |= after.best;
+        whole.relevant = relevant;
         Ok(whole)
     }
 
@@ -362,7 +373,8 @@ impl Search {
             answer.bound = answer.bound.min(bound);
             answer.relevant |= other.relevant;
         }
-        Ok(if is_no_deeper(after, answer.relevant, found.relevant) {
+        let with_winner = owners_named(after.left, found.relevant | after.best);
+        Ok(if owners_named(after.left, answer.relevant) < with_winner {
             Some(answer)
         } else {
             None
