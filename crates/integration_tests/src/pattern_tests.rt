@@ -288,7 +288,7 @@ fn refuses_words_in_order(rt: HostRuntime) -> Result<(), Fail> {
 }
 
 #[test]
-fn takes_owners_out_of_a_word(rt: HostRuntime) -> Result<(), Fail> {
+fn takes_cards_and_owners_out_of_a_word(rt: HostRuntime) -> Result<(), Fail> {
     let pattern = spades([2, 2, 2, 2], &[NORTH, WEST, NORTH])?;
     let held = pattern.suit(Suit::Spades);
     let west_alone = held.without(0b101);
@@ -300,5 +300,16 @@ fn takes_owners_out_of_a_word(rt: HostRuntime) -> Result<(), Fail> {
     expect_eq(&rt, &norths.owner(1), &Some(NORTH));
     expect_eq(&rt, &held.without(1 << 5).owner_count(), &3);
     expect_eq(&rt, &held.without(u64::MAX).owner_count(), &0);
+    expect_eq(&rt, &held.less(0x1000).len(WEST), &1);
+    expect_eq(&rt, &held.less(0x1000).len(SOUTH), &2);
+    expect_eq(&rt, &held.less(0x1000).tops(NORTH), &2);
+    expect_eq(&rt, &held.less(0x2121).len(NORTH), &1);
+    expect_eq(&rt, &held.less(0x2121).len(WEST), &0);
+    expect_eq(&rt, &pattern.suit(Suit::Hearts).less(0).len(NORTH), &0);
+    // a seat that has fewer keeps none, and no other seat pays for it
+    expect_eq(&rt, &pattern.suit(Suit::Hearts).less(1).len(NORTH), &0);
+    expect_eq(&rt, &held.less(0x0013).len(NORTH), &0);
+    expect_eq(&rt, &held.less(0x0013).len(EAST), &1);
+    expect_eq(&rt, &held.less(u64::MAX).len(WEST), &0);
     Ok(())
 }

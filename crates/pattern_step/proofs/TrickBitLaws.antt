@@ -16,11 +16,10 @@ use Rattle.patterns.specs.Removals.{is_among, owners_but}
 use Rattle.pattern_step.specs.declared.pat_cards.PatCard.{PatCard}
 use Rattle.pattern_step.specs.declared.pat_cards.PatCard.TheVariants.{Top}
 use Rattle.pattern_step.specs.PatCards.{suit_of_card, is_of_suit, is_top}
-use Rattle.pattern_step.specs.Tricks.{played_by, played_in_place, AreLegalInTurn, IsLeftOf}
+use Rattle.pattern_step.specs.Tricks.{played_by, played_in_place, IsLeftOf}
 use Rattle.pattern_step.specs.TrickBits.{card_lens, one_of, trick_lens}
 use Rattle.pattern_step.proofs.PatCardLaws.{owners-le-13}
 use Rattle.pattern_step.proofs.PlaceLaws.{is_among-or, is_among-one, owners_left-but}
-use Rattle.pattern_step.proofs.TrickLaws.{played_is_held, held_suit}
 
 -- a bit behind a shift
 is_among-shr : (bits from place : ℕ) → is_among (bits / 2 ^ from) place ≡ is_among bits (from + place)
@@ -185,19 +184,6 @@ trick_len leader cards suit seat =
     told East = refl
     told South = refl
     told West = refl
-
--- each player has the length that its card takes
-pub lens_fit : (shape : Shape) (leader : Seat) (cards : List PatCard) (suit : Suit) (held : SuitShape) (lens : ℕ) → IsPattern shape → AreLegalInTurn shape leader cards → held ≡ suit_of shape suit →
-    lens ≡ trick_lens leader cards suit → (seat : Seat) → len_of (suit_in lens) seat ≤ len_of held seat
-lens_fit shape leader cards suit held lens pattern legal told are seat =
-    let card = played_by leader cards seat in
-    let one = go (is_of_suit suit card) refl in
-    let taken = ap (λ n. len_of (suit_in n) seat) are ∙ trick_len leader cards suit seat in
-    omega (arith, one, taken, ap (λ (s : SuitShape). len_of s seat) told)
-  where
-    go : (b : Bool) → is_of_suit suit (played_by leader cards seat) ≡ b → cond b 1 0 ≤ len_of (suit_of shape suit) seat
-    go true e = held_suit shape pattern seat (played_by leader cards seat) suit (played_is_held shape leader cards legal seat) e
-    go false e = omega arith
 
 -- what is left of a suit
 pub is_left_of : (shape : Shape) (leader : Seat) (cards : List PatCard) (suit : Suit) (held left : SuitShape) (lens places : ℕ) → IsPattern shape → held ≡ suit_of shape suit →

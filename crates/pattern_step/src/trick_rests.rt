@@ -1,6 +1,6 @@
 //! What is left after a trick.
 
-ghost use Rattle.std.specs.Prelude.{◌≡◌, ◌≤◌, ◌-◌, ◌+◌, ◌*◌, ◌/◌, ◌%◌, ◌^◌, ◌<◌, ℕ, length};
+ghost use Rattle.std.specs.Prelude.{◌≡◌, ◌-◌, ◌+◌, ◌*◌, ◌/◌, ◌%◌, ◌^◌, ◌<◌, ℕ, length};
 ghost use Rattle.std.specs.List.{list_any};
 ghost use Rattle.cards.specs.declared.suits.Suit.{Suit};
 ghost use Rattle.cards.specs.declared.seats.Seat.{Seat};
@@ -36,7 +36,6 @@ pub fn rest(pattern: &Pattern, leader: Seat, cards: &[PatCard; 4]) -> Rest
 
 /// What is left of one suit, of sixteen bits for each: the lengths played, and the places of the tops played.
 fn left(held: SuitWord, suit: Suit, lens: u64, places: u64) -> SuitWord
-    requires { (seat : Seat) → len_of (suit_in (lens / 2 ^ (16 * suit_number suit) % 2 ^ 16)) seat ≤ len_of held seat }
     ensures four { length result.lens ≡ 4 }
     ensures lens { (seat : Seat) → len_of result seat ≡ len_of held seat - len_of (suit_in (lens / 2 ^ (16 * suit_number suit) % 2 ^ 16)) seat }
     ensures owners { result.owners ≡ owners_but (places / 2 ^ (16 * suit_number suit)) held.owners }

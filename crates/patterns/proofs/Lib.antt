@@ -4,6 +4,7 @@ pub mod HoldingLaws
 pub mod SeatLaws
 pub mod EqualityLaws
 pub mod SuitWords
+pub mod LesserLengths
 pub mod PartLaws
 pub mod ShapeWordLaws
 pub mod Removals

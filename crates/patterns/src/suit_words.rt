@@ -1,6 +1,6 @@
 //! One suit in a word.
 
-ghost use Rattle.std.specs.Prelude.{◌≡◌, ◌≢◌, ◌↔◌, ◌≤◌, ◌<◌, ◌+◌, ◌-◌, ◌*◌, ◌/◌, ◌%◌, ◌^◌, IsTrue, MatchBool, length, slice_get};
+ghost use Rattle.std.specs.Prelude.{◌≡◌, ◌≢◌, ◌↔◌, ◌≤◌, ◌<◌, ◌+◌, ◌-◌, ◌*◌, ◌/◌, ◌%◌, ◌^◌, IsTrue, MatchBool, length, min, slice_get};
 ghost use Rattle.patterns.specs.Shapes.{len_of, tops_of, suit_size, BeginsWith, CoversSuit};
 ghost use Rattle.std.specs.Prelude.{count_ones, slice_index, slice_index_or};
 ghost use Rattle.cards.specs.declared.seats.Seat.TheVariants.{North};
@@ -142,16 +142,15 @@ impl SuitWord {
         owner_at(self.word >> OWNERS, place)
     }
 
-    /// The suit with all lengths less these, which stand as in a word; each has to be within its own. The owners stay.
+    /// The suit with all lengths less these, which stand as in a word; a seat that has fewer keeps none. The owners
+    /// stay.
     pub fn less(self, lens: u64) -> SuitWord
-        requires below { lens < 2 ^ 16 }
-        requires within { (seat : Seat) → len_of (suit_in lens) seat ≤ len_of self seat }
         ensures four { length result.lens ≡ 4 }
         ensures lens { (seat : Seat) → len_of result seat ≡ len_of self seat - len_of (suit_in lens) seat }
         ensures owners { result.owners ≡ self.owners }
     {
         SuitWord {
-            word: self.word - lens,
+            word: self.word - lesser_lens(self.word, lens),
         }
     }
 
@@ -293,6 +292,22 @@ fn nibble(word: u64, from: u32) -> u64
     ensures below { result < 16 }
 {
     word >> from & 0xf
+}
+
+/// Of the lengths in two words the lesser of each seat.
+fn lesser_lens(one: u64, other: u64) -> u64
+    ensures below { result < 2 ^ 16 }
+    ensures lesser { (seat : Seat) → len_of (suit_in result) seat ≡ min (len_of (suit_in one) seat) (len_of (suit_in other) seat) }
+{
+    let lens = other & 0xffff;
+    // a length that is taken from a lesser one borrows from the bit above its four
+    if (one ^ lens ^ one.wrapping_sub(lens)) & 0x11110 == 0 {
+        return lens;
+    }
+    nibble(one, 0).min(nibble(other, 0))
+        + (nibble(one, 4).min(nibble(other, 4)) << 4)
+        + (nibble(one, 8).min(nibble(other, 8)) << 8)
+        + (nibble(one, 12).min(nibble(other, 12)) << 12)
 }
 
 /// The bits of the owners without the one in this place.

@@ -3,21 +3,9 @@ use Rattle.patterns.proofs.SeatLaws.{for_each_suit}
 use Rattle.patterns.specs.Words.{shape_with}
 use Rattle.pattern_step.specs.Tricks.{IsLeft}
 use Rattle.pattern_step.proofs.TrickLaws.{IsRest-left}
-use Rattle.pattern_step.proofs.TrickBitLaws.{lens_fit, is_left_of}
+use Rattle.pattern_step.proofs.TrickBitLaws.{is_left_of}
 use Rattle.pattern_step.proofs.trick_rests.rest.Goals as goal
 use Rattle.pattern_step.proofs.trick_rests.rest.Goals.{After-left-4}
-
-pub left-requires : goal.left-requires
-left-requires c = lens_fit c.args.pattern.now c.args.leader c.args.cards.now Spades c.suit.result _ c.invariant.ensures c.requires c.suit.ensures (c.trick_lens-lens.ensures Spades)
-
-pub left-requires-2 : goal.left-requires-2
-left-requires-2 c = lens_fit c.args.pattern.now c.args.leader c.args.cards.now Hearts c.suit-2.result _ c.invariant.ensures c.requires c.suit-2.ensures (c.trick_lens-lens.ensures Hearts)
-
-pub left-requires-3 : goal.left-requires-3
-left-requires-3 c = lens_fit c.args.pattern.now c.args.leader c.args.cards.now Diamonds c.suit-3.result _ c.invariant.ensures c.requires c.suit-3.ensures (c.trick_lens-lens.ensures Diamonds)
-
-pub left-requires-4 : goal.left-requires-4
-left-requires-4 c = lens_fit c.args.pattern.now c.args.leader c.args.cards.now Clubs c.suit-4.result _ c.invariant.ensures c.requires c.suit-4.ensures (c.trick_lens-lens.ensures Clubs)
 
 -- what is left of the four suits
 four_left : (c : After-left-4) → IsLeft c.args.pattern.now c.args.leader c.args.cards.now (shape_with c.left.result c.left-2.result c.left-3.result c.left-4.result)
