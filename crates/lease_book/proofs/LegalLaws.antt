@@ -3,7 +3,7 @@ use Rattle.std.proofs.Common.{◌≡◌, ℕ, zero, suc, ◌+◌, ◌*◌, ◌<�
 use Rattle.std.specs.Prelude.{nat_lt}
 use Rattle.std.specs.List.{filter, list_any, cons_option}
 use Rattle.std.proofs.Math.Nat.{mul-suc}
-use Rattle.std.proofs.lemmas.Bool.{and_parts, both_ways, cases_lt, cases_eq, ltb-true, eqb-true, eq-eqb, not-true}
+use Rattle.std.proofs.lemmas.Bool.{and_parts, both_ways, cases_lt, cases_eq, ltb-true, ltb-false, eqb-true, eq-eqb, not-true, not-false}
 use Rattle.std.proofs.lemmas.List.{append-nil}
 use Rattle.std.proofs.lemmas.List.Sums.{sum_by_push, sum_by-cons}
 use Rattle.std.proofs.lemmas.Option.{none-some, same_Some, slice_get_past}
@@ -55,7 +55,7 @@ one_reply terms before (GiveUp lease) one other h g = h ∙ sym g
 one_reply terms before (HandIn lease entry evidence) one other h g = h ∙ sym g
 
 -- ---- the leases given
-give_up_gives_none : (given held : Bool) → given_as (cond given (cond held GaveUp NotHeld) UnknownLease) ≡ None
+pub give_up_gives_none : (given held : Bool) → given_as (cond given (cond held GaveUp NotHeld) UnknownLease) ≡ None
 give_up_gives_none true true = refl
 give_up_gives_none true false = refl
 give_up_gives_none false held = refl
@@ -203,3 +203,28 @@ pub few_leases : (terms : Terms) (events : List Event) → IsLegal terms events 
 few_leases terms events legal =
     let are = few terms events legal in
     few_in_places (20 * length terms.boards) terms.tries (given_in events) are.there are.times
+
+-- ---- where nothing is open
+-- what an entry with a deal lacks that is not open
+lacks : (deal unpublished free left : Bool) → (((deal && unpublished) && free) && left) ≡ false → deal ≡ true → (unpublished ≡ false) ⊎ ((free ≡ false) ⊎ (left ≡ false))
+lacks true true true left h d = inr (inr h)
+lacks true true false left h d = inr (inl refl)
+lacks true false free left h d = inl refl
+lacks false unpublished free left h d = cc
+
+is_there : (o : Option ℕ) → is_none o ≡ false → is_some o ≡ true
+is_there None h = cc
+is_there (Some k) h = refl
+
+pub nothing_left : (terms : Terms) (before : List Event) (now : ℕ) (entry : Entry) → IsLegal terms before → IsReply terms before (Lease now) Nothing → is_some (deal_of terms.boards entry.board) ≡ true
+    → (is_some (published_in before entry) ≡ true) ⊎ ((list_any (is_for_place (place_of entry)) (held_after before) ≡ true) ⊎ (times_leased before (place_of entry) ≡ terms.tries))
+nothing_left terms before now entry legal none deal =
+    go (lacks (is_some (deal_of terms.boards entry.board)) (is_none (published_in before entry)) (not (list_any (is_for_place (place_of entry)) (held_after before)))
+    (nat_lt (times_leased before (place_of entry)) terms.tries) (none entry) deal)
+  where
+    go : (is_none (published_in before entry) ≡ false) ⊎ ((not (list_any (is_for_place (place_of entry)) (held_after before)) ≡ false) ⊎ (nat_lt (times_leased before (place_of entry)) terms.tries ≡ false))
+        → (is_some (published_in before entry) ≡ true) ⊎ ((list_any (is_for_place (place_of entry)) (held_after before) ≡ true) ⊎ (times_leased before (place_of entry) ≡ terms.tries))
+    go (inl h) = inl (is_there (published_in before entry) h)
+    go (inr (inl h)) = inr (inl (not-false (list_any (is_for_place (place_of entry)) (held_after before)) h))
+    go (inr (inr h)) =
+        inr (inr (omega (arith, ltb-false (times_leased before (place_of entry)) terms.tries h, (few terms before legal).times (place_of entry))))

@@ -14,3 +14,4 @@ pub mod VerdictLaws
 pub mod PlaceLaws
 pub mod FirstGoodLaws
 pub mod ReplayLaws
+pub mod FreeLaws

@@ -1,13 +1,15 @@
 -- What follows from the definitions, for every list of events.
-use Rattle.std.specs.Prelude.{◌≡◌, ℕ, ◌*◌, ◌≤◌, List, length, Option}
-use Rattle.std.specs.List.{filter_map}
+use Rattle.std.specs.Prelude.{◌≡◌, ℕ, ◌*◌, ◌≤◌, ◌⊎◌, true, List, length, Option, is_some}
+use Rattle.std.specs.List.{filter_map, list_any}
 use Rattle.std.specs.Option.{option_to_list}
 use Rattle.lease_book.specs.declared.entries.Entry.{Entry}
 use Rattle.lease_book.specs.declared.events.Asked.{Asked}
+use Rattle.lease_book.specs.declared.events.Asked.TheVariants.{Lease}
 use Rattle.lease_book.specs.declared.events.Reply.{Reply}
+use Rattle.lease_book.specs.declared.events.Reply.TheVariants.{Nothing}
 use Rattle.lease_book.specs.declared.events.Event.{Event}
 use Rattle.lease_book.specs.Entries.{place_of}
-use Rattle.lease_book.specs.Histories.{Terms, given_in, published_by, published_in}
+use Rattle.lease_book.specs.Histories.{Terms, given_in, held_after, is_for_place, published_by, published_in, times_leased, deal_of}
 use Rattle.lease_book.specs.Replies.{IsReply, IsLegal}
 use Rattle.lease_book.specs.GoodHandIns.{first_good}
 
@@ -39,3 +41,13 @@ abbrev pub GivesFewLeases : Type 0
 GivesFewLeases =
     (terms : Terms) (events : List Event) → IsLegal terms events
     → length (given_in events) ≤ terms.tries * (20 * length terms.boards)
+
+-- where a request for a lease is answered Nothing, each entry whose board has a deal has a number, is leased, or was leased
+-- as often as it may be
+abbrev pub NothingIsLeft : Type 0
+NothingIsLeft =
+    (terms : Terms) (before : List Event) (now : ℕ) (entry : Entry) → IsLegal terms before
+    → IsReply terms before (Lease now) Nothing → is_some (deal_of terms.boards entry.board) ≡ true
+    → (is_some (published_in before entry) ≡ true)
+    ⊎ ((list_any (is_for_place (place_of entry)) (held_after before) ≡ true)
+    ⊎ (times_leased before (place_of entry) ≡ terms.tries))

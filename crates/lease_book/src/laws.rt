@@ -1,6 +1,6 @@
 //! What follows from the definitions. Each is a function that does nothing: its contract is the law.
 
-ghost use Rattle.lease_book.specs.Laws.{NamesOneReply, PublishesFirstGood, PublishesOnce, GivesFewLeases};
+ghost use Rattle.lease_book.specs.Laws.{NamesOneReply, PublishesFirstGood, PublishesOnce, GivesFewLeases, NothingIsLeft};
 
 /// After one history one reply is named for a request.
 pub fn names_one_reply()
@@ -22,4 +22,10 @@ pub fn publishes_once()
 /// is answered [`Nothing`](crate::Reply::Nothing) in the end.
 pub fn gives_few_leases()
     ensures { GivesFewLeases }
+{}
+
+/// Where a legal history answers a request for a lease with [`Nothing`](crate::Reply::Nothing), each entry whose board
+/// has a deal has a number, is leased at that moment, or was leased as often as it may be.
+pub fn nothing_is_left()
+    ensures { NothingIsLeft }
 {}

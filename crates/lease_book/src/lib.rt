@@ -19,6 +19,8 @@ pub use checker::OutOfMemory;
 pub use entries::Entry;
 pub use events::{Asked, Event, Evidence, Grant, Reply};
 pub use faults::BookFault;
-pub use laws::{gives_few_leases, names_one_reply, publishes_first_good, publishes_once};
+pub use laws::{
+    gives_few_leases, names_one_reply, nothing_is_left, publishes_first_good, publishes_once,
+};
 pub use replays::replay;
 pub use requests::{GraphText, Request};

@@ -14,7 +14,7 @@ use Rattle.tables.specs.BookResults.{book_results}
 use Rattle.tables.specs.TablesText.{tables_text, complete_count}
 use Rattle.tournaments.specs.declared.faults.MakeFault.{MakeFault}
 use Rattle.tournaments.specs.declared.faults.MakeFault.TheVariants.{OutOfMemory, Read, Pbn, Write}
-use Rattle.tournaments.specs.Publications.{IsTrueHistory, IsGivenOut}
+use Rattle.tournaments.specs.Publications.{IsTrueHistory, IsGivenOut, IsDone}
 
 -- why a source could not be read
 abbrev pub input_fault : InputFault → MakeFault
@@ -36,10 +36,11 @@ pub record Counts (boards : List Board) (events : List Event) (report : Report) 
   pub boards_are : report.boards ≡ length boards
   pub complete_are : report.complete ≡ complete_count boards (book_results events)
 
--- a whole run over the boards: a history of theirs in which all entries were given out
+-- a whole run over the boards: a history of theirs in which all entries were given out, until each was done
 pub record IsWholeRun (terms : Terms) (events : List Event) : Type 0 where
   pub history : IsTrueHistory terms events
   pub given_out : IsGivenOut events
+  pub done : IsDone terms events
 
 -- The source was read to its end, the book is one over the boards of its text, with this term and these tries, after a
 -- whole run, and the sink has got the text of the boards with the numbers that the book's history publishes.

@@ -1,5 +1,5 @@
 -- What is so of the numbers that a history publishes.
-use Rattle.std.specs.Prelude.{◌≡◌, ℕ, List, Some, Contains}
+use Rattle.std.specs.Prelude.{◌≡◌, ℕ, ◌⊎◌, true, List, [], Some, is_some, Contains}
 use Rattle.std.specs.List.{filter_map}
 use Rattle.std.specs.Option.{option_to_list}
 use Rattle.cards.specs.Deal.{Deal}
@@ -9,7 +9,8 @@ use Rattle.lease_book.specs.declared.entries.Entry.{Entry}
 use Rattle.lease_book.specs.declared.events.Asked.TheVariants.{Lease}
 use Rattle.lease_book.specs.declared.events.Reply.TheVariants.{Nothing}
 use Rattle.lease_book.specs.declared.events.Event.{Event}
-use Rattle.lease_book.specs.Histories.{Terms, published_in, deal_of}
+use Rattle.lease_book.specs.Entries.{place_of}
+use Rattle.lease_book.specs.Histories.{Terms, held_after, published_in, times_leased, deal_of}
 use Rattle.lease_book.specs.Laws.{published_for}
 use Rattle.lease_book.specs.Replies.{IsLegal}
 
@@ -34,3 +35,10 @@ pub record IsTrueHistory (terms : Terms) (events : List Event) : Type 0 where
 -- a lease was asked for, and none was given: no entry was open any more
 abbrev pub IsGivenOut : List Event → Type 0
 IsGivenOut events = (now : ℕ) × Contains events (record { asked = Lease now; reply = Nothing })
+
+-- no lease is held, and each entry whose board has a deal has a number, or was leased as often as it may be
+pub record IsDone (terms : Terms) (events : List Event) : Type 0 where
+  pub none_held : held_after events ≡ []
+  pub each :
+      (entry : Entry) → is_some (deal_of terms.boards entry.board) ≡ true
+      → (is_some (published_in events entry) ≡ true) ⊎ (times_leased events (place_of entry) ≡ terms.tries)

@@ -1,7 +1,10 @@
 //! The work on the entries of a book, one after another.
 
-ghost use Rattle.std.specs.Prelude.{OnOk};
-ghost use Rattle.tournaments.specs.Working.{GivesOut, GoesOn};
+ghost use Rattle.std.specs.Prelude.{◌≡◌, true, [], IfSome, OnOk};
+ghost use Rattle.lease_book.specs.Histories.{held_after};
+ghost use Rattle.lease_book.specs.Proofs.{evidence_of};
+ghost use Rattle.lease_book.specs.Replies.{is_evidence_for};
+ghost use Rattle.tournaments.specs.Working.{GivesOut, GoesOn, HasJustGiven};
 
 use crate::clocks::Clock;
 use checker::{HandFault, OutOfMemory, Verdict, check_entry};
@@ -18,7 +21,9 @@ fn verdict_on<S: Solver>(
     entry: Entry,
     budget: u64,
     solver: &S,
-) -> Option<Verdict> {
+) -> Option<Verdict>
+    ensures { IfSome result (λ verdict. is_evidence_for boards.now entry (evidence_of verdict) ≡ true) }
+{
     let layout = boards.get(entry.board)?.deal.as_ref()?;
     let Ok(Some(answer)) = solver.solve(alloc, layout, entry.declarer, entry.trump, budget) else {
         return None;
@@ -34,7 +39,7 @@ fn verdict_on<S: Solver>(
     Some(checked.map_err(HandFault::Entry))
 }
 
-/// Hands in what the solver answers for the entry of a lease, or gives the lease up.
+/// Hands in what the solver answers for the entry of the lease that is held, or gives it up.
 fn work_on<S: Solver>(
     alloc: Global,
     book: &mut Book,
@@ -43,6 +48,7 @@ fn work_on<S: Solver>(
     budget: u64,
     solver: &S,
 ) -> Result<(), OutOfMemory>
+    requires { HasJustGiven book.old lease entry }
     ensures { OnOk result (GoesOn book.old book.new) }
 {
     match verdict_on(alloc, book.boards(), entry, budget, solver) {
@@ -60,9 +66,11 @@ pub(crate) fn work_through<S: Solver, C: Clock>(
     solver: &S,
     clock: &C,
 ) -> Result<(), OutOfMemory>
+    requires { held_after book.old.events ≡ [] }
     ensures { OnOk result (GivesOut book.old book.new) }
 {
     for _turn in 0..u64::MAX {
+        let _events = book.history();
         if let Reply::Given { lease, entry, .. } = book.lease(clock.now())? {
             work_on(alloc, book, lease, entry, budget, solver)?;
         } else if let Reply::Freed(0) = book.expire(clock.now())? {

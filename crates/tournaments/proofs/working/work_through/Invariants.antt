@@ -1,5 +1,6 @@
--- Each turn adds an event at least.
-use Rattle.std.proofs.Common.{◌≡◌, ◌≤◌, length}
+-- Each turn adds an event at least, and leaves no lease held.
+use Rattle.std.proofs.Common.{◌≡◌, ◌≤◌, [], length}
+use Rattle.lease_book.specs.Histories.{held_after}
 use Rattle.tournaments.proofs.working.work_through.Given as goal
 
 abbrev pub invariant-loop-turn : goal.invariant-loop-turn
@@ -7,4 +8,5 @@ invariant-loop-turn g l =
     record {
       terms : l.book.terms ≡ l.initial.book.terms;
       turns : l._turn ≤ length l.book.events;
+      none_held : held_after l.book.events ≡ [];
     }

@@ -1,0 +1,5 @@
+use Rattle.lease_book.proofs.LegalLaws.{nothing_left}
+use Rattle.lease_book.proofs.laws.nothing_is_left.Goals as goal
+
+pub returns : goal.returns
+returns c = nothing_left
