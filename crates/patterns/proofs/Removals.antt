@@ -9,8 +9,7 @@ use Rattle.std.proofs.lemmas.Nat.{and_mask, and_block, and_le_l, and_le_r, one_s
 use Rattle.std.proofs.lemmas.Nat.Bits.{bit_at-trailing_zeros, bit_at-suc, bit_at_lowest, bit_at_above, and_high_mask}
 use Rattle.std.proofs.Math.Nat.{pow-le-pow_right}
 use Rattle.cards.specs.declared.seats.Seat.{Seat}
-use Rattle.patterns.specs.Words.{seat_at, owners_in, suit_in, IsSuitWord}
-use Rattle.patterns.proofs.SuitWords.{lens_by_word, places_below}
+use Rattle.patterns.specs.Words.{seat_at, owners_in}
 use Rattle.patterns.specs.WordLaws.{place_more}
 use Rattle.patterns.specs.Removals.{is_among, owners_but}
 
@@ -172,27 +171,6 @@ left_from-kept places k (owner ∷ owners) = go (is_among places k) refl (left_f
 pub owners_but-kept : (places : ℕ) (owners : List Seat) → owners_but places owners ≡ kept places owners
 owners_but-kept places owners = left_from-kept places 0 owners ∙ (let e : places / 1 ≡ places = omega arith in ap (λ m. kept m owners) e)
 
--- a word of these lengths, owners and bits, as the code puts it together
-pub record PutBack (word k n : ℕ) : Type 0 where
-  pub fits : word % 2 ^ 16 + k * 65536 % 2 ^ 64 + n * 1048576 % 2 ^ 64 < 2 ^ 64
-  pub is_word : IsSuitWord (word % 2 ^ 16 + k * 65536 % 2 ^ 64 + n * 1048576 % 2 ^ 64)
-  pub lens : (suit_in (word % 2 ^ 16 + k * 65536 % 2 ^ 64 + n * 1048576 % 2 ^ 64)).lens ≡ (suit_in word).lens
-  pub owners : (suit_in (word % 2 ^ 16 + k * 65536 % 2 ^ 64 + n * 1048576 % 2 ^ 64)).owners ≡ owners_in k n
-
-pub put_back : (word k n : ℕ) → k ≤ 13 → n < 2 ^ (2 * k) → PutBack word k n
-put_back word k n within below =
-    let few : n < 2 ^ 26 = omega (arith, places_below k within) in
-    let whole : word % 2 ^ 16 + k * 65536 % 2 ^ 64 + n * 1048576 % 2 ^ 64 ≡ word % 2 ^ 16 + 2 ^ 16 * k + 2 ^ 20 * n = omega arith in
-    let low : (word % 2 ^ 16 + 2 ^ 16 * k + 2 ^ 20 * n) % 2 ^ 16 ≡ word % 2 ^ 16 = omega arith in
-    let count : (word % 2 ^ 16 + 2 ^ 16 * k + 2 ^ 20 * n) / 2 ^ 16 % 2 ^ 4 ≡ k = omega arith in
-    let bits : (word % 2 ^ 16 + 2 ^ 16 * k + 2 ^ 20 * n) / 2 ^ 20 ≡ n = omega arith in
-    record {
-      fits = omega arith;
-      is_word = rw whole (record { within = rw count within; blank = rw (count, bits) below });
-      lens = rw whole ((lens_by_word (word % 2 ^ 16 + 2 ^ 16 * k + 2 ^ 20 * n) word).1 low);
-      owners = rw whole (rw (count, bits) refl);
-    }
-
 -- the bits without the owner in a place, as the code computes them
 pub record BitsTaken (n p below : ℕ) : Type 0 where
   pub first : bit_and n below ≡ n % 2 ^ (2 * p)
@@ -217,6 +195,42 @@ bits_taken n p small wide =
       later = ap (bit_and (n / 2 ^ 2)) others ∙ high;
       fits = omega (arith, split, up, low, unit);
     })
+
+-- the bits of the owners stand above twenty others, which stay
+bits_but-above : (word p : ℕ) → bits_but word (10 + p) ≡ word % 2 ^ 20 + 2 ^ 20 * bits_but (word / 2 ^ 20) p
+bits_but-above word p =
+    let e : 2 * (10 + p) ≡ 2 * p + 20 = omega arith in
+    let up : 2 ^ (2 * (10 + p)) ≡ 2 ^ (2 * p) * 2 ^ 20 = ap (λ k. 2 ^ k) e ∙ pow-add 2 (2 * p) 20 in
+    let low : word % 2 ^ (2 * (10 + p)) ≡ word / 2 ^ 20 % 2 ^ (2 * p) * 2 ^ 20 + word % 2 ^ 20 = ap (λ k. word % 2 ^ k) e ∙ mod-pow-add word (2 * p) 20 in
+    let e' : 20 + (2 * p + 2) ≡ 2 * (10 + p) + 2 = omega arith in
+    let there : word / 2 ^ (2 * (10 + p) + 2) ≡ word / 2 ^ 20 / 2 ^ (2 * p + 2) = sym (shr-shr word 20 (2 * p + 2) ∙ ap (λ k. word / 2 ^ k) e') in
+    let high : word / 2 ^ (2 * (10 + p) + 2) * 2 ^ (2 * (10 + p)) ≡ 2 ^ 20 * (word / 2 ^ 20 / 2 ^ (2 * p + 2) * 2 ^ (2 * p)) =
+    ap (λ m. m * 2 ^ (2 * (10 + p))) there ∙ (ap (λ m. word / 2 ^ 20 / 2 ^ (2 * p + 2) * m) up ∙ grind arith) in
+    omega (arith, low, high)
+
+-- a word without the owner in a place, as the code computes it
+pub record WordTaken (word p sum : ℕ) : Type 0 where
+  pub some : 65536 ≤ sum
+  pub lens : (sum - 65536) % 2 ^ 16 ≡ word % 2 ^ 16
+  pub count : (sum - 65536) / 2 ^ 16 % 2 ^ 4 ≡ word / 2 ^ 16 % 2 ^ 4 - 1
+  pub owners : (sum - 65536) / 2 ^ 20 ≡ bits_but (word / 2 ^ 20) p
+
+pub word_taken : (word p : ℕ) → word < 2 ^ 64 → p < word / 2 ^ 16 % 2 ^ 4 →
+    WordTaken word p (bit_and word (1 * 2 ^ (20 + 2 * p) % 2 ^ 64 - 1) + bit_and (word / 2 ^ 2) (bit_not w64 (1 * 2 ^ (20 + 2 * p) % 2 ^ 64 - 1)))
+word_taken word p wide inside =
+    let below = 1 * 2 ^ (20 + 2 * p) % 2 ^ 64 - 1 in
+    let e : 20 + 2 * p ≡ 2 * (10 + p) = omega arith in
+    let mask : below ≡ 1 * 2 ^ (2 * (10 + p)) % 2 ^ 64 - 1 = ap (λ k. 1 * 2 ^ k % 2 ^ 64 - 1) e in
+    let taken = bits_taken word (10 + p) (omega (arith, inside)) wide in
+    let sum : bit_and word below + bit_and (word / 2 ^ 2) (bit_not w64 below) ≡ bits_but word (10 + p) =
+    ap (λ m. bit_and word m + bit_and (word / 2 ^ 2) (bit_not w64 m)) mask ∙ rw (taken.first, taken.later) refl in
+    let whole = sum ∙ bits_but-above word p in
+    record {
+      some = omega (arith, whole, inside);
+      lens = omega (arith, whole, inside);
+      count = omega (arith, whole, inside);
+      owners = omega (arith, whole, inside);
+    }
 
 -- a number without its lowest bit
 and_pred : (q t : ℕ) → bit_and ((2 * q + 1) * 2 ^ t) ((2 * q + 1) * 2 ^ t - 1) ≡ 2 * q * 2 ^ t
@@ -262,3 +276,9 @@ places_moved m some wide =
     lowest m p none one =
         let e : p + 1 ≡ 1 + p = omega arith in
         ap (λ k. m % 2 ^ k) e ∙ (mod-pow-add m 1 p ∙ (ap (λ b. b * 2 ^ p + m % 2 ^ p) one ∙ omega (arith, none)))
+
+-- where no place of a suit is named all owners stay
+pub none_taken : (places : ℕ) (owners : List Seat) → length owners ≤ 13 → bit_and places 8191 ≡ 0 → owners ≡ owners_but places owners
+none_taken places owners within none =
+    let low : places % 2 ^ 13 ≡ 0 = sym (and_mask places 13) ∙ none in
+    sym (owners_but-kept places owners ∙ (sym (kept-mod 13 places owners within) ∙ (ap (λ m. kept m owners) low ∙ kept-none owners)))

@@ -9,7 +9,7 @@ ghost use Rattle.cards.specs.Seats.{seat_number};
 ghost use Rattle.patterns.specs.Holders.{holders_of, MatchesSuit, suit_of_layout};
 ghost use Rattle.patterns.specs.Holdings.{holders_in};
 ghost use Rattle.patterns.specs.Parts.{suit_shape, HasItsOwners, HasExcessOwner};
-ghost use Rattle.patterns.specs.Words.{suit_in, seat_at, places_of, HasWord, IsSuitWord, IsWrongWord};
+ghost use Rattle.patterns.specs.Words.{suit_in, seat_at, owner_count, places_of, HasWord, IsSuitWord, IsWrongWord};
 ghost use Rattle.patterns.specs.Removals.{owners_but};
 
 use crate::holdings::{holder, holdings};
@@ -160,18 +160,18 @@ impl SuitWord {
         ensures lens { result.lens ≡ self.lens }
         ensures owners { result.owners ≡ owners_but places self.owners }
     {
-        let mut count = nibble(self.word, COUNT);
-        let mut bits = self.word >> OWNERS;
+        // none of the thirteen places that an owner can have
+        if places & 0x1fff == 0 {
+            return self;
+        }
+        let mut word = self.word;
+        let count = nibble(word, COUNT);
         let mut taken = places & ((1 << count) - 1);
         while taken != 0 {
-            let place = taken.trailing_zeros();
-            bits = without_place(bits, place);
+            word = without_place(word, taken.trailing_zeros());
             taken = (taken & (taken - 1)) >> 1;
-            count -= 1;
         }
-        SuitWord {
-            word: (self.word & 0xffff) + (count << COUNT) + (bits << OWNERS),
-        }
+        SuitWord { word }
     }
 
     /// How many cards of the suit the four seats have.
@@ -310,13 +310,15 @@ fn lesser_lens(one: u64, other: u64) -> u64
         + (nibble(one, 12).min(nibble(other, 12)) << 12)
 }
 
-/// The bits of the owners without the one in this place.
-fn without_place(bits: u64, place: u32) -> u64
-    requires { place < 31 }
-    ensures { result ≡ bits % 2 ^ (2 * place) + bits / 2 ^ (2 * place + 2) * 2 ^ (2 * place) }
+/// The word of a suit without the owner in this place.
+fn without_place(word: u64, place: u32) -> u64
+    requires { place < owner_count word }
+    ensures lens { result % 2 ^ 16 ≡ word % 2 ^ 16 }
+    ensures count { owner_count result ≡ owner_count word - 1 }
+    ensures owners { result / 2 ^ 20 ≡ word / 2 ^ 20 % 2 ^ (2 * place) + word / 2 ^ 20 / 2 ^ (2 * place + 2) * 2 ^ (2 * place) }
 {
-    let below = (1 << (2 * place)) - 1;
-    (bits & below) + (bits >> 2 & !below)
+    let below = (1 << (OWNERS + 2 * place)) - 1;
+    (word & below) + (word >> 2 & !below) - (1 << COUNT)
 }
 
 /// The seat whose number stands in the two bits of this place.

@@ -1,9 +1,14 @@
-use Rattle.std.proofs.Common.{arith, refl}
-use Rattle.patterns.proofs.Removals.{bits_taken}
+use Rattle.patterns.proofs.Removals.{word_taken}
 use Rattle.patterns.proofs.suit_words.without_place.Goals as goal
 
-pub overflow_add-result : goal.overflow_add-result
-overflow_add-result c = let taken = bits_taken c.args.bits c.args.place c.requires c.ranges.bits.fits in omega (arith, taken.first, taken.later, taken.fits)
+pub overflow_sub-result : goal.overflow_sub-result
+overflow_sub-result c = (word_taken c.args.word c.args.place c.ranges.word.fits c.requires).some
 
-pub returns : goal.returns
-returns c = let taken = bits_taken c.args.bits c.args.place c.requires c.ranges.bits.fits in rw (taken.first, taken.later) refl
+pub returns-clause-lens : goal.returns-clause-lens
+returns-clause-lens c = (word_taken c.args.word c.args.place c.ranges.word.fits c.requires).lens
+
+pub returns-clause-count : goal.returns-clause-count
+returns-clause-count c = (word_taken c.args.word c.args.place c.ranges.word.fits c.requires).count
+
+pub returns-clause-owners : goal.returns-clause-owners
+returns-clause-owners c = (word_taken c.args.word c.args.place c.ranges.word.fits c.requires).owners

@@ -6,7 +6,7 @@ use Rattle.patterns.specs.Shapes.{SuitShape}
 use Rattle.patterns.specs.Words.{owners_in, owner_count, suit_in}
 use Rattle.patterns.specs.WordLaws.{length-owners_in}
 use Rattle.patterns.specs.Removals.{owners_but}
-use Rattle.patterns.proofs.Removals.{kept, kept-none, kept-mod, taken_out, owners_but-kept, put_back, places_moved}
+use Rattle.patterns.proofs.Removals.{kept, kept-none, kept-mod, taken_out, owners_but-kept, places_moved, none_taken}
 use Rattle.patterns.proofs.suit_words.SuitWord.without.Goals as goal
 
 pub loop-taken-init : goal.loop-taken-init
@@ -19,48 +19,56 @@ loop-taken-init c =
     let mask : bit_and places (1 * 2 ^ k % 2 ^ 64 - 1) ≡ places % 2 ^ k = ap (λ m. bit_and places (m - 1)) (one_shl k 64 small) ∙ and_mask places k in
     let fits : length (owners_in k bits) ≤ k = omega (arith, length-owners_in k bits) in
     record {
-      within = rw is c.self.invariant.within;
-      bits = rw is c.self.invariant.blank;
-      places = rw mask (mod_below places (2 ^ k) (pow_pos k));
-      same = rw mask (kept-mod k places (owners_in k bits) fits ∙ ap (λ n. kept places (owners_in n bits)) is);
+      within = c.self.invariant.within;
+      bits = c.self.invariant.blank;
+      places = rw (mask, is) (mod_below places (2 ^ owner_count c.self.inside.word) (pow_pos (owner_count c.self.inside.word)));
+      lens = refl;
+      same = rw mask (ap (λ n. kept (places % 2 ^ k) (owners_in n bits)) (sym is) ∙ (kept-mod k places (owners_in k bits) fits ∙ ap (λ n. kept places (owners_in n bits)) is));
     }
 
-pub without_place-bits-requires : goal.without_place-bits-requires
-without_place-bits-requires c =
+pub without_place-word-requires : goal.without_place-word-requires
+without_place-word-requires c =
     let l = c.loop-taken in
-    let step = taken_out l.count l.bits l.taken (trailing_zeros w64 l.taken) l.invariant.bits l.invariant.places l.invariant.within (omega (arith, c.loop-taken-test.true)) refl in
-    omega (arith, step.inside, l.invariant.within)
+    let step = taken_out (owner_count l.word) (l.word / 2 ^ 20) l.taken (trailing_zeros w64 l.taken) l.invariant.bits l.invariant.places l.invariant.within (omega (arith, c.loop-taken-test.true)) refl in
+    step.inside
 
 pub loop-taken-smaller : goal.loop-taken-smaller
 loop-taken-smaller c =
     let l = c.loop-taken in
     let p = trailing_zeros w64 l.taken in
-    let step = taken_out l.count l.bits l.taken p l.invariant.bits l.invariant.places l.invariant.within (omega (arith, c.loop-taken-test.true)) refl in
+    let step = taken_out (owner_count l.word) (l.word / 2 ^ 20) l.taken p l.invariant.bits l.invariant.places l.invariant.within (omega (arith, c.loop-taken-test.true)) refl in
     rw (places_moved l.taken (omega (arith, c.loop-taken-test.true)) l.auto.taken-fits.fits) step.fewer
 
 pub loop-taken-preserved : goal.loop-taken-preserved
 loop-taken-preserved c =
     let l = c.loop-taken in
     let p = trailing_zeros w64 l.taken in
-    let step = taken_out l.count l.bits l.taken p l.invariant.bits l.invariant.places l.invariant.within (omega (arith, c.loop-taken-test.true)) refl in
+    let step = taken_out (owner_count l.word) (l.word / 2 ^ 20) l.taken p l.invariant.bits l.invariant.places l.invariant.within (omega (arith, c.loop-taken-test.true)) refl in
     let moved = places_moved l.taken (omega (arith, c.loop-taken-test.true)) l.auto.taken-fits.fits in
-    let bits = c.without_place-bits.ensures in
+    let count = c.without_place-word.ensures.count in
+    let bits = c.without_place-word.ensures.owners in
     record {
-      within = omega (arith, l.invariant.within);
-      bits = rw bits step.bits;
-      places = rw moved step.places;
-      same = rw (moved, bits) (step.same ∙ l.invariant.same);
+      within = omega (arith, count, l.invariant.within);
+      bits = rw (count, bits) step.bits;
+      places = rw (moved, count) step.places;
+      lens = c.without_place-word.ensures.lens ∙ l.invariant.lens;
+      same = rw (moved, count, bits) (step.same ∙ l.invariant.same);
     }
+
+pub returns-then-places-eq0-clause-owners : goal.returns-then-places-eq0-clause-owners
+returns-then-places-eq0-clause-owners c =
+    let word = c.self.inside.word in
+    let few : length (suit_in word).owners ≤ 13 = omega (arith, length-owners_in (owner_count word) (word / 2 ^ 20), c.self.invariant.within) in
+    none_taken c.args.places (suit_in word).owners few c.if-places-eq0.true ∙ ap (λ (s : SuitShape). owners_but c.args.places s.owners) c.self.view_is
 
 pub returns-clause-owners : goal.returns-clause-owners
 returns-clause-owners c =
     let l = c.loop-taken in
-    let word = c.self.inside.word in
-    let back = put_back word l.count l.bits l.invariant.within l.invariant.bits in
+    let k = owner_count l.word in
+    let bits = l.word / 2 ^ 20 in
     let done : l.taken ≡ 0 = c.loop-taken-test.false in
-    rw (and_mask word 16) (back.owners
-    ∙ (sym (kept-none (owners_in l.count l.bits))
-    ∙ (ap (λ t. kept t (owners_in l.count l.bits)) (sym done)
+    sym (kept-none (owners_in k bits))
+    ∙ (ap (λ t. kept t (owners_in k bits)) (sym done)
     ∙ (l.invariant.same
-    ∙ (sym (owners_but-kept c.args.places (suit_in word).owners)
-    ∙ ap (λ (s : SuitShape). owners_but c.args.places s.owners) c.self.view_is)))))
+    ∙ (sym (owners_but-kept c.args.places (suit_in c.self.inside.word).owners)
+    ∙ ap (λ (s : SuitShape). owners_but c.args.places s.owners) c.self.view_is)))
