@@ -2,7 +2,8 @@
 use Rattle.std.specs.Prelude.{◌≡◌, ℕ, List, Result, Ok, Err}
 use Rattle.cards.specs.Deal.{Deal}
 use Rattle.pbn_deals.specs.declared.faults.PbnFault.{PbnFault}
-use Rattle.pbn_deals.specs.declared.faults.PbnFault.TheVariants.{TagForm, OpenComment, SecondDeal, DealForm, CardTwice, HandSize, Inherited, TooManyBoards, OutOfMemory}
+use Rattle.pbn_deals.specs.declared.faults.PbnFault.TheVariants.{TagForm, OpenComment, SecondDeal, DealForm, CardTwice}
+use Rattle.pbn_deals.specs.declared.faults.PbnFault.TheVariants.{HandSize, Inherited, TooManyBoards, OutOfMemory}
 use Rattle.pbn_deals.specs.Dealing.{Holding, NamesOnce, NamesTwice, AreMissized, IsDealOf}
 use Rattle.pbn_deals.specs.DealValue.{naming_of, full}
 

@@ -2,7 +2,8 @@
 use Rattle.std.specs.Prelude.{◌≤◌, ℕ, ◌+◌, List, ◌∷◌, ◌++◌, length, None, ◌⊎◌, Result, Ok, Err}
 use Rattle.pbn_deals.specs.declared.boards.Board.{Board}
 use Rattle.pbn_deals.specs.declared.faults.PbnFault.{PbnFault}
-use Rattle.pbn_deals.specs.declared.faults.PbnFault.TheVariants.{TagForm, OpenComment, SecondDeal, DealForm, CardTwice, HandSize, Inherited, TooManyBoards, OutOfMemory}
+use Rattle.pbn_deals.specs.declared.faults.PbnFault.TheVariants.{TagForm, OpenComment, SecondDeal, DealForm, CardTwice}
+use Rattle.pbn_deals.specs.declared.faults.PbnFault.TheVariants.{HandSize, Inherited, TooManyBoards, OutOfMemory}
 use Rattle.pbn_deals.specs.Games.{no_tags, greatest_count}
 use Rattle.pbn_deals.specs.Lines.{lines_of, without_mark}
 use Rattle.pbn_deals.specs.Reading.{Answers, TextAnswers}
