@@ -1,4 +1,4 @@
-use Rattle.std.proofs.Common.{ℕ, ◌∙◌, sym, ap, arith, take_all, count_by}
+use Rattle.std.proofs.Common.{ℕ, ◌∙◌, sym, ap, arith, rules, take_all, count_by}
 use Rattle.std.specs.List.{flat_map, enumerate_from}
 use Rattle.std.proofs.lemmas.List.FromFn.{length-enumerate_from}
 use Rattle.cards.proofs.DeviceLemmas.{Adds-twice}
@@ -66,3 +66,6 @@ returns-clause-complete g c =
     let results = g.T.Sheet.results_of c.args.sheet.now in
     let all = take_all c.loop-place.place (enumerate_from 0 boards) (omega (arith, length-enumerate_from 0 boards)) in
     rw (← c.boards-boards.ensures) (c.loop-place.invariant.counted ∙ ap (count_by (λ (numbered : ℕ × Board). is_complete (results numbered.0))) all)
+
+pub loop-place-init : goal.loop-place-init
+loop-place-init g c = search rules
