@@ -14,3 +14,15 @@ returns-in_err-write_verdict g c =
     record { deal = c.in_ok-layout.layout; spelt = spelt; text = c.in_ok-text.text.items; all = all; judged = judged } in
     ChecksAnswer-unwritten _ _ _ _ _ _ _ c.in_ok-verdict.verdict c.from_residual-in_err-write_verdict.result
     c.from_residual-in_err-write_verdict.ensures.1 has c.in_err-write_verdict.ensures
+
+pub returns-in_err-layout : goal.returns-in_err-layout
+returns-in_err-layout g c = search rules
+
+pub returns-in_err-text : goal.returns-in_err-text
+returns-in_err-text g c = search rules
+
+pub returns-in_err-verdict : goal.returns-in_err-verdict
+returns-in_err-verdict g c = search rules
+
+pub returns : goal.returns
+returns g c = search rules
