@@ -83,6 +83,17 @@ gives terms before (HandIn lease entry evidence) reply grant is g = absurd (none
     of_lease None = refl
     of_lease (Some own) = hand_in_gives_none (is_same_entry own.entry entry && is_evidence_for terms.boards entry evidence) (is_some (published_in before entry)) evidence
 
+-- no other request is given one
+pub gives_none : (terms : Terms) (before : List Event) (asked : Asked) (reply : Reply) → IsReply terms before asked reply → ((now : ℕ) → asked ≡ Lease now → ⊥) → given_as reply ≡ None
+gives_none terms before (Lease now) reply is other = absurd (other now refl)
+gives_none terms before (Expire now) reply is other = ap given_as is
+gives_none terms before (GiveUp lease) reply is other = ap given_as is ∙ give_up_gives_none (is_some (grant_of before lease)) (is_held before lease)
+gives_none terms before (HandIn lease entry evidence) reply is other = ap given_as is ∙ of_lease (grant_of before lease)
+  where
+    of_lease : (own : Option Grant) → given_as (hand_in_reply terms before own entry evidence) ≡ None
+    of_lease None = refl
+    of_lease (Some own) = hand_in_gives_none (is_same_entry own.entry entry && is_evidence_for terms.boards entry evidence) (is_some (published_in before entry)) evidence
+
 -- the leases after one event more
 by_given : (P : List Grant → Type 0) (before : List Event) (event : Event) → P (given_in before)
     → ((grant : Grant) → given_by event ≡ Some grant → P (given_in before ++ grant ∷ [])) → P (given_in (before ++ event ∷ []))

@@ -9,6 +9,18 @@ use std::alloc::{AllocError, Global};
 /// Something that looks for the tricks that declarer's side takes, and for the graphs that show them. Nothing is
 /// promised of what it answers.
 pub trait Solver {
+    ghost use Rattle.std.specs.Prelude.{ℕ, Option, ⊤};
+    ghost use Rattle.std.specs.Option.{option_flatten};
+    ghost use Rattle.std.specs.Result.{result_ok};
+    ghost use Rattle.cards.specs.Deal.{Deal};
+    ghost use Rattle.cards.specs.declared.seats.Seat.{Seat};
+    ghost use Rattle.cards.specs.declared.suits.Trump.{Trump};
+    ghost use Rattle.certificate_graph.specs.declared.answers.Answer.{Answer};
+
+    /// What may be found for a deal, a declarer and a denomination within a budget: anything. Who is to show that it may
+    /// be found has to ask for it.
+    ghost may_find: { Self → Deal → Seat → Trump → ℕ → Option Answer → Type 0 } = { λ _ _ _ _ _ _. ⊤ };
+
     /// An answer for the layout, with the seat at declarer's left to lead, if one was found within the budget.
     fn solve(
         &self,
@@ -17,7 +29,8 @@ pub trait Solver {
         declarer: Seat,
         trump: Trump,
         budget: u64,
-    ) -> Result<Option<Answer>, AllocError>;
+    ) -> Result<Option<Answer>, AllocError>
+        ensures { may_find self.now layout.now declarer trump budget (option_flatten (result_ok result)) };
 }
 
 /// A partition search. A step of its budget is one card tried, in the search or for a tree of a graph; the last card of a

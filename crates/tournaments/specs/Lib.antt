@@ -2,4 +2,5 @@ pub mod Publications
 pub mod Making
 pub mod Replaying
 pub mod Texts
+pub mod Asking
 pub mod Working

@@ -1,30 +1,24 @@
 -- What the work on entries does to a book.
-use Rattle.std.specs.Prelude.{◌≡◌, ◌<◌, ℕ, [], length}
+use Rattle.std.specs.Prelude.{◌≡◌, ℕ, Option, Result}
+use Rattle.checker.specs.declared.entries.Shown.{Shown}
+use Rattle.checker.specs.declared.hand_faults.HandFault.{HandFault}
 use Rattle.lease_book.specs.declared.entries.Entry.{Entry}
-use Rattle.lease_book.specs.declared.events.Asked.TheVariants.{Lease}
-use Rattle.lease_book.specs.declared.events.Reply.TheVariants.{Given}
+use Rattle.lease_book.specs.declared.events.Reply.{Reply}
 use Rattle.lease_book.specs.Books.{Ledger, IsAnswered}
-use Rattle.lease_book.specs.Histories.{held_after}
-use Rattle.lease_book.specs.Replies.{IsLegal}
+use Rattle.lease_book.specs.Histories.{deal_of}
+use Rattle.tournaments.specs.Asking.{MayFind, IsFoundFor, asked_for, AreWorkedOn}
 use Rattle.tournaments.specs.Publications.{IsGivenOut, IsDone}
 
--- its last reply gave this lease of the entry, and it is the only one that is held
-pub record HasJustGiven (book : Ledger) (lease : ℕ) (entry : Entry) : Type 0 where
-  pub before : Ledger
-  pub now : ℕ
-  pub deadline : ℕ
-  pub legal : IsLegal before.terms before.events
-  pub none_held : held_after before.events ≡ []
-  pub given : IsAnswered before book (Lease now) (Given lease entry deadline)
+-- the verdict on what the solver found for the entry was handed in under the lease, or the lease was given up
+pub record WorksOn (may_find : MayFind) (budget : ℕ) (old new : Ledger) (lease : ℕ) (entry : Entry) : Type 0 where
+  pub verdict : Option (Result Shown HandFault)
+  pub found : IsFoundFor may_find budget (deal_of old.terms.boards entry.board) entry verdict
+  pub reply : Reply
+  pub answered : IsAnswered old new (asked_for lease entry verdict) reply
 
--- the same terms, events more, and no lease is held any more
-pub record GoesOn (old new : Ledger) : Type 0 where
-  pub terms : new.terms ≡ old.terms
-  pub more : length old.events < length new.events
-  pub none_held : held_after new.events ≡ []
-
--- the same terms, all entries were given out, and each is done
-pub record GivesOut (old new : Ledger) : Type 0 where
+-- the same terms, all entries were given out and each is done, and each lease was worked on
+pub record GivesOut (may_find : MayFind) (budget : ℕ) (old new : Ledger) : Type 0 where
   pub terms : new.terms ≡ old.terms
   pub given_out : IsGivenOut new.events
   pub done : IsDone new.terms new.events
+  pub worked_on : AreWorkedOn may_find budget new.terms.boards new.events

@@ -1,7 +1,8 @@
 //! The tables on one thread.
 
-ghost use Rattle.std.specs.Prelude.{◌<◌};
+ghost use Rattle.std.specs.Prelude.{◌<◌, IfOk};
 ghost use Rattle.lease_book.specs.Books.{AreTries};
+ghost use Rattle.tournaments.specs.Asking.{AreWorkedOn};
 ghost use Rattle.tournaments.specs.Making.{MakesTables};
 
 use crate::clocks::Clock;
@@ -20,7 +21,8 @@ use tables::{Report, write_tables};
 /// within a budget of its own steps, and writes the tables of what was shown. The book of the run is handed out.
 ///
 /// Whatever the solver answers and the clock tells, a number that is written is the double-dummy value of its deal: an
-/// answer whose certificates don't show it is dropped. With all refusals but a failed sink nothing was written.
+/// answer whose certificates don't show it gives none. Right after each lease the checker's verdict on what the solver
+/// found is handed in. With all refusals but a failed sink nothing was written.
 pub fn make_single<I: Source, O: Sink, S: Solver, C: Clock>(
     alloc: Global,
     input: &mut I,
@@ -33,7 +35,8 @@ pub fn make_single<I: Source, O: Sink, S: Solver, C: Clock>(
 ) -> Result<(Report, Book), MakeFault>
     requires tries { AreTries tries }
     requires budget { 0 < budget }
-    ensures { MakesTables term tries (I.state input.old) (I.state input.new) (O.state output.old) (O.state output.new) result }
+    ensures tables { MakesTables term tries (I.state input.old) (I.state input.new) (O.state output.old) (O.state output.new) result }
+    ensures asked { IfOk result (λ made. AreWorkedOn (S.may_find solver.now) budget made.1.terms.boards made.1.events) }
 {
     let text = read_all(alloc, input)?;
     let boards = take_boards(alloc, text.as_slice())?;

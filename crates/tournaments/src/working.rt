@@ -1,10 +1,9 @@
 //! The work on the entries of a book, one after another.
 
-ghost use Rattle.std.specs.Prelude.{◌≡◌, true, [], IfSome, OnOk};
-ghost use Rattle.lease_book.specs.Histories.{held_after};
-ghost use Rattle.lease_book.specs.Proofs.{evidence_of};
-ghost use Rattle.lease_book.specs.Replies.{is_evidence_for};
-ghost use Rattle.tournaments.specs.Working.{GivesOut, GoesOn, HasJustGiven};
+ghost use Rattle.std.specs.Prelude.{◌≡◌, [], OnOk};
+ghost use Rattle.lease_book.specs.Histories.{deal_of};
+ghost use Rattle.tournaments.specs.Asking.{IsFoundFor};
+ghost use Rattle.tournaments.specs.Working.{GivesOut, WorksOn};
 
 use crate::clocks::Clock;
 use checker::{HandFault, OutOfMemory, Verdict, check_entry};
@@ -22,7 +21,7 @@ fn verdict_on<S: Solver>(
     budget: u64,
     solver: &S,
 ) -> Option<Verdict>
-    ensures { IfSome result (λ verdict. is_evidence_for boards.now entry (evidence_of verdict) ≡ true) }
+    ensures { IsFoundFor (S.may_find solver.now) budget (deal_of boards.now entry.board) entry result }
 {
     let layout = boards.get(entry.board)?.deal.as_ref()?;
     let Ok(Some(answer)) = solver.solve(alloc, layout, entry.declarer, entry.trump, budget) else {
@@ -39,7 +38,7 @@ fn verdict_on<S: Solver>(
     Some(checked.map_err(HandFault::Entry))
 }
 
-/// Hands in what the solver answers for the entry of the lease that is held, or gives it up.
+/// Hands in what the solver answers for the entry of a lease, or gives the lease up.
 fn work_on<S: Solver>(
     alloc: Global,
     book: &mut Book,
@@ -48,8 +47,7 @@ fn work_on<S: Solver>(
     budget: u64,
     solver: &S,
 ) -> Result<(), OutOfMemory>
-    requires { HasJustGiven book.old lease entry }
-    ensures { OnOk result (GoesOn book.old book.new) }
+    ensures { OnOk result (WorksOn (S.may_find solver.now) budget book.old book.new lease entry) }
 {
     match verdict_on(alloc, book.boards(), entry, budget, solver) {
         Some(verdict) => book.settle(lease, entry, verdict)?,
@@ -66,8 +64,8 @@ pub(crate) fn work_through<S: Solver, C: Clock>(
     solver: &S,
     clock: &C,
 ) -> Result<(), OutOfMemory>
-    requires { held_after book.old.events ≡ [] }
-    ensures { OnOk result (GivesOut book.old book.new) }
+    requires { book.old.events ≡ [] }
+    ensures { OnOk result (GivesOut (S.may_find solver.now) budget book.old book.new) }
 {
     for _turn in 0..u64::MAX {
         let _events = book.history();

@@ -1,0 +1,67 @@
+-- That a solver was asked for each entry that was leased, and that what it found was handed in.
+use Rattle.std.specs.Prelude.{◌≡◌, ℕ, List, [], ◌∷◌, Option, None, Some, Result, Ok, Err}
+use Rattle.cards.specs.Deal.{Deal}
+use Rattle.cards.specs.declared.seats.Seat.{Seat}
+use Rattle.cards.specs.declared.suits.Trump.{Trump}
+use Rattle.pbn_deals.specs.declared.boards.Board.{Board}
+use Rattle.certificate_graph.specs.declared.answers.Answer.{Answer}
+use Rattle.checker.specs.declared.entries.Shown.{Shown}
+use Rattle.checker.specs.declared.entry_faults.EntryFault.{EntryFault}
+use Rattle.checker.specs.declared.hand_faults.HandFault.{HandFault}
+use Rattle.checker.specs.declared.hand_faults.HandFault.TheVariants as hand
+use Rattle.checker.specs.EntryFaults.{EntryAnswers}
+use Rattle.lease_book.specs.declared.entries.Entry.{Entry}
+use Rattle.lease_book.specs.declared.events.Grant.{Grant}
+use Rattle.lease_book.specs.declared.events.Asked.{Asked}
+use Rattle.lease_book.specs.declared.events.Asked.TheVariants.{GiveUp, HandIn}
+use Rattle.lease_book.specs.declared.events.Event.{Event}
+use Rattle.lease_book.specs.Histories.{given_by, deal_of}
+use Rattle.lease_book.specs.Proofs.{evidence_of}
+
+-- what a solver may find for a deal, a declarer and a denomination within a budget
+abbrev pub MayFind : Type 1
+MayFind = Deal → Seat → Trump → ℕ → Option Answer → Type 0
+
+-- what the checker's answer for two graphs is as a verdict
+abbrev pub as_verdict : Result Shown EntryFault → Result Shown HandFault
+as_verdict (Ok shown) = Ok shown
+as_verdict (Err fault) = Err (hand.Entry fault)
+
+-- the verdict on what was found, where something was
+abbrev pub IsVerdictOn : Deal → Entry → Option Answer → Option (Result Shown HandFault) → Type 0
+IsVerdictOn deal entry None verdict = verdict ≡ None
+IsVerdictOn deal entry (Some answer) verdict =
+    (checked : Result Shown EntryFault)
+    × EntryAnswers deal entry.declarer entry.trump answer.k answer.declarer answer.defenders checked
+    × (verdict ≡ Some (as_verdict checked))
+
+-- the verdict on what the solver was asked for and found for an entry; on a board without a deal it is not asked
+abbrev pub IsFoundFor : MayFind → ℕ → Option Deal → Entry → Option (Result Shown HandFault) → Type 0
+IsFoundFor may_find budget None entry verdict = verdict ≡ None
+IsFoundFor may_find budget (Some deal) entry verdict =
+    (found : Option Answer) × may_find deal entry.declarer entry.trump budget found × IsVerdictOn deal entry found verdict
+
+-- what is asked of the book then: the verdict is handed in under the lease, or the lease is given up
+abbrev pub asked_for : ℕ → Entry → Option (Result Shown HandFault) → Asked
+asked_for lease entry None = GiveUp lease
+asked_for lease entry (Some verdict) = HandIn lease entry (evidence_of verdict)
+
+-- the request is that for a lease, by what the solver found
+abbrev pub IsWorkOn : MayFind → ℕ → List Board → Grant → Asked → Type 0
+IsWorkOn may_find budget boards grant asked =
+    (verdict : Option (Result Shown HandFault))
+    × IsFoundFor may_find budget (deal_of boards grant.entry.board) grant.entry verdict
+    × (asked ≡ asked_for grant.lease grant.entry verdict)
+
+-- the next request is that for the lease that was given, if one was
+abbrev pub IsWorkedOn : MayFind → ℕ → List Board → Option Grant → List Event → Type 0
+IsWorkedOn may_find budget boards None later = Unit {0}
+IsWorkedOn may_find budget boards (Some grant) [] = ⊥
+IsWorkedOn may_find budget boards (Some grant) (next ∷ later) = IsWorkOn may_find budget boards grant next.asked
+
+-- the solver was asked for the entry of each lease that was given, and then the verdict on what it found was handed in under
+-- that lease, or the lease was given up, since it found nothing
+abbrev pub AreWorkedOn : MayFind → ℕ → List Board → List Event → Type 0
+AreWorkedOn may_find budget boards [] = Unit {0}
+AreWorkedOn may_find budget boards (event ∷ later) =
+    IsWorkedOn may_find budget boards (given_by event) later × AreWorkedOn may_find budget boards later
