@@ -1,6 +1,6 @@
 //! The cards that a seat may play.
 
-ghost use Rattle.std.specs.Prelude.{◌≡◌, ◌+◌, ◌≤◌, ◌++◌, ◌↔◌, IsTrue, Some, Contains, length, slice_get};
+ghost use Rattle.std.specs.Prelude.{◌≡◌, ◌+◌, ◌≤◌, ◌++◌, ◌↔◌, IsTrue, Some, Contains, [], length, slice_get};
 ghost use Rattle.patterns.specs.Shapes.{suit_of, len_of};
 ghost use Rattle.pattern_step.specs.PatCards.{IsLegal};
 ghost use Rattle.pattern_step.specs.LegalCards.{cards_in, legal_cards};
@@ -19,26 +19,27 @@ pub fn legal(pattern: &Pattern, seat: Seat, led: Option<Suit>) -> ArrayVec<PatCa
     ensures all { (card : PatCard) → Contains result.items card ↔ IsLegal pattern.now seat led card }
 {
     pattern.invariant();
-    list(pattern, seat, led)
+    let mut cards = ArrayVec::new();
+    list(&mut cards, pattern, seat, led);
+    cards
 }
 
-/// The legal cards, suit by suit.
-fn list(pattern: &Pattern, seat: Seat, led: Option<Suit>) -> ArrayVec<PatCard, 13>
-    ensures { result.items ≡ legal_cards pattern.now seat led }
+/// Lists the legal cards, suit by suit, where none are listed yet.
+fn list(cards: &mut ArrayVec<PatCard, 13>, pattern: &Pattern, seat: Seat, led: Option<Suit>)
+    requires { cards.old.items ≡ [] }
+    ensures { cards.new.items ≡ legal_cards pattern.now seat led }
 {
     pattern.invariant();
-    let mut cards = ArrayVec::new();
     if let Some(suit) = led {
         if pattern.len(suit, seat) != 0 {
-            add_suit(&mut cards, pattern, seat, suit);
-            return cards;
+            add_suit(cards, pattern, seat, suit);
+            return;
         }
     }
-    add_suit(&mut cards, pattern, seat, Suit::Spades);
-    add_suit(&mut cards, pattern, seat, Suit::Hearts);
-    add_suit(&mut cards, pattern, seat, Suit::Diamonds);
-    add_suit(&mut cards, pattern, seat, Suit::Clubs);
-    cards
+    add_suit(cards, pattern, seat, Suit::Spades);
+    add_suit(cards, pattern, seat, Suit::Hearts);
+    add_suit(cards, pattern, seat, Suit::Diamonds);
+    add_suit(cards, pattern, seat, Suit::Clubs);
 }
 
 /// Whether the seat is the owner in this place.

@@ -8,7 +8,7 @@ use Rattle.pattern_step.proofs.legal_cards.list.Goals as goal
 pub add_suit-requires-2 : goal.add_suit-requires-2
 add_suit-requires-2 c =
     let pattern = c.invariant.ensures in
-    let new = ap length c.new-cards.ensures in
+    let new = ap length c.requires in
     let hand = pattern.hands c.args.seat in
     omega (arith, new, hand, pattern.not_over)
 
@@ -16,8 +16,8 @@ pub add_suit-requires-3 : goal.add_suit-requires-3
 add_suit-requires-3 c =
     let pattern = c.invariant.ensures in
     let seat = c.args.seat in
-    let new = ap length c.new-cards.ensures in
-    let one = ap length c.add_suit-2.ensures ∙ length-append c.new-cards.result.items (cards_in c.args.pattern.now seat Spades) in
+    let new = ap length c.requires in
+    let one = ap length c.add_suit-2.ensures ∙ length-append c.args.cards.now.items (cards_in c.args.pattern.now seat Spades) in
     let spades = length-cards_in c.args.pattern.now pattern seat Spades in
     omega (arith, new, one, spades, pattern.hands seat, pattern.not_over)
 
@@ -25,8 +25,8 @@ pub add_suit-requires-4 : goal.add_suit-requires-4
 add_suit-requires-4 c =
     let pattern = c.invariant.ensures in
     let seat = c.args.seat in
-    let new = ap length c.new-cards.ensures in
-    let one = ap length c.add_suit-2.ensures ∙ length-append c.new-cards.result.items (cards_in c.args.pattern.now seat Spades) in
+    let new = ap length c.requires in
+    let one = ap length c.add_suit-2.ensures ∙ length-append c.args.cards.now.items (cards_in c.args.pattern.now seat Spades) in
     let two = ap length c.add_suit-3.ensures ∙ length-append c.add_suit-2.new.cards.items (cards_in c.args.pattern.now seat Hearts) in
     let spades = length-cards_in c.args.pattern.now pattern seat Spades in
     let hearts = length-cards_in c.args.pattern.now pattern seat Hearts in
@@ -36,8 +36,8 @@ pub add_suit-requires-5 : goal.add_suit-requires-5
 add_suit-requires-5 c =
     let pattern = c.invariant.ensures in
     let seat = c.args.seat in
-    let new = ap length c.new-cards.ensures in
-    let one = ap length c.add_suit-2.ensures ∙ length-append c.new-cards.result.items (cards_in c.args.pattern.now seat Spades) in
+    let new = ap length c.requires in
+    let one = ap length c.add_suit-2.ensures ∙ length-append c.args.cards.now.items (cards_in c.args.pattern.now seat Spades) in
     let two = ap length c.add_suit-3.ensures ∙ length-append c.add_suit-2.new.cards.items (cards_in c.args.pattern.now seat Hearts) in
     let three = ap length c.add_suit-4.ensures ∙ length-append c.add_suit-3.new.cards.items (cards_in c.args.pattern.now seat Diamonds) in
     let spades = length-cards_in c.args.pattern.now pattern seat Spades in
