@@ -12,88 +12,31 @@ use streams::read_all;
 /// The finesse that wins.
 const FINESSE: [&str; 5] = ["ddfarm", "plain", "N:AQ... 65... 32... K4...", "S", "NT"];
 
-/// Words of `plain`, and the line that is printed.
-const ENDINGS: [(&[&str], &str); 11] = [
-    (
-        &["ddfarm", "plain", "N:A... K... Q... J...", "E", "NT"],
-        "NS 1\n",
-    ),
-    (
-        &["ddfarm", "plain", "E:K... Q... J... A...", "E", "NT"],
-        "NS 1\n",
-    ),
-    (
-        &["ddfarm", "plain", "N:2... .A.. 3... .K..", "E", "S"],
-        "NS 1\n",
-    ),
-    (
-        &["ddfarm", "plain", "N:2... .A.. 3... .K..", "E", "NT"],
-        "NS 0\n",
-    ),
-    (
-        &["ddfarm", "plain", "N:AQ... 65... 32... K4...", "S", "NT"],
-        "NS 2\n",
-    ),
-    (
-        &["ddfarm", "plain", "N:AQ... K5... 32... 64...", "S", "NT"],
-        "NS 1\n",
-    ),
-    (
-        &[
-            "ddfarm",
-            "plain",
-            "N:AJ.K.. ..432. 2.2..A KQ.A..",
-            "S",
-            "NT",
-        ],
-        "NS 3\n",
-    ),
-    (
-        &[
-            "ddfarm",
-            "plain",
-            "N:AJ.K.. KQ.A.. 2.2..A ..432.",
-            "S",
-            "NT",
-        ],
-        "NS 3\n",
-    ),
-    (
-        &[
-            "ddfarm",
-            "plain",
-            "N:AJ.K.. KQ.A.. 2..2.A ..543.",
-            "S",
-            "NT",
-        ],
-        "NS 2\n",
-    ),
-    (
-        &[
-            "ddfarm",
-            "plain",
-            "N:AJ.K.. ..543. 2..2.A KQ.A..",
-            "S",
-            "NT",
-        ],
-        "NS 3\n",
-    ),
-    (
-        &[
-            "ddfarm",
-            "plain",
-            " s:32...\tk4...  aq... 65... ",
-            "S",
-            "NT",
-        ],
-        "NS 2\n",
-    ),
+/// The layout, the leader and the denomination that `plain` is given, and the line that it prints.
+const ENDINGS: [(&str, &str, &str, &str); 11] = [
+    ("N:A... K... Q... J...", "E", "NT", "NS 1\n"),
+    ("E:K... Q... J... A...", "E", "NT", "NS 1\n"),
+    ("N:2... .A.. 3... .K..", "E", "S", "NS 1\n"),
+    ("N:2... .A.. 3... .K..", "E", "NT", "NS 0\n"),
+    ("N:AQ... 65... 32... K4...", "S", "NT", "NS 2\n"),
+    ("N:AQ... K5... 32... 64...", "S", "NT", "NS 1\n"),
+    ("N:AJ.K.. ..432. 2.2..A KQ.A..", "S", "NT", "NS 3\n"),
+    ("N:AJ.K.. KQ.A.. 2.2..A ..432.", "S", "NT", "NS 3\n"),
+    ("N:AJ.K.. KQ.A.. 2..2.A ..543.", "S", "NT", "NS 2\n"),
+    ("N:AJ.K.. ..543. 2..2.A KQ.A..", "S", "NT", "NS 3\n"),
+    (" s:32...\tk4...  aq... 65... ", "S", "NT", "NS 2\n"),
 ];
 
 /// Each ending has its line.
-fn expect_lines(rt: &impl Abort, alloc: Global, rows: &[(&[&str], &str)]) -> Result<(), Fail> {
-    for (words, line) in rows {
-        expect_words(rt, alloc, words, b"", ROOM, (Status::Done, *line, ""))?;
+fn expect_lines<'a>(
+    rt: &impl Abort,
+    alloc: Global,
+    rows: &[(&'a str, &'a str, &'a str, &'a str)],
+) -> Result<(), Fail> {
+    for (layout, leader, trump, line) in rows {
+        let words: [&'a str; 5] = ["ddfarm", "plain", *layout, *leader, *trump];
+        let wanted = (Status::Done, *line, "");
+        expect_words(rt, alloc, words.as_slice(), b"", ROOM, wanted)?;
     }
     Ok(())
 }
@@ -103,11 +46,16 @@ fn worked_endings(rt: HostRuntime) -> Result<(), Fail> {
     expect_lines(&rt, rt.alloc(), ENDINGS.as_slice())
 }
 
+/// The answer for North's ace.
+const ACE: &str = "result 1\nDDC 1\ntrump NT\nside NS\nnodes 1\n\
+    E 1 1.1.1.1/N 0.0.0.0/ 0.0.0.0/ 0.0.0.0/ (SxSx(SxSa{}))\n\n\
+    DDC 1\ntrump NT\nside EW\nnodes 0\n";
+
 /// What the words of `check` print for North's ace, of which North takes a trick.
 const CHECKS: [(&[&str], &str, End<'static>); 6] = [
     (
         &["ddfarm", "check", "N:A... K... Q... J...", "N", "NT"],
-        "result 1\nDDC 1\ntrump NT\nside NS\nnodes 1\nE 1 1.1.1.1/N 0.0.0.0/ 0.0.0.0/ 0.0.0.0/ (SxSx(SxSa{}))\n\nDDC 1\ntrump NT\nside EW\nnodes 0\n",
+        ACE,
         (Status::Done, "accepted 1\n", ""),
     ),
     (
