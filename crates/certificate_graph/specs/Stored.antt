@@ -3,6 +3,8 @@ use Rattle.std.specs.Prelude.{List, [], ◌∷◌}
 use Rattle.certificate_graph.specs.declared.trees.Stored.{Stored}
 use Rattle.certificate_graph.specs.declared.trees.Stored.TheVariants as stored
 use Rattle.certificate_graph.specs.declared.trees.Branch.{Branch}
+use Rattle.certificate_graph.specs.declared.places.At.{At}
+use Rattle.certificate_graph.specs.declared.places.At.TheVariants as at
 use Rattle.certificate_graph.specs.Trees.{TrickTree, Own, Reply, Leaf, Branches, NoBranch}
 use Rattle.certificate_graph.specs.Trees as tree
 
@@ -13,5 +15,13 @@ branches_of (branch ∷ rest) = tree.Branch branch.card branch.below (branches_o
 
 abbrev pub tree_stored : Stored → TrickTree
 tree_stored (stored.Own card below) = Own card below.value
+tree_stored (stored.OwnThenReply card branches) = Own card (Reply (branches_of branches.items))
+tree_stored (stored.OwnThenOne card child) = Own card (Leaf (child ∷ []))
 tree_stored (stored.Reply branches) = Reply (branches_of branches.items)
+tree_stored (stored.One child) = Leaf (child ∷ [])
 tree_stored (stored.Leaf children) = Leaf children.items
+
+abbrev pub place_stored : At → TrickTree
+place_stored (at.Tree tree) = tree.now
+place_stored (at.Reply branches) = Reply (branches_of branches.now)
+place_stored (at.Leaf children) = Leaf children.now

@@ -10,11 +10,20 @@ use crate::trees;
 use crate::trees::{Stored, Tree};
 use pattern_step::PatCard;
 use std::marker::Model;
+use std::slice;
 
 /// A place of a tree, with all below it.
 #[derive(Drop)]
 pub struct Place<'a> {
-    tree: &'a Tree,
+    at: At<'a>,
+}
+
+/// Where a place stands: in a tree of its own, or beside the card of the side before it.
+#[derive(Drop)]
+pub(crate) enum At<'a> {
+    Tree(&'a Tree),
+    Reply(&'a [trees::Branch]),
+    Leaf(&'a [Child]),
 }
 
 /// Branches of a tree, in their order.
@@ -39,7 +48,9 @@ impl<'a> Model for Place<'a> {
 
     ghost coded = { tree_code };
 
-    ghost view = { λ place. place.tree.now };
+    ghost use Rattle.certificate_graph.specs.Stored.{place_stored};
+
+    ghost view = { λ place. place_stored place.at };
 }
 
 impl<'a> Model for Branches<'a> {
@@ -59,21 +70,44 @@ impl<'a> Place<'a> {
     pub(crate) fn of_tree(tree: &'a Tree) -> Place<'a>
         ensures { result ≡ tree.now }
     {
-        Place { tree }
+        Place { at: At::Tree(tree) }
     }
 
     /// What stands here.
     pub fn view(&self) -> View<'a>
         ensures { tree_seen result ≡ self.now }
     {
-        let tree = self.tree;
-        match tree.stored() {
-            Stored::Own(card, below) => View::Own(*card, Place::of_tree(below)),
-            Stored::Reply(branches) => View::Reply(Branches {
-                branches: branches.as_slice(),
-            }),
-            Stored::Leaf(children) => View::Leaf(children.as_slice()),
+        match &self.at {
+            At::Tree(tree) => view_of(tree),
+            At::Reply(branches) => View::Reply(Branches { branches }),
+            At::Leaf(children) => View::Leaf(children),
         }
+    }
+}
+
+/// What stands in the first place of a tree.
+fn view_of<'a>(tree: &'a Tree) -> View<'a>
+    ensures { tree_seen result ≡ tree.now }
+{
+    match tree.stored() {
+        Stored::Own(card, below) => View::Own(*card, Place::of_tree(below)),
+        Stored::OwnThenReply(card, branches) => View::Own(
+            *card,
+            Place {
+                at: At::Reply(branches.as_slice()),
+            },
+        ),
+        Stored::OwnThenOne(card, child) => View::Own(
+            *card,
+            Place {
+                at: At::Leaf(slice::from_ref(child)),
+            },
+        ),
+        Stored::Reply(branches) => View::Reply(Branches {
+            branches: branches.as_slice(),
+        }),
+        Stored::One(child) => View::Leaf(slice::from_ref(child)),
+        Stored::Leaf(children) => View::Leaf(children.as_slice()),
     }
 }
 

@@ -26,12 +26,16 @@ pub struct Branch {
     pub below: Tree,
 }
 
-/// A place of a tree with all below it.
+/// A place of a tree with all below it. A leaf of one child, and what mostly follows a card of the side, stand here
+/// themselves and take no memory of their own.
 #[cycle(tree)]
 #[derive(Drop)]
 pub(crate) enum Stored {
     Own(PatCard, Box<Tree>),
+    OwnThenReply(PatCard, Vec<Branch>),
+    OwnThenOne(PatCard, Child),
     Reply(Vec<Branch>),
+    One(Child),
     Leaf(Vec<Child>),
 }
 
@@ -61,10 +65,12 @@ impl Tree {
     pub fn own(alloc: Global, card: PatCard, below: Tree) -> Result<Tree, AllocError>
         ensures { IfOk result (λ tree. tree ≡ Own card below) }
     {
-        let below = Box::new(alloc, below)?;
-        Ok(Tree {
-            stored: Stored::Own(card, below),
-        })
+        let stored = match below.stored {
+            Stored::Reply(branches) => Stored::OwnThenReply(card, branches),
+            Stored::One(child) => Stored::OwnThenOne(card, child),
+            stored => Stored::Own(card, Box::new(alloc, Tree { stored })?),
+        };
+        Ok(Tree { stored })
     }
 
     /// The cards of the opponents, each with what follows it.
@@ -80,9 +86,11 @@ impl Tree {
     pub fn leaf(children: Vec<Child>) -> Tree
         ensures { result ≡ Leaf children.items }
     {
-        Tree {
-            stored: Stored::Leaf(children),
-        }
+        let stored = match children.as_slice() {
+            [child] => Stored::One(*child),
+            _ => Stored::Leaf(children),
+        };
+        Tree { stored }
     }
 
     /// The first place.
