@@ -1,11 +1,14 @@
 #!/usr/bin/env python3
-"""Times the solver and the checker beside DDS's CalcDDtable over the same random boards, one thread, and compares the numbers.
+"""Times `ddfarm table`, and the solver and the checker behind it, beside DDS's CalcDDtable over the same random boards, one
+thread, and compares the numbers.
 
 Usage: bench/solver/speed.py [BOARDS [SEED [CARDS]]], by default 100 boards of seed 2026. It needs Debian's libdds-dev and g++.
 It copies the crates into a folder of its own, proves and builds speed.rt.txt there, and prints what came of the entries and the
-processor time of both: mean, median and worst board.
+processor time of all: mean, median and worst board. `ddfarm table` is run where a board has thirteen cards a hand, and its greatest
+memory is told too.
 """
 
+import os
 import shutil
 import subprocess
 import sys
@@ -24,6 +27,7 @@ CRATES = (
     "checker",
     "partition_solver",
 )
+TRUMPS = ("NT", "S", "H", "D", "C")
 
 
 def boards(folder, words):
@@ -43,13 +47,21 @@ def hands_of(layout):
     return hands
 
 
-def filled(lines):
-    """The program with its boards and numbers."""
+def tables_of(lines):
+    """DDS's numbers by layout."""
     tables = {}
     for line in lines:
         layout, declarer, trump, tricks = line.split("|")
-        place = 5 * "NESW".index(declarer) + ["NT", "S", "H", "D", "C"].index(trump)
-        tables.setdefault(layout, [0] * 20)[place] = int(tricks)
+        tables.setdefault(layout, {})[declarer, trump] = int(tricks)
+    return tables
+
+
+def filled(lines):
+    """The program with its boards and numbers."""
+    tables = {
+        layout: [numbers[declarer, trump] for declarer in "NESW" for trump in TRUMPS]
+        for layout, numbers in tables_of(lines).items()
+    }
     hands = "\n".join("    [" + ", ".join(f"0x{word:x}" for word in hands_of(layout)) + "]," for layout in tables)
     numbers = "\n".join("    [" + ", ".join(map(str, table)) + "]," for table in tables.values())
     text = (HERE / "speed.rt.txt").read_text()
@@ -79,12 +91,35 @@ def told(name, micros):
 def report(run, theirs):
     """What came of our run beside DDS's times."""
     rows = [[int(word) for word in line.split()] for line in run.splitlines()]
-    entries, wrong, unanswered, refused, nodes = (sum(row[place] for row in rows) for place in range(5))
-    print(f"{entries} entries: {wrong} wrong, {unanswered} without an answer, {refused} refused, {nodes / entries:.0f} nodes each")
+    entries, tries, wrong, unanswered, refused, nodes = (sum(row[place] for row in rows) for place in range(6))
+    print(f"{entries} entries, {tries} tries: {wrong} wrong, {unanswered} without an answer, {refused} refused, {nodes / entries:.0f} nodes each")
     told("DDS", theirs)
-    told("solving", [row[5] for row in rows])
-    told("checking", [row[6] for row in rows])
-    print(f"solving and checking: {sum(row[5] + row[6] for row in rows) / sum(theirs):.2f} times DDS")
+    told("solving", [row[6] for row in rows])
+    told("checking", [row[7] for row in rows])
+    print(f"solving and checking: {sum(row[6] + row[7] for row in rows) / sum(theirs):.2f} times DDS")
+
+
+def printed_table(text):
+    """The numbers of a printed table by declarer and denomination."""
+    rows = (line.split() for line in text.splitlines() if line[:1] in "NESW" and len(line.split()) == 3)
+    return {(declarer, trump): int(tricks) for declarer, trump, tricks in rows}
+
+
+def run_table(folder, lines, theirs):
+    """Runs `ddfarm table` over the boards, and compares its tables with DDS's."""
+    tables = tables_of(lines)
+    games = "\n".join(f'[Board "{number}"]\n[Deal "{layout}"]\n' for number, layout in enumerate(tables, 1))
+    (folder / "boards.pbn").write_text(games)
+    subprocess.run([str(ROOT / "ddfarm"), "table"], stdin=subprocess.DEVNULL, stdout=subprocess.DEVNULL, check=True)
+    with (folder / "boards.pbn").open() as source, (folder / "tables.pbn").open("w") as sink:
+        process = subprocess.Popen([str(ROOT / "crates/ddfarm/out/ddfarm"), "table"], stdin=source, stdout=sink)
+        _, status, usage = os.wait4(process.pid, 0)
+        process.returncode = os.waitstatus_to_exitcode(status)
+    printed = [printed_table(game) for game in (folder / "tables.pbn").read_text().split("[Board ")[1:]]
+    same = sum(table == numbers for table, numbers in zip(printed, tables.values()))
+    seconds = usage.ru_utime + usage.ru_stime
+    print(f"ddfarm table: status {process.returncode}, {same} of {len(tables)} tables are DDS's, {usage.ru_maxrss // 1024} MB at most")
+    print(f"ddfarm table: {1000 * seconds / len(tables):.1f} ms a board, {1e6 * seconds / sum(theirs):.2f} times DDS")
 
 
 def main():
@@ -96,6 +131,8 @@ def main():
         lines, theirs = boards(folder, words)
         run = subprocess.run([str(build(folder, lines))], check=True, capture_output=True, text=True)
         report(run.stdout, theirs)
+        if len(words) < 3 or words[2] == "13":
+            run_table(folder, lines, theirs)
 
 
 if __name__ == "__main__":

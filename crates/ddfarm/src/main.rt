@@ -56,7 +56,7 @@ fn main(rt: HostRuntime) -> ExitCode {
         Ok(words) => run_command(
             rt.alloc(),
             words.as_slice(),
-            &Partition,
+            &Partition::new(),
             &clock,
             &mut input,
             &mut output,

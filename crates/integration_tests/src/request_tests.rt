@@ -79,7 +79,7 @@ fn answered(alloc: Global, lease: u64, declarer: Seat, trump: Trump) -> Result<R
     let layout = read_layout(
         b"N:AKQJT98765432... .AKQJT98765432.. ..AKQJT98765432. ...AKQJT98765432",
     )?;
-    let found = Partition.solve(alloc, &layout, declarer, trump, BUDGET)?;
+    let found = Partition::new().solve(alloc, &layout, declarer, trump, BUDGET)?;
     let answer = found.ok_or("no answer")?;
     let ours = text_of(alloc, &answer.declarer)?;
     let theirs = text_of(alloc, &answer.defenders)?;

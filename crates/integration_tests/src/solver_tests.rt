@@ -71,13 +71,14 @@ fn number_of(digit: u8) -> u8 {
 fn solves_entry(
     rt: &impl Abort,
     alloc: Global,
+    solver: &Partition,
     text: &str,
     declarer: Seat,
     trump: Trump,
     number: u8,
 ) -> Result<(), Fail> {
     let layout = read_layout(text.as_bytes())?;
-    let answer = Partition.solve(alloc, &layout, declarer, trump, 10_000_000)?;
+    let answer = solver.solve(alloc, &layout, declarer, trump, 10_000_000)?;
     let answer = answer.ok_or("no answer")?;
     assert_eq!(rt; answer.k, number, "{text} {declarer} {trump}");
     let proven = check_entry(
@@ -92,40 +93,57 @@ fn solves_entry(
     Ok(())
 }
 
-/// Solves the layout for each of these declarers and all denominations.
-fn solves(rt: &impl Abort, alloc: Global, row: Row, declarers: &[Seat]) -> Result<(), Fail> {
+/// Solves the layout for a declarer and all denominations.
+fn solves(
+    rt: &impl Abort,
+    alloc: Global,
+    solver: &Partition,
+    row: Row,
+    declarer: Seat,
+) -> Result<(), Fail> {
     let (text, numbers) = row;
-    for declarer in declarers {
-        for (place, trump) in TRUMPS.as_slice().iter().enumerate() {
-            let digit = numbers
-                .as_bytes()
-                .get(declarer.number() * 6 + place)
-                .copied();
-            solves_entry(
-                rt,
-                alloc,
-                text,
-                *declarer,
-                *trump,
-                number_of(digit.ok_or("no digit")?),
-            )?;
+    for (place, trump) in TRUMPS.as_slice().iter().enumerate() {
+        let digit = numbers
+            .as_bytes()
+            .get(declarer.number() * 6 + place)
+            .copied();
+        let number = number_of(digit.ok_or("no digit")?);
+        solves_entry(rt, alloc, solver, text, declarer, *trump, number)?;
+    }
+    Ok(())
+}
+
+/// The entries of each declarer by a solver of their own.
+#[test]
+fn endings(rt: HostRuntime) -> Result<(), Fail> {
+    for row in ENDINGS {
+        for declarer in Seat::ALL {
+            solves(&rt, rt.alloc(), &Partition::new(), row, declarer)?;
         }
     }
     Ok(())
 }
 
+/// One solver for all declarers of a layout, and for the next layouts.
 #[test]
-fn endings(rt: HostRuntime) -> Result<(), Fail> {
-    for row in ENDINGS {
-        solves(&rt, rt.alloc(), row, &Seat::ALL)?;
+fn small_layouts(rt: HostRuntime) -> Result<(), Fail> {
+    let solver = Partition::new();
+    for row in SMALL {
+        for declarer in Seat::ALL {
+            solves(&rt, rt.alloc(), &solver, row, declarer)?;
+        }
     }
     Ok(())
 }
 
+/// One solver that is asked of another layout each time.
 #[test]
-fn small_layouts(rt: HostRuntime) -> Result<(), Fail> {
-    for row in SMALL {
-        solves(&rt, rt.alloc(), row, &Seat::ALL)?;
+fn layouts_by_turns(rt: HostRuntime) -> Result<(), Fail> {
+    let solver = Partition::new();
+    for declarer in Seat::ALL {
+        for row in SMALL {
+            solves(&rt, rt.alloc(), &solver, row, declarer)?;
+        }
     }
     Ok(())
 }
@@ -133,24 +151,48 @@ fn small_layouts(rt: HostRuntime) -> Result<(), Fail> {
 #[test]
 fn nine_cards(rt: HostRuntime) -> Result<(), Fail> {
     for row in NINE {
-        solves(&rt, rt.alloc(), row, &[Seat::East])?;
+        solves(&rt, rt.alloc(), &Partition::new(), row, Seat::East)?;
     }
     Ok(())
 }
 
 #[test]
 fn board(rt: HostRuntime) -> Result<(), Fail> {
-    solves_entry(&rt, rt.alloc(), BOARD, Seat::East, Trump::Nt, 5)
+    solves_entry(
+        &rt,
+        rt.alloc(),
+        &Partition::new(),
+        BOARD,
+        Seat::East,
+        Trump::Nt,
+        5,
+    )
+}
+
+/// What a call has found before its steps ended is there for the next one.
+#[test]
+fn asked_again(rt: HostRuntime) -> Result<(), Fail> {
+    let solver = Partition::new();
+    let trump = Trump::Suit(Suit::Diamonds);
+    for (text, _) in NINE {
+        let layout = read_layout(text.as_bytes())?;
+        let first = solver.solve(rt.alloc(), &layout, Seat::North, trump, 10_000)?;
+        assert!(rt; first.is_none(), "{text}");
+        let again = solver.solve(rt.alloc(), &layout, Seat::North, trump, 10_000)?;
+        assert_eq!(rt; again.map(|answer| answer.k), Some(3), "{text}");
+    }
+    Ok(())
 }
 
 /// A tree has four cards, each of which is a step, so three steps are never enough.
 #[test]
 fn three_steps(rt: HostRuntime) -> Result<(), Fail> {
+    let solver = Partition::new();
     for (text, _) in ENDINGS {
         let layout = read_layout(text.as_bytes())?;
         for declarer in Seat::ALL {
             for trump in TRUMPS {
-                let answer = Partition.solve(rt.alloc(), &layout, declarer, trump, 3)?;
+                let answer = solver.solve(rt.alloc(), &layout, declarer, trump, 3)?;
                 assert!(rt; answer.is_none(), "{text} {declarer} {trump}");
             }
         }

@@ -53,7 +53,7 @@ impl Solver for OneAnswer {
         _trump: Trump,
         budget: u64,
     ) -> Result<Option<Answer>, AllocError> {
-        Partition.solve(alloc, layout, Seat::North, Trump::Nt, budget)
+        Partition::new().solve(alloc, layout, Seat::North, Trump::Nt, budget)
     }
 }
 
@@ -101,7 +101,14 @@ pub(crate) const ONE_SUIT_EACH: &[u8] = b"[Board \"1\"]
 #[test]
 fn four_suits(rt: HostRuntime) -> Result<(), Fail> {
     let wanted = (report(1, 1), 42);
-    expect_tables(&rt, rt.alloc(), &Partition, ONE_SUIT_EACH, wanted, TABLE)
+    expect_tables(
+        &rt,
+        rt.alloc(),
+        &Partition::new(),
+        ONE_SUIT_EACH,
+        wanted,
+        TABLE,
+    )
 }
 
 /// A board on which a trick in no-trump depends on which partner declares.
@@ -142,7 +149,7 @@ fn partners_differ(rt: HostRuntime) -> Result<(), Fail> {
     expect_tables(
         &rt,
         rt.alloc(),
-        &Partition,
+        &Partition::new(),
         PARTNERS_DIFFER,
         wanted,
         TABLE_OF_PARTNERS,
@@ -165,7 +172,7 @@ fn a_board_without_a_deal(rt: HostRuntime) -> Result<(), Fail> {
     expect_tables(
         &rt,
         rt.alloc(),
-        &Partition,
+        &Partition::new(),
         CR_LF,
         wanted,
         written.as_slice(),
@@ -175,7 +182,14 @@ fn a_board_without_a_deal(rt: HostRuntime) -> Result<(), Fail> {
 #[test]
 fn no_boards(rt: HostRuntime) -> Result<(), Fail> {
     let wanted = (report(0, 0), 2);
-    expect_tables(&rt, rt.alloc(), &Partition, b"", wanted, b"% PBN 2.1\n")
+    expect_tables(
+        &rt,
+        rt.alloc(),
+        &Partition::new(),
+        b"",
+        wanted,
+        b"% PBN 2.1\n",
+    )
 }
 
 /// The table of the four suits with this line in place of its rows.

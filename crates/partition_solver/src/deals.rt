@@ -47,6 +47,24 @@ fn hand_of(layout: &Layout, seat: Seat, suits: [Suit; 4]) -> u64 {
         | u64::from(layout.holding(seat, suits[3])).wrapping_shl(48)
 }
 
+/// The four hands of the layout as words.
+fn hands_of(layout: &Layout, suits: [Suit; 4]) -> [u64; 4] {
+    [
+        hand_of(layout, Seat::North, suits),
+        hand_of(layout, Seat::East, suits),
+        hand_of(layout, Seat::South, suits),
+        hand_of(layout, Seat::West, suits),
+    ]
+}
+
+/// All bits of the trump suit, which lies highest.
+fn trumps_of(trump: Trump) -> u64 {
+    match trump {
+        Trump::Nt => 0,
+        Trump::Suit(_) => SUIT.wrapping_shl(48),
+    }
+}
+
 /// Who of the four holds the card.
 fn holder(hands: [u64; 4], card: u64) -> u32 {
     if hands[1] & card != 0 {
@@ -65,16 +83,8 @@ impl Deal {
     pub(crate) fn new(alloc: Global, layout: &Layout, trump: Trump) -> Result<Deal, AllocError> {
         let suits = suits_of(trump);
         let mut deal = Deal {
-            hands: [
-                hand_of(layout, Seat::North, suits),
-                hand_of(layout, Seat::East, suits),
-                hand_of(layout, Seat::South, suits),
-                hand_of(layout, Seat::West, suits),
-            ],
-            trumps: match trump {
-                Trump::Nt => 0,
-                Trump::Suit(_) => SUIT.wrapping_shl(48),
-            },
+            hands: hands_of(layout, suits),
+            trumps: trumps_of(trump),
             suits,
             owners: Vec::new(alloc),
             ranks: Vec::new(alloc),
@@ -82,6 +92,16 @@ impl Deal {
         deal.fill_owners()?;
         deal.fill_ranks()?;
         Ok(deal)
+    }
+
+    /// Whether these are the tables of the layout.
+    pub(crate) fn is_of(&self, layout: &Layout) -> bool {
+        self.hands == hands_of(layout, self.suits)
+    }
+
+    /// Whether this is the denomination of the tables.
+    pub(crate) fn has_trump(&self, trump: Trump) -> bool {
+        self.suits == suits_of(trump) && self.trumps == trumps_of(trump)
     }
 
     /// For each suit and each set of its ranks the owners, the highest first. The rest of a set is a lower set.

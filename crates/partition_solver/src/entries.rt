@@ -7,7 +7,7 @@ use std::alloc::{AllocError, Global};
 
 /// How many blocks and shapes are kept at most. A block takes 88 bytes, a slot 40, of which a table has at least twice as
 /// many as there are shapes.
-const MOST_BLOCKS: usize = 1 << 20;
+pub(crate) const MOST_BLOCKS: usize = 1 << 20;
 
 const MOST_SHAPES: usize = 1 << 18;
 /// How many slots are looked at for a shape.
@@ -28,6 +28,8 @@ pub(crate) struct Entries {
     blocks: Vec<Block>,
     /// The owners behind the eighth, by block.
     deep: Vec<[u64; PLACES]>,
+    /// How many blocks there may be.
+    pub room: usize,
 }
 
 /// An entry on its way into a list: itself, or the one that it has moved.
@@ -73,12 +75,23 @@ impl Entries {
             shapes: 0,
             blocks,
             deep,
+            room: MOST_BLOCKS,
         })
     }
 
     /// How many blocks there are.
     pub(crate) fn blocks(&self) -> u64 {
         self.blocks.len() as u64
+    }
+
+    /// How much memory is taken, in blocks.
+    pub(crate) fn weight(&self) -> usize {
+        self.blocks.len().saturating_add(self.slots.len() / 2)
+    }
+
+    /// Whether something may not have been remembered for want of room.
+    pub(crate) fn is_full(&self) -> bool {
+        self.blocks.len() >= self.room || self.shapes >= MOST_SHAPES
     }
 
     /// How many numbers entries have.
@@ -262,7 +275,7 @@ impl Entries {
         entry: Entry,
     ) -> Result<(), AllocError> {
         let number = self.blocks.len();
-        if number >= MOST_BLOCKS {
+        if number >= self.room {
             return Ok(());
         }
         let (block, deep) = Block::of(entry);

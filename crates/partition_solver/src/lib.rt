@@ -9,6 +9,7 @@ mod blocks;
 mod deals;
 mod entries;
 mod graph_writing;
+mod memory;
 mod moves;
 mod order;
 mod plans;

@@ -132,13 +132,8 @@ fn relevant_after(after: &Trick, rest: u64) -> u64 {
 }
 
 impl Search {
-    /// A search that has found nothing yet.
-    pub(crate) fn new(
-        alloc: Global,
-        layout: &Layout,
-        trump: Trump,
-        steps: u64,
-    ) -> Result<Search, AllocError> {
+    /// A search that has found nothing yet, and has no steps.
+    pub(crate) fn new(alloc: Global, layout: &Layout, trump: Trump) -> Result<Search, AllocError> {
         let mut hints = Vec::new(alloc);
         for _ in 0..HINTS {
             hints.push(0)?;
@@ -147,7 +142,7 @@ impl Search {
             alloc,
             deal: Deal::new(alloc, layout, trump)?,
             entries: Entries::new(alloc)?,
-            steps,
+            steps: 0,
             hints,
         })
     }

@@ -1,6 +1,7 @@
 //! What a solver is, and the partition search as one.
 
 use crate::graph_writing::write_graph;
+use crate::memory::{Memory, search_of};
 use crate::search::Search;
 use cards::{Layout, Seat, Trump};
 use certificate_graph::{Answer, Graph};
@@ -34,9 +35,27 @@ pub trait Solver {
 }
 
 /// A partition search. A step of its budget is one card tried, in the search or for a tree of a graph; the last card of a
-/// trick is free where it is only looked up.
-#[derive(Clone, Copy, Debug, Default)]
-pub struct Partition;
+/// trick is free where it is only looked up. What it finds is remembered until another deal comes: the other declarers of a
+/// denomination have use for it, and a call that ran out of steps can be made again.
+#[derive(Drop)]
+pub struct Partition {
+    memory: Memory,
+}
+
+impl Partition {
+    /// A solver that remembers nothing yet. It takes no memory.
+    pub const fn new() -> Partition {
+        Partition {
+            memory: Memory::new(),
+        }
+    }
+}
+
+impl Default for Partition {
+    fn default() -> Partition {
+        Partition::new()
+    }
+}
 
 impl Solver for Partition {
     fn solve(
@@ -47,20 +66,35 @@ impl Solver for Partition {
         trump: Trump,
         budget: u64,
     ) -> Result<Option<Answer>, AllocError> {
-        let mut search = Search::new(alloc, layout, trump, budget)?;
-        let leader = declarer.next().number();
-        let Some(ours) = search.value(leader)? else {
-            return Ok(None);
-        };
-        let theirs = (layout.len() as i32).wrapping_sub(ours);
-        let Some(north) = write_graph(alloc, &mut search, trump, leader, true, ours)? else {
-            return Ok(None);
-        };
-        let Some(east) = write_graph(alloc, &mut search, trump, leader, false, theirs)? else {
-            return Ok(None);
-        };
-        Ok(Some(answer_of(declarer, (ours, north), (theirs, east))))
+        let mut others = self.memory.take(alloc);
+        let mut search = search_of(alloc, &mut others, layout, trump, budget)?;
+        let answer = answer(alloc, &mut search, layout.len() as i32, declarer, trump)?;
+        others.push(search)?;
+        self.memory.keep(others);
+        Ok(answer)
     }
+}
+
+/// An answer for a deal of so many tricks, by a search of it. None where no steps are left, or too little is remembered.
+fn answer(
+    alloc: Global,
+    search: &mut Search,
+    tricks: i32,
+    declarer: Seat,
+    trump: Trump,
+) -> Result<Option<Answer>, AllocError> {
+    let leader = declarer.next().number();
+    let Some(ours) = search.value(leader)? else {
+        return Ok(None);
+    };
+    let theirs = tricks.wrapping_sub(ours);
+    let Some(north) = write_graph(alloc, search, trump, leader, true, ours)? else {
+        return Ok(None);
+    };
+    let Some(east) = write_graph(alloc, search, trump, leader, false, theirs)? else {
+        return Ok(None);
+    };
+    Ok(Some(answer_of(declarer, (ours, north), (theirs, east))))
 }
 
 /// The answer for a declarer, from the tricks and the graph of North and South and those of East and West.

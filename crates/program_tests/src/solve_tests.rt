@@ -97,7 +97,7 @@ fn expect_accepted(
     let status = do_run(
         alloc,
         run,
-        &Partition,
+        &Partition::new(),
         &Stopped,
         &mut input,
         &mut answer,
@@ -148,7 +148,14 @@ fn east(layout: &str, budget: u64) -> Run<'_>
 #[test]
 fn three_steps_are_too_few(rt: HostRuntime) -> Result<(), Fail> {
     let wanted = (Status::Incomplete, "", "ddfarm: no answer\n");
-    expect_solved(&rt, rt.alloc(), east(FINESSE, 3), &Partition, ROOM, wanted)
+    expect_solved(
+        &rt,
+        rt.alloc(),
+        east(FINESSE, 3),
+        &Partition::new(),
+        ROOM,
+        wanted,
+    )
 }
 
 /// Gives so many tricks for every layout, and certificates without nodes; or finds no memory.
