@@ -3,6 +3,7 @@ use Rattle.std.specs.Prelude.{◌≡◌, ℕ, List, ◌⊎◌}
 use Rattle.clap.specs.declared.error.kind.ErrorKind.{ErrorKind}
 use Rattle.clap.specs.declared.error.kind.ErrorKind.TheVariants as kinds
 use Rattle.cards.specs.Devices.{Device}
+use Rattle.tournaments.specs.Asking.{MayFind}
 use Rattle.runs.specs.declared.faults.RunFault.TheVariants.{OutOfMemory}
 use Rattle.runs.specs.declared.statuses.Status.{Status}
 use Rattle.runs.specs.declared.statuses.Status.TheVariants.{Failed, Refused}
@@ -25,8 +26,8 @@ pub data EndsWords (sink sink' errors errors' : Device) (kind : ErrorKind) : Sta
       → EndsWords sink sink' errors errors' kind Failed
 
 -- the words ask for a run, which is done, or for none
-pub data MeetsWords (source source' sink sink' errors errors' : Device) (status : Status) : Type 0 where
-  is_run : (run : Run) → MeetsRun run source source' sink sink' errors errors' status
-      → MeetsWords source source' sink sink' errors errors' status
+pub data MeetsWords (may_find : MayFind) (source source' sink sink' errors errors' : Device) (status : Status) : Type 0 where
+  is_run : (run : Run) → MeetsRun may_find run source source' sink sink' errors errors' status
+      → MeetsWords may_find source source' sink sink' errors errors' status
   is_no_run : (kind : ErrorKind) → source' ≡ source → EndsWords sink sink' errors errors' kind status
-      → MeetsWords source source' sink sink' errors errors' status
+      → MeetsWords may_find source source' sink sink' errors errors' status

@@ -26,8 +26,8 @@ pub fn run_command<'a, S: AsStr, P: Solver, C: Clock, I: Source, O: Sink, E: Sin
     output: &mut O,
     errors: &mut E,
 ) -> Status
-    ensures { MeetsWords (I.state input.old) (I.state input.new) (O.state output.old) (O.state output.new)
-        (E.state errors.old) (E.state errors.new) result }
+    ensures { MeetsWords (P.may_find solver.now) (I.state input.old) (I.state input.new) (O.state output.old)
+        (O.state output.new) (E.state errors.old) (E.state errors.new) result }
 {
     match run_of(alloc, words) {
         Ok(asked) => do_run(alloc, asked, solver, clock, input, output, errors),

@@ -18,7 +18,9 @@ use Rattle.cards.specs.declared.suits.Trump.{Trump}
 use Rattle.cards.specs.declared.suits.Trump.TheVariants as trump
 use Rattle.cards.specs.Seats.{seat_letter, side_letters}
 use Rattle.cards.specs.Pack.{suit_letter, trump_letters}
+use Rattle.cards.specs.Deal.{Deal}
 use Rattle.cards.specs.Devices.{Device, AddsBeginning}
+use Rattle.pbn_deals.specs.LayoutValue.{SaysLayout}
 use Rattle.patterns.specs.Shapes.{SuitShape, Shape, len_of}
 use Rattle.pattern_step.specs.declared.pat_cards.PatCard.{PatCard}
 use Rattle.pattern_step.specs.declared.pat_cards.PatCard.TheVariants.{Top, Low}
@@ -31,11 +33,11 @@ use Rattle.certificate_graph.specs.LineForms.{IsSuitForm, IsPatternForm, IsNodeF
 use Rattle.certificate_graph.specs.Texts.{card_text, child_text, more_children_text, children_text, tree_text, branches_text, owners_text, suit_text, pattern_text, claim_text, node_text, nodes_text, graph_text}
 use Rattle.certificate_graph.proofs.TextParts.{tree-cut, pattern-cut, claim-cut}
 use Rattle.certificate_graph.proofs.OneAnswer.{node_form}
+use Rattle.tournaments.specs.Asking.{MayFind}
 use Rattle.runs.specs.Answers.{IsEmptyLine, HasNoEmptyLine, IsCut}
 use Rattle.runs.specs.declared.faults.RunFault.{RunFault}
 use Rattle.runs.specs.declared.faults.RunFault.TheVariants.{Write}
-use Rattle.runs.specs.Checks.{SpellsLayout}
-use Rattle.runs.specs.Solves.{AnswersAreReadBack, FindsAnswer, IsAnswerText, SolvesLayout, answer_text}
+use Rattle.runs.specs.Solves.{AnswersAreReadBack, IsFound, SolvesLayout, answer_text}
 
 -- ---- bytes without a line's end
 abbrev pub Plain : List ℕ → Type 0
@@ -275,20 +277,16 @@ are_read_back tricks declarers defenders few one other = record {
   parts = inl (cut_behind (graph_text declarers) (graph_text defenders) (graph_lines declarers one));
 }
 
--- ---- what was written of an answer that was found
-are_written : (answer : Answer) → FindsAnswer (Ok answer) → IsAnswerText (answer_text answer.k answer.declarer answer.defenders)
-are_written answer found = record {
-  tricks = answer.k;
-  declarers = answer.declarer;
-  defenders = answer.defenders;
-  few = found.0;
-  graphs = (found.1, found.2);
-  is = refl;
-}
-
-pub SolvesLayout-unwritten : (value : List ℕ) (sink sink' : Device) (answer : Answer) (result : Result Unit RunFault) →
-    IsErrAnd result (λ fault. fault ≡ Write) → SpellsLayout value → FindsAnswer (Ok answer) →
-    AddsBeginning sink sink' (answer_text answer.k answer.declarer answer.defenders) → SolvesLayout value sink sink' result
-SolvesLayout-unwritten value sink sink' answer (Ok done) e spelt found begins = absurd e
-SolvesLayout-unwritten value sink sink' answer (Err fault) e spelt found begins =
-    rw e (spelt, answer_text answer.k answer.declarer answer.defenders, are_written answer found, begins)
+-- ---- an answer that was found, and not written whole
+pub SolvesLayout-unwritten : (may_find : MayFind) (value : List ℕ) (declarer : Seat) (trump : Trump) (budget : ℕ) (sink sink' : Device)
+    (deal : Deal) (answer : Answer) (result : Result Unit RunFault) →
+    IsErrAnd result (λ fault. fault ≡ Write) → SaysLayout value (Ok deal) → IsFound may_find deal declarer trump budget answer →
+    AddsBeginning sink sink' (answer_text answer.k answer.declarer answer.defenders) →
+    SolvesLayout may_find value declarer trump budget sink sink' result
+SolvesLayout-unwritten may_find value declarer trump budget sink sink' deal answer (Ok done) e spelt found begins = absurd e
+SolvesLayout-unwritten may_find value declarer trump budget sink sink' deal answer (Err fault) e spelt found begins =
+    rw e (
+      answer_text answer.k answer.declarer answer.defenders,
+      record { deal = deal; spelt = spelt; answer = answer; found = found; is = refl },
+      begins,
+    )

@@ -4,6 +4,7 @@ use Rattle.lease_book.specs.Books.{AreTries, Ledger}
 use Rattle.tables.specs.declared.sheets.Report.{Report}
 use Rattle.tournaments.specs.declared.faults.MakeFault.{MakeFault}
 use Rattle.tournaments.specs.Making.{MakesTables}
+use Rattle.tournaments.specs.Asking.{MayFind, AreWorkedOn}
 use Rattle.streams.specs.Flushes.{HandsOn}
 use Rattle.cards.specs.Devices.{Device, Fails, Adds, AddsBeginning}
 use Rattle.runs.specs.declared.faults.RunFault.{RunFault}
@@ -28,22 +29,24 @@ IsRun (Solve layout declarer trump budget) = ⊤
 IsRun (Tables term tries budget) = AreTries tries × (0 < budget)
 IsRun (Check layout declarer trump) = ⊤
 
--- What came of a run, and what its devices have given and got. A single layout leaves the input as it was.
-abbrev pub Does : Run → Device → Device → Device → Device → Result Status RunFault → Type 0
-Does (Plain layout leader trump) source source' sink sink' (Ok status) =
+-- What came of a run, by what the solver may find, and what its devices have given and got. A single layout leaves the input
+-- as it was.
+abbrev pub Does : MayFind → Run → Device → Device → Device → Device → Result Status RunFault → Type 0
+Does may_find (Plain layout leader trump) source source' sink sink' (Ok status) =
     (status ≡ Done) × (source' ≡ source) × MeetsPlainLine layout.now leader trump sink sink' (Ok tt)
-Does (Plain layout leader trump) source source' sink sink' (Err fault) =
+Does may_find (Plain layout leader trump) source source' sink sink' (Err fault) =
     (source' ≡ source) × MeetsPlainLine layout.now leader trump sink sink' (Err fault)
-Does (Solve layout declarer trump budget) source source' sink sink' (Ok status) =
-    (status ≡ Done) × (source' ≡ source) × SolvesLayout layout.now sink sink' (Ok tt)
-Does (Solve layout declarer trump budget) source source' sink sink' (Err fault) =
-    (source' ≡ source) × SolvesLayout layout.now sink sink' (Err fault)
-Does (Tables term tries budget) source source' sink sink' (Ok status) =
+Does may_find (Solve layout declarer trump budget) source source' sink sink' (Ok status) =
+    (status ≡ Done) × (source' ≡ source) × SolvesLayout may_find layout.now declarer trump budget sink sink' (Ok tt)
+Does may_find (Solve layout declarer trump budget) source source' sink sink' (Err fault) =
+    (source' ≡ source) × SolvesLayout may_find layout.now declarer trump budget sink sink' (Err fault)
+Does may_find (Tables term tries budget) source source' sink sink' (Ok status) =
     (report : Report) × (book : Ledger) × (status ≡ report_status report)
     × MakesTables term tries source source' sink sink' (Ok (report, book))
-Does (Tables term tries budget) source source' sink sink' (Err fault) =
+    × AreWorkedOn may_find budget book.terms.boards book.events
+Does may_find (Tables term tries budget) source source' sink sink' (Err fault) =
     (made : MakeFault) × (fault ≡ make_fault made) × MakesTables term tries source source' sink sink' (Err made)
-Does (Check layout declarer trump) source source' sink sink' answer = ChecksAnswer layout.now declarer trump source source' sink sink' answer
+Does may_find (Check layout declarer trump) source source' sink sink' answer = ChecksAnswer layout.now declarer trump source source' sink sink' answer
 
 -- how the run ends: a fault is told on the error output, which nothing else touches
 abbrev pub Ends : Result Status RunFault → Device → Device → Status → Type 0
@@ -51,9 +54,9 @@ Ends (Ok answer) errors errors' status = (status ≡ answer) × (errors' ≡ err
 Ends (Err fault) errors errors' status = (status ≡ fault_status fault) × IsTold errors errors' (told_line fault)
 
 -- a whole run
-pub record MeetsRun (run : Run) (source source' sink sink' errors errors' : Device) (status : Status) : Type 0 where
+pub record MeetsRun (may_find : MayFind) (run : Run) (source source' sink sink' errors errors' : Device) (status : Status) : Type 0 where
   pub answer : Result Status RunFault
-  pub does : Does run source source' sink sink' answer
+  pub does : Does may_find run source source' sink sink' answer
   pub ends : Ends answer errors errors' status
 
 -- a text was written on the output, or a beginning of it, and that it failed was told

@@ -62,8 +62,8 @@ pub fn do_run<P: Solver, C: Clock, I: Source, O: Sink, E: Sink>(
     errors: &mut E,
 ) -> Status
     requires { IsRun run }
-    ensures { MeetsRun run.entry (I.state input.old) (I.state input.new) (O.state output.old) (O.state output.new)
-        (E.state errors.old) (E.state errors.new) result }
+    ensures { MeetsRun (P.may_find solver.now) run.entry (I.state input.old) (I.state input.new) (O.state output.old)
+        (O.state output.new) (E.state errors.old) (E.state errors.new) result }
 {
     match answer_run(alloc, run, solver, clock, input, output) {
         Ok(status) => status,
@@ -81,7 +81,8 @@ fn answer_run<P: Solver, C: Clock, I: Source, O: Sink>(
     output: &mut O,
 ) -> Result<Status, RunFault>
     requires { IsRun run }
-    ensures { Does run.entry (I.state input.old) (I.state input.new) (O.state output.old) (O.state output.new) result }
+    ensures { Does (P.may_find solver.now) run.entry (I.state input.old) (I.state input.new) (O.state output.old)
+        (O.state output.new) result }
 {
     match run {
         Run::Plain {

@@ -26,7 +26,7 @@ pub fn solve_layout<P: Solver, O: Sink>(
     solver: &P,
     output: &mut O,
 ) -> Result<(), RunFault>
-    ensures { SolvesLayout value.now (O.state output.old) (O.state output.new) result }
+    ensures { SolvesLayout (P.may_find solver.now) value.now declarer trump budget (O.state output.old) (O.state output.new) result }
 {
     let layout = read_layout(value).map_err(RunFault::Layout)?;
     let answer = find_answer(alloc, &layout, declarer, trump, budget, solver)?;
@@ -43,7 +43,7 @@ fn find_answer<P: Solver>(
     budget: u64,
     solver: &P,
 ) -> Result<Answer, RunFault>
-    ensures { FindsAnswer result }
+    ensures { FindsAnswer (P.may_find solver.now) layout.now declarer trump budget result }
 {
     let Ok(found) = solver.solve(alloc, layout, declarer, trump, budget) else {
         return Err(RunFault::OutOfMemory);
