@@ -69,8 +69,9 @@ impl Solver for Partition {
         let mut others = self.memory.take(alloc);
         let mut search = search_of(alloc, &mut others, layout, trump, budget)?;
         let answer = answer(alloc, &mut search, layout.len() as i32, declarer, trump)?;
-        others.push(search)?;
-        self.memory.keep(others);
+        if others.push(search).is_ok() {
+            self.memory.keep(others);
+        }
         Ok(answer)
     }
 }
