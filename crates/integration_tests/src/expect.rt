@@ -10,6 +10,16 @@ pub fn expect_eq<T: PartialEq + Debug>(rt: &impl Abort, got: &T, wanted: &T) {
     assert_eq!(rt; *got, *wanted);
 }
 
+/// The values are unlike.
+pub fn expect_ne<T: PartialEq>(rt: &impl Abort, one: &T, other: &T) {
+    assert!(rt; *one != *other);
+}
+
+/// It holds.
+pub fn expect(rt: &impl Abort, holds: bool) {
+    assert!(rt; holds);
+}
+
 /// The bytes are those that are wanted.
 pub fn expect_bytes(rt: &impl Abort, got: &[u8], wanted: &[u8]) {
     assert_eq!(rt; got, wanted);

@@ -1,8 +1,10 @@
 //! What no clause says: that an add with ample memory succeeds. The layouts and answers were made by hand.
 
+use crate::expect::expect_eq;
 use cards::{Layout, Seat, Side};
 use pattern_store::Store;
 use patterns::Pattern;
+use std::process::Abort;
 use std::test::Fail;
 
 /// Each seat holds one spade, North's the highest: the ace, the king, the queen and the jack.
@@ -14,32 +16,59 @@ const OTHER: [u64; 4] = [1 << 12, 1 << 9, 1 << 10, 1 << 11];
 /// North's card is a heart.
 const HEART: [u64; 4] = [1 << 25, 1 << 11, 1 << 10, 1 << 9];
 
+/// The patterns of the first layout in the order in which they are added: how many spades they name, the seat to lead, the
+/// side, its tricks and a number.
+const ADDED: [(u8, Seat, Side, u8, u32); 5] = [
+    (2, Seat::East, Side::NorthSouth, 1, 70),
+    (1, Seat::East, Side::NorthSouth, 1, 71),
+    (1, Seat::East, Side::NorthSouth, 2, 72),
+    (1, Seat::South, Side::NorthSouth, 1, 73),
+    (1, Seat::East, Side::EastWest, 1, 74),
+];
+
+/// What is asked, and the number that is found.
+const ASKED: [([u64; 4], Seat, Side, u8, Option<u32>); 9] = [
+    (HIGH, Seat::East, Side::NorthSouth, 1, Some(70)),
+    (HIGH, Seat::East, Side::NorthSouth, 0, Some(70)),
+    (HIGH, Seat::East, Side::NorthSouth, 2, Some(72)),
+    (HIGH, Seat::East, Side::NorthSouth, 3, None),
+    (HIGH, Seat::South, Side::NorthSouth, 1, Some(73)),
+    (HIGH, Seat::East, Side::EastWest, 1, Some(74)),
+    (HIGH, Seat::North, Side::EastWest, 1, None),
+    (OTHER, Seat::East, Side::NorthSouth, 1, Some(71)),
+    (HEART, Seat::East, Side::NorthSouth, 1, None),
+];
+
+/// Adds them all.
+fn fill(store: &mut Store) -> Result<(), Fail> {
+    let layout = Layout::from_hands(HIGH)?;
+    for (spades, lead, side, need, number) in ADDED {
+        let pattern = Pattern::of_layout(&layout, [spades, 0, 0, 0]);
+        store.add(pattern, lead, side, need, number)?;
+    }
+    Ok(())
+}
+
+/// Checks what is found for a layout.
+fn expect_found(
+    rt: &impl Abort,
+    store: &Store,
+    hands: [u64; 4],
+    (lead, side, need): (Seat, Side, u8),
+    number: Option<u32>,
+) -> Result<(), Fail> {
+    let layout = Layout::from_hands(hands)?;
+    expect_eq(rt, &store.find(&layout, lead, side, need), &number);
+    Ok(())
+}
+
 #[test]
 fn first_add_that_serves(rt: HostRuntime) -> Result<(), Fail> {
-    let high = Layout::from_hands(HIGH)?;
-    let other = Layout::from_hands(OTHER)?;
-    let heart = Layout::from_hands(HEART)?;
-    let deep = Pattern::of_layout(&high, [2, 0, 0, 0]);
-    let shallow = Pattern::of_layout(&high, [1, 0, 0, 0]);
     let mut store = Store::new(rt.alloc());
-    assert_eq!(rt; store.find(&high, Seat::East, Side::NorthSouth, 1), None);
-    store.add(deep, Seat::East, Side::NorthSouth, 1, 70)?;
-    store.add(shallow, Seat::East, Side::NorthSouth, 1, 71)?;
-    store.add(shallow, Seat::East, Side::NorthSouth, 2, 72)?;
-    store.add(shallow, Seat::South, Side::NorthSouth, 1, 73)?;
-    store.add(shallow, Seat::East, Side::EastWest, 1, 74)?;
-    for (layout, lead, side, need, number) in [
-        (&high, Seat::East, Side::NorthSouth, 1, Some(70)),
-        (&high, Seat::East, Side::NorthSouth, 0, Some(70)),
-        (&high, Seat::East, Side::NorthSouth, 2, Some(72)),
-        (&high, Seat::East, Side::NorthSouth, 3, None),
-        (&high, Seat::South, Side::NorthSouth, 1, Some(73)),
-        (&high, Seat::East, Side::EastWest, 1, Some(74)),
-        (&high, Seat::North, Side::EastWest, 1, None),
-        (&other, Seat::East, Side::NorthSouth, 1, Some(71)),
-        (&heart, Seat::East, Side::NorthSouth, 1, None),
-    ] {
-        assert_eq!(rt; store.find(layout, lead, side, need), number);
+    expect_found(&rt, &store, HIGH, (Seat::East, Side::NorthSouth, 1), None)?;
+    fill(&mut store)?;
+    for (hands, lead, side, need, number) in ASKED {
+        expect_found(&rt, &store, hands, (lead, side, need), number)?;
     }
     Ok(())
 }

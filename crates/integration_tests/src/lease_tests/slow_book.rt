@@ -111,13 +111,20 @@ pub fn published(past: &[Past], entry: Entry) -> Option<u8> {
     None
 }
 
+/// Whether it is a lease for the entry, or for any.
+fn leases(reply: Reply, of: Option<Entry>) -> bool {
+    match (reply, of) {
+        (Reply::Given { entry, .. }, Some(wanted)) => entry == wanted,
+        (Reply::Given { .. }, None) => true,
+        _ => false,
+    }
+}
+
 /// How many leases were given that are for the entry, or for any.
 pub fn leased(past: &[Past], of: Option<Entry>) -> u64 {
     let mut count = 0u64;
     for event in past {
-        if let Reply::Given { entry, .. } = event.reply
-            && (of.is_none() || of == Some(entry))
-        {
+        if leases(event.reply, of) {
             count = count.saturating_add(1);
         }
     }

@@ -1,8 +1,8 @@
 //! Lists of requests with replies that were worked out by hand from the rules.
 
 use super::certificates::{EAST_HIGH, NORTH_HIGH, boards};
-use crate::expect::expect_eq;
-use cards::{Seat, Suit, Trump};
+use crate::expect::{expect, expect_eq};
+use cards::{Layout, Seat, Suit, Trump};
 use checker::{EntryFault, HandFault, PartFault, Verdict, judge};
 use lease_book::{Book, BookFault, Entry, Event, GraphText, Reply, Request, replay};
 use pbn_deals::{Board, BoardName, read_layout};
@@ -278,25 +278,29 @@ fn hand_in(alloc: Global, lease: u64, entry: Entry, is_good: bool) -> Result<Req
 }
 
 fn request(alloc: Global, ask: Ask) -> Result<Request, Fail> {
-    Ok(match ask {
-        Ask::Lease(now) => Request::Lease { now },
-        Ask::Expire(now) => Request::Expire { now },
-        Ask::GiveUp(lease) => Request::GiveUp { lease },
-        Ask::Good(lease, entry) => hand_in(alloc, lease, entry, true)?,
-        Ask::Bad(lease, entry) => hand_in(alloc, lease, entry, false)?,
-    })
+    match ask {
+        Ask::Lease(now) => Ok(Request::Lease { now }),
+        Ask::Expire(now) => Ok(Request::Expire { now }),
+        Ask::GiveUp(lease) => Ok(Request::GiveUp { lease }),
+        Ask::Good(lease, entry) => hand_in(alloc, lease, entry, true),
+        Ask::Bad(lease, entry) => hand_in(alloc, lease, entry, false),
+    }
+}
+
+/// The layout of a board of the book.
+fn deal_of(book: &Book, board: usize) -> Option<&Layout> {
+    match book.boards().get(board) {
+        Some(board) => board.deal.as_ref(),
+        None => None,
+    }
 }
 
 /// The verdict on what is handed in for an entry of the book.
 fn verdict(alloc: Global, book: &Book, entry: Entry, is_good: bool) -> Result<Verdict, Fail> {
-    let deal = match book.boards().get(entry.board) {
-        Some(board) => board.deal.as_ref(),
-        None => None,
-    };
     let (declarer, defenders) = texts(is_good);
     Ok(judge(
         alloc,
-        deal,
+        deal_of(book, entry.board),
         entry.declarer,
         entry.trump,
         1,
@@ -329,40 +333,71 @@ fn expect_published<R: Abort>(rt: &R, book: &Book, wanted: [Option<u8>; 2]) {
     expect_eq(rt, &book.published(SPADES), &in_spades);
 }
 
+/// The book over the boards of a row.
+fn book_of(alloc: Global, row: &Row) -> Result<Book, Fail> {
+    Ok(Book::new(alloc, boards(alloc, row.layouts)?, row.term, row.tries)?)
+}
+
+/// The history of the book has the replies of the row.
+fn expect_history(rt: &impl Abort, book: &Book, row: &Row) {
+    expect_eq(rt, &book.history().len(), &row.steps.len());
+    for (event, step) in book.history().iter().zip(row.steps) {
+        let event: Event = event.copy();
+        expect_eq(rt, &event.reply, &step.1.reply());
+    }
+}
+
+/// Goes through a row by the calls of a book.
+fn expect_calls(rt: &impl Abort, alloc: Global, row: &Row) -> Result<(), Fail> {
+    let mut book = book_of(alloc, row)?;
+    for (ask, wanted) in row.steps {
+        let told = reply(alloc, &mut book, *ask)?;
+        expect_eq(rt, &told, &wanted.reply());
+    }
+    expect_history(rt, &book, row);
+    expect_published(rt, &book, row.published);
+    Ok(())
+}
+
 #[test]
 fn lists_by_the_calls_of_a_book(rt: HostRuntime) -> Result<(), Fail> {
-    let alloc = rt.alloc();
-    for row in ROWS {
-        let mut book = Book::new(alloc, boards(alloc, row.layouts)?, row.term, row.tries)?;
-        for (ask, wanted) in row.steps {
-            let told = reply(alloc, &mut book, *ask)?;
-            expect_eq(&rt, &told, &wanted.reply());
-        }
-        expect_published(&rt, &book, row.published);
-        expect_eq(&rt, &book.history().len(), &row.steps.len());
-        for (event, step) in book.history().iter().zip(row.steps) {
-            let event: Event = event.copy();
-            expect_eq(&rt, &event.reply, &step.1.reply());
-        }
+    for row in &ROWS {
+        expect_calls(&rt, rt.alloc(), row)?;
     }
+    Ok(())
+}
+
+/// The requests of a row.
+fn requests_of(alloc: Global, row: &Row) -> Result<Vec<Request>, Fail> {
+    let mut requests = Vec::new(alloc);
+    for step in row.steps {
+        requests.push(request(alloc, step.0)?)?;
+    }
+    Ok(requests)
+}
+
+/// Goes through a row by its requests.
+fn expect_replay(
+    rt: &impl Abort,
+    alloc: Global,
+    row: &Row,
+    requests: &[Request],
+) -> Result<(), Fail> {
+    let known = boards(alloc, row.layouts)?;
+    let (book, replies) = replay(alloc, known, row.term, row.tries, requests)?;
+    expect_eq(rt, &replies.len(), &row.steps.len());
+    for (told, step) in replies.iter().zip(row.steps) {
+        expect_eq(rt, told, &step.1.reply());
+    }
+    expect_published(rt, &book, row.published);
     Ok(())
 }
 
 #[test]
 fn lists_by_replay(rt: HostRuntime) -> Result<(), Fail> {
-    let alloc = rt.alloc();
-    for row in ROWS {
-        let mut requests = Vec::new(alloc);
-        for step in row.steps {
-            requests.push(request(alloc, step.0)?)?;
-        }
-        let known = boards(alloc, row.layouts)?;
-        let (book, replies) = replay(alloc, known, row.term, row.tries, requests.as_slice())?;
-        expect_eq(&rt, &replies.len(), &row.steps.len());
-        for (told, step) in replies.iter().zip(row.steps) {
-            expect_eq(&rt, told, &step.1.reply());
-        }
-        expect_published(&rt, &book, row.published);
+    for row in &ROWS {
+        let requests = requests_of(rt.alloc(), row)?;
+        expect_replay(&rt, rt.alloc(), row, requests.as_slice())?;
     }
     Ok(())
 }
@@ -398,43 +433,66 @@ fn refused_terms(rt: HostRuntime) -> Result<(), Fail> {
     Ok(())
 }
 
+/// West leads to the trick of North's ace, against South.
+const WEST_LEADS: &str = "DDC 1
+trump NT
+side NS
+nodes 1
+W 1 1.1.1.1/N 0.0.0.0/ 0.0.0.0/ 0.0.0.0/ (SxSa(SxSx{}))
+";
+
+/// The verdict on a text that shows the declarer's trick where North has the ace.
+fn ace_of(alloc: Global, declarer: Seat, text: &str) -> Result<Verdict, Fail> {
+    let layout = read_layout(NORTH_HIGH.as_bytes())?;
+    Ok(judge(
+        alloc,
+        Some(&layout),
+        declarer,
+        Trump::Nt,
+        1,
+        text.as_bytes(),
+        NOTHING.as_bytes(),
+    )?)
+}
+
+/// A book over boards with these layouts, of which North's contract in no-trump on the first is leased.
+fn leased_book(rt: &impl Abort, alloc: Global, layouts: &[Option<&str>]) -> Result<Book, Fail> {
+    let mut book = Book::new(alloc, boards(alloc, layouts)?, 10, 1)?;
+    expect_eq(rt, &book.lease(0)?, &Told::Given(1, NT, 10).reply());
+    Ok(book)
+}
+
+/// The proof is settled so under that lease.
+fn expect_settled(
+    rt: &impl Abort,
+    book: &mut Book,
+    proof: Verdict,
+    wanted: Reply,
+) -> Result<(), Fail> {
+    expect(rt, proof.is_ok());
+    expect_eq(rt, &book.settle(1, NT, proof)?, &wanted);
+    Ok(())
+}
+
+fn proof_on_another_deal(rt: &impl Abort, alloc: Global) -> Result<(), Fail> {
+    let proof = ace_of(alloc, Seat::North, ACE)?;
+    let mut book = leased_book(rt, alloc, &[Some(EAST_HIGH), Some(NORTH_HIGH)])?;
+    expect_settled(rt, &mut book, proof, Reply::OtherEntry)?;
+    expect_eq(rt, &book.published(NT), &None);
+    Ok(())
+}
+
+fn proof_of_another_declarer(rt: &impl Abort, alloc: Global) -> Result<(), Fail> {
+    let of_south = ace_of(alloc, Seat::South, WEST_LEADS)?;
+    let of_north = ace_of(alloc, Seat::North, ACE)?;
+    let mut book = leased_book(rt, alloc, NORTH)?;
+    expect_settled(rt, &mut book, of_south, Reply::OtherEntry)?;
+    expect_settled(rt, &mut book, of_north, Reply::Published(1))
+}
+
 /// A proof on another deal, or of another declarer, isn't one for the entry.
 #[test]
 fn foreign_proofs(rt: HostRuntime) -> Result<(), Fail> {
-    let alloc = rt.alloc();
-    let north_high = read_layout(NORTH_HIGH.as_bytes())?;
-    let known = boards(alloc, &[Some(EAST_HIGH), Some(NORTH_HIGH)])?;
-    let mut book = Book::new(alloc, known, 10, 1)?;
-    expect_eq(&rt, &book.lease(0)?, &Told::Given(1, NT, 10).reply());
-    let (declarer, defenders) = texts(true);
-    let proven = judge(
-        alloc,
-        Some(&north_high),
-        Seat::North,
-        Trump::Nt,
-        1,
-        declarer,
-        defenders,
-    )?;
-    assert!(rt; proven.is_ok());
-    expect_eq(&rt, &book.settle(1, NT, proven)?, &Reply::OtherEntry);
-    expect_eq(&rt, &book.published(NT), &None);
-    let west =
-        "DDC 1\ntrump NT\nside NS\nnodes 1\nW 1 1.1.1.1/N 0.0.0.0/ 0.0.0.0/ 0.0.0.0/ (SxSa(SxSx{}))\n";
-    let of_south = judge(
-        alloc,
-        Some(&north_high),
-        Seat::South,
-        Trump::Nt,
-        1,
-        west.as_bytes(),
-        defenders,
-    )?;
-    assert!(rt; of_south.is_ok());
-    let known = boards(alloc, NORTH)?;
-    let mut book = Book::new(alloc, known, 10, 1)?;
-    expect_eq(&rt, &book.lease(0)?, &Told::Given(1, NT, 10).reply());
-    expect_eq(&rt, &book.settle(1, NT, of_south)?, &Reply::OtherEntry);
-    expect_eq(&rt, &book.settle(1, NT, proven)?, &Reply::Published(1));
-    Ok(())
+    proof_on_another_deal(&rt, rt.alloc())?;
+    proof_of_another_declarer(&rt, rt.alloc())
 }
