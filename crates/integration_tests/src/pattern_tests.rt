@@ -1,9 +1,10 @@
 //! Worked examples of patterns, with answers made by hand.
 
-use crate::expect::expect_eq;
+use crate::expect::{expect, expect_eq, expect_ne};
 use arrayvec::ArrayVec;
 use cards::{Card, Layout, Rank, Seat, Suit};
 use patterns::{PackedLayout, Pattern, PatternFault, Rest, SuitPart};
+use std::process::Abort;
 use std::test::Fail;
 
 const NORTH: Seat = Seat::North;
@@ -87,54 +88,58 @@ fn matches_by_the_highest_cards_of_all_hands(rt: HostRuntime) -> Result<(), Fail
         (spades([1, 1, 1, 1], &[NORTH])?, false),
         (Pattern::of_layout(&layout, [8, 0, 0, 0]), true),
     ] {
-        assert!(rt; pattern.matches(&layout) == matches);
-        assert!(rt; packed.matches(&pattern) == matches);
+        expect_eq(&rt, &pattern.matches(&layout), &matches);
+        expect_eq(&rt, &packed.matches(&pattern), &matches);
     }
     Ok(())
 }
 
+/// Whether the pattern of spades covers the rest of one spade a hand with these owners.
+const COVERS: [([u8; 4], &[Seat], &[Seat], bool); 5] = [
+    ([1, 1, 1, 1], &[NORTH], &[NORTH, WEST], true),
+    ([1, 1, 1, 1], &[NORTH, WEST], &[NORTH], false),
+    ([1, 1, 1, 1], &[NORTH], &[NORTH], true),
+    ([2, 2, 2, 2], &[NORTH], &[NORTH], false),
+    ([1, 1, 1, 1], &[WEST], &[NORTH, WEST], false),
+];
+
 #[test]
 fn covers_a_rest_that_says_no_less(rt: HostRuntime) -> Result<(), Fail> {
-    let short = spades([1, 1, 1, 1], &[NORTH])?;
-    let long = spades([1, 1, 1, 1], &[NORTH, WEST])?;
-    let short_rest = rest_of_spades([1, 1, 1, 1], &[NORTH])?;
-    let long_rest = rest_of_spades([1, 1, 1, 1], &[NORTH, WEST])?;
-    assert!(rt; short.covers(&long_rest));
-    assert!(rt; !long.covers(&short_rest));
-    assert!(rt; short.covers(&short_rest));
-    assert!(rt; !spades([2, 2, 2, 2], &[NORTH])?.covers(&short_rest));
-    assert!(rt; !spades([1, 1, 1, 1], &[WEST])?.covers(&long_rest));
+    for (lens, owners, left, covers) in COVERS {
+        let rest = rest_of_spades([1, 1, 1, 1], left)?;
+        expect_eq(&rt, &spades(lens, owners)?.covers(&rest), &covers);
+    }
     Ok(())
 }
 
+/// Lengths and owners of spades that are no pattern.
+const REFUSED: [([u8; 4], &[Seat], PatternFault); 5] = [
+    ([4, 4, 3, 3], &[], PatternFault::Lengths),
+    ([1, 1, 1, 0], &[], PatternFault::Cards),
+    ([1, 1, 1, 1], &[NORTH, NORTH], PatternFault::Owners),
+    ([0, 0, 0, 0], &[], PatternFault::Cards),
+    ([14, 0, 0, 0], &[], PatternFault::Lengths),
+];
+
 #[test]
 fn refuses_what_is_no_pattern(rt: HostRuntime) {
-    expect_eq(&rt, &spades([4, 4, 3, 3], &[]), &Err(PatternFault::Lengths));
-    expect_eq(&rt, &spades([1, 1, 1, 0], &[]), &Err(PatternFault::Cards));
-    expect_eq(
-        &rt,
-        &spades([1, 1, 1, 1], &[NORTH, NORTH]),
-        &Err(PatternFault::Owners),
-    );
-    expect_eq(&rt, &spades([0, 0, 0, 0], &[]), &Err(PatternFault::Cards));
-    expect_eq(
-        &rt,
-        &spades([14, 0, 0, 0], &[]),
-        &Err(PatternFault::Lengths),
-    );
-    expect_eq(
-        &rt,
-        &rest_of_spades([1, 1, 1, 1], &[SOUTH, SOUTH]),
-        &Err(PatternFault::Owners),
-    );
+    for (lens, owners, fault) in REFUSED {
+        expect_eq(&rt, &spades(lens, owners), &Err(fault));
+    }
+    refuses_what_is_no_rest(&rt);
+}
+
+fn refuses_what_is_no_rest(rt: &impl Abort) {
+    let twice = rest_of_spades([1, 1, 1, 1], &[SOUTH, SOUTH]);
+    expect_eq(rt, &twice, &Err(PatternFault::Owners));
     let suit_each = [
         part([13, 0, 0, 0], &[]),
         part([0, 13, 0, 0], &[]),
         part([0, 0, 13, 0], &[]),
         part([0, 0, 0, 13], &[]),
     ];
-    expect_eq(&rt, &Rest::from_parts(suit_each), &Err(PatternFault::Cards));
-    assert!(rt; rest_of_spades([0, 0, 0, 0], &[]).is_ok());
+    expect_eq(rt, &Rest::from_parts(suit_each), &Err(PatternFault::Cards));
+    expect(rt, rest_of_spades([0, 0, 0, 0], &[]).is_ok());
 }
 
 #[test]
@@ -172,50 +177,60 @@ fn part_with_owners(listed: bool, owners: &[Seat]) -> SuitPart {
     }
 }
 
+fn pattern_with_owners(suit: usize, owners: &[Seat]) -> Result<Pattern, PatternFault> {
+    Pattern::from_parts(suits_with_owners(suit, owners))
+}
+
+fn rest_with_owners(suit: usize, owners: &[Seat]) -> Result<Rest, PatternFault> {
+    Rest::from_parts(suits_with_owners(suit, owners))
+}
+
 #[test]
 fn tells_unequal_suits_apart(rt: HostRuntime) -> Result<(), Fail> {
-    let pattern = Pattern::from_parts(suits_with_owners(0, &[]))?;
-    let rest = Rest::from_parts(suits_with_owners(0, &[]))?;
+    let pattern = pattern_with_owners(0, &[])?;
+    let rest = rest_with_owners(0, &[])?;
     for suit in 0..4 {
-        expect_eq(
-            &rt,
-            &Pattern::from_parts(suits_with_owners(suit, &[]))?,
-            &pattern,
-        );
-        expect_eq(&rt, &Rest::from_parts(suits_with_owners(suit, &[]))?, &rest);
-        let north = Pattern::from_parts(suits_with_owners(suit, &[NORTH]))?;
-        let west = Pattern::from_parts(suits_with_owners(suit, &[WEST]))?;
-        assert!(rt; north != pattern);
-        assert!(rt; north != west);
-        assert!(rt; Rest::from_parts(suits_with_owners(suit, &[NORTH]))? != rest);
+        expect_eq(&rt, &pattern_with_owners(suit, &[])?, &pattern);
+        expect_eq(&rt, &rest_with_owners(suit, &[])?, &rest);
+        let north = pattern_with_owners(suit, &[NORTH])?;
+        expect_ne(&rt, &north, &pattern);
+        expect_ne(&rt, &north, &pattern_with_owners(suit, &[WEST])?);
+        expect_ne(&rt, &rest_with_owners(suit, &[NORTH])?, &rest);
     }
     Ok(())
 }
 
+/// Lengths and owners, of which no two are alike.
+const PARTS: [([u8; 4], &[Seat]); 7] = [
+    ([1, 1, 1, 1], &[]),
+    ([2, 1, 1, 1], &[]),
+    ([1, 2, 1, 1], &[]),
+    ([1, 1, 2, 1], &[]),
+    ([1, 1, 1, 2], &[]),
+    ([1, 1, 1, 1], &[NORTH]),
+    ([1, 1, 1, 1], &[EAST]),
+];
+
+/// Spades and hearts of these lengths.
+fn rest_of_two_suits(spades: [u8; 4], hearts: [u8; 4]) -> Result<Rest, PatternFault> {
+    Rest::from_parts([part(spades, &[]), part(hearts, &[]), empty(), empty()])
+}
+
 #[test]
 fn tells_unequal_lengths_apart(rt: HostRuntime) -> Result<(), Fail> {
-    let even = part([1, 1, 1, 1], &[]);
-    assert!(rt; part([2, 1, 1, 1], &[]) != even);
-    assert!(rt; part([1, 2, 1, 1], &[]) != even);
-    assert!(rt; part([1, 1, 2, 1], &[]) != even);
-    assert!(rt; part([1, 1, 1, 2], &[]) != even);
-    assert!(rt; part([1, 1, 1, 1], &[NORTH]) != even);
-    assert!(rt; part([1, 1, 1, 1], &[NORTH]) != part([1, 1, 1, 1], &[EAST]));
-    expect_eq(&rt, &part([1, 1, 1, 1], &[]), &even);
-    let long = Rest::from_parts([
-        part([2, 0, 1, 1], &[]),
-        part([0, 2, 1, 1], &[]),
-        empty(),
-        empty(),
-    ])?;
-    let other = Rest::from_parts([
-        part([0, 2, 1, 1], &[]),
-        part([2, 0, 1, 1], &[]),
-        empty(),
-        empty(),
-    ])?;
-    assert!(rt; long != other);
-    assert!(rt; spades([1, 1, 1, 1], &[])? != spades([2, 2, 2, 2], &[])?);
+    for (place, (lens, owners)) in PARTS.iter().enumerate() {
+        for (other, (other_lens, other_owners)) in PARTS.iter().enumerate() {
+            let equal = part(*lens, owners) == part(*other_lens, other_owners);
+            expect_eq(&rt, &equal, &(place == other));
+        }
+    }
+    let long = rest_of_two_suits([2, 0, 1, 1], [0, 2, 1, 1])?;
+    expect_ne(&rt, &long, &rest_of_two_suits([0, 2, 1, 1], [2, 0, 1, 1])?);
+    expect_ne(
+        &rt,
+        &spades([1, 1, 1, 1], &[])?,
+        &spades([2, 2, 2, 2], &[])?,
+    );
     Ok(())
 }
 
@@ -233,8 +248,11 @@ fn tells_a_suit_in_a_word(rt: HostRuntime) -> Result<(), Fail> {
         &spades([2, 2, 2, 2], &[NORTH, WEST, NORTH])?,
     );
     expect_eq(&rt, &short, &spades([1, 1, 1, 1], &[NORTH])?);
-    assert!(rt; short.covers(&Rest::from_words([0xC21111, 0, 0, 0])?));
-    assert!(rt; !spade_word(0xC21111)?.covers(&Rest::from_words([0x11111, 0, 0, 0])?));
+    expect(&rt, short.covers(&Rest::from_words([0xC21111, 0, 0, 0])?));
+    expect(
+        &rt,
+        !spade_word(0xC21111)?.covers(&Rest::from_words([0x11111, 0, 0, 0])?),
+    );
     expect_eq(&rt, &spade_word(0x411111), &Err(PatternFault::Words));
     expect_eq(&rt, &spade_word(0xE1111), &Err(PatternFault::Words));
     expect_eq(&rt, &spade_word(0x51111), &Err(PatternFault::Owners));
@@ -257,33 +275,31 @@ fn gives_the_words_that_it_was_made_of(rt: HostRuntime) -> Result<(), Fail> {
         &[0x921111, 0, 0, 0],
     );
     // North in the second place leaves no bit but in the number of owners.
-    assert!(rt; spade_word(0x22222)? != spade_word(0x12222)?);
-    assert!(rt; spade_word(0x111111)? != spade_word(0x11111)?);
+    expect_ne(&rt, &spade_word(0x22222)?, &spade_word(0x12222)?);
+    expect_ne(&rt, &spade_word(0x111111)?, &spade_word(0x11111)?);
     Ok(())
 }
 
+/// Words of the four suits, and the fault that is told of them.
+const REFUSED_WORDS: [([u64; 4], PatternFault); 5] = [
+    ([1 << 63, 0, 0, 0], PatternFault::Words),
+    ([0x3344, 0, 0, 0xE0000], PatternFault::Words),
+    ([0x3344, 0, 0, 0], PatternFault::Lengths),
+    ([0x0111, 0, 0, 0], PatternFault::Cards),
+    ([0, 0, 0, 0], PatternFault::Cards),
+];
+
+/// Each hand is of one suit.
+const SUIT_EACH: [u64; 4] = [0x000D, 0x00D0, 0x0D00, 0xD000];
+
 #[test]
 fn refuses_words_in_order(rt: HostRuntime) -> Result<(), Fail> {
-    expect_eq(&rt, &spade_word(1 << 63), &Err(PatternFault::Words));
-    expect_eq(
-        &rt,
-        &Pattern::from_words([0x3344, 0, 0, 0xE0000]),
-        &Err(PatternFault::Words),
-    );
-    expect_eq(&rt, &spade_word(0x3344), &Err(PatternFault::Lengths));
-    expect_eq(&rt, &spade_word(0x0111), &Err(PatternFault::Cards));
-    expect_eq(&rt, &spade_word(0), &Err(PatternFault::Cards));
-    assert!(rt; Rest::from_words([0; 4]).is_ok());
-    expect_eq(
-        &rt,
-        &Rest::from_words([0x000D, 0x00D0, 0x0D00, 0xD000]),
-        &Err(PatternFault::Cards),
-    );
-    expect_eq(
-        &rt,
-        Pattern::from_words([0x000D, 0x00D0, 0x0D00, 0xD000])?.words(),
-        &[0x000D, 0x00D0, 0x0D00, 0xD000],
-    );
+    for (words, fault) in REFUSED_WORDS {
+        expect_eq(&rt, &Pattern::from_words(words), &Err(fault));
+    }
+    expect(&rt, Rest::from_words([0; 4]).is_ok());
+    expect_eq(&rt, &Rest::from_words(SUIT_EACH), &Err(PatternFault::Cards));
+    expect_eq(&rt, Pattern::from_words(SUIT_EACH)?.words(), &SUIT_EACH);
     Ok(())
 }
 

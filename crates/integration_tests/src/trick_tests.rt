@@ -1,6 +1,6 @@
 //! Worked tricks on patterns, with answers made by hand.
 
-use crate::expect::expect_eq;
+use crate::expect::{expect, expect_eq, expect_ne};
 use arrayvec::ArrayVec;
 use cards::{Seat, Suit, Trump};
 use pattern_step::{PatCard, SeatSet, are_legal, is_legal, legal, rest, winners};
@@ -108,10 +108,35 @@ fn tells_the_legal_cards(rt: HostRuntime) -> Result<(), Fail> {
     Ok(())
 }
 
+/// The trick is legal and won by this seat in no-trump, and leaves this part of the spades, no hearts, and what the pattern
+/// behind it covers or not.
+fn expect_trick(
+    rt: &impl Abort,
+    pattern: &Pattern,
+    leader: Seat,
+    cards: [PatCard; 4],
+    winner: Seat,
+    spades: SuitPart,
+    (child, covers): (&Pattern, bool),
+) {
+    assert!(rt; are_legal(pattern, leader, &cards));
+    let won = winners(pattern, Trump::Nt, leader, &cards);
+    expect_eq(rt, &won, &SeatSet::new().with(winner));
+    let left = rest(pattern, leader, &cards);
+    expect_eq(rt, &left.part(Suit::Spades), &spades);
+    expect_eq(rt, &left.part(Suit::Hearts), &part([0, 0, 0, 0], &[]));
+    expect_eq(rt, &child.covers(&left), &covers);
+}
+
+/// North has the highest of one card each.
+fn north_is_high() -> Result<Pattern, PatternFault> {
+    pattern(part([1, 1, 1, 1], &[NORTH]), part([0, 0, 0, 0], &[]))
+}
+
 #[test]
 fn moves_the_owners_up(rt: HostRuntime) -> Result<(), Fail> {
     let finesse = finesse()?;
-    let child = pattern(part([1, 1, 1, 1], &[NORTH]), part([0, 0, 0, 0], &[]))?;
+    let child = north_is_high()?;
     // West plays the king, and North the ace
     let beaten = [
         low(Suit::Spades),
@@ -119,15 +144,8 @@ fn moves_the_owners_up(rt: HostRuntime) -> Result<(), Fail> {
         top(Suit::Spades, 0),
         low(Suit::Spades),
     ];
-    assert!(rt; are_legal(&finesse, SOUTH, &beaten));
-    expect_eq(
-        &rt,
-        &winners(&finesse, Trump::Nt, SOUTH, &beaten),
-        &set(&[NORTH]),
-    );
-    let left = rest(&finesse, SOUTH, &beaten);
-    expect_eq(&rt, &left.part(Suit::Spades), &part([1, 1, 1, 1], &[NORTH]));
-    assert!(rt; child.covers(&left));
+    let left = part([1, 1, 1, 1], &[NORTH]);
+    expect_trick(&rt, &finesse, SOUTH, beaten, NORTH, left, (&child, true));
     // West ducks, and North finesses
     let ducked = [
         low(Suit::Spades),
@@ -135,27 +153,15 @@ fn moves_the_owners_up(rt: HostRuntime) -> Result<(), Fail> {
         top(Suit::Spades, 2),
         low(Suit::Spades),
     ];
-    assert!(rt; are_legal(&finesse, SOUTH, &ducked));
-    expect_eq(
-        &rt,
-        &winners(&finesse, Trump::Nt, SOUTH, &ducked),
-        &set(&[NORTH]),
-    );
-    let left = rest(&finesse, SOUTH, &ducked);
-    expect_eq(
-        &rt,
-        &left.part(Suit::Spades),
-        &part([1, 1, 1, 1], &[NORTH, WEST]),
-    );
-    expect_eq(&rt, &left.part(Suit::Hearts), &part([0, 0, 0, 0], &[]));
-    assert!(rt; child.covers(&left));
+    let left = part([1, 1, 1, 1], &[NORTH, WEST]);
+    expect_trick(&rt, &finesse, SOUTH, ducked, NORTH, left, (&child, true));
     Ok(())
 }
 
 #[test]
 fn leaves_what_a_pattern_does_not_cover(rt: HostRuntime) -> Result<(), Fail> {
     let finesse = finesse()?;
-    let child = pattern(part([1, 1, 1, 1], &[NORTH]), part([0, 0, 0, 0], &[]))?;
+    let child = north_is_high()?;
     // West ducks, and North plays the ace: West's king is high
     let wasted = [
         low(Suit::Spades),
@@ -163,14 +169,8 @@ fn leaves_what_a_pattern_does_not_cover(rt: HostRuntime) -> Result<(), Fail> {
         top(Suit::Spades, 0),
         low(Suit::Spades),
     ];
-    assert!(rt; are_legal(&finesse, SOUTH, &wasted));
-    let left = rest(&finesse, SOUTH, &wasted);
-    expect_eq(
-        &rt,
-        &left.part(Suit::Spades),
-        &part([1, 1, 1, 1], &[WEST, NORTH]),
-    );
-    assert!(rt; !child.covers(&left));
+    let left = part([1, 1, 1, 1], &[WEST, NORTH]);
+    expect_trick(&rt, &finesse, SOUTH, wasted, NORTH, left, (&child, false));
     // after the last trick nothing is left, and no pattern covers nothing
     let last = [
         top(Suit::Spades, 0),
@@ -178,15 +178,8 @@ fn leaves_what_a_pattern_does_not_cover(rt: HostRuntime) -> Result<(), Fail> {
         low(Suit::Spades),
         low(Suit::Spades),
     ];
-    assert!(rt; are_legal(&child, NORTH, &last));
-    expect_eq(
-        &rt,
-        &winners(&child, Trump::Nt, NORTH, &last),
-        &set(&[NORTH]),
-    );
-    let nothing = rest(&child, NORTH, &last);
-    expect_eq(&rt, &nothing.part(Suit::Spades), &part([0, 0, 0, 0], &[]));
-    assert!(rt; !child.covers(&nothing));
+    let nothing = part([0, 0, 0, 0], &[]);
+    expect_trick(&rt, &child, NORTH, last, NORTH, nothing, (&child, false));
     Ok(())
 }
 
@@ -228,17 +221,29 @@ fn knows_illegal_cards(rt: HostRuntime) -> Result<(), Fail> {
         low(Suit::Spades),
         low(Suit::Spades),
     ];
-    assert!(rt; !are_legal(&finesse, SOUTH, &not_north));
-    assert!(rt; is_legal(&finesse, WEST, Some(Suit::Hearts), top(Suit::Spades, 1)));
-    assert!(rt; !is_legal(&finesse, WEST, None, top(Suit::Spades, 0)));
-    assert!(rt; !is_legal(&finesse, WEST, None, top(Suit::Spades, 3)));
+    expect(&rt, !are_legal(&finesse, SOUTH, &not_north));
+    expect(
+        &rt,
+        is_legal(&finesse, WEST, Some(Suit::Hearts), top(Suit::Spades, 1)),
+    );
+    expect(&rt, !is_legal(&finesse, WEST, None, top(Suit::Spades, 0)));
+    expect(&rt, !is_legal(&finesse, WEST, None, top(Suit::Spades, 3)));
     let both = pattern(
         part([1, 0, 1, 1], &[NORTH]),
         part([1, 2, 1, 1], &[EAST, NORTH]),
     )?;
-    assert!(rt; !is_legal(&both, NORTH, Some(Suit::Spades), top(Suit::Hearts, 1)));
-    assert!(rt; is_legal(&both, EAST, Some(Suit::Spades), low(Suit::Hearts)));
-    assert!(rt; set(&[NORTH]).contains(NORTH) && !set(&[NORTH]).contains(EAST));
+    expect(
+        &rt,
+        !is_legal(&both, NORTH, Some(Suit::Spades), top(Suit::Hearts, 1)),
+    );
+    expect(
+        &rt,
+        is_legal(&both, EAST, Some(Suit::Spades), low(Suit::Hearts)),
+    );
+    expect(
+        &rt,
+        set(&[NORTH]).contains(NORTH) && !set(&[NORTH]).contains(EAST),
+    );
     Ok(())
 }
 
@@ -271,13 +276,13 @@ fn decides_by_trump(rt: HostRuntime) -> Result<(), Fail> {
 
 #[test]
 fn tells_unequal_cards_and_sets_apart(rt: HostRuntime) {
-    assert!(rt; top(Suit::Spades, 0) != top(Suit::Hearts, 0));
-    assert!(rt; top(Suit::Spades, 0) != top(Suit::Spades, 1));
-    assert!(rt; top(Suit::Spades, 0) != low(Suit::Spades));
-    assert!(rt; low(Suit::Spades) != low(Suit::Clubs));
+    expect_ne(&rt, &top(Suit::Spades, 0), &top(Suit::Hearts, 0));
+    expect_ne(&rt, &top(Suit::Spades, 0), &top(Suit::Spades, 1));
+    expect_ne(&rt, &top(Suit::Spades, 0), &low(Suit::Spades));
+    expect_ne(&rt, &low(Suit::Spades), &low(Suit::Clubs));
     expect_eq(&rt, &top(Suit::Clubs, 12), &top(Suit::Clubs, 12));
     for seat in [NORTH, EAST, SOUTH, WEST] {
-        assert!(rt; set(&[seat]) != SeatSet::new());
+        expect_ne(&rt, &set(&[seat]), &SeatSet::new());
         expect_eq(&rt, &set(&[seat, seat]), &set(&[seat]));
     }
 }
