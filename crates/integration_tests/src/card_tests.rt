@@ -117,15 +117,19 @@ fn reads_in_pieces(rt: HostRuntime) {
     expect_eq(&rt, &source.read(&mut buffer[4..]), &Ok(1));
     expect_bytes(&rt, &buffer, b"hello\0\0\0");
     expect_eq(&rt, &source.read(&mut buffer), &Ok(0));
-
-    let mut failing = Bytes::failing_after(b"hello", 3, 1);
-    expect_eq(&rt, &failing.read(&mut buffer), &Ok(3));
-    expect_eq(&rt, &failing.read(&mut buffer), &Err(DeviceFault));
-    expect_eq(&rt, &failing.read(&mut buffer), &Ok(2));
-    expect_bytes(&rt, &buffer, b"lollo\0\0\0");
+    reads_around_a_fault(&rt, &mut buffer);
 
     let mut single = Bytes::new(b"hello", 0);
     expect_eq(&rt, &single.read(&mut buffer), &Ok(1));
+}
+
+/// The buffer has "hello" before.
+fn reads_around_a_fault(rt: &impl Abort, buffer: &mut [u8]) {
+    let mut failing = Bytes::failing_after(b"hello", 3, 1);
+    expect_eq(rt, &failing.read(buffer), &Ok(3));
+    expect_eq(rt, &failing.read(buffer), &Err(DeviceFault));
+    expect_eq(rt, &failing.read(buffer), &Ok(2));
+    expect_bytes(rt, buffer, b"lollo\0\0\0");
 }
 
 #[test]

@@ -1,5 +1,6 @@
 //! Rows against a slow search.
 
+use crate::expect::expect_eq;
 use crate::fixed_numbers::next;
 use due_rows::DueRow;
 use std::alloc::Global;
@@ -40,10 +41,8 @@ fn run<R: Abort>(rt: &R, alloc: Global, more: u8) -> Result<(), Fail> {
         number = next(number);
         let now = number / 256 % 20;
         for from in 0..count + 2 {
-            assert_eq!(rt;
-                row.first_due(now, from),
-                slow_first(slow.as_slice(), now, from)
-            );
+            let wanted = slow_first(slow.as_slice(), now, from);
+            expect_eq(rt, &row.first_due(now, from), &wanted);
         }
     }
     Ok(())
@@ -62,15 +61,15 @@ fn finds_what_a_slow_search_finds(rt: HostRuntime) -> Result<(), Fail> {
 #[test]
 fn has_bounds(rt: HostRuntime) -> Result<(), Fail> {
     let row = DueRow::new(rt.alloc(), 0)?;
-    assert_eq!(rt; row.first_due(u64::MAX, 0), None);
+    expect_eq(&rt, &row.first_due(u64::MAX, 0), &None);
     let mut row = DueRow::new(rt.alloc(), 3)?;
     row.set(2, Some(u64::MAX));
-    assert_eq!(rt; row.first_due(u64::MAX - 1, 0), None);
-    assert_eq!(rt; row.first_due(u64::MAX, 0), Some(2));
+    expect_eq(&rt, &row.first_due(u64::MAX - 1, 0), &None);
+    expect_eq(&rt, &row.first_due(u64::MAX, 0), &Some(2));
     row.set(1, Some(0));
-    assert_eq!(rt; row.first_due(0, 0), Some(1));
-    assert_eq!(rt; row.first_due(0, 2), None);
+    expect_eq(&rt, &row.first_due(0, 0), &Some(1));
+    expect_eq(&rt, &row.first_due(0, 2), &None);
     row.set(1, None);
-    assert_eq!(rt; row.first_due(0, 0), None);
+    expect_eq(&rt, &row.first_due(0, 0), &None);
     Ok(())
 }

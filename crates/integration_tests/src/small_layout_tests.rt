@@ -1,6 +1,7 @@
 //! All layouts of one or two cards a hand in two suits, and patterns of each depth: `legal`, `winners`, `rest`,
 //! `covers` and `matches` are compared with a slow reading of their definitions over the real cards.
 
+use crate::expect::{expect, expect_eq};
 use arrayvec::ArrayVec;
 use cards::{Layout, LayoutFault, Seat, Suit, Trump};
 use pattern_step::{PatCard, SeatSet, are_legal, legal, rest, winners};
@@ -234,16 +235,15 @@ impl Trick {
 fn check_left(rt: &impl Abort, small: &Small, suit: Suit, depth: u8, trick: &Trick, left: &Rest) {
     let part = left.part(suit);
     let owners = small.owners(suit, depth, trick.played.as_slice());
-    assert!(rt; part.owners.as_slice() == owners.as_slice());
+    expect(rt, part.owners.as_slice() == owners.as_slice());
     for seat in Seat::ALL {
         let gone = trick
             .played
             .iter()
             .filter(|card| small.holder(**card) == seat && small.suit(**card) == suit)
             .count();
-        assert!(rt;
-            usize::from(part.lens[seat.number()]).saturating_add(gone) == small.len(seat, suit)
-        );
+        let kept = usize::from(part.lens[seat.number()]);
+        expect_eq(rt, &kept.saturating_add(gone), &small.len(seat, suit));
     }
 }
 
@@ -263,8 +263,8 @@ fn check_trick(
         small.pat_card(fourth, depths),
     ];
     let set = winners(pattern, trick.trump, trick.leader, &cards);
-    assert!(rt; set == trick.winners(small, depths));
-    assert!(rt; set.contains(trick.winner(small)));
+    expect_eq(rt, &set, &trick.winners(small, depths));
+    expect(rt, set.contains(trick.winner(small)));
     assert!(rt; are_legal(pattern, trick.leader, &cards));
     let left = rest(pattern, trick.leader, &cards);
     check_left(rt, small, Suit::Spades, depths[0], trick, &left);
@@ -290,7 +290,7 @@ fn check_covers(
         let pattern = Pattern::of_layout(&layout, [listed, others, 0, 0]);
         let covers = small.covers_suit(Suit::Spades, listed, depths[0], gone)
             && small.covers_suit(Suit::Hearts, others, depths[1], gone);
-        assert!(rt; pattern.covers(left) == covers);
+        expect_eq(rt, &pattern.covers(left), &covers);
     }
     Ok(())
 }
@@ -311,8 +311,8 @@ fn check_matches(
         let same = turned.matches_suit(small, Suit::Spades, depths[0])
             && turned.matches_suit(small, Suit::Hearts, depths[1]);
         let layout = turned.layout(&[])?;
-        assert!(rt; pattern.matches(&layout) == same);
-        assert!(rt; PackedLayout::of(&layout).matches(pattern) == same);
+        expect_eq(rt, &pattern.matches(&layout), &same);
+        expect_eq(rt, &PackedLayout::of(&layout).matches(pattern), &same);
     }
     Ok(())
 }
@@ -346,12 +346,12 @@ fn check_pattern(
 ) -> Result<(), Fail> {
     let layout = small.layout(&[])?;
     let pattern = Pattern::of_layout(&layout, depths);
-    assert!(rt; pattern.matches(&layout));
+    expect(rt, pattern.matches(&layout));
     check_matches(rt, small, depths, &pattern)?;
     for led in [None, Some(Suit::Spades), Some(Suit::Hearts)] {
-        assert!(rt;
-            legal(&pattern, leader, led).as_slice() == small.legal(depths, leader, led).as_slice()
-        );
+        let wanted = small.legal(depths, leader, led);
+        let got = legal(&pattern, leader, led);
+        expect(rt, got.as_slice() == wanted.as_slice());
     }
     for choice in 0..16u32 {
         let trick = chosen_trick(small, leader, choice);
@@ -397,11 +397,11 @@ fn check_layouts(rt: &impl Abort, cards: u8, spades: u8, codes: u32) -> Result<u
 #[test]
 fn agrees_with_the_definitions_on_small_layouts(rt: HostRuntime) -> Result<(), Fail> {
     for spades in 0..5u8 {
-        assert_eq!(rt; check_layouts(&rt, 4, spades, 64)?, 6);
+        expect_eq(&rt, &check_layouts(&rt, 4, spades, 64)?, &6);
     }
     // with fewer spades than hearts the suits are only exchanged
     for spades in 4..9u8 {
-        assert_eq!(rt; check_layouts(&rt, 8, spades, 16384)?, 630);
+        expect_eq(&rt, &check_layouts(&rt, 8, spades, 16384)?, &630);
     }
     Ok(())
 }
