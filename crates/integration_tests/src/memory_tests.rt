@@ -29,13 +29,13 @@ pub(crate) const CR_LF: &[u8] = b"% PBN 2.1\r
 /// The deal of its first board.
 const FOUR_SUITS: &[u8] = b"N:AKQJT98765432... .AKQJT98765432.. ..AKQJT98765432. ...AKQJT98765432";
 
-/// A graph with each kind of place in its trees. The nodes, the branches, the place below an own card and the children
+/// A graph with each kind of place in its trees. The nodes, the branches, the place below the first own card and the children
 /// take memory.
 const GRAPH: &[u8] = b"DDC 1
 trump NT
 side NS
 nodes 2
-S 2 2.2.2.2/NWN 0.0.0.0/ 0.0.0.0/ 0.0.0.0/ Sx(Sx{N1})
+S 2 2.2.2.2/NWN 0.0.0.0/ 0.0.0.0/ 0.0.0.0/ SxSx(Sx{N1})
 N 1 1.1.1.1/N 0.0.0.0/ 0.0.0.0/ 0.0.0.0/ {}
 ";
 
