@@ -5,7 +5,7 @@ ghost use Rattle.cards.specs.Devices.{Writes};
 use thiserror::Error;
 
 /// A device failed. No bytes of the call that failed have come or gone.
-#[derive(Clone, Copy, Debug, PartialEq, Eq, Hash, Error)]
+#[derive(Clone, Copy, Debug, PartialEq, Eq, Error)]
 #[error("the device failed")]
 pub struct DeviceFault;
 

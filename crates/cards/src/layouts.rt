@@ -15,7 +15,7 @@ use std::marker::Model;
 use thiserror::Error;
 
 /// Why four words are no layout: the first that applies.
-#[derive(Clone, Copy, Debug, PartialEq, Eq, Hash, Error)]
+#[derive(Clone, Copy, Debug, PartialEq, Eq, Error)]
 pub enum LayoutFault {
     /// A word has a bit from 52 up.
     #[error("a bit stands for no card")]

@@ -8,7 +8,7 @@ use crate::suits::Suit;
 use std::fmt;
 
 /// A rank, the deuce lowest and the ace highest (Law 1).
-#[derive(Clone, Copy, Debug, Default, PartialEq, Eq, PartialOrd, Ord, Hash)]
+#[derive(Clone, Copy, Debug, Default, PartialEq, Eq, PartialOrd, Ord)]
 pub enum Rank {
     #[default]
     Two,
@@ -91,7 +91,7 @@ impl fmt::Display for Rank {
 }
 
 /// A card of the pack of 52 (Law 1).
-#[derive(Clone, Copy, Debug, Default, PartialEq, Eq, Hash)]
+#[derive(Clone, Copy, Debug, Default, PartialEq, Eq)]
 pub struct Card {
     /// Its suit.
     pub suit: Suit,

@@ -6,7 +6,7 @@ ghost use Rattle.cards.specs.Pack.{suit_at, suit_number, suit_letter, trump_lett
 use std::fmt;
 
 /// A suit, in the order in which the four are listed: spades, hearts, diamonds, clubs (Law 1).
-#[derive(Clone, Copy, Debug, Default, PartialEq, Eq, PartialOrd, Ord, Hash)]
+#[derive(Clone, Copy, Debug, Default, PartialEq, Eq, PartialOrd, Ord)]
 pub enum Suit {
     #[default]
     Spades,
@@ -62,7 +62,7 @@ impl fmt::Display for Suit {
 }
 
 /// The denomination of play: no-trump, or the trump suit.
-#[derive(Clone, Copy, Debug, PartialEq, Eq, PartialOrd, Ord, Hash)]
+#[derive(Clone, Copy, Debug, PartialEq, Eq, PartialOrd, Ord)]
 pub enum Trump {
     /// No-trump.
     Nt,

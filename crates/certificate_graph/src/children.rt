@@ -3,7 +3,7 @@
 use cards::Seat;
 
 /// A seat that may win a trick, and the node that goes on where it does.
-#[derive(Clone, Copy, Debug, Default, PartialEq, Eq, Hash)]
+#[derive(Clone, Copy, Debug, Default, PartialEq, Eq)]
 pub struct Child {
     /// The seat that may win.
     pub winner: Seat,

@@ -6,7 +6,7 @@ ghost use Rattle.certificate_graph.specs.FaultWords.{fault_number, fault_name, f
 use thiserror::Error;
 
 /// Why nodes make no graph.
-#[derive(Clone, Copy, Debug, PartialEq, Eq, Hash, Error)]
+#[derive(Clone, Copy, Debug, PartialEq, Eq, Error)]
 pub enum GraphFault {
     /// There are over 1,000,000 nodes.
     #[error("over 1,000,000 nodes")]
@@ -24,7 +24,7 @@ pub enum GraphFault {
 }
 
 /// Why a text is not one of a graph. All but want of memory name the line, counted from 1.
-#[derive(Clone, Copy, Debug, PartialEq, Eq, Hash, Error)]
+#[derive(Clone, Copy, Debug, PartialEq, Eq, Error)]
 pub enum TextFault {
     /// One of the first four lines is missing, lacks its line feed, or is not of the form.
     #[error("1 Head")]

@@ -7,7 +7,7 @@ use crate::faults::NodeFault;
 use thiserror::Error;
 
 /// Why a graph doesn't show that its side wins the tricks that it is to win.
-#[derive(Clone, Copy, Debug, PartialEq, Eq, Hash, Error)]
+#[derive(Clone, Copy, Debug, PartialEq, Eq, Error)]
 pub enum PartFault {
     /// Tricks are to be won, and there are no nodes.
     #[error("1 RootMissing")]
@@ -36,7 +36,7 @@ pub enum PartFault {
 }
 
 /// Why two graphs don't show the value of a contract on a layout.
-#[derive(Clone, Copy, Debug, PartialEq, Eq, Hash, Error)]
+#[derive(Clone, Copy, Debug, PartialEq, Eq, Error)]
 pub enum EntryFault {
     /// The graph of declarer's side is at fault.
     #[error("declarer {0}")]

@@ -6,7 +6,7 @@ ghost use Rattle.checker.specs.FaultWords.{step_fault_number, step_fault_name};
 use thiserror::Error;
 
 /// Why the step of a node doesn't hold.
-#[derive(Clone, Copy, Debug, PartialEq, Eq, Hash, Error)]
+#[derive(Clone, Copy, Debug, PartialEq, Eq, Error)]
 pub enum StepFault {
     /// A card of the side is not legal.
     #[error("1 CardNotLegal")]
@@ -35,7 +35,7 @@ pub enum StepFault {
 }
 
 /// A node whose step doesn't hold, and why.
-#[derive(Clone, Copy, Debug, PartialEq, Eq, Hash, Error)]
+#[derive(Clone, Copy, Debug, PartialEq, Eq, Error)]
 #[error("{number} {fault}")]
 pub struct NodeFault {
     /// The number of the node.

@@ -5,7 +5,7 @@ use certificate_graph::TextFault;
 use thiserror::Error;
 
 /// Why two texts show nothing of a board.
-#[derive(Clone, Copy, Debug, PartialEq, Eq, Hash, Error)]
+#[derive(Clone, Copy, Debug, PartialEq, Eq, Error)]
 pub enum HandFault {
     /// The graphs don't show what they are to show.
     #[error("{0}")]
@@ -22,6 +22,6 @@ pub enum HandFault {
 }
 
 /// A growth was refused.
-#[derive(Clone, Copy, Debug, PartialEq, Eq, Hash, Error)]
+#[derive(Clone, Copy, Debug, PartialEq, Eq, Error)]
 #[error("out of memory")]
 pub struct OutOfMemory;

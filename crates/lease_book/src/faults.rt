@@ -3,7 +3,7 @@
 use thiserror::Error;
 
 /// Why no book was made: the first that applies.
-#[derive(Clone, Copy, Debug, PartialEq, Eq, Hash, Error)]
+#[derive(Clone, Copy, Debug, PartialEq, Eq, Error)]
 pub enum BookFault {
     /// There are more than 4,096 boards.
     #[error("1 TooManyBoards")]

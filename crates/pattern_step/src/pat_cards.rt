@@ -9,7 +9,7 @@ use cards::Suit;
 
 /// A card of a pattern: one of the suit's highest cards, by its place in the list of owners, from 0 for the
 /// highest, or one of the low cards, which have no rank.
-#[derive(Clone, Copy, Debug, PartialEq, Eq, Hash)]
+#[derive(Clone, Copy, Debug, PartialEq, Eq)]
 pub enum PatCard {
     Top(Suit, u8),
     Low(Suit),

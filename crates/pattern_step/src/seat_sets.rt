@@ -9,7 +9,7 @@ use cards::Seat;
 use std::marker::Model;
 
 /// A set of seats.
-#[derive(Clone, Copy, Debug, PartialEq, Eq, Hash)]
+#[derive(Clone, Copy, Debug, PartialEq, Eq)]
 pub struct SeatSet {
     north: bool,
     east: bool,

@@ -3,7 +3,7 @@
 use thiserror::Error;
 
 /// Why four suits, or four words, are no pattern, or no rest: the first that applies.
-#[derive(Clone, Copy, Debug, PartialEq, Eq, Hash, Error)]
+#[derive(Clone, Copy, Debug, PartialEq, Eq, Error)]
 pub enum PatternFault {
     /// A suit has over 13 cards.
     #[error("a suit has over 13 cards")]

@@ -9,7 +9,7 @@ use std::error::Error;
 use std::fmt;
 
 /// Why a PBN text, or a Deal value alone, is refused. All but want of memory name the line, counted from 1.
-#[derive(Clone, Copy, Debug, PartialEq, Eq, Hash)]
+#[derive(Clone, Copy, Debug, PartialEq, Eq)]
 pub enum PbnFault {
     /// A `[` that should begin a tag pair does not.
     TagForm { line: usize },

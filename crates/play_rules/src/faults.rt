@@ -3,7 +3,7 @@
 use thiserror::Error;
 
 /// Why a card cannot be played: `Over` where it applies, else the first of the others.
-#[derive(Clone, Copy, Debug, PartialEq, Eq, Hash, Error)]
+#[derive(Clone, Copy, Debug, PartialEq, Eq, Error)]
 pub enum PlayFault {
     /// The seat to play does not hold the card, or no longer.
     #[error("the card is not in the hand of the player")]

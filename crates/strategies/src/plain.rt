@@ -11,7 +11,7 @@ use play_rules::Table;
 use thiserror::Error;
 
 /// The layout has more than 4 cards a hand.
-#[derive(Clone, Copy, Debug, PartialEq, Eq, Hash, Error)]
+#[derive(Clone, Copy, Debug, PartialEq, Eq, Error)]
 #[error("more than 4 cards a hand")]
 pub struct TooLarge;
 
