@@ -16,7 +16,7 @@ use std::marker::Model;
 
 /// A pattern: what the layouts that match it have in common. No suit has over 13 cards, each seat has as many
 /// cards as the others, 1 to 13, and no seat is an owner in a suit more often than it has cards there.
-#[derive(Clone, Copy, Debug, PartialEq, Eq, Hash)]
+#[derive(Clone, Copy, Debug, PartialEq, Eq)]
 pub struct Pattern {
     held: ShapeWords,
 }
@@ -41,8 +41,7 @@ impl Pattern {
         if !suits_fit(&parts) {
             return Err(PatternFault::Lengths);
         }
-        let held = ShapeWords::of_parts(&parts);
-        held.check(1, 13)?;
+        let held = ShapeWords::of_parts(&parts).checked(1, 13)?;
         Ok(Pattern { held })
     }
 
@@ -55,7 +54,7 @@ impl Pattern {
         let Some(held) = ShapeWords::of_words(words) else {
             return Err(PatternFault::Words);
         };
-        held.check(1, 13)?;
+        let held = held.checked(1, 13)?;
         Ok(Pattern { held })
     }
 

@@ -13,7 +13,7 @@ use cards::Suit;
 use std::marker::Model;
 
 /// What a trick leaves of a pattern. It is as a pattern, but has 0 to 12 cards a seat.
-#[derive(Clone, Copy, Debug, PartialEq, Eq, Hash)]
+#[derive(Clone, Copy, Debug, PartialEq, Eq)]
 pub struct Rest {
     held: ShapeWords,
 }
@@ -38,8 +38,7 @@ impl Rest {
         if !suits_fit(&parts) {
             return Err(PatternFault::Lengths);
         }
-        let held = ShapeWords::of_parts(&parts);
-        held.check(0, 12)?;
+        let held = ShapeWords::of_parts(&parts).checked(0, 12)?;
         Ok(Rest { held })
     }
 
@@ -50,7 +49,7 @@ impl Rest {
         let Some(held) = ShapeWords::of_words(words) else {
             return Err(PatternFault::Words);
         };
-        held.check(0, 12)?;
+        let held = held.checked(0, 12)?;
         Ok(Rest { held })
     }
 

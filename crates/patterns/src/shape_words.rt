@@ -1,10 +1,10 @@
 //! Four suits in four words, as patterns and rests hold them.
 
-ghost use Rattle.std.specs.Prelude.{◌≡◌, ◌↔◌, length, IsTrue, MatchBool, MatchOption, MatchResult};
+ghost use Rattle.std.specs.Prelude.{◌≡◌, ◌↔◌, length, IsTrue, MatchBool, MatchOption};
 ghost use Rattle.std.specs.Bool.{OnTrue};
-ghost use Rattle.patterns.specs.Shapes.{suit_of, suit_size, hand_size, IsShape, CoversSuit, Covers};
+ghost use Rattle.patterns.specs.Shapes.{suit_of, suit_size, hand_size, CoversSuit, Covers};
 ghost use Rattle.patterns.specs.Holders.{holders_of, MatchesSuit, Matches, shape_of_layout};
-ghost use Rattle.patterns.specs.Parts.{shape_of_parts, HasFourSeats, SuitsFit, HasLongSuit, HandsFit, HasWrongHands, HasItsOwners, HasExcessOwner, OwnersFit, HasWrongOwner, IsFault};
+ghost use Rattle.patterns.specs.Parts.{shape_of_parts, HasFourSeats, SuitsFit, HasLongSuit, HandsFit, HasWrongHands, HasItsOwners, HasExcessOwner, OwnersFit, HasWrongOwner, MeetsParts};
 ghost use Rattle.patterns.specs.Words.{shape_with, shape_in, words_of, HaveWords, AreWords, HasWrongWord};
 
 use crate::faults::PatternFault;
@@ -14,7 +14,7 @@ use cards::{Layout, Seat, Suit};
 use std::marker::Model;
 
 /// Four suits, a word each, spades first.
-#[derive(Clone, Copy, Debug, PartialEq, Eq, Hash)]
+#[derive(Clone, Copy, Debug, PartialEq, Eq)]
 pub(crate) struct ShapeWords {
     words: [u64; 4],
 }
@@ -154,9 +154,9 @@ impl ShapeWords {
             && self.has_its_owners(Suit::Clubs)
     }
 
-    /// Whether the four suits are of the kind that has these numbers of cards a seat, else why not.
-    pub(crate) fn check(&self, fewest: u16, most: u16) -> Result<(), PatternFault>
-        ensures { MatchResult result (λ _. IsShape fewest most self.now) (IsFault fewest most self.now) }
+    /// The four suits where they are of the kind that has these numbers of cards a seat, else why they aren't.
+    pub(crate) fn checked(self, fewest: u16, most: u16) -> Result<ShapeWords, PatternFault>
+        ensures { MeetsParts fewest most self result }
     {
         if !self.suits_fit() {
             return Err(PatternFault::Lengths);
@@ -167,7 +167,7 @@ impl ShapeWords {
         if !self.owners_fit() {
             return Err(PatternFault::Owners);
         }
-        Ok(())
+        Ok(self)
     }
 
     /// The four suits as they are in the layout, with owners up to four depths, that of spades first.

@@ -1,4 +1,4 @@
-use Rattle.std.proofs.Common.{length, ap, ◌∙◌, arith}
+use Rattle.std.proofs.Common.{rules, length, ap, ◌∙◌, arith}
 use Rattle.std.proofs.lemmas.List.{length-append}
 use Rattle.cards.specs.declared.suits.Suit.TheVariants.{Spades, Hearts, Diamonds}
 use Rattle.pattern_step.specs.LegalCards.{cards_in}
@@ -44,3 +44,6 @@ add_suit-requires-5 c =
     let hearts = length-cards_in c.args.pattern.now pattern seat Hearts in
     let diamonds = length-cards_in c.args.pattern.now pattern seat Diamonds in
     omega (arith, new, one, two, three, spades, hearts, diamonds, pattern.hands seat, pattern.not_over)
+
+pub returns : goal.returns
+returns c = search rules
