@@ -123,6 +123,9 @@ fn table_command<'a>(alloc: Global) -> Result<Command<'a>, AllocError> {
 }
 
 /// The run that the words ask for, the first of them being the program's name.
+///
+/// The error is what `clap` has to say where they ask for none: the help that was asked for, why they are refused, or that there is
+/// not the memory.
 pub fn run_of<'a, S: AsStr>(alloc: Global, words: &'a [S]) -> Result<Run<'a>, Error>
     ensures { IfOk result IsRun }
 {

@@ -3,7 +3,7 @@
 //! `main` gives `run_command` the words and the streams of the process, and flushes the output at the end.
 #![tactic(auto)]
 
-use command_line::run_command;
+use commands::run_command;
 use partition_solver::Partition;
 use runs::{RunFault, close_output, tell};
 use std::io::{BufWriter, ErrorKind};

@@ -5,7 +5,7 @@ ghost use Rattle.runs.specs.Runs.{IsRun};
 
 use cards::{Buffer, Bytes, Layout, Seat, Trump};
 use certificate_graph::Answer;
-use command_line::run_command;
+use commands::run_command;
 use partition_solver::Solver;
 use runs::{Run, Status, do_run};
 use std::alloc::{AllocError, Global};

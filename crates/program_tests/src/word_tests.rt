@@ -2,7 +2,7 @@
 
 use crate::expect::{End, Nothing, ROOM, Stopped, expect_end, expect_eq, expect_words};
 use cards::{Buffer, Bytes};
-use command_line::run_command;
+use commands::run_command;
 use runs::Status;
 use std::alloc::Global;
 use std::process::Abort;

@@ -1,6 +1,6 @@
 use Rattle.std.proofs.Common.{refl}
-use Rattle.command_line.specs.Commands.{is_run, is_no_run}
-use Rattle.command_line.proofs.commands.run_command.Goals as goal
+use Rattle.commands.specs.Commands.{is_run, is_no_run}
+use Rattle.commands.proofs.run_command.Goals as goal
 
 pub returns-in-Ok : goal.returns-in-Ok
 returns-in-Ok g c = is_run c.in-Ok.asked c.do_run.ensures

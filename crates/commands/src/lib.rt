@@ -1,12 +1,15 @@
 //! What is done for the words of a command line.
+//!
+//! [`run_command`] works over any input, output and error output, so that tests can run it over memory.
+#![tactic(auto)]
 
 ghost use Rattle.clap.specs.Values.{kind_of};
-ghost use Rattle.command_line.specs.Commands.{MeetsWords, EndsWords};
+ghost use Rattle.commands.specs.Commands.{MeetsWords, EndsWords};
 
-use crate::words::run_of;
 use cards::{Sink, Source, write_all};
 use clap::Error;
 use clap::error::ErrorKind;
+use command_line::run_of;
 use partition_solver::Solver;
 use runs::{RunFault, Status, do_run, show, tell};
 use std::alloc::Global;

@@ -1,8 +1,8 @@
 use Rattle.std.proofs.Common.{refl, inl, inr, ◌∙◌}
 use Rattle.clap.specs.Values.{kind_of}
-use Rattle.command_line.specs.Commands.{IsAsked, is_shown, is_refused, is_without_memory}
+use Rattle.commands.specs.Commands.{IsAsked, is_shown, is_refused, is_without_memory}
 use Rattle.runs.proofs.TellLemmas.{IsTold-from_writes}
-use Rattle.command_line.proofs.commands.tell_words.Goals as goal
+use Rattle.commands.proofs.tell_words.Goals as goal
 
 pub returns-in_default : goal.returns-in_default
 returns-in_default g c = rw c.tell.ensures.status (is_without_memory refl c.tell.ensures.line)
