@@ -1,42 +1,12 @@
-//! The tricks of North and South in endings, and layouts that are refused.
-mod endings;
-
-ghost use Rattle.std.specs.Prelude.{IfSome};
-ghost use Rattle.runs.specs.Runs.{IsRun};
+//! Layouts that are refused, and lines one after the other on one output.
 
 use crate::expect::{ROOM, expect_eq, expect_run};
 use cards::{Buffer, Seat, Suit, Trump};
-use endings::{ENDINGS, Ending};
 use pbn_deals::PbnFault;
 use runs::{Run, RunFault, Status, plain_line};
 use std::alloc::Global;
 use std::process::Abort;
 use std::test::Fail;
-
-/// The run of `plain`, by the letters of the seat and of the denomination.
-fn plain<'a>(layout: &'a str, leader: &str, trump: &str) -> Option<Run<'a>>
-    ensures { IfSome result IsRun }
-{
-    Some(Run::Plain {
-        layout,
-        leader: Seat::of_letter(leader)?,
-        trump: Trump::of_letters(trump)?,
-    })
-}
-
-/// Each ending has its line.
-fn expect_lines(rt: &impl Abort, alloc: Global, endings: &[Ending]) -> Result<(), Fail> {
-    for (layout, leader, trump, line) in endings {
-        let run = plain(layout, leader, trump).ok_or("no seat or no trump")?;
-        expect_run(rt, alloc, run, b"", ROOM, (Status::Done, *line, ""))?;
-    }
-    Ok(())
-}
-
-#[test]
-fn endings_from_outside(rt: HostRuntime) -> Result<(), Fail> {
-    expect_lines(&rt, rt.alloc(), ENDINGS.as_slice())
-}
 
 /// Layouts that are refused, and what is told of them.
 const REFUSED: [(&str, &str); 11] = [
