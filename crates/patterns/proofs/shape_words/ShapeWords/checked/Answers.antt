@@ -4,12 +4,14 @@ use Rattle.patterns.proofs.shape_words.ShapeWords.checked.Goals as goal
 
 pub returns : goal.returns
 returns c =
-    let hands = when_true _ _ _ c.hands_fit.ensures c.if-not-hands_fit.false in
-    (refl, record {
-      four_seats = on_true _ _ c.suits_fit.ensures.seats c.if-not-suits_fit.false;
-      suits = when_true _ _ _ c.suits_fit.ensures.cases c.if-not-suits_fit.false;
-      hands = hands.equal;
-      some_cards = hands.some_cards;
-      not_over = hands.not_over;
-      owners = when_true _ _ _ c.owners_fit.ensures c.if-not-owners_fit.false;
-    })
+    let hands = when_true _ _ _ c.hands_fit.ensures c.if-not-hands_fit.false in (
+      refl,
+      record {
+        four_seats = on_true _ _ c.suits_fit.ensures.seats c.if-not-suits_fit.false;
+        suits = when_true _ _ _ c.suits_fit.ensures.cases c.if-not-suits_fit.false;
+        hands = hands.equal;
+        some_cards = hands.some_cards;
+        not_over = hands.not_over;
+        owners = when_true _ _ _ c.owners_fit.ensures c.if-not-owners_fit.false;
+      },
+    )
