@@ -33,7 +33,8 @@ pub fn read_all<S: Source>(alloc: Global, source: &mut S) -> Result<Vec<u8>, Inp
             Ok(count) => count,
             Err(_) => return Err(InputFault::Read),
         };
-        if count == 0 {
+        let is_end = count == 0;
+        if is_end {
             return Ok(text);
         }
         if let Err(_full) = text.extend_from_slice(&buffer[..count]) {

@@ -27,3 +27,6 @@ loop-turn-preserved g c =
 
 pub returns-in-Err-clause-all : goal.returns-in-Err-clause-all
 returns-in-Err-clause-all g c = search rules
+
+pub returns-then-is_end-clause-all : goal.returns-then-is_end-clause-all
+returns-then-is_end-clause-all g c = search rules
