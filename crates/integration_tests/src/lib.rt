@@ -20,8 +20,6 @@ mod graph_tests;
 #[cfg(test)]
 mod lease_tests;
 #[cfg(test)]
-mod memory_tests;
-#[cfg(test)]
 mod pattern_tests;
 #[cfg(test)]
 mod pbn_tests;

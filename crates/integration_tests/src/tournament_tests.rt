@@ -1,7 +1,6 @@
 //! Whole tournaments, from the text of their boards to the text of their tables.
 
 use crate::expect::{expect_bytes, expect_eq, joined};
-use crate::memory_tests::CR_LF;
 use crate::table_tests::TABLE;
 use cards::{Buffer, Bytes, Layout, Seat, Trump};
 use certificate_graph::Answer;
@@ -157,6 +156,14 @@ fn partners_differ(rt: HostRuntime) -> Result<(), Fail> {
 }
 
 /// The board without all its cards is given to nobody.
+/// The deal of one suit each, and a board with too few cards.
+const TWO_BOARDS: &[u8] = b"[Board \"7\"]
+[Deal \"N:AKQJT98765432... .AKQJT98765432.. ..AKQJT98765432. ...AKQJT98765432\"]
+
+[Board \"8\"]
+[Deal \"N:AKQJT98765432... - - -\"]
+";
+
 #[test]
 fn a_board_without_a_deal(rt: HostRuntime) -> Result<(), Fail> {
     let behind_name = TABLE.get(20..).ok_or("a shorter text")?;
@@ -173,7 +180,7 @@ fn a_board_without_a_deal(rt: HostRuntime) -> Result<(), Fail> {
         &rt,
         rt.alloc(),
         &Partition::new(),
-        CR_LF,
+        TWO_BOARDS,
         wanted,
         written.as_slice(),
     )

@@ -1,7 +1,6 @@
 //! Readings where memory runs out. `.ci/memory` refuses each test its sixth allocation, and a test makes as many before its
 //! reading as its name says: so each allocation of a reading is refused in one of them, and in the first of them none.
 
-use crate::expect::{expect_bytes, expect_eq};
 use cards::{Buffer, Layout};
 use certificate_graph::Graph;
 use pbn_deals::{Board, read_boards, read_layout};
@@ -10,7 +9,7 @@ use std::process::Abort;
 use std::test::Fail;
 
 /// A file as a tournament writes it. Two names and the list of boards take memory.
-pub(crate) const CR_LF: &[u8] = b"% PBN 2.1\r
+const CR_LF: &[u8] = b"% PBN 2.1\r
 [Event \"x\"]\r
 [board \"7\"]\r
 { a comment\r
@@ -50,10 +49,9 @@ fn expect_boards(rt: &impl Abort, boards: &[Board], deal: Layout) {
     let [seventh, eighth] = boards else {
         panic!(rt; "not two boards");
     };
-    expect_bytes(rt, seventh.name.as_bytes(), b"7");
-    expect_eq(rt, &seventh.deal, &Some(deal));
-    expect_bytes(rt, eighth.name.as_bytes(), b"8");
-    expect_eq(rt, &eighth.deal, &None);
+    let are_named = seventh.name.as_bytes() == b"7".as_slice()
+        && eighth.name.as_bytes() == b"8".as_slice();
+    assert!(rt; are_named && seventh.deal == Some(deal) && eighth.deal.is_none());
 }
 
 /// The boards, or the fault by which the test fails.
@@ -73,8 +71,7 @@ fn graph_after(rt: &impl Abort, alloc: Global, count: usize) -> Result<(), Fail>
         allocate(alloc)?;
     }
     let graph = Graph::read(alloc, GRAPH)?;
-    expect_eq(rt, &graph.write(&mut sink), &Ok(()));
-    expect_bytes(rt, sink.bytes(), GRAPH);
+    assert!(rt; graph.write(&mut sink).is_ok() && sink.bytes() == GRAPH);
     Ok(())
 }
 
