@@ -17,46 +17,60 @@ const TRUMPS: [&str; 5] = ["NT", "S", "H", "D", "C"];
 
 /// The command line that is understood.
 fn command<'a>(alloc: Global) -> Result<Command<'a>, AllocError> {
-    Command::new(alloc, "ddfarm")
+    let command = Command::new(alloc, "ddfarm")
         .bin_name("ddfarm")?
         .about(help::ABOUT)
         .after_help(help::EXAMPLE)
         .subcommand_required(true)
         .arg_required_else_help(true)
-        .disable_help_subcommand(true)
-        .subcommand(plain_command(alloc)?)?
-        .subcommand(solve_command(alloc)?)?
-        .subcommand(table_command(alloc)?)?
-        .subcommand(check_command(alloc)?)
+        .disable_help_subcommand(true);
+    let command = with(command, plain_command(alloc))?;
+    let command = with(command, solve_command(alloc))?;
+    let command = with(command, table_command(alloc))?;
+    with(command, check_command(alloc))
+}
+
+/// The command with one more below it, where that could be made.
+fn with<'a>(
+    command: Command<'a>,
+    made: Result<Command<'a>, AllocError>,
+) -> Result<Command<'a>, AllocError> {
+    command.subcommand(made?)
 }
 
 fn plain_command<'a>(alloc: Global) -> Result<Command<'a>, AllocError> {
-    Command::new(alloc, "plain")
+    let command = Command::new(alloc, "plain")
         .about(help::PLAIN_ABOUT)
-        .after_help(help::PLAIN_EXAMPLE)
-        .arg(layout_arg(alloc))?
-        .arg(leader_arg(alloc))?
-        .arg(trump_arg(alloc))
+        .after_help(help::PLAIN_EXAMPLE);
+    with_hand(alloc, command, "LEADER", help::LEADER)
 }
 
 fn solve_command<'a>(alloc: Global) -> Result<Command<'a>, AllocError> {
-    Command::new(alloc, "solve")
+    let command = Command::new(alloc, "solve")
         .about(help::SOLVE_ABOUT)
         .override_usage(help::SOLVE_USAGE)
-        .after_help(help::SOLVE_EXAMPLE)
-        .arg(layout_arg(alloc))?
-        .arg(declarer_arg(alloc))?
-        .arg(trump_arg(alloc))?
-        .arg(budget_arg(alloc))
+        .after_help(help::SOLVE_EXAMPLE);
+    with_hand(alloc, command, "DECLARER", help::DECLARER)?.arg(budget_arg(alloc))
 }
 
 fn check_command<'a>(alloc: Global) -> Result<Command<'a>, AllocError> {
-    Command::new(alloc, "check")
+    let command = Command::new(alloc, "check")
         .about(help::CHECK_ABOUT)
         .override_usage(help::CHECK_USAGE)
-        .after_help(help::CHECK_EXAMPLE)
+        .after_help(help::CHECK_EXAMPLE);
+    with_hand(alloc, command, "DECLARER", help::DECLARER)
+}
+
+/// The command with the words of a layout, of a seat that has this name, and of the denomination.
+fn with_hand<'a>(
+    alloc: Global,
+    command: Command<'a>,
+    seat: &'a str,
+    help: &'a str,
+) -> Result<Command<'a>, AllocError> {
+    command
         .arg(layout_arg(alloc))?
-        .arg(declarer_arg(alloc))?
+        .arg(seat_arg(alloc, seat, help))?
         .arg(trump_arg(alloc))
 }
 
@@ -64,18 +78,11 @@ fn layout_arg<'a>(alloc: Global) -> Arg<'a> {
     Arg::new(alloc, "LAYOUT").required(true).help(help::LAYOUT)
 }
 
-fn leader_arg<'a>(alloc: Global) -> Arg<'a> {
-    Arg::new(alloc, "LEADER")
+fn seat_arg<'a>(alloc: Global, name: &'a str, help: &'a str) -> Arg<'a> {
+    Arg::new(alloc, name)
         .required(true)
         .value_parser(SEATS.as_slice())
-        .help(help::LEADER)
-}
-
-fn declarer_arg<'a>(alloc: Global) -> Arg<'a> {
-    Arg::new(alloc, "DECLARER")
-        .required(true)
-        .value_parser(SEATS.as_slice())
-        .help(help::DECLARER)
+        .help(help)
 }
 
 fn trump_arg<'a>(alloc: Global) -> Arg<'a> {
@@ -129,12 +136,16 @@ fn table_command<'a>(alloc: Global) -> Result<Command<'a>, AllocError> {
 pub fn run_of<'a, S: AsStr>(alloc: Global, words: &'a [S]) -> Result<Run<'a>, Error>
     ensures { IfOk result IsRun }
 {
-    let mut command = command(alloc)?;
-    let matches = command.try_get_matches_from_mut(words)?;
+    let matches = command(alloc)?.try_get_matches_from(words)?;
     match matched_run(&matches) {
         Some(run) => Ok(run),
-        None => Err(command.error(ErrorKind::MissingSubcommand, "no such command")?),
+        None => Err(no_run(alloc)?),
     }
+}
+
+/// What is said where the words name no run. `clap` has refused such words before.
+fn no_run(alloc: Global) -> Result<Error, AllocError> {
+    command(alloc)?.error(ErrorKind::MissingSubcommand, "no such command")
 }
 
 fn matched_run<'a>(matches: &ArgMatches<'a>) -> Option<Run<'a>>
