@@ -1,6 +1,7 @@
 //! One suit of a layout, as four words of bits.
 
-ghost use Rattle.std.specs.Prelude.{◌≡◌, ◌<◌, length};
+ghost use Rattle.std.specs.Prelude.{◌≡◌, ◌==◌, ◌<◌, length};
+ghost use Rattle.std.specs.Int.{bit_at};
 ghost use Rattle.patterns.specs.Holdings.{TellHolders, holder_in};
 
 use cards::{Layout, Seat, Suit};
@@ -23,17 +24,25 @@ pub(crate) fn holder(words: &[u16; 4], below: usize) -> Option<Seat>
     requires { below < 13 }
     ensures { result ≡ holder_in words.now below }
 {
-    if words[0] >> below & 1 == 1 {
+    if has_bit(words[0], below) {
         return Some(Seat::North);
     }
-    if words[1] >> below & 1 == 1 {
+    if has_bit(words[1], below) {
         return Some(Seat::East);
     }
-    if words[2] >> below & 1 == 1 {
+    if has_bit(words[2], below) {
         return Some(Seat::South);
     }
-    if words[3] >> below & 1 == 1 {
+    if has_bit(words[3], below) {
         return Some(Seat::West);
     }
     None
+}
+
+/// Whether the word has the bit.
+fn has_bit(word: u16, place: usize) -> bool
+    requires { place < 16 }
+    ensures { result ≡ (bit_at word place == 1) }
+{
+    word >> place & 1 == 1
 }
