@@ -50,6 +50,12 @@ pub fn expect_eq<T: PartialEq + Debug>(rt: &impl Abort, got: &T, wanted: &T) {
     assert_eq!(rt; *got, *wanted);
 }
 
+/// The bytes spell this text.
+fn expect_text(rt: &impl Abort, bytes: &[u8], wanted: &str) -> Result<(), Fail> {
+    assert_eq!(rt; str::from_utf8(bytes)?, wanted);
+    Ok(())
+}
+
 /// The run has ended so, with these texts on its outputs.
 pub fn expect_end(
     rt: &impl Abort,
@@ -58,13 +64,9 @@ pub fn expect_end(
     errors: &Buffer,
     wanted: End<'_>,
 ) -> Result<(), Fail> {
-    assert_eq!(rt; str::from_utf8(output.bytes())?, wanted.1, "on the output");
-    assert_eq!(rt;
-        str::from_utf8(errors.bytes())?,
-        wanted.2,
-        "on the error output"
-    );
-    assert_eq!(rt; status, wanted.0);
+    expect_text(rt, output.bytes(), wanted.1)?;
+    expect_text(rt, errors.bytes(), wanted.2)?;
+    expect_eq(rt, &status, &wanted.0);
     Ok(())
 }
 
@@ -94,18 +96,25 @@ pub fn expect_run(
     expect_end(rt, status, &output, &errors, wanted)
 }
 
-/// Does what the words ask for, over an input and an output with this much room.
-pub fn expect_words(
-    rt: &impl Abort,
+/// What a run has printed and told, and how it has ended.
+#[derive(Drop)]
+pub struct Ran {
+    pub status: Status,
+    pub output: Buffer,
+    pub errors: Buffer,
+}
+
+/// Does what the words ask for, over an input and over outputs with this much room.
+pub fn run_words(
     alloc: Global,
     words: &[&str],
     text: &[u8],
     room: usize,
-    wanted: End<'_>,
-) -> Result<(), Fail> {
+    room_to_tell: usize,
+) -> Result<Ran, AllocError> {
     let mut input = Bytes::new(text, 7);
     let mut output = Buffer::new(alloc, room, 3)?;
-    let mut errors = Buffer::new(alloc, ROOM, 7)?;
+    let mut errors = Buffer::new(alloc, room_to_tell, 7)?;
     let status = run_command(
         alloc,
         words,
@@ -115,5 +124,22 @@ pub fn expect_words(
         &mut output,
         &mut errors,
     );
-    expect_end(rt, status, &output, &errors, wanted)
+    Ok(Ran {
+        status,
+        output,
+        errors,
+    })
+}
+
+/// Does what the words ask for, over an input and an output with this much room.
+pub fn expect_words(
+    rt: &impl Abort,
+    alloc: Global,
+    words: &[&str],
+    text: &[u8],
+    room: usize,
+    wanted: End<'_>,
+) -> Result<(), Fail> {
+    let ran = run_words(alloc, words, text, room, ROOM)?;
+    expect_end(rt, ran.status, &ran.output, &ran.errors, wanted)
 }

@@ -1,6 +1,6 @@
 //! What the words of a command line come to.
 
-use crate::expect::{End, Nothing, ROOM, Stopped, expect_end, expect_eq, expect_words};
+use crate::expect::{End, Nothing, ROOM, Stopped, expect_end, expect_eq, expect_words, run_words};
 use cards::{Buffer, Bytes};
 use commands::run_command;
 use runs::Status;
@@ -296,25 +296,23 @@ const REFUSED_WORDS: [(&[&str], &str); 20] = [
     (&["ddfarm"], "Double-dummy results of bridge deals"),
 ];
 
+/// The text begins so, or has that in it.
+fn expect_named(rt: &impl Abort, text: &[u8], told: &str, is_beginning: bool) -> Result<(), Fail> {
+    let text = str::from_utf8(text)?;
+    assert!(rt;
+        text.contains(told) && (!is_beginning || text.starts_with(told)),
+        "{told}: {text}"
+    );
+    Ok(())
+}
+
 /// Words that are refused say so on the error output alone.
 fn expect_refused(rt: &impl Abort, alloc: Global, rows: &[(&[&str], &str)]) -> Result<(), Fail> {
     for (words, told) in rows {
-        let mut input = Bytes::new(b"", 1);
-        let mut output = Buffer::new(alloc, ROOM, 3)?;
-        let mut errors = Buffer::new(alloc, ROOM, 7)?;
-        let status = run_command(
-            alloc,
-            words,
-            &Nothing,
-            &Stopped,
-            &mut input,
-            &mut output,
-            &mut errors,
-        );
-        expect_eq(rt, &status, &Status::Refused);
-        let text = str::from_utf8(errors.bytes())?;
-        assert!(rt; text.starts_with(told), "at {words:?}: {text}");
-        expect_eq(rt, &output.bytes(), &b"".as_slice());
+        let ran = run_words(alloc, words, b"", ROOM, ROOM)?;
+        expect_eq(rt, &ran.status, &Status::Refused);
+        expect_named(rt, ran.errors.bytes(), told, true)?;
+        expect_eq(rt, &ran.output.bytes(), &b"".as_slice());
     }
     Ok(())
 }
@@ -362,22 +360,10 @@ const HELP: [(&[&str], &str); 10] = [
 /// Help that was asked for is on the output alone.
 fn expect_shown(rt: &impl Abort, alloc: Global, rows: &[(&[&str], &str)]) -> Result<(), Fail> {
     for (words, named) in rows {
-        let mut input = Bytes::new(b"", 1);
-        let mut output = Buffer::new(alloc, ROOM, 3)?;
-        let mut errors = Buffer::new(alloc, ROOM, 7)?;
-        let status = run_command(
-            alloc,
-            words,
-            &Nothing,
-            &Stopped,
-            &mut input,
-            &mut output,
-            &mut errors,
-        );
-        expect_eq(rt, &status, &Status::Done);
-        let text = str::from_utf8(output.bytes())?;
-        assert!(rt; text.contains(*named), "at {words:?}: {text}");
-        expect_eq(rt, &errors.bytes(), &b"".as_slice());
+        let ran = run_words(alloc, words, b"", ROOM, ROOM)?;
+        expect_eq(rt, &ran.status, &Status::Done);
+        expect_named(rt, ran.output.bytes(), named, false)?;
+        expect_eq(rt, &ran.errors.bytes(), &b"".as_slice());
     }
     Ok(())
 }
@@ -440,18 +426,8 @@ fn a_full_output(rt: HostRuntime) -> Result<(), Fail> {
 
 #[test]
 fn a_full_error_output_is_not_told(rt: HostRuntime) -> Result<(), Fail> {
-    let mut input = Bytes::new(b"", 1);
-    let mut output = Buffer::new(rt.alloc(), ROOM, 3)?;
-    let mut errors = Buffer::new(rt.alloc(), 4, 7)?;
     let words = ["ddfarm", "plain", "?", "S", "NT"];
-    let status = run_command(
-        rt.alloc(),
-        words.as_slice(),
-        &Nothing,
-        &Stopped,
-        &mut input,
-        &mut output,
-        &mut errors,
-    );
-    expect_end(&rt, status, &output, &errors, (Status::Refused, "", "ddfa"))
+    let ran = run_words(rt.alloc(), words.as_slice(), b"", ROOM, 4)?;
+    let wanted = (Status::Refused, "", "ddfa");
+    expect_end(&rt, ran.status, &ran.output, &ran.errors, wanted)
 }
