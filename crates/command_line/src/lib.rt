@@ -1,7 +1,63 @@
-//! The command line of the program: which run its words ask for, and the texts of `--help`.
+//! What is done for the words of a command line.
+//!
+//! [`run_command`] works over any input, output and error output, so that tests can run it over memory.
 #![tactic(auto)]
 
-mod help;
-mod words;
+ghost use Rattle.clap.specs.Values.{kind_of};
+ghost use Rattle.command_line.specs.Commands.{MeetsWords, EndsWords};
 
-pub use words::run_of;
+use cards::{Sink, Source, write_all};
+use clap::Error;
+use clap::error::ErrorKind;
+use arguments::parse_arguments;
+use partition_solver::Solver;
+use subcommands::{RunFault, Status, run_subcommand, show, tell};
+use std::alloc::Global;
+use std::convert::AsStr;
+use tournaments::Clock;
+
+/// Does what the words ask for, the first of them being the program's name, and answers how the run ends.
+///
+/// What can't be done is told on the error output, with nothing on the output but the beginning that a failed output has
+/// taken; else the error output is as it was. Where the error output fails, nobody is left to be told.
+pub fn run_command<'a, S: AsStr, P: Solver, C: Clock, I: Source, O: Sink, E: Sink>(
+    alloc: Global,
+    words: &'a [S],
+    solver: &P,
+    clock: &C,
+    input: &mut I,
+    output: &mut O,
+    errors: &mut E,
+) -> Status
+    ensures { MeetsWords (P.may_find solver.now) (I.state input.old) (I.state input.new) (O.state output.old)
+        (O.state output.new) (E.state errors.old) (E.state errors.new) result }
+{
+    match parse_arguments(alloc, words) {
+        Ok(asked) => run_subcommand(alloc, asked, solver, clock, input, output, errors),
+        Err(error) => tell_words(alloc, error, output, errors),
+    }
+}
+
+/// Writes the help that was asked for, or tells why the words are refused.
+fn tell_words<O: Sink, E: Sink>(
+    alloc: Global,
+    error: Error,
+    output: &mut O,
+    errors: &mut E,
+) -> Status
+    ensures { EndsWords (O.state output.old) (O.state output.new) (E.state errors.old) (E.state errors.new) (kind_of error) result }
+{
+    let Ok(text) = format!(in alloc; "{error}") else {
+        return tell(RunFault::OutOfMemory, errors);
+    };
+    match error.kind() {
+        ErrorKind::OutOfMemory => tell(RunFault::OutOfMemory, errors),
+        ErrorKind::DisplayHelp | ErrorKind::DisplayVersion => {
+            show(text.as_bytes(), output, errors)
+        }
+        _ => {
+            let _ = write_all(errors, text.as_bytes());
+            Status::Refused
+        }
+    }
+}

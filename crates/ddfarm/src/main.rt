@@ -3,9 +3,9 @@
 //! `main` gives `run_command` the words and the streams of the process, and flushes the output at the end.
 #![tactic(auto)]
 
-use commands::run_command;
+use command_line::run_command;
 use partition_solver::Partition;
-use runs::{RunFault, close_output, tell};
+use subcommands::{RunFault, close_output, tell};
 use std::io::{BufWriter, ErrorKind};
 use std::process::ExitCode;
 use std::time::Instant;

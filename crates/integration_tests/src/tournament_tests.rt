@@ -10,7 +10,7 @@ use std::alloc::{AllocError, Global};
 use std::process::Abort;
 use std::test::Fail;
 use tables::Report;
-use tournaments::{Clock, MakeFault, make_single};
+use tournaments::{Clock, MakeFault, make_tables_on_one_thread};
 
 /// A clock that stands still.
 #[derive(Drop)]
@@ -70,7 +70,7 @@ fn expect_tables<S: Solver>(
 ) -> Result<(), Fail> {
     let mut source = Bytes::new(text, 7);
     let mut sink = Buffer::new(alloc, 2000, 5)?;
-    let made = make_single(
+    let made = make_tables_on_one_thread(
         alloc,
         &mut source,
         &mut sink,
@@ -244,7 +244,7 @@ fn expect_fault(
     written: &[u8],
 ) -> Result<(), Fail> {
     let mut sink = Buffer::new(alloc, room, 7)?;
-    let made = make_single(
+    let made = make_tables_on_one_thread(
         alloc,
         source,
         &mut sink,

@@ -1,7 +1,7 @@
 //! Texts of answers, and how they are cut.
 
 use crate::expect::expect_eq;
-use runs::read_answer;
+use subcommands::read_answer;
 use std::process::Abort;
 
 /// A text, and the number and the two texts that it is cut into.

@@ -2,7 +2,7 @@
 
 use crate::expect::{End, ROOM, expect_run};
 use cards::{Seat, Suit, Trump};
-use runs::{Run, Status};
+use subcommands::{Subcommand, Status};
 use std::alloc::Global;
 use std::process::Abort;
 use std::test::Fail;
@@ -49,7 +49,7 @@ fn expect_checked(
     room: usize,
     wanted: End<'_>,
 ) -> Result<(), Fail> {
-    let run = Run::Check {
+    let run = Subcommand::Check {
         layout,
         declarer: Seat::East,
         trump,

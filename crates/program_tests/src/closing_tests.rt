@@ -2,7 +2,7 @@
 
 use crate::expect::{ROOM, expect_eq};
 use cards::{Buffer, Sink};
-use runs::{Status, close_output};
+use subcommands::{Status, close_output};
 use std::alloc::Global;
 use std::io;
 use std::io::BufWriter;

@@ -1,13 +1,13 @@
 //! What runs are expected to print, to tell and to end with. A call of these costs the prover next to nothing, an
 //! `assert_eq!` a second or more.
 
-ghost use Rattle.runs.specs.Runs.{IsRun};
+ghost use Rattle.subcommands.specs.Runs.{IsInRange};
 
 use cards::{Buffer, Bytes, Layout, Seat, Trump};
 use certificate_graph::Answer;
-use commands::run_command;
+use command_line::run_command;
 use partition_solver::Solver;
-use runs::{Run, Status, do_run};
+use subcommands::{Subcommand, Status, run_subcommand};
 use std::alloc::{AllocError, Global};
 use std::fmt::Debug;
 use std::process::Abort;
@@ -74,17 +74,17 @@ pub fn expect_end(
 pub fn expect_run(
     rt: &impl Abort,
     alloc: Global,
-    run: Run<'_>,
+    run: Subcommand<'_>,
     text: &[u8],
     room: usize,
     wanted: End<'_>,
 ) -> Result<(), Fail>
-    requires { IsRun run }
+    requires { IsInRange run }
 {
     let mut input = Bytes::new(text, 7);
     let mut output = Buffer::new(alloc, room, 3)?;
     let mut errors = Buffer::new(alloc, ROOM, 7)?;
-    let status = do_run(
+    let status = run_subcommand(
         alloc,
         run,
         &Nothing,

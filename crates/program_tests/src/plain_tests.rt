@@ -3,7 +3,7 @@
 use crate::expect::{ROOM, expect_eq, expect_run};
 use cards::{Buffer, Seat, Suit, Trump};
 use pbn_deals::PbnFault;
-use runs::{Run, RunFault, Status, plain_line};
+use subcommands::{Subcommand, RunFault, Status, plain_line};
 use std::alloc::Global;
 use std::process::Abort;
 use std::test::Fail;
@@ -29,7 +29,7 @@ const REFUSED: [(&str, &str); 11] = [
 /// Each layout is refused.
 fn expect_refused(rt: &impl Abort, alloc: Global, rows: &[(&str, &str)]) -> Result<(), Fail> {
     for (layout, told) in rows {
-        let run = Run::Plain {
+        let run = Subcommand::Plain {
             layout,
             leader: Seat::East,
             trump: Trump::Nt,

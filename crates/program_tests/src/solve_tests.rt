@@ -1,13 +1,13 @@
 //! Answers that are found, written and then checked.
 
-ghost use Rattle.runs.specs.Runs.{IsRun};
+ghost use Rattle.subcommands.specs.Runs.{IsInRange};
 
 use crate::expect::{End, ROOM, Stopped, expect_end, expect_eq, expect_run};
 use cards::{Buffer, Bytes, Layout, Seat, Side, Suit, Trump};
 use certificate_graph::{Answer, Graph};
 use partition_solver::{Partition, Solver};
 use pbn_deals::read_layout;
-use runs::{Run, Status, do_run};
+use subcommands::{Subcommand, Status, run_subcommand};
 use std::alloc::{AllocError, Global};
 use std::process::Abort;
 use std::test::Fail;
@@ -55,17 +55,17 @@ fn tricks_of(text: &str, declarer: Seat, trump: Trump) -> Result<u8, Fail> {
 fn expect_solved(
     rt: &impl Abort,
     alloc: Global,
-    run: Run<'_>,
+    run: Subcommand<'_>,
     solver: &impl Solver,
     room: usize,
     wanted: End<'_>,
 ) -> Result<(), Fail>
-    requires { IsRun run }
+    requires { IsInRange run }
 {
     let mut input = Bytes::new(b"", 7);
     let mut output = Buffer::new(alloc, room, 3)?;
     let mut errors = Buffer::new(alloc, ROOM, 7)?;
-    let status = do_run(
+    let status = run_subcommand(
         alloc,
         run,
         solver,
@@ -85,7 +85,7 @@ fn expect_accepted(
     declarer: Seat,
     trump: Trump,
 ) -> Result<(), Fail> {
-    let run = Run::Solve {
+    let run = Subcommand::Solve {
         layout,
         declarer,
         trump,
@@ -94,7 +94,7 @@ fn expect_accepted(
     let mut input = Bytes::new(b"", 7);
     let mut answer = Buffer::new(alloc, ANSWER_ROOM, 300)?;
     let mut errors = Buffer::new(alloc, ROOM, 7)?;
-    let status = do_run(
+    let status = run_subcommand(
         alloc,
         run,
         &Partition::new(),
@@ -106,7 +106,7 @@ fn expect_accepted(
     expect_eq(rt, &status, &Status::Done);
     let tricks = tricks_of(layout, declarer, trump)?;
     let line = format!(in alloc; "accepted {tricks}\n")?;
-    let check = Run::Check {
+    let check = Subcommand::Check {
         layout,
         declarer,
         trump,
@@ -134,10 +134,10 @@ fn answers_are_accepted(rt: HostRuntime) -> Result<(), Fail> {
 }
 
 /// East's contract on the layout without trumps.
-fn east(layout: &str, budget: u64) -> Run<'_>
-    ensures { IsRun result }
+fn east(layout: &str, budget: u64) -> Subcommand<'_>
+    ensures { IsInRange result }
 {
-    Run::Solve {
+    Subcommand::Solve {
         layout,
         declarer: Seat::East,
         trump: Trump::Nt,

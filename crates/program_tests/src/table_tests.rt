@@ -3,12 +3,12 @@
 use crate::expect::{Nothing, ROOM, Stopped, expect_eq, expect_run};
 use cards::{Buffer, Bytes};
 use pbn_deals::PbnFault;
-use runs::{Run, Status};
+use subcommands::{Subcommand, Status};
 use std::alloc::Global;
 use std::process::Abort;
 use std::test::Fail;
 use tables::Report;
-use tournaments::{MakeFault, make_single};
+use tournaments::{MakeFault, make_tables_on_one_thread};
 
 const TERM: u64 = 600;
 
@@ -17,7 +17,7 @@ const TRIES: u32 = 3;
 const STEPS: u64 = 10_000_000;
 
 /// The tables of the input, with a solver that finds nothing.
-const TABLES: Run<'static> = Run::Tables {
+const TABLES: Subcommand<'static> = Subcommand::Table {
     term: TERM,
     tries: TRIES,
     budget: STEPS,
@@ -148,7 +148,7 @@ fn a_full_output_of_tables(rt: HostRuntime) -> Result<(), Fail> {
 fn expect_torn(rt: &impl Abort, alloc: Global, calls: u64) -> Result<(), Fail> {
     let mut input = Bytes::failing_after(CR_LF, 1, calls);
     let mut output = Buffer::new(alloc, ROOM, 3)?;
-    let made = make_single(
+    let made = make_tables_on_one_thread(
         alloc,
         &mut input,
         &mut output,
@@ -176,7 +176,7 @@ fn a_torn_input(rt: HostRuntime) -> Result<(), Fail> {
 fn reports(rt: HostRuntime) -> Result<(), Fail> {
     let mut output = Buffer::new(rt.alloc(), ROOM, 3)?;
     let mut input = Bytes::new(CR_LF, 5);
-    let made = make_single(
+    let made = make_tables_on_one_thread(
         rt.alloc(),
         &mut input,
         &mut output,
@@ -192,7 +192,7 @@ fn reports(rt: HostRuntime) -> Result<(), Fail> {
     };
     expect_eq(&rt, &made.map(|made| made.0), &Ok(report));
     let mut input = Bytes::new(b"\n{", 5);
-    let refused = make_single(
+    let refused = make_tables_on_one_thread(
         rt.alloc(),
         &mut input,
         &mut output,

@@ -2,8 +2,8 @@
 
 use crate::expect::{End, Nothing, ROOM, Stopped, expect_end, expect_eq, expect_words, run_words};
 use cards::{Buffer, Bytes};
-use commands::run_command;
-use runs::Status;
+use command_line::run_command;
+use subcommands::Status;
 use std::alloc::Global;
 use std::process::Abort;
 use std::test::Fail;

@@ -1,9 +1,0 @@
-use Rattle.std.proofs.Common.{refl}
-use Rattle.commands.specs.Commands.{is_run, is_no_run}
-use Rattle.commands.proofs.run_command.Goals as goal
-
-pub returns-in-Ok : goal.returns-in-Ok
-returns-in-Ok g c = is_run c.in-Ok.asked c.do_run.ensures
-
-pub returns-in-Err : goal.returns-in-Err
-returns-in-Err g c = is_no_run _ refl c.tell_words.ensures

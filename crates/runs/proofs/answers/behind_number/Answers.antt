@@ -1,9 +1,0 @@
-use Rattle.std.proofs.Common.{rules}
-use Rattle.runs.proofs.AnswerLaws.{one_digit, two_digits}
-use Rattle.runs.proofs.answers.behind_number.Goals as goal
-
-pub returns-then-number-lt10 : goal.returns-then-number-lt10
-returns-then-number-lt10 c = search (rules, one_digit)
-
-pub returns : goal.returns
-returns c = search (rules, two_digits)

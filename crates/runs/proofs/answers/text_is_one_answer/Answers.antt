@@ -1,5 +1,0 @@
-use Rattle.runs.proofs.AnswerLaws.{one_answer}
-use Rattle.runs.proofs.answers.text_is_one_answer.Goals as goal
-
-pub returns : goal.returns
-returns c = one_answer

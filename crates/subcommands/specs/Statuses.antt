@@ -1,0 +1,70 @@
+-- How runs end: the exit status, and the line that tells why a run failed or was refused.
+use Rattle.std.specs.Prelude.{ℕ, List, [], ◌∷◌, ◌++◌, codes, Option, None, Some, ◌⊎◌}
+use Rattle.std.specs.Fmt.{decimal}
+use Rattle.cards.specs.Devices.{Device, Adds, AddsBeginning}
+use Rattle.pbn_deals.specs.Faults.{fault_text, fault_line}
+use Rattle.streams.specs.declared.inputs.InputFault.{InputFault}
+use Rattle.streams.specs.declared.inputs.InputFault.TheVariants as input
+use Rattle.tournaments.specs.declared.faults.MakeFault.{MakeFault}
+use Rattle.tournaments.specs.declared.faults.MakeFault.TheVariants as make
+use Rattle.subcommands.specs.declared.faults.RunFault.{RunFault}
+use Rattle.subcommands.specs.declared.faults.RunFault.TheVariants as fault
+use Rattle.subcommands.specs.declared.statuses.Status.{Status}
+use Rattle.subcommands.specs.declared.statuses.Status.TheVariants.{Done, Failed, Refused, Incomplete, Rejected}
+
+-- the exit status of the process
+abbrev pub status_code : Status → ℕ
+status_code Done = 0
+status_code Failed = 1
+status_code Refused = 2
+status_code Incomplete = 3
+status_code Rejected = 4
+
+-- memory or a device has failed, the words or the input are refused, or there is no answer
+abbrev pub fault_status : RunFault → Status
+fault_status fault.OutOfMemory = Failed
+fault_status fault.Read = Failed
+fault_status fault.Write = Failed
+fault_status fault.NotText = Refused
+fault_status (fault.Layout refusal) = Refused
+fault_status fault.TooLarge = Refused
+fault_status (fault.Pbn refusal) = Refused
+fault_status fault.NoResult = Refused
+fault_status fault.NoAnswer = Incomplete
+
+-- why an input could not be read
+abbrev pub input_fault : InputFault → RunFault
+input_fault input.OutOfMemory = fault.OutOfMemory
+input_fault input.Read = fault.Read
+
+-- why no tables were made
+abbrev pub make_fault : MakeFault → RunFault
+make_fault make.OutOfMemory = fault.OutOfMemory
+make_fault make.Read = fault.Read
+make_fault (make.Pbn refusal) = fault.Pbn refusal
+make_fault make.Write = fault.Write
+
+-- a place of the input before a text
+abbrev pub behind_line : Option ℕ → List ℕ → List ℕ
+behind_line None text = text
+behind_line (Some line) text = codes "line " ++ decimal line ++ codes ": " ++ text
+
+-- what is said of a fault
+abbrev pub said_of : RunFault → List ℕ
+said_of fault.OutOfMemory = codes "out of memory"
+said_of fault.Read = codes "reading failed"
+said_of fault.Write = codes "writing failed"
+said_of fault.NotText = codes "a word of the command line is not UTF-8"
+said_of (fault.Layout refusal) = codes "layout: " ++ fault_text refusal
+said_of fault.TooLarge = codes "plain takes at most 4 cards a hand"
+said_of (fault.Pbn refusal) = behind_line (fault_line refusal) (fault_text refusal)
+said_of fault.NoResult = codes "first line is not a result line"
+said_of fault.NoAnswer = codes "no answer"
+
+-- the line that tells it
+abbrev pub told_line : RunFault → List ℕ
+told_line fault = codes "ddfarm: " ++ said_of fault ++ 10 ∷ []
+
+-- the error output has the line, and no call of it failed; or a beginning of the line, before a call failed
+abbrev pub IsTold : Device → Device → List ℕ → Type 0
+IsTold old new line = Adds old new line ⊎ AddsBeginning old new line

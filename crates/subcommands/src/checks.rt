@@ -1,0 +1,88 @@
+//! The check of an answer.
+
+ghost use Rattle.std.specs.Prelude.{◌≡◌};
+ghost use Rattle.subcommands.specs.Checks.{ChecksAnswer, IsTrueVerdict, JudgesText};
+ghost use Rattle.subcommands.specs.VerdictLines.{verdict_status};
+
+use crate::answers::read_answer;
+use crate::faults::RunFault;
+use crate::statuses::Status;
+use crate::verdict_lines::write_verdict;
+use cards::{Layout, Seat, Sink, Source, Trump};
+use checker::{OutOfMemory, Verdict, judge};
+use pbn_deals::read_layout;
+use std::alloc::Global;
+use streams::read_all;
+
+/// Reads an answer to its end, checks that its certificates show its number of tricks for the layout that the bytes spell, and
+/// writes the verdict. A number that it writes as accepted is the double-dummy value.
+///
+/// Refuses bytes that spell no layout before anything is read, and a text whose first line is not a result line. Nothing was
+/// written after any fault but a failed output, and after that one a beginning of the line.
+pub fn check_answer<I: Source, O: Sink>(
+    alloc: Global,
+    value: &[u8],
+    declarer: Seat,
+    trump: Trump,
+    input: &mut I,
+    output: &mut O,
+) -> Result<Status, RunFault>
+    ensures { ChecksAnswer value.now declarer trump (I.state input.old) (I.state input.new) (O.state output.old) (O.state output.new) result }
+{
+    let layout = read_layout(value).map_err(RunFault::Layout)?;
+    let text = read_all(alloc, input)?;
+    let verdict = judge_text(alloc, text.as_slice(), &layout, declarer, trump)?;
+    let status = status_of(&verdict);
+    write_verdict(verdict, output)?;
+    Ok(status)
+}
+
+/// The verdict on the text of an answer.
+fn judge_text(
+    alloc: Global,
+    text: &[u8],
+    layout: &Layout,
+    declarer: Seat,
+    trump: Trump,
+) -> Result<Verdict, RunFault>
+    ensures { JudgesText text.now layout.now declarer trump result }
+{
+    let Some((tricks, declarers, defenders)) = read_answer(text) else {
+        return Err(RunFault::NoResult);
+    };
+    let judged = judge(
+        alloc,
+        Some(layout),
+        declarer,
+        trump,
+        tricks,
+        declarers,
+        defenders,
+    );
+    match judged {
+        Ok(verdict) => {
+            is_true(&verdict);
+            Ok(verdict)
+        }
+        Err(OutOfMemory) => Err(RunFault::OutOfMemory),
+    }
+}
+
+/// What a verdict shows is the double-dummy value. It does nothing.
+fn is_true(verdict: &Verdict)
+    ensures { IsTrueVerdict verdict.now }
+{
+    if let Ok(proven) = verdict {
+        proven.invariant();
+    }
+}
+
+/// How a run ends with this verdict.
+fn status_of(verdict: &Verdict) -> Status
+    ensures { result ≡ verdict_status verdict.now }
+{
+    match verdict {
+        Ok(_) => Status::Done,
+        Err(_) => Status::Rejected,
+    }
+}

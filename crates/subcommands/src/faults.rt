@@ -1,0 +1,156 @@
+//! Why a run fails or is refused, and the line that tells it.
+
+ghost use Rattle.std.specs.Prelude.{◌≡◌};
+ghost use Rattle.cards.specs.Devices.{Writes};
+ghost use Rattle.pbn_deals.specs.Faults.{fault_text};
+ghost use Rattle.subcommands.specs.declared.faults.RunFault.TheVariants as faults;
+ghost use Rattle.subcommands.specs.Statuses.{fault_status, IsTold, told_line, said_of, behind_line};
+ghost use Rattle.pbn_deals.specs.Faults.{fault_line};
+
+use crate::statuses::Status;
+use cards::{DeviceFault, Sink, write_all, write_number};
+use pbn_deals::PbnFault;
+use strategies::TooLarge;
+use streams::InputFault;
+use tournaments::MakeFault;
+
+/// Why a run fails or is refused.
+#[derive(Clone, Copy, Debug, PartialEq, Eq)]
+pub enum RunFault {
+    /// There was no memory.
+    OutOfMemory,
+    /// The input failed.
+    Read,
+    /// The output failed.
+    Write,
+    /// A word of the command line is not UTF-8.
+    NotText,
+    /// The word of a layout spells none.
+    Layout(PbnFault),
+    /// The hands of a layout have over 4 cards.
+    TooLarge,
+    /// The PBN text is refused.
+    Pbn(PbnFault),
+    /// The first line of an answer is not a result line.
+    NoResult,
+    /// The solver has found no answer.
+    NoAnswer,
+}
+
+impl From<InputFault> for RunFault {
+    ghost use Rattle.subcommands.specs.Statuses.{input_fault};
+
+    ghost from_gives = { λ fault answer. answer ≡ input_fault fault };
+
+    fn from(fault: InputFault) -> RunFault {
+        match fault {
+            InputFault::OutOfMemory => RunFault::OutOfMemory,
+            InputFault::Read => RunFault::Read,
+        }
+    }
+}
+
+impl From<DeviceFault> for RunFault {
+    ghost from_gives = { λ _ answer. answer ≡ faults.Write };
+
+    fn from(_fault: DeviceFault) -> RunFault {
+        RunFault::Write
+    }
+}
+
+impl From<MakeFault> for RunFault {
+    ghost use Rattle.subcommands.specs.Statuses.{make_fault};
+
+    ghost from_gives = { λ fault answer. answer ≡ make_fault fault };
+
+    fn from(fault: MakeFault) -> RunFault {
+        match fault {
+            MakeFault::OutOfMemory => RunFault::OutOfMemory,
+            MakeFault::Read => RunFault::Read,
+            MakeFault::Pbn(refusal) => RunFault::Pbn(refusal),
+            MakeFault::Write => RunFault::Write,
+        }
+    }
+}
+
+impl From<TooLarge> for RunFault {
+    ghost from_gives = { λ _ answer. answer ≡ faults.TooLarge };
+
+    fn from(_fault: TooLarge) -> RunFault {
+        RunFault::TooLarge
+    }
+}
+
+/// Tells the fault on the error output, and answers how the run ends. Where the error output fails, nobody is left to be
+/// told.
+pub fn tell<E: Sink>(fault: RunFault, errors: &mut E) -> Status
+    ensures status { result ≡ fault_status fault }
+    ensures line { IsTold (E.state errors.old) (E.state errors.new) (told_line fault) }
+{
+    let _ = write_line(fault, errors);
+    match fault {
+        RunFault::OutOfMemory | RunFault::Read | RunFault::Write => Status::Failed,
+        RunFault::NotText
+        | RunFault::Layout(_)
+        | RunFault::TooLarge
+        | RunFault::Pbn(_)
+        | RunFault::NoResult => Status::Refused,
+        RunFault::NoAnswer => Status::Incomplete,
+    }
+}
+
+/// Writes the line of the fault.
+fn write_line<E: Sink>(fault: RunFault, errors: &mut E) -> Result<(), DeviceFault>
+    ensures { Writes (E.state errors.old) (E.state errors.new) (told_line fault) result }
+{
+    write_all(errors, b"ddfarm: ")?;
+    write_fault(fault, errors)?;
+    write_all(errors, b"\n")
+}
+
+/// Writes what is said of the fault.
+fn write_fault<E: Sink>(fault: RunFault, errors: &mut E) -> Result<(), DeviceFault>
+    ensures { Writes (E.state errors.old) (E.state errors.new) (said_of fault) result }
+{
+    match fault {
+        RunFault::OutOfMemory => write_all(errors, b"out of memory"),
+        RunFault::Read => write_all(errors, b"reading failed"),
+        RunFault::Write => write_all(errors, b"writing failed"),
+        RunFault::NotText => write_all(errors, b"a word of the command line is not UTF-8"),
+        RunFault::Layout(refusal) => write_layout_refusal(refusal, errors),
+        RunFault::TooLarge => write_all(errors, b"plain takes at most 4 cards a hand"),
+        RunFault::Pbn(refusal) => write_text_refusal(refusal, errors),
+        RunFault::NoResult => write_all(errors, b"first line is not a result line"),
+        RunFault::NoAnswer => write_all(errors, b"no answer"),
+    }
+}
+
+/// Writes why the word of a layout is refused.
+fn write_layout_refusal<E: Sink>(refusal: PbnFault, errors: &mut E) -> Result<(), DeviceFault>
+    ensures { Writes (E.state errors.old) (E.state errors.new) (said_of (faults.Layout refusal)) result }
+{
+    write_all(errors, b"layout: ")?;
+    write_refusal(refusal, errors)
+}
+
+/// Writes why a PBN text is refused, behind its line.
+fn write_text_refusal<E: Sink>(refusal: PbnFault, errors: &mut E) -> Result<(), DeviceFault>
+    ensures { Writes (E.state errors.old) (E.state errors.new) (said_of (faults.Pbn refusal)) result }
+{
+    let Some(line) = refusal.line() else {
+        return write_refusal(refusal, errors);
+    };
+    write_all(errors, b"line ")?;
+    write_number(errors, line as u64)?;
+    write_all(errors, b": ")?;
+    write_refusal(refusal, errors)
+}
+
+/// Writes the number and the name of a refusal.
+fn write_refusal<E: Sink>(refusal: PbnFault, errors: &mut E) -> Result<(), DeviceFault>
+    ensures { Writes (E.state errors.old) (E.state errors.new) (fault_text refusal) result }
+{
+    write_number(errors, u64::from(refusal.number()))?;
+    write_all(errors, b" ")?;
+    write_all(errors, refusal.name().as_bytes())
+}

@@ -1,0 +1,21 @@
+//! What each run of the program does, and how it ends, over any input, output and error output.
+//!
+//! A run reads, works and writes, or tells on the error output why it can't; its status says which.
+#![tactic(auto)]
+
+mod answers;
+mod checks;
+mod faults;
+mod plain;
+mod running;
+mod solves;
+mod statuses;
+mod verdict_lines;
+
+pub use answers::{read_answer, text_is_one_answer};
+pub use checks::check_answer;
+pub use faults::{RunFault, tell};
+pub use plain::plain_line;
+pub use running::{Subcommand, close_output, run_subcommand, show};
+pub use solves::{answers_are_read_back, solve_layout};
+pub use statuses::Status;

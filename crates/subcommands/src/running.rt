@@ -1,0 +1,159 @@
+//! What a run does for what was asked, and how it ends.
+
+ghost use Rattle.std.specs.Prelude.{◌≡◌};
+ghost use Rattle.streams.specs.Flushes.{contents_behind};
+ghost use Rattle.subcommands.specs.Runs.{Closes, Does, IsInRange, RunsSubcommand, Shows, report_status};
+
+use crate::checks::check_answer;
+use crate::faults::{RunFault, tell};
+use crate::plain::plain_line;
+use crate::solves::solve_layout;
+use crate::statuses::Status;
+use cards::{Seat, Sink, Source, Trump, write_all};
+use partition_solver::Solver;
+use std::alloc::Global;
+use std::io::{BufWriter, Write};
+use streams::WriterSink;
+use tables::Report;
+use tournaments::{Clock, make_tables_on_one_thread};
+
+/// What is asked of a run.
+#[derive(Clone, Copy)]
+pub enum Subcommand<'a> {
+    /// The tricks of North and South in a layout.
+    Plain {
+        layout: &'a str,
+        leader: Seat,
+        trump: Trump,
+    },
+    /// An answer for a layout, found in so many steps.
+    Solve {
+        layout: &'a str,
+        declarer: Seat,
+        trump: Trump,
+        budget: u64,
+    },
+    /// The tables of the boards of the input: the term of a lease in the clock's unit, the tries that an entry has, and the steps
+    /// that a try may take.
+    Tables {
+        term: u64,
+        tries: u32,
+        budget: u64,
+    },
+    /// Whether the answer that is the input is right.
+    Check {
+        layout: &'a str,
+        declarer: Seat,
+        trump: Trump,
+    },
+}
+
+/// Does what is asked, and answers how the run ends.
+///
+/// What can't be done is told on the error output, with nothing on the output but the beginning that a failed output has
+/// taken; else the error output is as it was. Where the error output fails, nobody is left to be told.
+pub fn run_subcommand<P: Solver, C: Clock, I: Source, O: Sink, E: Sink>(
+    alloc: Global,
+    asked: Subcommand<'_>,
+    solver: &P,
+    clock: &C,
+    input: &mut I,
+    output: &mut O,
+    errors: &mut E,
+) -> Status
+    requires { IsInRange asked }
+    ensures { RunsSubcommand (P.may_find solver.now) asked.entry (I.state input.old) (I.state input.new) (O.state output.old)
+        (O.state output.new) (E.state errors.old) (E.state errors.new) result }
+{
+    match try_subcommand(alloc, asked, solver, clock, input, output) {
+        Ok(status) => status,
+        Err(fault) => tell(fault, errors),
+    }
+}
+
+/// Does what is asked, and tells nothing.
+fn try_subcommand<P: Solver, C: Clock, I: Source, O: Sink>(
+    alloc: Global,
+    asked: Subcommand<'_>,
+    solver: &P,
+    clock: &C,
+    input: &mut I,
+    output: &mut O,
+) -> Result<Status, RunFault>
+    requires { IsInRange asked }
+    ensures { Does (P.may_find solver.now) asked.entry (I.state input.old) (I.state input.new) (O.state output.old)
+        (O.state output.new) result }
+{
+    match asked {
+        Subcommand::Plain {
+            layout,
+            leader,
+            trump,
+        } => {
+            plain_line(layout.as_bytes(), leader, trump, output)?;
+            Ok(Status::Done)
+        }
+        Subcommand::Solve {
+            layout,
+            declarer,
+            trump,
+            budget,
+        } => {
+            let value = layout.as_bytes();
+            solve_layout(alloc, value, declarer, trump, budget, solver, output)?;
+            Ok(Status::Done)
+        }
+        Subcommand::Table {
+            term,
+            tries,
+            budget,
+        } => {
+            let made = make_tables_on_one_thread(alloc, input, output, term, tries, budget, solver, clock)?;
+            Ok(status_of(made.0))
+        }
+        Subcommand::Check {
+            layout,
+            declarer,
+            trump,
+        } => check_answer(alloc, layout.as_bytes(), declarer, trump, input, output),
+    }
+}
+
+/// Whether a table is incomplete.
+fn status_of(report: Report) -> Status
+    ensures { result ≡ report_status report }
+{
+    if report.complete < report.boards {
+        Status::Incomplete
+    } else {
+        Status::Done
+    }
+}
+
+/// Writes a text that was asked for, such as help, and answers how the run ends: a write that failed is told on the error output.
+pub fn show<O: Sink, E: Sink>(text: &[u8], output: &mut O, errors: &mut E) -> Status
+    ensures { Shows (O.state output.old) (O.state output.new) (E.state errors.old) (E.state errors.new) text.now result }
+{
+    match write_all(output, text) {
+        Ok(()) => Status::Done,
+        Err(_) => tell(RunFault::Write, errors),
+    }
+}
+
+/// Flushes the output of a run that was done, and answers how the run ends: a flush that failed is told on the error output.
+pub fn close_output<W: Write + Drop, E: Sink>(
+    status: Status,
+    output: &mut WriterSink<BufWriter<W>>,
+    errors: &mut E,
+) -> Status
+    ensures { Closes (⟦<WriterSink<BufWriter<W>> as Sink>⟧.state output.old) (⟦<WriterSink<BufWriter<W>> as Sink>⟧.state output.new)
+        (contents_behind W.contents output.new) (E.state errors.old) (E.state errors.new) status result }
+{
+    match status {
+        Status::Failed | Status::Refused => status,
+        Status::Done | Status::Incomplete | Status::Rejected => match output.flush() {
+            Ok(()) => status,
+            Err(_) => tell(RunFault::Write, errors),
+        },
+    }
+}
