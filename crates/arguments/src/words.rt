@@ -7,9 +7,9 @@ use crate::help;
 use cards::{Seat, Trump};
 use clap::error::ErrorKind;
 use clap::{Arg, ArgMatches, Command, Error, value_parser};
-use subcommands::Subcommand;
 use std::alloc::{AllocError, Global};
 use std::convert::AsStr;
+use subcommands::Subcommand;
 
 const SEATS: [&str; 4] = ["N", "E", "S", "W"];
 

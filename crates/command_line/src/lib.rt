@@ -6,14 +6,14 @@
 ghost use Rattle.clap.specs.Values.{kind_of};
 ghost use Rattle.command_line.specs.Commands.{MeetsWords, EndsWords};
 
+use arguments::parse_arguments;
 use cards::{Sink, Source, write_all};
 use clap::Error;
 use clap::error::ErrorKind;
-use arguments::parse_arguments;
 use partition_solver::Solver;
-use subcommands::{RunFault, Status, run_subcommand, show, tell};
 use std::alloc::Global;
 use std::convert::AsStr;
+use subcommands::{RunFault, Status, run_subcommand, show, tell};
 use tournaments::Clock;
 
 /// Does what the words ask for, the first of them being the program's name, and answers how the run ends.

@@ -1,8 +1,8 @@
 //! Texts of answers, and how they are cut.
 
 use crate::expect::expect_eq;
-use subcommands::read_answer;
 use std::process::Abort;
+use subcommands::read_answer;
 
 /// A text, and the number and the two texts that it is cut into.
 type Cut = (&'static [u8], u8, &'static [u8], &'static [u8]);

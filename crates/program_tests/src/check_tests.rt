@@ -2,10 +2,10 @@
 
 use crate::expect::{End, ROOM, expect_run};
 use cards::{Seat, Suit, Trump};
-use subcommands::{Subcommand, Status};
 use std::alloc::Global;
 use std::process::Abort;
 use std::test::Fail;
+use subcommands::{Status, Subcommand};
 
 /// A finesse: South leads, North covers West's card, and wins two tricks. East's side needs none.
 const FINESSE: &str = "DDC 1

@@ -2,13 +2,13 @@
 
 use crate::expect::{ROOM, expect_eq};
 use cards::{Buffer, Sink};
-use subcommands::{Status, close_output};
 use std::alloc::Global;
 use std::io;
 use std::io::BufWriter;
 use std::process::Abort;
 use std::test::Fail;
 use streams::WriterSink;
+use subcommands::{Status, close_output};
 
 /// A writer that takes no byte, or one that fails.
 #[derive(Drop)]

@@ -7,11 +7,11 @@ use cards::{Buffer, Bytes, Layout, Seat, Trump};
 use certificate_graph::Answer;
 use command_line::run_command;
 use partition_solver::Solver;
-use subcommands::{Subcommand, Status, run_subcommand};
 use std::alloc::{AllocError, Global};
 use std::fmt::Debug;
 use std::process::Abort;
 use std::test::Fail;
+use subcommands::{Status, Subcommand, run_subcommand};
 use tournaments::Clock;
 
 /// Room for all that a run prints.

@@ -3,10 +3,10 @@
 use crate::expect::{ROOM, expect_eq, expect_run};
 use cards::{Buffer, Seat, Suit, Trump};
 use pbn_deals::PbnFault;
-use subcommands::{Subcommand, RunFault, Status, plain_line};
 use std::alloc::Global;
 use std::process::Abort;
 use std::test::Fail;
+use subcommands::{RunFault, Status, Subcommand, plain_line};
 
 /// Layouts that are refused, and what is told of them.
 const REFUSED: [(&str, &str); 11] = [

@@ -7,11 +7,11 @@ use cards::{Buffer, Bytes, Layout, Seat, Side, Suit, Trump};
 use certificate_graph::{Answer, Graph};
 use partition_solver::{Partition, Solver};
 use pbn_deals::read_layout;
-use subcommands::{Subcommand, Status, run_subcommand};
 use std::alloc::{AllocError, Global};
 use std::process::Abort;
 use std::test::Fail;
 use strategies::plain_value;
+use subcommands::{Status, Subcommand, run_subcommand};
 
 /// Room for an answer of four cards a hand.
 const ANSWER_ROOM: usize = 65536;

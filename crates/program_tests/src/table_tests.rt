@@ -3,10 +3,10 @@
 use crate::expect::{Nothing, ROOM, Stopped, expect_eq, expect_run};
 use cards::{Buffer, Bytes};
 use pbn_deals::PbnFault;
-use subcommands::{Subcommand, Status};
 use std::alloc::Global;
 use std::process::Abort;
 use std::test::Fail;
+use subcommands::{Status, Subcommand};
 use tables::Report;
 use tournaments::{MakeFault, make_tables_on_one_thread};
 

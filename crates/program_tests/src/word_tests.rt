@@ -3,11 +3,11 @@
 use crate::expect::{End, Nothing, ROOM, Stopped, expect_end, expect_eq, expect_words, run_words};
 use cards::{Buffer, Bytes};
 use command_line::run_command;
-use subcommands::Status;
 use std::alloc::Global;
 use std::process::Abort;
 use std::test::Fail;
 use streams::read_all;
+use subcommands::Status;
 
 /// The finesse that wins.
 const FINESSE: [&str; 5] = ["ddfarm", "plain", "N:AQ... 65... 32... K4...", "S", "NT"];

@@ -35,7 +35,7 @@ pub enum Subcommand<'a> {
     },
     /// The tables of the boards of the input: the term of a lease in the clock's unit, the tries that an entry has, and the steps
     /// that a try may take.
-    Tables {
+    Table {
         term: u64,
         tries: u32,
         budget: u64,
@@ -108,7 +108,9 @@ fn try_subcommand<P: Solver, C: Clock, I: Source, O: Sink>(
             tries,
             budget,
         } => {
-            let made = make_tables_on_one_thread(alloc, input, output, term, tries, budget, solver, clock)?;
+            let made = make_tables_on_one_thread(
+                alloc, input, output, term, tries, budget, solver, clock,
+            )?;
             Ok(status_of(made.0))
         }
         Subcommand::Check {
