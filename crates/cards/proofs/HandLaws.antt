@@ -56,7 +56,7 @@ IsLayout-from_words hands dealt =
       equal_hands = λ seat. count seat ∙ (dealt.sized.equal seat ∙ sym (count North));
     }
 
--- the holder of a card, from the words behind the deal
+-- the holder of a card, from the words that stand for the deal
 pub holder_from_words : (deal : Deal) (hands : List ℕ) (card : Card) (i : ℕ) → deal_of_words hands ≡ deal → i ≡ card_number card → holder_of deal card ≡ holder_by_words hands i
 holder_from_words deal hands card i is e = ap (λ d. holder_of d card) (sym is) ∙ (holder_of-deal_of_words hands card ∙ ap (holder_by_words hands) (sym e))
 

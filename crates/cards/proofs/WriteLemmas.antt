@@ -11,7 +11,7 @@ use Rattle.cards.proofs.DeviceLemmas.{adds_none, adds_twice, Adds-twice}
 pub Adds-none : (device : Device) → Adds device device []
 Adds-none device = record { bytes = adds_none device.bytes; none_failed = refl }
 
--- behind a fault nothing more goes out
+-- after a fault nothing more goes out
 pub AddsBeginning-stop : {first second : Device} {text : List ℕ} (rest : List ℕ) →
     AddsBeginning first second text → AddsBeginning first second (text ++ rest)
 AddsBeginning-stop {text = text} rest a = record {
@@ -21,7 +21,7 @@ AddsBeginning-stop {text = text} rest a = record {
   counted = a.counted;
 }
 
--- a fault behind a text that went out
+-- a fault after a text that went out
 pub AddsBeginning-then : {first second third : Device} {one other : List ℕ} →
     Adds first second one → AddsBeginning second third other → AddsBeginning first third (one ++ other)
 AddsBeginning-then {first} {second} {third} {one} {other} a b = record {
@@ -32,7 +32,7 @@ AddsBeginning-then {first} {second} {third} {one} {other} a b = record {
   counted = rw (← a.none_failed) b.counted;
 }
 
--- a last text behind one that went out
+-- a last text after one that went out
 pub Writes-then : {first second : Device} {one : List ℕ} {X E : Type 0}
     (result : Result X E) (third : Device) (other : List ℕ) →
     Adds first second one → Writes second third other result → Writes first third (one ++ other) result

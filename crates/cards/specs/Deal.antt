@@ -1,5 +1,6 @@
 -- What a layout is to every contract: who holds each card of the pack.
-use Rattle.std.specs.Prelude.{◌≡◌, ℕ, ◌≤◌, Bool, true, false, List, length, Option, None, Some, slice_index_or, count_by}
+use Rattle.std.specs.Prelude.{◌≡◌, ℕ, ◌≤◌, Bool, true, false, List, length}
+use Rattle.std.specs.Prelude.{Option, None, Some, slice_index_or, count_by}
 use Rattle.std.specs.Cmp.Lexicographic.{pointwise}
 use Rattle.cards.specs.declared.seats.Seat.{Seat}
 use Rattle.cards.specs.declared.seats.Seat.TheVariants.{North}

@@ -1,5 +1,6 @@
 -- What devices tell, what a read takes from a source, and what a write adds to a sink.
-use Rattle.std.specs.Prelude.{◌≡◌, ℕ, ◌+◌, ◌-◌, ◌^◌, ◌<◌, ◌≤◌, min, List, [], ◌++◌, length, take, drop, ⊤, Option, None, Some, Result, Ok, Err}
+use Rattle.std.specs.Prelude.{◌≡◌, ℕ, ◌+◌, ◌-◌, ◌^◌, ◌<◌, ◌≤◌, min, List, [], ◌++◌}
+use Rattle.std.specs.Prelude.{length, take, drop, ⊤, Option, None, Some, Result, Ok, Err}
 use Rattle.cards.specs.declared.devices.DeviceFault.{DeviceFault}
 
 -- What a device tells: its bytes (those that are left in a source, those that a sink has taken), where it tells them,
@@ -44,7 +45,7 @@ pub record Fails (old new : Device) : Type 0 where
 pub record Gives (old new : Device) (buffer buffer' : List ℕ) (n : ℕ) : Type 0 where
   pub within : n ≤ length buffer
   pub given : TakesWhereTold old.bytes new.bytes (take n buffer')
-  pub behind : drop n buffer' ≡ drop n buffer
+  pub rest : drop n buffer' ≡ drop n buffer
   pub end : n ≡ 0 → 0 < length buffer → NoneIsLeft old.bytes
   pub none_failed : new.failed ≡ old.failed
 

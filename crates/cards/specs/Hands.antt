@@ -1,5 +1,6 @@
 -- Four hands as words of bits: bit 13·s + r for the card of suit s and rank r.
-use Rattle.std.specs.Prelude.{◌≡◌, ◌≢◌, ℕ, ◌^◌, ◌<◌, ◌≤◌, ◌+◌, ◌==◌, List, [], ◌∷◌, length, map, Option, None, Some, if◌then◌else◌, slice_index, count_ones, ◌⊎◌}
+use Rattle.std.specs.Prelude.{◌≡◌, ◌≢◌, ℕ, ◌^◌, ◌<◌, ◌≤◌, ◌+◌, ◌==◌, List, [], ◌∷◌, length, map}
+use Rattle.std.specs.Prelude.{Option, None, Some, if◌then◌else◌, slice_index, count_ones, ◌⊎◌}
 use Rattle.std.specs.Int.{bit_at}
 use Rattle.std.specs.List.{range_with_len}
 use lib.Lanes.{mask_l}

@@ -1,5 +1,6 @@
 -- What a source and a sink over memory are to a contract, and what each call does to them.
-use Rattle.std.specs.Prelude.{◌≡◌, ◌≢◌, ℕ, ◌-◌, ◌<◌, List, ◌++◌, length, take, drop, min, max, Option, None, Some, Result, Ok, Err, ◌⊎◌}
+use Rattle.std.specs.Prelude.{◌≡◌, ◌≢◌, ℕ, ◌-◌, ◌<◌, List, ◌++◌, length, take, drop}
+use Rattle.std.specs.Prelude.{min, max, Option, None, Some, Result, Ok, Err, ◌⊎◌}
 use Rattle.cards.specs.declared.devices.DeviceFault.{DeviceFault}
 use Rattle.cards.specs.Devices.{Device, one_more}
 
@@ -16,15 +17,15 @@ abbrev pub supply_device : Supply → Device
 supply_device supply = record { bytes = Some supply.left; failed = supply.failed }
 
 -- A sink: the bytes that it holds, how many it can hold, the greatest piece of a call, and how many calls have failed.
-pub record Store : Type 0 where
+pub record Stock : Type 0 where
   pub bytes : List ℕ
   pub room : ℕ
   pub greatest_piece : ℕ
   pub failed : ℕ
 
 -- what such a sink tells
-abbrev pub store_device : Store → Device
-store_device store = record { bytes = Some store.bytes; failed = store.failed }
+abbrev pub stock_device : Stock → Device
+stock_device stock = record { bytes = Some stock.bytes; failed = stock.failed }
 
 -- how many calls come before the one that fails, after a call that did not fail
 abbrev pub one_call_less : Option ℕ → Option ℕ
@@ -50,11 +51,11 @@ ReadsSupply old new buffer buffer' (Err fault) =
 
 -- A write of a piece: it fails where the piece has a byte and no room is left, and nowhere else; each other call takes
 -- as much of the piece as there is room for and is no more than the greatest piece.
-abbrev pub WritesStore : Store → Store → List ℕ → Result ℕ DeviceFault → Type 0
-WritesStore old new piece (Ok n) =
+abbrev pub WritesStock : Stock → Stock → List ℕ → Result ℕ DeviceFault → Type 0
+WritesStock old new piece (Ok n) =
     ((length piece ≡ 0) ⊎ (length old.bytes < old.room)) ×
     (n ≡ min (min (length piece) (old.room - length old.bytes)) (piece_of old.greatest_piece)) ×
     (new ≡ record old { bytes = old.bytes ++ take n piece })
-WritesStore old new piece (Err fault) =
+WritesStock old new piece (Err fault) =
     (0 < length piece) × (old.room ≡ length old.bytes) ×
     (new ≡ record old { failed = one_more old.failed })

@@ -1,5 +1,6 @@
 -- The numbers by which things are listed and compared.
-use Rattle.std.specs.Prelude.{◌≡◌, ℕ, ◌+◌}
+use Rattle.std.specs.Prelude.{◌≡◌, ℕ, ◌+◌, Bool}
+use Rattle.std.specs.Bool.{Decides}
 use Rattle.std.specs.Ordering.{nat_cmp}
 use Rattle.std.specs.declared.cmp.Ordering.{Ordering}
 use Rattle.cards.specs.declared.suits.Trump.{Trump}
@@ -14,3 +15,7 @@ trump_number (trump.Suit suit) = suit_number suit + 1
 -- things compare as their numbers do
 abbrev pub ComparesBy : {A : Type 0} → (A → ℕ) → (A → A → Ordering) → Type 0
 ComparesBy {A} number order = (one other : A) → order one other ≡ nat_cmp (number one) (number other)
+
+-- a test of two things says whether they are the same
+abbrev pub SaysSame : {A : Type 0} → (A → A → Bool) → Type 0
+SaysSame {A} test = (one other : A) → Decides (test one other) (one ≡ other)

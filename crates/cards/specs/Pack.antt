@@ -5,7 +5,8 @@ use Rattle.cards.specs.declared.suits.Suit.TheVariants.{Spades, Hearts, Diamonds
 use Rattle.cards.specs.declared.suits.Trump.{Trump}
 use Rattle.cards.specs.declared.suits.Trump.TheVariants as trump
 use Rattle.cards.specs.declared.pack.Rank.{Rank}
-use Rattle.cards.specs.declared.pack.Rank.TheVariants.{Two, Three, Four, Five, Six, Seven, Eight, Nine, Ten, Jack, Queen, King, Ace}
+use Rattle.cards.specs.declared.pack.Rank.TheVariants.{Two, Three, Four, Five, Six, Seven}
+use Rattle.cards.specs.declared.pack.Rank.TheVariants.{Eight, Nine, Ten, Jack, Queen, King, Ace}
 use Rattle.cards.specs.declared.pack.Card.{Card}
 
 -- the place of a suit in the order spades, hearts, diamonds, clubs

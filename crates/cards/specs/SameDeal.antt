@@ -1,6 +1,7 @@
 -- What a layout is stored as and its deal name each other, and `==` says whether two layouts are one: the proofs that
 -- the model of a layout and its `==` have to cite.
-use Rattle.std.proofs.Common.{◌≡◌, ℕ, zero, suc, ◌+◌, ◌<◌, ◌≤◌, ◌^◌, true, false, cond, List, [], ◌∷◌, length, map, get_or, Option, None, Some, refl, sym, ◌∙◌, ap, arith}
+use Rattle.std.proofs.Common.{◌≡◌, ℕ, zero, suc, ◌+◌, ◌<◌, ◌≤◌, ◌^◌, true, false, cond, List, [], ◌∷◌}
+use Rattle.std.proofs.Common.{length, map, get_or, Option, None, Some, refl, sym, ◌∙◌, ap, arith}
 use Rattle.std.specs.Prelude.{count_ones, slice_index, nat_eq}
 use Rattle.std.specs.Int.{bit_at}
 use Rattle.std.proofs.lemmas.Nat.Bits.{same_from_bits_below}
@@ -12,7 +13,8 @@ use Rattle.cards.specs.declared.seats.Seat.{Seat}
 use Rattle.cards.specs.declared.seats.Seat.TheVariants.{North, East, South, West}
 use Rattle.cards.specs.Seats.{is_same_seat}
 use Rattle.cards.specs.Deal.{Deal, is_held_by, count_of, is_same_holder, is_same_deal}
-use Rattle.cards.specs.Hands.{word_of, holder_by_bits, holder_by_words, deal_of_words, IsDealt, word_of_deal, words_of_deal}
+use Rattle.cards.specs.Hands.{word_of, holder_by_bits, holder_by_words}
+use Rattle.cards.specs.Hands.{deal_of_words, IsDealt, word_of_deal, words_of_deal}
 use Rattle.std.specs.Bool.{Decides}
 use Rattle.std.specs.Cmp.{IsEquivalence, IsPartialEquivalence, decided, partial_equiv_from_equiv}
 use Rattle.std.specs.Cmp.Lexicographic.{pointwise}

@@ -19,7 +19,7 @@ seat_number East = 1
 seat_number South = 2
 seat_number West = 3
 
--- the seat so many places clockwise
+-- the seat this many places clockwise
 abbrev pub seat_in_place : Seat → ℕ → Seat
 seat_in_place seat zero = seat
 seat_in_place seat (suc places) = seat_in_place (next_of seat) places
@@ -34,6 +34,11 @@ side_of North = NorthSouth
 side_of East = EastWest
 side_of South = NorthSouth
 side_of West = EastWest
+
+-- the place of a side in their order, North and South first
+abbrev pub side_number : Side → ℕ
+side_number NorthSouth = 0
+side_number EastWest = 1
 
 -- the opponents of a side
 abbrev pub other_side : Side → Side

@@ -8,11 +8,17 @@ ghost use Rattle.cards.specs.declared.pack.Rank.{Rank};
 ghost use Rattle.cards.specs.Pack.{card_of, rank_number};
 ghost use Rattle.cards.specs.Hands.{AreSized, AreMissized};
 
-use crate::pack::Card;
+use crate::pack::{Card, Rank};
 use crate::seats::Seat;
 use crate::suits::Suit;
 use std::marker::Model;
 use thiserror::Error;
+
+/// The bits of one suit in a word, shifted to its end.
+const SUIT: u64 = 0x1fff;
+
+/// How many cards a hand has at the most (Law 1).
+const LARGEST: u32 = 13;
 
 /// Why four words are no layout: the first that applies.
 #[derive(Clone, Copy, Debug, PartialEq, Eq, Error)]
@@ -128,7 +134,14 @@ impl Layout {
         ensures below { result < 2 ^ 13 }
         ensures bits { (rank : Rank) → (bit_at result (rank_number rank) ≡ 1) ↔ (holder_of self.now (card_of suit rank) ≡ Some seat) }
     {
-        (self.hands[seat.number()] >> (13 * suit.number()) & 0x1fff) as u16
+        (self.hands[seat.number()] >> (Rank::COUNT * suit.number()) & SUIT) as u16
+    }
+
+    /// What every layout keeps, for a caller that needs the fact. It does nothing.
+    pub fn invariant(&self)
+        ensures { IsLayout self.now }
+    {
+        let _hands = &self.hands;
     }
 
     /// How many cards each hand has, 1 to 13.
@@ -154,7 +167,7 @@ fn are_sized(hands: &[u64; 4]) -> bool
 {
     let size = hands[0].count_ones();
     size != 0
-        && size <= 13
+        && size <= LARGEST
         && hands[1].count_ones() == size
         && hands[2].count_ones() == size
         && hands[3].count_ones() == size

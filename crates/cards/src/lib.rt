@@ -19,7 +19,7 @@ pub use devices::{DeviceFault, Sink, Source, write_all};
 pub use layouts::{Layout, LayoutFault};
 pub use memory::{Buffer, Bytes};
 pub use numbers::write_number;
-pub use orders::{compare_by_number, lists_are_in_order};
+pub use orders::{compare_by_number, equals_are_one, lists_are_in_order};
 pub use pack::{Card, Rank};
 pub use seats::{Seat, Side};
 pub use suits::{Suit, Trump};

@@ -2,7 +2,7 @@
 
 ghost use Rattle.std.specs.Prelude.{◌≡◌, IfOk, None, Some, []};
 ghost use Rattle.cards.specs.Devices.{Reads, WritesPiece};
-ghost use Rattle.cards.specs.Memory.{Supply, Store, ReadsSupply, WritesStore, supply_device, store_device};
+ghost use Rattle.cards.specs.Memory.{Supply, Stock, ReadsSupply, WritesStock, supply_device, stock_device};
 
 use crate::devices::{DeviceFault, Sink, Source};
 use std::alloc::{AllocError, Global};
@@ -20,7 +20,12 @@ pub struct Bytes<'a> {
 impl<'a> Model for Bytes<'a> {
     ghost Value = { Supply };
 
-    ghost view = { λ bytes. record { left = bytes.rest.now; greatest_piece = bytes.greatest_piece; calls_before_failure = bytes.calls_before_failure; failed = bytes.failures } };
+    ghost view = { λ bytes. record {
+      left = bytes.rest.now;
+      greatest_piece = bytes.greatest_piece;
+      calls_before_failure = bytes.calls_before_failure;
+      failed = bytes.failures;
+    } };
 }
 
 impl<'a> Bytes<'a> {
@@ -91,9 +96,9 @@ pub struct Buffer {
 
 impl Model for Buffer {
     ghost use Rattle.std.specs.Prelude.{◌≤◌, vec_len, vec_capacity};
-    ghost use Rattle.cards.specs.Memory.{Store};
+    ghost use Rattle.cards.specs.Memory.{Stock};
 
-    ghost Value = { Store };
+    ghost Value = { Stock };
 
     ghost view = { λ buffer. record { bytes = buffer.bytes.items; room = buffer.room; greatest_piece = buffer.greatest_piece; failed = buffer.failures } };
 
@@ -103,7 +108,7 @@ impl Model for Buffer {
 impl Buffer {
     /// An empty sink with room for this many bytes, in pieces of at most `greatest_piece` (of 1 where that is 0).
     pub fn new(alloc: Global, room: usize, greatest_piece: usize) -> Result<Buffer, AllocError>
-        ensures store { IfOk result (λ buffer. buffer ≡ record { bytes = []; room = room; greatest_piece = greatest_piece; failed = 0 }) }
+        ensures stock { IfOk result (λ buffer. buffer ≡ record { bytes = []; room = room; greatest_piece = greatest_piece; failed = 0 }) }
         ensures device { IfOk result (λ buffer. ⟦<Buffer as Sink>⟧.state buffer ≡ record { bytes = Some []; failed = 0 }) }
     {
         Ok(Buffer {
@@ -123,11 +128,11 @@ impl Buffer {
 }
 
 impl Sink for Buffer {
-    ghost state = { store_device };
+    ghost state = { stock_device };
 
     fn write(&mut self, piece: &[u8]) -> Result<usize, DeviceFault>
-        ensures store { WritesStore self.old self.new piece.now result }
-        ensures device { WritesPiece (store_device self.old) (store_device self.new) piece.now result }
+        ensures stock { WritesStock self.old self.new piece.now result }
+        ensures device { WritesPiece (stock_device self.old) (stock_device self.new) piece.now result }
     {
         let count = piece
             .len()

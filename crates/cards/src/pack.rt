@@ -10,23 +10,39 @@ use std::fmt;
 /// A rank, the deuce lowest and the ace highest (Law 1).
 #[derive(Clone, Copy, Debug, Default, PartialEq, Eq, PartialOrd, Ord)]
 pub enum Rank {
+    /// The deuce, the lowest.
     #[default]
     Two,
+    /// The three.
     Three,
+    /// The four.
     Four,
+    /// The five.
     Five,
+    /// The six.
     Six,
+    /// The seven.
     Seven,
+    /// The eight.
     Eight,
+    /// The nine.
     Nine,
+    /// The ten.
     Ten,
+    /// The jack.
     Jack,
+    /// The queen.
     Queen,
+    /// The king.
     King,
+    /// The ace, the highest.
     Ace,
 }
 
 impl Rank {
+    /// How many ranks a suit has (Law 1).
+    pub const COUNT: usize = 13;
+
     /// The ranks falling, the ace first.
     pub const FALLING: [Rank; 13] = [
         Rank::Ace,
@@ -100,7 +116,7 @@ pub struct Card {
 }
 
 impl Card {
-    /// How many cards the pack has.
+    /// How many cards the pack has (Law 1).
     pub const COUNT: usize = 52;
 
     /// The card's number, from 0: 13 times the number of its suit, and the number of its rank.
@@ -108,7 +124,7 @@ impl Card {
         ensures place { result ≡ card_number self }
         ensures below { result < 52 }
     {
-        13 * self.suit.number() + self.rank.number()
+        Rank::COUNT * self.suit.number() + self.rank.number()
     }
 
     /// The card with this number.
@@ -118,8 +134,8 @@ impl Card {
         ensures number { card_number result ≡ number }
     {
         Card {
-            suit: Suit::at(number / 13),
-            rank: Rank::at(number % 13),
+            suit: Suit::at(number / Rank::COUNT),
+            rank: Rank::at(number % Rank::COUNT),
         }
     }
 }

@@ -5,20 +5,26 @@ ghost use Rattle.cards.specs.Seats.{next_of, seat_number, side_of, other_side, s
 
 use std::fmt;
 
-/// A seat, in clockwise order from North.
+/// A seat of the table, in clockwise order from North (Laws 4 and 44B).
 #[derive(Clone, Copy, Debug, Default, PartialEq, Eq, PartialOrd, Ord, Hash)]
 pub enum Seat {
+    /// North, the partner of South.
     #[default]
     North,
+    /// East, at North's left and the partner of West.
     East,
+    /// South, at East's left.
     South,
+    /// West, at South's left.
     West,
 }
 
-/// A side of two partners who sit opposite each other.
+/// A side of two partners who sit opposite each other (Law 4), North and South first.
 #[derive(Clone, Copy, Debug, PartialEq, Eq, PartialOrd, Ord, Hash)]
 pub enum Side {
+    /// North and South.
     NorthSouth,
+    /// East and West.
     EastWest,
 }
 

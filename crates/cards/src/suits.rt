@@ -8,10 +8,14 @@ use std::fmt;
 /// A suit, in the order in which the four are listed: spades, hearts, diamonds, clubs (Law 1).
 #[derive(Clone, Copy, Debug, Default, PartialEq, Eq, PartialOrd, Ord)]
 pub enum Suit {
+    /// Spades, the first.
     #[default]
     Spades,
+    /// Hearts.
     Hearts,
+    /// Diamonds.
     Diamonds,
+    /// Clubs, the last.
     Clubs,
 }
 
