@@ -1,5 +1,6 @@
 -- Moments that have come, and the first of them in a list.
-use Rattle.std.specs.Prelude.{◌≡◌, ℕ, ◌<◌, ◌≤◌, Bool, true, false, List, Option, None, Some, nat_le, if◌then◌else◌, slice_index_or}
+use Rattle.std.specs.Prelude.{◌≡◌, ℕ, ◌<◌, ◌≤◌, Bool, true, false, List, Option}
+use Rattle.std.specs.Prelude.{None, Some, nat_le, if◌then◌else◌, slice_index_or}
 
 -- whether there is a moment, and it has come
 abbrev pub is_due : ℕ → Option ℕ → Bool

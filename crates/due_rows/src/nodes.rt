@@ -1,6 +1,7 @@
 //! The tree over a row: node 1 is its root, and each node has the earlier of the moments of its two children.
 
-ghost use Rattle.std.specs.Prelude.{◌≡◌, ◌+◌, ◌*◌, ◌^◌, ◌<◌, ◌≤◌, ℕ, length, drop, slice_set, vec_len, MatchOption, None};
+ghost use Rattle.std.specs.Prelude.{◌≡◌, ◌+◌, ◌*◌, ◌^◌, ◌<◌, ◌≤◌, ℕ, length};
+ghost use Rattle.std.specs.Prelude.{drop, slice_set, vec_len, MatchOption, None};
 ghost use Rattle.due_rows.specs.Moments.{is_due, earlier, moment_at, IsFirstDue, NoneIsDue};
 ghost use Rattle.due_rows.specs.Trees.{AreJoined};
 
@@ -25,7 +26,7 @@ fn earlier(one: Option<u64>, other: Option<u64>) -> Option<u64>
     }
 }
 
-/// The first node of a level, from this one on, whose moment has come. The level ends before `end`, and has so many
+/// The first node of a level, from this one on, whose moment has come. The level ends before `end`, and has `above`
 /// levels above it.
 pub(crate) fn first_due_node(
     nodes: &[Option<u64>],

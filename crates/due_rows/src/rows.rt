@@ -7,7 +7,8 @@ use crate::nodes::{first_due_node, put};
 use std::alloc::{AllocError, Global};
 use std::marker::Model;
 
-/// A row of places, each with a moment or none. Contracts see the list of them.
+/// A row of places, each with a moment or none. Contracts see the list of them. A moment is a number of whatever unit
+/// the caller counts time in.
 #[derive(Drop)]
 pub struct DueRow {
     /// Twice as many nodes as leaves. The leaf of place i is node `half + i`.
@@ -32,7 +33,7 @@ impl Model for DueRow {
 }
 
 impl DueRow {
-    /// A row of so many places without a moment. Err where memory is wanting.
+    /// A row of this many places without a moment. `AllocError` where memory runs out.
     pub fn new(alloc: Global, count: usize) -> Result<DueRow, AllocError>
         requires { count ≤ 2 ^ 32 }
         ensures { IfOk result (λ row. row ≡ replicate count None) }

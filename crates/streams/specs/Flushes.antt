@@ -6,11 +6,11 @@ use Rattle.std.specs.Prelude.{◌≡◌, ℕ, List, Option, Result, Ok, Err}
 use Rattle.cards.specs.Devices.{Device, Fails, StaysWhereTold}
 use Rattle.cards.specs.declared.devices.DeviceFault.{DeviceFault}
 
--- what the writer behind the buffer has got, where it tells that
+-- what the buffer's writer has got, where it tells that
 abbrev pub contents_behind : {W A : Type 0} → (W → Option (List ℕ)) → WriterSink (BufWriter W A) → Option (List ℕ)
 contents_behind contents sink = contents (writer_inner sink.writer)
 
--- the writer behind the buffer has got everything that the sink took, where it tells that
+-- the buffer's writer has got everything that the sink took, where it tells that
 pub record HandsOn (old new : Device) (behind : Option (List ℕ)) : Type 0 where
   pub all : StaysWhereTold old.bytes behind
   pub bytes : StaysWhereTold old.bytes new.bytes

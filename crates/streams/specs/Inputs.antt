@@ -20,7 +20,7 @@ pub record Loses (old new : Device) (failed : ℕ) : Type 0 where
   pub first : TakesWhereTold old.bytes new.bytes lost
   pub counted : new.failed ≡ failed
 
--- a call that failed is counted, and want of memory counts none
+-- a call that failed is counted, and nothing is where memory ran out
 abbrev pub StopsReading : Device → Device → InputFault → Type 0
 StopsReading old new OutOfMemory = Loses old new old.failed
 StopsReading old new Read = Loses old new (one_more old.failed)

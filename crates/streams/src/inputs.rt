@@ -1,8 +1,10 @@
 //! The reading of a whole source.
 
 ghost use Rattle.std.specs.Prelude.{IfOk, IfErr};
+ghost use Rattle.cards.specs.Orders.{SaysSame};
 ghost use Rattle.streams.specs.Inputs.{IsReadToEnd, StopsReading};
 
+use crate::reader_sources::PIECE;
 use cards::Source;
 use std::alloc::Global;
 use thiserror::Error;
@@ -10,7 +12,7 @@ use thiserror::Error;
 /// Why a source could not be read to its end.
 #[derive(Clone, Copy, Debug, PartialEq, Eq, Error)]
 pub enum InputFault {
-    /// There was no memory for it.
+    /// Memory ran out.
     #[error("out of memory")]
     OutOfMemory,
     /// The device failed.
@@ -18,10 +20,12 @@ pub enum InputFault {
     Read,
 }
 
-/// How many bytes are asked for at a time.
-const PIECE: usize = 16384;
+/// `==` of two faults says whether they are the same. A law: it does nothing.
+pub fn equal_faults_are_one()
+    ensures { SaysSame ⟦<InputFault as PartialEq>⟧.eq }
+{}
 
-/// Reads the source to its end. What was read before a fault is lost.
+/// Reads the source to its end, and answers all its bytes. What was read before a fault is lost.
 pub fn read_all<S: Source>(alloc: Global, source: &mut S) -> Result<Vec<u8>, InputFault>
     ensures all { IfOk result (λ text. IsReadToEnd (S.state source.old) (S.state source.new) text.items) }
     ensures fault { IfErr result (StopsReading (S.state source.old) (S.state source.new)) }

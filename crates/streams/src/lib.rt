@@ -1,13 +1,13 @@
 //! Readers and writers as sources and sinks of bytes, and the reading of a whole source.
 //!
-//! A [`ReaderSource`] and a [`WriterSink`] tell the bytes that the reader or the writer behind them tells; those of the
-//! process tell none. Each counts its own failed calls.
+//! A [`ReaderSource`] and a [`WriterSink`] tell the bytes that their reader or writer tells; those of the process tell
+//! none. Each counts its own failed calls.
 #![tactic(auto)]
 
 mod inputs;
 mod reader_sources;
 mod writer_sinks;
 
-pub use inputs::{InputFault, read_all};
+pub use inputs::{InputFault, equal_faults_are_one, read_all};
 pub use reader_sources::ReaderSource;
 pub use writer_sinks::WriterSink;

@@ -5,11 +5,11 @@ ghost use Rattle.std.specs.Prelude.{◌≡◌};
 use cards::{DeviceFault, Source};
 use std::io::Read;
 
-/// How many bytes a reader is asked for at the most.
-const PIECE: usize = 16384;
+/// How many bytes are asked for at a time, at the most.
+pub(crate) const PIECE: usize = 16384;
 
-/// A reader as a source of bytes. It reads into a piece of its own first, since a reader that fails doesn't tell what it
-/// did with the buffer.
+/// A reader as a source of bytes. It reads into a piece of its own first, since a reader that fails doesn't tell what
+/// it did with the buffer.
 #[derive(Drop)]
 pub struct ReaderSource<R> {
     reader: R,

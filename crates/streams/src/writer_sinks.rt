@@ -25,7 +25,7 @@ impl<W: Write> WriterSink<W> {
         }
     }
 
-    /// The writer.
+    /// The writer, lent.
     pub fn get_ref(&self) -> &W
         ensures { result.now ≡ self.now.writer }
     {
@@ -42,7 +42,8 @@ impl<W: Write> WriterSink<W> {
 }
 
 impl<W: Write + Drop> WriterSink<BufWriter<W>> {
-    /// Hands on all that the buffer holds back: the writer behind it has got everything that the sink took.
+    /// Hands on all that the buffer holds back, so that its writer has got everything that the sink took. A flush that
+    /// fails loses nothing.
     pub fn flush(&mut self) -> Result<(), DeviceFault>
         ensures { Flushes (⟦<WriterSink<BufWriter<W>> as Sink>⟧.state self.old) (⟦<WriterSink<BufWriter<W>> as Sink>⟧.state self.new)
             (contents_behind W.contents self.new) result }
