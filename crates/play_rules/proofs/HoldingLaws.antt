@@ -13,7 +13,7 @@ use Rattle.std.proofs.lemmas.List.Elements.{Contains-push, Contains-push_cases, 
 use Rattle.play_rules.specs.Left.{without}
 use Rattle.play_rules.proofs.LeftLaws.{holder_of-without_other, count_of-without}
 use Rattle.play_rules.specs.Position.{AreInOrder, listed_place}
-use Rattle.play_rules.specs.Holdings.{HoldsSuit, MayBePlayed, IsSuitToFollow, IsOf, AreListedTo}
+use Rattle.play_rules.specs.Holdings.{HoldsSuit, MayBePlayed, IsSuitToFollow, Follows, AreListedTo}
 
 pub AreInOrder-push : (cards : List Card) (card : Card) → AreInOrder cards → ((other : Card) → Contains cards other → listed_place other < listed_place card) → AreInOrder (cards ++ card ∷ [])
 AreInOrder-push [] card order below = (λ other h. absurd (omega (arith, h.1)), tt)
@@ -57,16 +57,16 @@ no_suit_held left player suit none (card, held, of_suit) =
     none (rank_number card.rank) (rank_number-lt card.rank) (ap (holder_of left) same ∙ held)
 
 -- a card of the suit to follow may be played
-pub MayBePlayed-from_suit : (left : Deal) (player : Seat) (trick : List Card) (suit : Option Suit) (card : Card) → IsSuitToFollow left player trick suit → holder_of left card ≡ Some player → IsOf suit card → MayBePlayed left player trick card
+pub MayBePlayed-from_suit : (left : Deal) (player : Seat) (trick : List Card) (suit : Option Suit) (card : Card) → IsSuitToFollow left player trick suit → holder_of left card ≡ Some player → Follows suit card → MayBePlayed left player trick card
 MayBePlayed-from_suit left player trick None card free held of = record { held = held; follows = λ led is has. absurd (free led is has) }
 MayBePlayed-from_suit left player trick (Some suit) card must held of = record { held = held; follows = λ led is has. of ∙ Some-same suit led (sym must.led ∙ is) }
   where
     Some-same : (a b : Suit) → Some a ≡ Some b → a ≡ b
     Some-same a b h = cc
 
-pub IsOf-from_MayBePlayed : (left : Deal) (player : Seat) (trick : List Card) (suit : Option Suit) (card : Card) → IsSuitToFollow left player trick suit → MayBePlayed left player trick card → IsOf suit card
-IsOf-from_MayBePlayed left player trick None card free may = tt
-IsOf-from_MayBePlayed left player trick (Some suit) card must may = may.follows suit must.led must.held
+pub Follows-from_MayBePlayed : (left : Deal) (player : Seat) (trick : List Card) (suit : Option Suit) (card : Card) → IsSuitToFollow left player trick suit → MayBePlayed left player trick card → Follows suit card
+Follows-from_MayBePlayed left player trick None card free may = tt
+Follows-from_MayBePlayed left player trick (Some suit) card must may = may.follows suit must.led must.held
 
 -- one more place of the list
 pub AreListedTo-more : (left : Deal) (player : Seat) (trick : List Card) (place : ℕ) (cards : List Card) (card : Card) → listed_place card ≡ place → AreListedTo left player trick place cards → MayBePlayed left player trick card → AreListedTo left player trick (place + 1) (cards ++ card ∷ [])

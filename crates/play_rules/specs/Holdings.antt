@@ -31,9 +31,9 @@ IsSuitToFollow left player trick None = IsFree left player trick
 IsSuitToFollow left player trick (Some suit) = IsToBeFollowed left player trick suit
 
 -- the card is of the suit, if there is one
-abbrev pub IsOf : Option Suit → Card → Type 0
-IsOf None card = ⊤
-IsOf (Some suit) card = card.suit ≡ suit
+abbrev pub Follows : Option Suit → Card → Type 0
+Follows None card = ⊤
+Follows (Some suit) card = card.suit ≡ suit
 
 -- the card is another suit's than the one that has to be followed
 pub record Revokes (left : Deal) (player : Seat) (trick : List Card) (card : Card) : Type 0 where

@@ -3,7 +3,7 @@
 ghost use Rattle.std.specs.Prelude.{◌≡◌, ◌<◌, ◌≤◌, Some, MatchBool};
 ghost use Rattle.cards.specs.Deal.{holder_of, count_of};
 ghost use Rattle.play_rules.specs.Position.{listed_place};
-ghost use Rattle.play_rules.specs.Holdings.{HoldsSuit, IsSuitToFollow, IsOf, MayBePlayed, Revokes, AreListedTo};
+ghost use Rattle.play_rules.specs.Holdings.{HoldsSuit, IsSuitToFollow, Follows, MayBePlayed, Revokes, AreListedTo};
 
 use arrayvec::ArrayVec;
 use cards::{Card, Layout, Rank, Seat, Suit};
@@ -13,8 +13,8 @@ pub(crate) fn holders(layout: &Layout) -> [Option<Seat>; 52]
     ensures { result ≡ layout.now }
 {
     let mut holders = [None; 52];
-    let _size = layout.len();
-    for number in 0..52 {
+    layout.invariant();
+    for number in 0..Card::COUNT {
         holders[number] = layout.owner(Card::at(number));
     }
     holders
@@ -31,7 +31,7 @@ pub(crate) fn is_held(left: &[Option<Seat>; 52], player: Seat, card: Card) -> bo
 fn has_suit(left: &[Option<Seat>; 52], player: Seat, suit: Suit) -> bool
     ensures { MatchBool result (HoldsSuit left.now player suit) (HoldsSuit left.now player suit → ⊥) }
 {
-    for number in 0..13 {
+    for number in 0..Rank::COUNT {
         if is_held(
             left,
             player,
@@ -57,8 +57,8 @@ fn suit_to_follow(left: &[Option<Seat>; 52], player: Seat, trick: &[Card]) -> Op
 }
 
 /// Whether the card is of the suit, if there is one.
-fn is_of(suit: Option<Suit>, card: Card) -> bool
-    ensures { MatchBool result (IsOf suit card) (IsOf suit card → ⊥) }
+fn follows(suit: Option<Suit>, card: Card) -> bool
+    ensures { MatchBool result (Follows suit card) (Follows suit card → ⊥) }
 {
     match suit {
         Some(suit) => card.suit == suit,
@@ -70,7 +70,7 @@ fn is_of(suit: Option<Suit>, card: Card) -> bool
 pub(crate) fn revokes(left: &[Option<Seat>; 52], player: Seat, trick: &[Card], card: Card) -> bool
     ensures { MatchBool result (Revokes left.now player trick.now card) (Revokes left.now player trick.now card → ⊥) }
 {
-    !is_of(suit_to_follow(left, player, trick), card)
+    !follows(suit_to_follow(left, player, trick), card)
 }
 
 /// The player's cards that are left and may be played to the trick, by suit and ranks falling.
@@ -84,7 +84,7 @@ pub(crate) fn legal_cards(
 {
     let suit = suit_to_follow(left, player, trick);
     let mut cards = ArrayVec::new();
-    for place in 0..52 {
+    for place in 0..Card::COUNT {
         let card = card_listed(place);
         if is_playable(left, player, suit, card) {
             cards.push(card);
@@ -99,16 +99,16 @@ fn card_listed(place: usize) -> Card
     ensures { listed_place result ≡ place }
 {
     Card {
-        suit: Suit::at(place / 13),
-        rank: Rank::at(12 - place % 13),
+        suit: Suit::at(place / Rank::COUNT),
+        rank: Rank::at(Rank::COUNT - 1 - place % Rank::COUNT),
     }
 }
 
 /// Whether the card is left to the player, and of the suit that has to be followed if there is one.
 fn is_playable(left: &[Option<Seat>; 52], player: Seat, suit: Option<Suit>, card: Card) -> bool
     ensures { MatchBool result
-        ((holder_of left.now card ≡ Some player) × IsOf suit card)
-        ((holder_of left.now card ≡ Some player) × IsOf suit card → ⊥) }
+        ((holder_of left.now card ≡ Some player) × Follows suit card)
+        ((holder_of left.now card ≡ Some player) × Follows suit card → ⊥) }
 {
-    is_held(left, player, card) && is_of(suit, card)
+    is_held(left, player, card) && follows(suit, card)
 }

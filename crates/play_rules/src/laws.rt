@@ -1,6 +1,9 @@
 //! What follows from the definitions. Each law is a function that does nothing: its contract is the law.
 
+ghost use Rattle.cards.specs.Orders.{SaysSame};
 ghost use Rattle.play_rules.specs.Laws.{WinsByHighestCard, LeavesTheUnplayed};
+
+use crate::faults::PlayFault;
 
 /// The winner of a trick plays the highest card of the suit that decides it: trump where one was played, else the suit
 /// led.
@@ -11,4 +14,9 @@ pub fn wins_by_highest_card()
 /// When the cards of a history are gone from a deal, nobody holds any of them, and each other card has its holder.
 pub fn leaves_the_unplayed()
     ensures { LeavesTheUnplayed }
+{}
+
+/// `==` of two refusals says whether they are the same.
+pub fn equal_faults_are_one()
+    ensures { SaysSame ⟦<PlayFault as PartialEq>⟧.eq }
 {}

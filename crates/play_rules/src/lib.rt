@@ -12,6 +12,6 @@ mod tables;
 mod tricks;
 
 pub use faults::PlayFault;
-pub use laws::{leaves_the_unplayed, wins_by_highest_card};
+pub use laws::{equal_faults_are_one, leaves_the_unplayed, wins_by_highest_card};
 pub use tables::Table;
 pub use tricks::winner;

@@ -62,7 +62,7 @@ impl Table {
         ensures history { result.history ≡ [] }
         ensures reached { IsReached result }
     {
-        let _size = layout.len();
+        layout.invariant();
         Table {
             layout,
             leader,
@@ -171,7 +171,7 @@ impl Table {
         requires legal { CanPlay self.old.opening self.old.history card }
         ensures { self.new ≡ with_card self.old card }
     {
-        let _size = self.layout.len();
+        self.layout.invariant();
         self.left[card.number()] = None;
         self.history.push(card);
         if self.trick.len() < 3 {

@@ -14,4 +14,4 @@ loop-number-preserved c =
     }
 
 pub returns : goal.returns
-returns c = ext_get_or None _ _ (c.loop-number.invariant.whole ∙ sym c.len-size.ensures.layout.whole_pack) (λ i h. c.loop-number.invariant.same i (omega arith))
+returns c = ext_get_or None _ _ (c.loop-number.invariant.whole ∙ sym c.invariant.ensures.whole_pack) (λ i h. c.loop-number.invariant.same i (omega arith))

@@ -1,6 +1,6 @@
 use Rattle.std.proofs.Common.{◌<◌, ◌+◌, ◌++◌, ◌∷◌, [], length, arith, length-append}
 use Rattle.play_rules.specs.Holdings.{AreListedTo, MayBePlayed}
-use Rattle.play_rules.proofs.HoldingLaws.{MayBePlayed-from_suit, IsOf-from_MayBePlayed, AreListedTo-more, AreListedTo-skip, length-le-count_of}
+use Rattle.play_rules.proofs.HoldingLaws.{MayBePlayed-from_suit, Follows-from_MayBePlayed, AreListedTo-more, AreListedTo-skip, length-le-count_of}
 use Rattle.play_rules.proofs.holdings.legal_cards.Goals as goal
 use Rattle.play_rules.proofs.holdings.legal_cards.Goals.{then-is_playable, else-is_playable}
 
@@ -32,5 +32,5 @@ loop-place-preserved c =
           rw (w.cards-is, w.push.ensures.items) (AreListedTo-more left player trick c.loop-place.place cards card c.card_listed-card.ensures c.loop-place.invariant may)
       | else-is_playable w ↦
           rw w.cards-is (AreListedTo-skip left player trick c.loop-place.place cards card c.card_listed-card.ensures c.loop-place.invariant
-          (λ may. w.if-is_playable.ensures (may.held, IsOf-from_MayBePlayed left player trick _ card c.suit_to_follow-suit.ensures may)))
+          (λ may. w.if-is_playable.ensures (may.held, Follows-from_MayBePlayed left player trick _ card c.suit_to_follow-suit.ensures may)))
     ]
