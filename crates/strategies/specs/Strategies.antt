@@ -1,6 +1,7 @@
 -- Strategies, and what a side can win. A strategy is a finite map from whole histories to cards; nothing here knows of
 -- positions, of a search or of a best move.
-use Rattle.std.specs.Prelude.{◌≡◌, ◌==◌, ◌&&◌, ℕ, ◌≤◌, Bool, true, false, List, [], ◌∷◌, ◌++◌, Option, None, Some, if◌then◌else◌}
+use Rattle.std.specs.Prelude.{◌≡◌, ◌==◌, ◌&&◌, ℕ, ◌≤◌, Bool, true, false, List}
+use Rattle.std.specs.Prelude.{[], ◌∷◌, ◌++◌, Option, None, Some, if◌then◌else◌}
 use Rattle.cards.specs.declared.seats.Side.{Side}
 use Rattle.cards.specs.declared.pack.Card.{Card}
 use Rattle.cards.specs.Pack.{card_number}

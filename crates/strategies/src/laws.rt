@@ -1,6 +1,8 @@
 //! The laws of "can win". Each is a function that does nothing: its contract is the law.
 
-ghost use Rattle.strategies.specs.Laws.{WinsByOwnCard, WinsAgainstEachCard, WinsTheRest, WinsNothing, WinsWhatIsWon, WinsFewer, ShareTheTricks, WinNoMoreThanAll, HasOneValue, HasOnePlainValue, PlainValueIsValue};
+ghost use Rattle.strategies.specs.Laws.{WinsByOwnCard, WinsAgainstEachCard, WinsTheRest, WinsNothing};
+ghost use Rattle.strategies.specs.Laws.{WinsWhatIsWon, WinsFewer, ShareTheTricks, WinNoMoreThanAll};
+ghost use Rattle.strategies.specs.Laws.{HasOneValue, HasOnePlainValue, PlainValueIsValue};
 
 /// At its own turn a side can win k tricks exactly where it can after some legal card.
 pub fn wins_by_own_card()

@@ -10,19 +10,22 @@ use cards::{Layout, Seat, Side, Trump};
 use play_rules::Table;
 use thiserror::Error;
 
+/// How many cards a hand may have: every line of play is tried.
+const LARGEST: usize = 4;
+
 /// The layout has more than 4 cards a hand.
 #[derive(Clone, Copy, Debug, PartialEq, Eq, Error)]
 #[error("more than 4 cards a hand")]
 pub struct TooLarge;
 
-/// How many tricks North and South can win, of which East and West can win the others, where this seat leads.
-/// Every line of play is tried, so layouts of more than 4 cards a hand are refused.
+/// How many tricks North and South can win where this seat leads, while East and West can win the others. `TooLarge`
+/// exactly where a hand has more than 4 cards. Takes no memory.
 pub fn plain_value(layout: &Layout, leader: Seat, trump: Trump) -> Result<u8, TooLarge>
     ensures value { IfOk result (IsPlainValue (record { deal = layout.now; leader = leader; trump = trump })) }
     ensures too_large { IsOk result ↔ (size_of layout.now ≤ 4) }
 {
     let size = layout.len();
-    if size > 4 {
+    if size > LARGEST {
         return Err(TooLarge);
     }
     let size = size as u8;
