@@ -1,9 +1,19 @@
--- What is printed of faults.
-use Rattle.std.specs.Prelude.{ℕ, List, codes}
+-- The numbers and the names of faults, and what is printed of them.
+use Rattle.std.specs.Prelude.{ℕ, List, [], ◌∷◌, ◌++◌, codes, Option, None, Some}
+use Rattle.std.specs.Fmt.{decimal}
+use Rattle.certificate_graph.specs.declared.faults.TextFault.{TextFault}
+use Rattle.certificate_graph.specs.FaultWords.{fault_number, fault_name, fault_line}
 use Rattle.checker.specs.declared.faults.StepFault.{StepFault}
-use Rattle.checker.specs.declared.faults.StepFault.TheVariants.{CardNotLegal, BranchMissing, BranchExtra, LeafWinners, ChildLead, ChildNeed, ChildPattern, TreeShape}
+use Rattle.checker.specs.declared.faults.StepFault.TheVariants.{CardNotLegal, BranchMissing, BranchExtra, LeafWinners}
+use Rattle.checker.specs.declared.faults.StepFault.TheVariants.{ChildLead, ChildNeed, ChildPattern, TreeShape}
+use Rattle.checker.specs.declared.faults.NodeFault.{NodeFault}
 use Rattle.checker.specs.declared.entry_faults.PartFault.{PartFault}
-use Rattle.checker.specs.declared.entry_faults.PartFault.TheVariants.{RootMissing, RootNeedless, RootTrump, RootSide, RootLead, RootNeed, RootPattern, Node}
+use Rattle.checker.specs.declared.entry_faults.PartFault.TheVariants.{RootMissing, RootNeedless, RootTrump, RootSide}
+use Rattle.checker.specs.declared.entry_faults.PartFault.TheVariants.{RootLead, RootNeed, RootPattern, Node}
+use Rattle.checker.specs.declared.entry_faults.EntryFault.{EntryFault}
+use Rattle.checker.specs.declared.entry_faults.EntryFault.TheVariants.{Declarer, Defenders, KTooLarge}
+use Rattle.checker.specs.declared.hand_faults.HandFault.{HandFault}
+use Rattle.checker.specs.declared.hand_faults.HandFault.TheVariants.{Entry, DeclarerText, DefendersText, NoDeal}
 
 abbrev pub step_fault_number : StepFault → ℕ
 step_fault_number CardNotLegal = 1
@@ -44,3 +54,46 @@ part_fault_name RootLead = codes "RootLead"
 part_fault_name RootNeed = codes "RootNeed"
 part_fault_name RootPattern = codes "RootPattern"
 part_fault_name (Node fault) = codes "Node"
+
+-- ---- the texts that are printed
+-- a number, a blank and a name, as in `2 BranchMissing`
+abbrev pub numbered : ℕ → List ℕ → List ℕ
+numbered number name = decimal number ++ 32 ∷ name
+
+-- `n Name`
+abbrev pub step_fault_text : StepFault → List ℕ
+step_fault_text fault = numbered (step_fault_number fault) (step_fault_name fault)
+
+-- `i n Name`, after the number of the node
+abbrev pub node_fault_text : NodeFault → List ℕ
+node_fault_text fault = decimal fault.number ++ 32 ∷ step_fault_text fault.fault
+
+-- the node, after the name of a fault that is one of a node
+abbrev pub after_part : PartFault → List ℕ
+after_part (Node fault) = 32 ∷ node_fault_text fault
+after_part _ = []
+
+-- `n Name`, or `8 Node i n Name`
+abbrev pub part_fault_text : PartFault → List ℕ
+part_fault_text fault = numbered (part_fault_number fault) (part_fault_name fault) ++ after_part fault
+
+-- after whose graph is at fault
+abbrev pub entry_fault_text : EntryFault → List ℕ
+entry_fault_text (Declarer fault) = codes "declarer " ++ part_fault_text fault
+entry_fault_text (Defenders fault) = codes "defenders " ++ part_fault_text fault
+entry_fault_text KTooLarge = codes "9 KTooLarge"
+
+-- the line that is named, if one is
+abbrev pub after_text : Option ℕ → List ℕ
+after_text None = []
+after_text (Some line) = codes " line " ++ decimal line
+
+-- `n Name line l`
+abbrev pub text_fault_text : TextFault → List ℕ
+text_fault_text fault = numbered (fault_number fault) (fault_name fault) ++ after_text (fault_line fault)
+
+abbrev pub hand_fault_text : HandFault → List ℕ
+hand_fault_text (Entry fault) = entry_fault_text fault
+hand_fault_text (DeclarerText fault) = codes "declarer 10 Text " ++ text_fault_text fault
+hand_fault_text (DefendersText fault) = codes "defenders 10 Text " ++ text_fault_text fault
+hand_fault_text NoDeal = codes "11 NoDeal"

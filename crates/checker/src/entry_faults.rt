@@ -1,56 +1,48 @@
 //! Why two graphs don't show a value.
 
-ghost use Rattle.std.specs.Prelude.{◌≡◌};
-ghost use Rattle.checker.specs.FaultWords.{part_fault_number, part_fault_name};
+ghost use Rattle.std.specs.Prelude.{◌≡◌, Some};
+ghost use Rattle.checker.specs.FaultWords.{part_fault_number, part_fault_name, part_fault_text, entry_fault_text};
 
 use crate::faults::NodeFault;
-use thiserror::Error;
+use std::error::Error;
+use std::fmt;
 
-/// Why a graph doesn't show that its side wins the tricks that it is to win.
-#[derive(Clone, Copy, Debug, PartialEq, Eq, Error)]
+/// Why a graph doesn't show that its side wins the tricks that it is to win. It is printed as its number and its name,
+/// a node's fault before that of its step: `7 RootPattern`, `8 Node 12 2 BranchMissing`.
+#[derive(Clone, Copy, Debug, PartialEq, Eq)]
 pub enum PartFault {
     /// Tricks are to be won, and there are no nodes.
-    #[error("1 RootMissing")]
     RootMissing,
     /// No tricks are to be won, and there are nodes.
-    #[error("2 RootNeedless")]
     RootNeedless,
     /// The graph has another trump.
-    #[error("3 RootTrump")]
     RootTrump,
     /// The graph is of the other side.
-    #[error("4 RootSide")]
     RootSide,
     /// Node 0 has another seat to lead.
-    #[error("5 RootLead")]
     RootLead,
     /// Node 0 has another need.
-    #[error("6 RootNeed")]
     RootNeed,
     /// The layout does not match the pattern of node 0.
-    #[error("7 RootPattern")]
     RootPattern,
     /// The step of a node doesn't hold.
-    #[error("8 Node {0}")]
     Node(NodeFault),
 }
 
-/// Why two graphs don't show the value of a contract on a layout.
-#[derive(Clone, Copy, Debug, PartialEq, Eq, Error)]
+/// Why two graphs don't show the value of a contract on a layout. It is printed after whose graph is at fault:
+/// `declarer 7 RootPattern`, `9 KTooLarge`.
+#[derive(Clone, Copy, Debug, PartialEq, Eq)]
 pub enum EntryFault {
     /// The graph of declarer's side is at fault.
-    #[error("declarer {0}")]
     Declarer(PartFault),
     /// The graph of the defenders is at fault.
-    #[error("defenders {0}")]
     Defenders(PartFault),
     /// There are to be more tricks than cards in a hand.
-    #[error("9 KTooLarge")]
     KTooLarge,
 }
 
 impl PartFault {
-    /// The printed number.
+    /// The printed number, 1 to 8.
     pub fn number(&self) -> u8
         ensures { result ≡ part_fault_number self.now }
     {
@@ -82,3 +74,30 @@ impl PartFault {
         }
     }
 }
+
+impl fmt::Display for PartFault {
+    ghost output = { λ fault. Some (part_fault_text fault) };
+
+    fn fmt<W: fmt::Write>(&self, f: &mut fmt::Formatter<W>) -> fmt::Result {
+        match self {
+            PartFault::Node(fault) => write!(f, "{} {} {}", self.number(), self.name(), fault),
+            _ => write!(f, "{} {}", self.number(), self.name()),
+        }
+    }
+}
+
+impl Error for PartFault {}
+
+impl fmt::Display for EntryFault {
+    ghost output = { λ fault. Some (entry_fault_text fault) };
+
+    fn fmt<W: fmt::Write>(&self, f: &mut fmt::Formatter<W>) -> fmt::Result {
+        match self {
+            EntryFault::Declarer(fault) => write!(f, "declarer {fault}"),
+            EntryFault::Defenders(fault) => write!(f, "defenders {fault}"),
+            EntryFault::KTooLarge => write!(f, "9 KTooLarge"),
+        }
+    }
+}
+
+impl Error for EntryFault {}

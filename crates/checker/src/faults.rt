@@ -1,51 +1,43 @@
 //! Why the step of a node doesn't hold.
 
-ghost use Rattle.std.specs.Prelude.{◌≡◌};
-ghost use Rattle.checker.specs.FaultWords.{step_fault_number, step_fault_name};
+ghost use Rattle.std.specs.Prelude.{◌≡◌, Some};
+ghost use Rattle.checker.specs.FaultWords.{step_fault_number, step_fault_name, step_fault_text, node_fault_text};
 
-use thiserror::Error;
+use std::error::Error;
+use std::fmt;
 
-/// Why the step of a node doesn't hold.
-#[derive(Clone, Copy, Debug, PartialEq, Eq, Error)]
+/// Why the step of a node doesn't hold. It is printed as its number and its name: `2 BranchMissing`.
+#[derive(Clone, Copy, Debug, PartialEq, Eq)]
 pub enum StepFault {
     /// A card of the side is not legal.
-    #[error("1 CardNotLegal")]
     CardNotLegal,
     /// A legal card of the opponents has no branch.
-    #[error("2 BranchMissing")]
     BranchMissing,
     /// A branch is of a card that is not legal.
-    #[error("3 BranchExtra")]
     BranchExtra,
     /// The seats that are listed after a trick are not those that may win it and have to go on.
-    #[error("4 LeafWinners")]
     LeafWinners,
     /// A node that goes on has another seat to lead.
-    #[error("5 ChildLead")]
     ChildLead,
     /// A node that goes on needs less than is still needed.
-    #[error("6 ChildNeed")]
     ChildNeed,
     /// The pattern of a node that goes on does not cover what is left.
-    #[error("7 ChildPattern")]
     ChildPattern,
     /// Another thing stands in the tree than belongs there: a card of the side, the opponents' cards, or the end.
-    #[error("8 TreeShape")]
     TreeShape,
 }
 
-/// A node whose step doesn't hold, and why.
-#[derive(Clone, Copy, Debug, PartialEq, Eq, Error)]
-#[error("{number} {fault}")]
+/// A node whose step doesn't hold, and why. It is printed after the number of the node: `12 2 BranchMissing`.
+#[derive(Clone, Copy, Debug, PartialEq, Eq)]
 pub struct NodeFault {
-    /// The number of the node.
+    /// The number of the node, from 0.
     pub number: u32,
     /// The first fault of its step.
     pub fault: StepFault,
 }
 
 impl StepFault {
-    /// The printed number.
+    /// The printed number, 1 to 8.
     pub fn number(&self) -> u8
         ensures { result ≡ step_fault_number self.now }
     {
@@ -77,3 +69,23 @@ impl StepFault {
         }
     }
 }
+
+impl fmt::Display for StepFault {
+    ghost output = { λ fault. Some (step_fault_text fault) };
+
+    fn fmt<W: fmt::Write>(&self, f: &mut fmt::Formatter<W>) -> fmt::Result {
+        write!(f, "{} {}", self.number(), self.name())
+    }
+}
+
+impl Error for StepFault {}
+
+impl fmt::Display for NodeFault {
+    ghost output = { λ fault. Some (node_fault_text fault) };
+
+    fn fmt<W: fmt::Write>(&self, f: &mut fmt::Formatter<W>) -> fmt::Result {
+        write!(f, "{} {}", self.number, self.fault)
+    }
+}
+
+impl Error for NodeFault {}

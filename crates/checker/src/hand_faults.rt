@@ -1,27 +1,59 @@
 //! Why what was handed in shows nothing.
 
+ghost use Rattle.std.specs.Prelude.{Some};
+ghost use Rattle.checker.specs.FaultWords.{text_fault_text, hand_fault_text};
+
 use crate::entry_faults::EntryFault;
 use certificate_graph::TextFault;
-use thiserror::Error;
+use std::error::Error;
+use std::fmt;
 
-/// Why two texts show nothing of a board.
-#[derive(Clone, Copy, Debug, PartialEq, Eq, Error)]
+/// Why two texts show nothing of a board. A text's fault is printed after whose text it is, and before its line:
+/// `declarer 10 Text 2 NodeForm line 5`.
+#[derive(Clone, Copy, Debug, PartialEq, Eq)]
 pub enum HandFault {
     /// The graphs don't show what they are to show.
-    #[error("{0}")]
     Entry(EntryFault),
     /// The text for declarer's side is not that of a graph.
-    #[error("declarer 10 Text {0}")]
     DeclarerText(TextFault),
     /// The text for the defenders is not that of a graph.
-    #[error("defenders 10 Text {0}")]
     DefendersText(TextFault),
     /// The board has no deal.
-    #[error("11 NoDeal")]
     NoDeal,
 }
 
-/// A growth was refused.
-#[derive(Clone, Copy, Debug, PartialEq, Eq, Error)]
+impl fmt::Display for HandFault {
+    ghost output = { λ fault. Some (hand_fault_text fault) };
+
+    fn fmt<W: fmt::Write>(&self, f: &mut fmt::Formatter<W>) -> fmt::Result {
+        match self {
+            HandFault::Entry(fault) => write!(f, "{fault}"),
+            HandFault::DeclarerText(fault) => write!(f, "declarer 10 Text {}", TextWords(*fault)),
+            HandFault::DefendersText(fault) => write!(f, "defenders 10 Text {}", TextWords(*fault)),
+            HandFault::NoDeal => write!(f, "11 NoDeal"),
+        }
+    }
+}
+
+impl Error for HandFault {}
+
+/// What is printed of a text that is not that of a graph: the fault, and the line that it names.
+#[derive(Clone, Copy)]
+struct TextWords(TextFault);
+
+impl fmt::Display for TextWords {
+    ghost output = { λ words. Some (text_fault_text words.0) };
+
+    fn fmt<W: fmt::Write>(&self, f: &mut fmt::Formatter<W>) -> fmt::Result {
+        let fault = self.0;
+        match fault.line() {
+            Some(line) => write!(f, "{} {} line {}", fault.number(), fault.name(), line),
+            None => write!(f, "{} {}", fault.number(), fault.name()),
+        }
+    }
+}
+
+/// Memory ran out.
+#[derive(Clone, Copy, Debug, PartialEq, Eq, thiserror::Error)]
 #[error("out of memory")]
 pub struct OutOfMemory;
