@@ -18,14 +18,14 @@ use Rattle.checker.proofs.HoldLaws.{right_here, own_below, reply_below}
 
 -- ---- chains
 -- a chain tells one fault, where what follows does
-one_of : {F : Type 0} (wrong : Type 0) (name : F) (rest : F → Type 0) (one other : F) → (rest one → rest other → one ≡ other) → IfWrong wrong name rest one → IfWrong wrong name rest other → one ≡ other
+pub one_of : {F : Type 0} (wrong : Type 0) (name : F) (rest : F → Type 0) (one other : F) → (rest one → rest other → one ≡ other) → IfWrong wrong name rest one → IfWrong wrong name rest other → one ≡ other
 one_of wrong name rest one other more (inl a) (inl b) = a.1 ∙ sym b.1
 one_of wrong name rest one other more (inl a) (inr b) = absurd (b.0 a.0)
 one_of wrong name rest one other more (inr a) (inl b) = absurd (a.0 b.0)
 one_of wrong name rest one other more (inr a) (inr b) = more a.1 b.1
 
 -- a chain tells none, where nothing is wrong
-none_of : {F : Type 0} (wrong : Type 0) (name : F) (rest : F → Type 0) (fault : F) → (wrong → ⊥) → (rest fault → ⊥) → IfWrong wrong name rest fault → ⊥
+pub none_of : {F : Type 0} (wrong : Type 0) (name : F) (rest : F → Type 0) (fault : F) → (wrong → ⊥) → (rest fault → ⊥) → IfWrong wrong name rest fault → ⊥
 none_of wrong name rest fault right none (inl a) = right a.0
 none_of wrong name rest fault right none (inr b) = none b.1
 

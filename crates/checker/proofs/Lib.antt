@@ -11,6 +11,8 @@ pub mod NoFaultLaws
 pub mod LineLaws
 pub mod PartLaws
 pub mod EntryLaws
+pub mod PartAnswers
+pub mod OneAnswer
 pub mod TrickCards
 pub mod TrickWinner
 pub mod TrickRest

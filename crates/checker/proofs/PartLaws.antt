@@ -22,7 +22,7 @@ pub record HasTitle (graph : GraphShape) (trump : Trump) (side : Side) (need : �
   pub trump_is : graph.trump ≡ trump
   pub side_is : graph.side ≡ side
 
-none_there : (root : nodes.Node) → slice_get (let none : List nodes.Node = [] in none) 0 ≡ Some root → ⊥
+pub none_there : (root : nodes.Node) → slice_get (let none : List nodes.Node = [] in none) 0 ≡ Some root → ⊥
 none_there root there = cc
 
 from_root : (graph : GraphShape) (deal : Deal) (leader : Seat) (trump : Trump) (side : Side) (need : ℕ) (root : nodes.Node) (fault : PartFault) → HasTitle graph trump side need root →

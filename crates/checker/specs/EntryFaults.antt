@@ -10,7 +10,8 @@ use Rattle.certificate_graph.specs.declared.nodes.Node as nodes
 use Rattle.certificate_graph.specs.Graphs.{GraphShape}
 use Rattle.checker.specs.declared.faults.NodeFault.{NodeFault}
 use Rattle.checker.specs.declared.entry_faults.PartFault.{PartFault}
-use Rattle.checker.specs.declared.entry_faults.PartFault.TheVariants.{RootMissing, RootNeedless, RootTrump, RootSide, RootLead, RootNeed, RootPattern, Node}
+use Rattle.checker.specs.declared.entry_faults.PartFault.TheVariants.{RootMissing, RootNeedless, RootTrump, RootSide}
+use Rattle.checker.specs.declared.entry_faults.PartFault.TheVariants.{RootLead, RootNeed, RootPattern, Node}
 use Rattle.checker.specs.declared.entry_faults.EntryFault.{EntryFault}
 use Rattle.checker.specs.declared.entry_faults.EntryFault.TheVariants.{KTooLarge, Declarer, Defenders}
 use Rattle.checker.specs.declared.entries.Shown.{Shown}

@@ -7,10 +7,12 @@ use Rattle.certificate_graph.specs.declared.nodes.Node.{Node}
 use Rattle.certificate_graph.specs.Trees.{TrickTree, Own, Reply, Leaf, Branches, NoBranch, Branch}
 use Rattle.certificate_graph.specs.Graphs.{GraphShape}
 use Rattle.checker.specs.declared.faults.StepFault.{StepFault}
-use Rattle.checker.specs.declared.faults.StepFault.TheVariants.{CardNotLegal, BranchMissing, BranchExtra, LeafWinners, ChildLead, ChildNeed, ChildPattern, TreeShape}
+use Rattle.checker.specs.declared.faults.StepFault.TheVariants.{CardNotLegal, BranchMissing, BranchExtra, LeafWinners}
+use Rattle.checker.specs.declared.faults.StepFault.TheVariants.{ChildLead, ChildNeed, ChildPattern, TreeShape}
 use Rattle.checker.specs.declared.faults.NodeFault.{NodeFault}
 use Rattle.checker.specs.Places.{HasBranch, HasBranchOf, LeadsTo}
-use Rattle.checker.specs.Steps.{IsOwnTurn, IsOpponentsTurn, MayComeNext, ListsWinners, need_after, CoversRest, IsRightAfter}
+use Rattle.checker.specs.Steps.{IsOwnTurn, IsOpponentsTurn, MayComeNext, ListsWinners}
+use Rattle.checker.specs.Steps.{need_after, CoversRest, IsRightAfter}
 
 -- this fault where this is wrong, and else what follows
 abbrev pub IfWrong : {F : Type 0} → Type 0 → F → (F → Type 0) → F → Type 0

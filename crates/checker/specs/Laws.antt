@@ -1,14 +1,23 @@
 -- What follows from the definitions, for all graphs.
-use Rattle.std.specs.Prelude.{◌≡◌, ◌↔◌, List}
+use Rattle.std.specs.Prelude.{◌≡◌, ◌↔◌, ℕ, ◌<◌, ◌≤◌, List, length, take, Result}
+use Rattle.cards.specs.declared.suits.Trump.{Trump}
+use Rattle.cards.specs.declared.seats.Seat.{Seat}
+use Rattle.cards.specs.Deal.{Deal}
 use Rattle.pattern_step.specs.declared.pat_cards.PatCard.{PatCard}
+use Rattle.pattern_step.specs.Tricks.{played_in_place}
 use Rattle.certificate_graph.specs.declared.nodes.Node.{Node}
-use Rattle.certificate_graph.specs.Trees.{TrickTree}
+use Rattle.certificate_graph.specs.Trees.{TrickTree, Own}
 use Rattle.certificate_graph.specs.Graphs.{GraphShape, IsGraph}
 use Rattle.checker.specs.declared.faults.StepFault.{StepFault}
 use Rattle.checker.specs.declared.faults.NodeFault.{NodeFault}
+use Rattle.checker.specs.declared.entry_faults.EntryFault.{EntryFault}
+use Rattle.checker.specs.declared.hand_faults.HandFault.{HandFault}
+use Rattle.checker.specs.declared.entries.Shown.{Shown}
 use Rattle.checker.specs.Places.{LeadsTo}
 use Rattle.checker.specs.Steps.{StepHolds, StepsHold, BeginLine}
 use Rattle.checker.specs.Faults.{IsFirstFault, IsGraphFault}
+use Rattle.checker.specs.EntryFaults.{EntryAnswers}
+use Rattle.checker.specs.Verdicts.{IsVerdict}
 
 -- a graph has no fault exactly where all its steps hold
 abbrev pub HasNoFaultWhereStepsHold : Type 0
@@ -27,9 +36,42 @@ abbrev pub HasOneGraphFault : Type 0
 HasOneGraphFault =
     (graph : GraphShape) (one other : NodeFault) → IsGraphFault graph one → IsGraphFault graph other → one ≡ other
 
+-- two graphs have one answer at most
+abbrev pub HasOneEntryAnswer : Type 0
+HasOneEntryAnswer =
+    (deal : Deal) (declarer : Seat) (trump : Trump) (tricks : ℕ) (declarers defenders : GraphShape)
+    (one other : Result Shown EntryFault)
+    → EntryAnswers deal declarer trump tricks declarers defenders one
+    → EntryAnswers deal declarer trump tricks declarers defenders other
+    → one ≡ other
+
+-- and two texts one verdict
+abbrev pub HasOneVerdict : Type 0
+HasOneVerdict =
+    (deal : Deal) (declarer : Seat) (trump : Trump) (tricks : ℕ) (declarer_text defenders_text : List ℕ)
+    (one other : Result Shown HandFault)
+    → IsVerdict deal declarer trump tricks declarer_text defenders_text one
+    → IsVerdict deal declarer trump tricks declarer_text defenders_text other
+    → one ≡ other
+
+-- ---- lines
 -- where a step holds, the cards that lead to a place of the tree are legal in turn
 abbrev pub PlacesAreOnLines : Type 0
 PlacesAreOnLines =
     (graph : GraphShape) (node : Node) (cards : List PatCard) (place : TrickTree)
     → StepHolds graph node → LeadsTo node.tree cards place
     → BeginLine node cards
+
+-- the cards keep to the tree: where it has a card of the side, that is the one that is played
+abbrev pub KeepTo : TrickTree → List PatCard → Type 0
+KeepTo tree cards =
+    (place : ℕ) (card : PatCard) (below : TrickTree) → place < length cards
+    → LeadsTo tree (take place cards) (Own card below)
+    → card ≡ played_in_place cards place
+
+-- where a step holds, each beginning of a line that keeps to the tree leads to a place of it
+abbrev pub LinesLeadToPlaces : Type 0
+LinesLeadToPlaces =
+    (graph : GraphShape) (node : Node) (cards : List PatCard)
+    → StepHolds graph node → length cards ≤ 4 → BeginLine node cards → KeepTo node.tree cards
+    → (place : TrickTree) × LeadsTo node.tree cards place

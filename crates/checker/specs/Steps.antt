@@ -2,7 +2,8 @@
 -- each turn of the opponents it has all their legal cards and no others. After four cards it lists the seats that may
 -- win and leave something to be done, and for each a node that goes on: of what is left, with that seat to lead, for no
 -- less than is still needed.
-use Rattle.std.specs.Prelude.{◌≡◌, ◌≢◌, ℕ, ◌-◌, ◌<◌, ◌≤◌, ◌↔◌, List, length, take, Some, All, Contains, slice_get, if◌then◌else◌}
+use Rattle.std.specs.Prelude.{◌≡◌, ◌≢◌, ℕ, ◌-◌, ◌<◌, ◌≤◌, ◌↔◌, List}
+use Rattle.std.specs.Prelude.{length, take, Some, All, Contains, slice_get, if◌then◌else◌}
 use Rattle.cards.specs.declared.seats.Seat.{Seat}
 use Rattle.cards.specs.declared.seats.Side.{Side}
 use Rattle.cards.specs.Seats.{seat_in_place, side_of, is_same_side}

@@ -16,11 +16,11 @@ use std::marker::Model;
 pub struct Shown {
     /// The four hands.
     pub layout: Layout,
-    /// Declarer; the seat at the left leads.
+    /// Declarer; the seat at declarer's left leads (Law 41A).
     pub declarer: Seat,
-    /// The trump suit, or none.
+    /// The denomination: the trump suit, or none.
     pub trump: Trump,
-    /// The tricks of declarer's side.
+    /// The tricks of declarer's side, 0 to the cards of a hand.
     pub k: u8,
 }
 
@@ -62,8 +62,9 @@ impl Proven {
     }
 }
 
-/// Checks that the two graphs show that declarer's side takes just this many tricks: the first that it can win them,
-/// the second that the defenders can win the others. Else the answer is the first fault.
+/// Checks that the two graphs show that declarer's side takes just k tricks: the first that it can win them, the second
+/// that the defenders can win the others. Else the answer is the first fault: [`EntryFault::KTooLarge`] where k exceeds
+/// the cards of a hand, then that of the first graph, then that of the second.
 pub fn check_entry(
     layout: &Layout,
     declarer: Seat,

@@ -10,12 +10,13 @@ use cards::{Layout, Seat, Trump};
 use certificate_graph::{Graph, TextFault};
 use std::alloc::Global;
 
-/// What is said of texts that were handed in.
+/// What is said of texts that were handed in: the proof, or the first fault.
 pub type Verdict = Result<Proven, HandFault>;
 
 /// Reads the graphs of both sides from their texts, and checks that they show that declarer's side takes just this many
-/// tricks of the layout, if there is one. Else the answer is the first fault: of the text for declarer's side, of that
-/// for the defenders, or of the graphs.
+/// tricks of the layout. Else the answer is the first fault: [`HandFault::NoDeal`] where there is no layout, then that
+/// of the text for declarer's side, of that for the defenders, and of the graphs. Where memory ran out, it is
+/// [`OutOfMemory`].
 pub fn judge(
     alloc: Global,
     layout: Option<&Layout>,

@@ -26,7 +26,8 @@ pub use graphs::check_graph;
 pub use hand_faults::{HandFault, OutOfMemory};
 pub use judging::{Verdict, judge};
 pub use laws::{
-    graph_has_one_first_fault, no_fault_where_steps_hold, place_has_one_first_fault,
-    places_are_on_lines,
+    graph_has_one_first_fault, graphs_have_one_answer, lines_lead_to_places,
+    no_fault_where_steps_hold, place_has_one_first_fault, places_are_on_lines,
+    texts_have_one_verdict,
 };
 pub use soundness::{entries_are_sound, graphs_are_sound, one_step_is_sound};
