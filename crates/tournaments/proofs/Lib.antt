@@ -1,2 +1,3 @@
 pub mod PublicationLaws
+pub mod ReadLaws
 pub mod WorkLaws

@@ -5,7 +5,7 @@ use Rattle.std.specs.List.{list_any}
 use Rattle.std.proofs.lemmas.Bool.{false≢true, and_from, eq-eqb}
 use Rattle.std.proofs.lemmas.Option.{none-some, same_Some}
 use Rattle.std.proofs.lemmas.List.{length_push}
-use Rattle.std.proofs.lemmas.List.Elements.{Contains-append_left, Contains-push}
+use Rattle.std.proofs.lemmas.List.Elements.{Contains-append_left, Contains-push, All-push}
 use Rattle.cards.specs.Deal.{Deal, is_same_deal}
 use Rattle.cards.specs.SameDeal.{is_same_deal-Decides}
 use Rattle.pbn_deals.specs.declared.boards.Board.{Board}
@@ -31,6 +31,7 @@ use Rattle.lease_book.proofs.LegalLaws.{nothing_left, gives_none}
 use Rattle.lease_book.proofs.FreeLaws.{ended, free_after_hand_in, free_after_give_up, free_at_end, published_at_end, given_at_end}
 use Rattle.tournaments.specs.Publications.{IsDone}
 use Rattle.tournaments.specs.Asking.{MayFind, as_verdict, IsVerdictOn, IsFoundFor, asked_for, IsWorkedOn, AreWorkedOn}
+use Rattle.tournaments.specs.Moments.{MayTell, IsTimed, AreTimed}
 use Rattle.tournaments.specs.Working.{WorksOn, GivesOut}
 
 -- what is shown of an entry's own deal is for the entry
@@ -82,6 +83,14 @@ worked_append may_find budget boards (event ∷ events) later h rest = (go (give
     go (Some grant) [] h = absurd h
     go (Some grant) (next ∷ events) h = h
 
+-- a request more, and one that names no moment
+pub timed_push : (may_tell : MayTell) (events : List Event) (event : Event) → AreTimed may_tell events → IsTimed may_tell event.asked → AreTimed may_tell (events ++ event ∷ [])
+timed_push may_tell events event = All-push (λ (e : Event). IsTimed may_tell e.asked) events event
+
+untimed : (may_tell : MayTell) (lease : ℕ) (entry : Entry) (verdict : Option (Result Shown HandFault)) → IsTimed may_tell (asked_for lease entry verdict)
+untimed may_tell lease entry None = tt
+untimed may_tell lease entry (Some verdict) = tt
+
 -- a lease that is given, and the work on it
 module _ (may_find : MayFind) (budget : ℕ) (first leased worked : Ledger) (now lease : ℕ) (entry : Entry) (deadline : ℕ) (given : Reply)
     (leases : IsAnswered first leased (Lease now) given) (given_is : given ≡ Given lease entry deadline) (works : WorksOn may_find budget leased worked lease entry) where
@@ -123,6 +132,11 @@ module _ (may_find : MayFind) (budget : ℕ) (first leased worked : Ledger) (now
           (ap (λ (l : Ledger). is_evidence_for l.terms.boards entry (evidence_of verdict)) (sym leased_is) ∙ right)
           (subst (λ v. IsReply first.terms (first.events ++ given_event ∷ []) (asked_for lease entry v) works.reply) same is)
 
+  pub timed_then : (may_tell : MayTell) → AreTimed may_tell first.events → may_tell now → AreTimed may_tell worked.events
+  timed_then may_tell before told =
+      subst (λ (events : List Event). AreTimed may_tell events) (sym events_then)
+      (timed_push may_tell (first.events ++ given_event ∷ []) next_event (timed_push may_tell first.events given_event before told) (untimed may_tell lease entry works.verdict))
+
   not_a_lease : (verdict : Option (Result Shown HandFault)) (moment : ℕ) → asked_for lease entry verdict ≡ Lease moment → ⊥
   not_a_lease None moment h = cc
   not_a_lease (Some verdict) moment h = cc
@@ -151,6 +165,14 @@ module _ (first leased expired : Ledger) (now later : ℕ) (reply last : Reply)
       ∙ ap (λ (r : Reply). (first.events ++ record { asked = Lease now; reply = r } ∷ []) ++ record { asked = Expire later; reply = last } ∷ []) nothing
       ∙ ap (λ (r : Reply). (first.events ++ record { asked = Lease now; reply = Nothing } ∷ []) ++ record { asked = Expire later; reply = r } ∷ []) expire.reply_is
 
+  -- the moments are told
+  pub timed_still : (may_tell : MayTell) → AreTimed may_tell first.events → may_tell now → may_tell later → AreTimed may_tell expired.events
+  timed_still may_tell before told told_later =
+      subst (λ (events : List Event). AreTimed may_tell events) (sym events_are)
+      (timed_push may_tell (first.events ++ record { asked = Lease now; reply = Nothing } ∷ [])
+      (record { asked = Expire later; reply = Freed (count_by (is_past later) (held_after leased.events)) })
+      (timed_push may_tell first.events (record { asked = Lease now; reply = Nothing }) before told) told_later)
+
   -- no lease is held
   pub still_none_held : held_after first.events ≡ [] → held_after expired.events ≡ []
   still_none_held none_held = ap held_after events_are ∙ free_at_end first.events now later (count_by (is_past later) (held_after leased.events)) none_held
@@ -167,9 +189,9 @@ module _ (first leased expired : Ledger) (now later : ℕ) (reply last : Reply)
       (worked_append may_find budget boards first.events (nothing_event ∷ []) before (tt, tt)) (tt, tt)))
 
   -- the work is done
-  pub gives_out : (may_find : MayFind) (budget : ℕ) (old : Ledger) → first.terms ≡ old.terms → IsLegal first.terms first.events → held_after first.events ≡ []
-      → AreWorkedOn may_find budget first.terms.boards first.events → GivesOut may_find budget old expired
-  gives_out may_find budget old same legal none_held worked_on =
+  pub gives_out : (may_find : MayFind) (may_tell : MayTell) (budget : ℕ) (old : Ledger) → first.terms ≡ old.terms → IsLegal first.terms first.events → held_after first.events ≡ []
+      → AreWorkedOn may_find budget first.terms.boards first.events → AreTimed may_tell expired.events → GivesOut may_find may_tell budget old expired
+  gives_out may_find may_tell budget old same legal none_held worked_on timed =
       let asked : Event = record { asked = Lease now; reply = Nothing } in
       let in_leased : Contains (first.events ++ asked ∷ []) asked = Contains-push first.events asked in
       let in_ended : Contains (ended first.events now later (count_by (is_past later) (held_after leased.events))) asked =
@@ -182,6 +204,7 @@ module _ (first leased expired : Ledger) (now later : ℕ) (reply last : Reply)
             (subst (λ (events : List Event). IsDone first.terms events) (sym events_are)
             (done first.terms first.events legal none_held (subst (λ (r : Reply). IsReply first.terms first.events (Lease now) r) nothing lease.reply_is)));
         worked_on = still_worked_on may_find budget worked_on;
+        timed = timed;
       }
     where
       done : (terms : Terms) (events : List Event) → IsLegal terms events → held_after events ≡ [] → IsReply terms events (Lease now) Nothing

@@ -1,6 +1,8 @@
 pub mod Publications
+pub mod Faults
 pub mod Making
 pub mod Replaying
 pub mod Texts
 pub mod Asking
+pub mod Moments
 pub mod Working

@@ -3,9 +3,7 @@ use Rattle.std.specs.Prelude.{◌≡◌, ℕ, List, length, Result, Ok, Err}
 use Rattle.cards.specs.Devices.{Device, Adds, AddsBeginning, one_more}
 use Rattle.pbn_deals.specs.declared.boards.Board.{Board}
 use Rattle.pbn_deals.specs.Reading.{TextAnswers}
-use Rattle.streams.specs.Inputs.{IsReadToEnd}
-use Rattle.streams.specs.declared.inputs.InputFault.{InputFault}
-use Rattle.streams.specs.declared.inputs.InputFault.TheVariants as input
+use Rattle.streams.specs.Inputs.{IsReadToEnd, Loses}
 use Rattle.lease_book.specs.declared.events.Event.{Event}
 use Rattle.lease_book.specs.Books.{Ledger}
 use Rattle.lease_book.specs.Histories.{Terms}
@@ -15,11 +13,8 @@ use Rattle.tables.specs.TablesText.{tables_text, complete_count}
 use Rattle.tournaments.specs.declared.faults.MakeFault.{MakeFault}
 use Rattle.tournaments.specs.declared.faults.MakeFault.TheVariants.{OutOfMemory, Read, Pbn, Write}
 use Rattle.tournaments.specs.Publications.{IsTrueHistory, IsGivenOut, IsDone}
-
--- why a source could not be read
-abbrev pub input_fault : InputFault → MakeFault
-input_fault input.OutOfMemory = OutOfMemory
-input_fault input.Read = Read
+use Rattle.tournaments.specs.Asking.{MayFind, AreWorkedOn}
+use Rattle.tournaments.specs.Moments.{MayTell, AreTimed}
 
 -- the source was read to its end, and these are the boards of its text
 pub record HasBoards (old new : Device) (boards : List Board) : Type 0 where
@@ -36,36 +31,45 @@ pub record Counts (boards : List Board) (events : List Event) (report : Report) 
   pub boards_are : report.boards ≡ length boards
   pub complete_are : report.complete ≡ complete_count boards (book_results events)
 
--- a whole run over the boards: a history of theirs in which all entries were given out, until each was done
-pub record IsWholeRun (terms : Terms) (events : List Event) : Type 0 where
+-- A whole run over the boards: a history of theirs in which all entries were given out, until each was done. What the solver
+-- found for each lease was handed in, and the moments are those that the clock told.
+pub record IsWholeRun (may_find : MayFind) (may_tell : MayTell) (budget : ℕ) (terms : Terms) (events : List Event) : Type 0 where
   pub history : IsTrueHistory terms events
   pub given_out : IsGivenOut events
   pub done : IsDone terms events
+  pub worked_on : AreWorkedOn may_find budget terms.boards events
+  pub timed : AreTimed may_tell events
 
 -- The source was read to its end, the book is one over the boards of its text, with this term and these tries, after a
 -- whole run, and the sink has got the text of the boards with the numbers that the book's history publishes.
-pub record FillsTables (term tries : ℕ) (source source' sink sink' : Device) (report : Report) (book : Ledger) : Type 0 where
+pub record FillsTables (may_find : MayFind) (may_tell : MayTell) (term tries budget : ℕ) (source source' sink sink' : Device)
+    (report : Report) (book : Ledger) : Type 0 where
   pub boards : List Board
   pub read : HasBoards source source' boards
   pub terms : book.terms ≡ record { boards = boards; term = term; tries = tries }
-  pub run : IsWholeRun book.terms book.events
+  pub run : IsWholeRun may_find may_tell budget book.terms book.events
   pub written : Adds sink sink' (history_text boards book.events)
   pub counts : Counts boards book.events report
 
 -- after such a run a beginning of the text was written, before the sink failed
-pub record FillsBeginning (term tries : ℕ) (source source' sink sink' : Device) : Type 0 where
+pub record FillsBeginning (may_find : MayFind) (may_tell : MayTell) (term tries budget : ℕ) (source source' sink sink' : Device)
+    : Type 0 where
   pub boards : List Board
   pub read : HasBoards source source' boards
   pub events : List Event
-  pub run : IsWholeRun (record { boards = boards; term = term; tries = tries }) events
+  pub run : IsWholeRun may_find may_tell budget (record { boards = boards; term = term; tries = tries }) events
   pub written : AddsBeginning sink sink' (history_text boards events)
 
--- What was answered, what the source has given and what the sink has got. With all refusals but the last nothing was
--- written.
-abbrev pub MakesTables : ℕ → ℕ → Device → Device → Device → Device → Result (Report × Ledger) MakeFault → Type 0
-MakesTables term tries source source' sink sink' (Ok (report, book)) = FillsTables term tries source source' sink sink' report book
-MakesTables term tries source source' sink sink' (Err OutOfMemory) = (source'.failed ≡ source.failed) × (sink' ≡ sink)
-MakesTables term tries source source' sink sink' (Err Read) = (source'.failed ≡ one_more source.failed) × (sink' ≡ sink)
-MakesTables term tries source source' sink sink' (Err (Pbn fault)) =
+-- What was answered, what the source has given and what the sink has got. Where the source failed or memory ran out, the bytes
+-- that were read are the first of the source. With all refusals but the last nothing was written.
+abbrev pub MakesTables : MayFind → MayTell → ℕ → ℕ → ℕ → Device → Device → Device → Device → Result (Report × Ledger) MakeFault → Type 0
+MakesTables may_find may_tell term tries budget source source' sink sink' (Ok (report, book)) =
+    FillsTables may_find may_tell term tries budget source source' sink sink' report book
+MakesTables may_find may_tell term tries budget source source' sink sink' (Err OutOfMemory) =
+    Loses source source' source.failed × (sink' ≡ sink)
+MakesTables may_find may_tell term tries budget source source' sink sink' (Err Read) =
+    Loses source source' (one_more source.failed) × (sink' ≡ sink)
+MakesTables may_find may_tell term tries budget source source' sink sink' (Err (Pbn fault)) =
     (text : List ℕ) × IsReadToEnd source source' text × TextAnswers text (Err fault) × (sink' ≡ sink)
-MakesTables term tries source source' sink sink' (Err Write) = FillsBeginning term tries source source' sink sink'
+MakesTables may_find may_tell term tries budget source source' sink sink' (Err Write) =
+    FillsBeginning may_find may_tell term tries budget source source' sink sink'

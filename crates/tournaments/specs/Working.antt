@@ -7,6 +7,7 @@ use Rattle.lease_book.specs.declared.events.Reply.{Reply}
 use Rattle.lease_book.specs.Books.{Ledger, IsAnswered}
 use Rattle.lease_book.specs.Histories.{deal_of}
 use Rattle.tournaments.specs.Asking.{MayFind, IsFoundFor, asked_for, AreWorkedOn}
+use Rattle.tournaments.specs.Moments.{MayTell, AreTimed}
 use Rattle.tournaments.specs.Publications.{IsGivenOut, IsDone}
 
 -- the verdict on what the solver found for the entry was handed in under the lease, or the lease was given up
@@ -16,9 +17,10 @@ pub record WorksOn (may_find : MayFind) (budget : ℕ) (old new : Ledger) (lease
   pub reply : Reply
   pub answered : IsAnswered old new (asked_for lease entry verdict) reply
 
--- the same terms, all entries were given out and each is done, and each lease was worked on
-pub record GivesOut (may_find : MayFind) (budget : ℕ) (old new : Ledger) : Type 0 where
+-- the same terms, all entries were given out and each is done, each lease was worked on, and the clock told the moments
+pub record GivesOut (may_find : MayFind) (may_tell : MayTell) (budget : ℕ) (old new : Ledger) : Type 0 where
   pub terms : new.terms ≡ old.terms
   pub given_out : IsGivenOut new.events
   pub done : IsDone new.terms new.events
   pub worked_on : AreWorkedOn may_find budget new.terms.boards new.events
+  pub timed : AreTimed may_tell new.events

@@ -1,33 +1,71 @@
 //! Why no tables were made.
 
-ghost use Rattle.std.specs.Prelude.{◌≡◌};
+ghost use Rattle.std.specs.Prelude.{◌≡◌, Some};
 ghost use Rattle.tournaments.specs.declared.faults.MakeFault.TheVariants as faults;
+ghost use Rattle.tournaments.specs.Faults.{fault_number, fault_name, fault_text};
 
 use cards::DeviceFault;
 use checker::OutOfMemory;
 use pbn_deals::PbnFault;
+use std::error::Error;
+use std::fmt;
 use streams::InputFault;
-use thiserror::Error;
 
 /// Why no tables were made. With all but `Write` nothing was written.
-#[derive(Clone, Copy, Debug, PartialEq, Eq, Error)]
+#[derive(Clone, Copy, Debug, PartialEq, Eq)]
 pub enum MakeFault {
-    /// There was no memory.
-    #[error("out of memory")]
+    /// Memory ran out.
     OutOfMemory,
     /// The source failed.
-    #[error("reading failed")]
     Read,
-    /// The text of the boards is refused.
-    #[error("{0}")]
+    /// The text of the boards is refused, for this reason.
     Pbn(PbnFault),
     /// The sink failed. It has got a beginning of the text.
-    #[error("writing failed")]
     Write,
 }
 
+impl MakeFault {
+    /// The printed number. 4 is kept for a thread that can't be started.
+    pub fn number(&self) -> u8
+        ensures { result ≡ fault_number self.now }
+    {
+        match self {
+            MakeFault::OutOfMemory => 1,
+            MakeFault::Read => 2,
+            MakeFault::Pbn(_) => 3,
+            MakeFault::Write => 5,
+        }
+    }
+
+    /// The printed name.
+    pub fn name(&self) -> &'static str
+        ensures { result.now ≡ fault_name self.now }
+    {
+        match self {
+            MakeFault::OutOfMemory => "OutOfMemory",
+            MakeFault::Read => "Read",
+            MakeFault::Pbn(_) => "Pbn",
+            MakeFault::Write => "Write",
+        }
+    }
+}
+
+/// The number and the name; a refused text has its own after them, as in `3 Pbn 5 CardTwice`.
+impl fmt::Display for MakeFault {
+    ghost output = { λ fault. Some (fault_text fault) };
+
+    fn fmt<W: fmt::Write>(&self, f: &mut fmt::Formatter<W>) -> fmt::Result {
+        match self {
+            MakeFault::Pbn(refusal) => write!(f, "{} {} {}", self.number(), self.name(), refusal),
+            _ => write!(f, "{} {}", self.number(), self.name()),
+        }
+    }
+}
+
+impl Error for MakeFault {}
+
 impl From<InputFault> for MakeFault {
-    ghost use Rattle.tournaments.specs.Making.{input_fault};
+    ghost use Rattle.tournaments.specs.Faults.{input_fault};
 
     ghost from_gives = { λ fault answer. answer ≡ input_fault fault };
 
@@ -47,10 +85,9 @@ impl From<OutOfMemory> for MakeFault {
     }
 }
 
-impl From<DeviceFault> for MakeFault {
-    ghost from_gives = { λ _ answer. answer ≡ faults.Write };
-
-    fn from(_fault: DeviceFault) -> MakeFault {
-        MakeFault::Write
-    }
+/// The fault of a sink. (That of a source is an `InputFault`.)
+pub(crate) fn write_failed(_fault: DeviceFault) -> MakeFault
+    ensures { result ≡ faults.Write }
+{
+    MakeFault::Write
 }

@@ -6,7 +6,7 @@ ghost use Rattle.tournaments.specs.declared.faults.MakeFault.TheVariants.{OutOfM
 ghost use Rattle.tournaments.specs.Replaying.{ReplaysTables};
 ghost use Rattle.tournaments.specs.Texts.{IsReplayedBook};
 
-use crate::faults::MakeFault;
+use crate::faults::{MakeFault, write_failed};
 use crate::histories::is_true_history;
 use crate::texts::take_boards;
 use cards::Sink;
@@ -55,5 +55,5 @@ pub fn replay_tables<O: Sink>(
     let boards = take_boards(alloc, text)?;
     let book = replay_book(alloc, boards, term, tries, requests)?;
     is_true_history(&book);
-    Ok(write_tables(&book, output)?)
+    write_tables(&book, output).map_err(write_failed)
 }

@@ -1,12 +1,11 @@
 //! The tables on one thread.
 
-ghost use Rattle.std.specs.Prelude.{◌<◌, IfOk};
+ghost use Rattle.std.specs.Prelude.{◌<◌};
 ghost use Rattle.lease_book.specs.Books.{AreTries};
-ghost use Rattle.tournaments.specs.Asking.{AreWorkedOn};
 ghost use Rattle.tournaments.specs.Making.{MakesTables};
 
 use crate::clocks::Clock;
-use crate::faults::MakeFault;
+use crate::faults::{MakeFault, write_failed};
 use crate::histories::is_true_history;
 use crate::texts::{open_book, take_boards};
 use crate::working::work_through;
@@ -35,14 +34,14 @@ pub fn make_tables_on_one_thread<I: Source, O: Sink, S: Solver, C: Clock>(
 ) -> Result<(Report, Book), MakeFault>
     requires tries { AreTries tries }
     requires budget { 0 < budget }
-    ensures tables { MakesTables term tries (I.state input.old) (I.state input.new) (O.state output.old) (O.state output.new) result }
-    ensures asked { IfOk result (λ made. AreWorkedOn (S.may_find solver.now) budget made.1.terms.boards made.1.events) }
+    ensures { MakesTables (S.may_find solver.now) (C.may_tell clock.now) term tries budget (I.state input.old) (I.state input.new)
+        (O.state output.old) (O.state output.new) result }
 {
     let text = read_all(alloc, input)?;
     let boards = take_boards(alloc, text.as_slice())?;
     let mut book = open_book(alloc, boards, term, tries)?;
     work_through(alloc, &mut book, budget, solver, clock)?;
     is_true_history(&book);
-    let report = write_tables(&book, output)?;
+    let report = write_tables(&book, output).map_err(write_failed)?;
     Ok((report, book))
 }

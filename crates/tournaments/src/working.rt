@@ -65,7 +65,7 @@ pub(crate) fn work_through<S: Solver, C: Clock>(
     clock: &C,
 ) -> Result<(), OutOfMemory>
     requires { book.old.events ≡ [] }
-    ensures { OnOk result (GivesOut (S.may_find solver.now) budget book.old book.new) }
+    ensures { OnOk result (GivesOut (S.may_find solver.now) (C.may_tell clock.now) budget book.old book.new) }
 {
     for _turn in 0..u64::MAX {
         let _events = book.history();

@@ -1,7 +1,8 @@
--- Each turn adds an event at least, and leaves no lease held and none that was not worked on.
+-- Each turn adds an event at least, at moments that the clock told, and leaves no lease held and none that was not worked on.
 use Rattle.std.proofs.Common.{◌≡◌, ◌≤◌, [], length}
 use Rattle.lease_book.specs.Histories.{held_after}
 use Rattle.tournaments.specs.Asking.{AreWorkedOn}
+use Rattle.tournaments.specs.Moments.{AreTimed}
 use Rattle.tournaments.proofs.working.work_through.Given as goal
 
 abbrev pub invariant-loop-turn : goal.invariant-loop-turn
@@ -11,4 +12,5 @@ invariant-loop-turn g l =
       turns : l._turn ≤ length l.book.events;
       none_held : held_after l.book.events ≡ [];
       worked_on : AreWorkedOn (g.S.Solver.may_find l.solver) l.budget l.book.terms.boards l.book.events;
+      timed : AreTimed (g.C.Clock.may_tell l.clock) l.book.events;
     }
