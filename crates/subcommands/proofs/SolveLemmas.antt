@@ -102,7 +102,7 @@ plain_owners (owner ∷ more) rest a = plain_seat owner _ (plain_owners more res
 small : (n : ℕ) → n ≤ 13 → n < 2 ^ 64
 small n h = omega arith
 
--- a length and the byte behind it
+-- a length and the byte after it
 plain_len : (n byte : ℕ) (rest : List ℕ) → n ≤ 13 → byte ≢ 10 → Plain rest → Plain (decimal n ++ (byte ∷ rest))
 plain_len n byte rest few other a = plain-append (decimal n) (byte ∷ rest) (plain_number n (small n few)) (other, a)
 
@@ -204,40 +204,40 @@ get_front [] rest place h = absurd (omega arith)
 get_front (byte ∷ more) rest zero h = refl
 get_front (byte ∷ more) rest (suc place) h = get_front more rest place (omega arith)
 
-get_behind : (front rest : List ℕ) (place : ℕ) → slice_get (front ++ rest) (length front + place) ≡ slice_get rest place
-get_behind [] rest place = let same : 0 + place ≡ place = omega arith in ap (slice_get rest) same
-get_behind (byte ∷ more) rest place =
+get_after : (front rest : List ℕ) (place : ℕ) → slice_get (front ++ rest) (length front + place) ≡ slice_get rest place
+get_after [] rest place = let same : 0 + place ≡ place = omega arith in ap (slice_get rest) same
+get_after (byte ∷ more) rest place =
     let next : length (byte ∷ more) + place ≡ suc (length more + place) = omega arith in
-    ap (slice_get (byte ∷ (more ++ rest))) next ∙ get_behind more rest place
+    ap (slice_get (byte ∷ (more ++ rest))) next ∙ get_after more rest place
 
--- an empty line behind a line is one of the rest
-begins_behind : (bytes rest : List ℕ) (n place : ℕ) → place ≡ length bytes + suc n → IsEmptyLine (bytes ++ (10 ∷ rest)) place →
+-- an empty line after a line is one of the rest
+begins_after : (bytes rest : List ℕ) (n place : ℕ) → place ≡ length bytes + suc n → IsEmptyLine (bytes ++ (10 ∷ rest)) place →
     (n ≡ 0) ⊎ (slice_get rest (n - 1) ≡ Some 10)
-begins_behind bytes rest zero place at e = inl refl
-begins_behind bytes rest (suc n) place at e = elim e.begins [
+begins_after bytes rest zero place at e = inl refl
+begins_after bytes rest (suc n) place at e = elim e.begins [
   | inl first ↦ absurd (omega arith)
   | inr before ↦
       let here : place - 1 ≡ length bytes + suc n = omega arith in
       let same : suc n - 1 ≡ n = omega arith in
-      inr (ap (slice_get rest) same ∙ (sym (get_behind bytes (10 ∷ rest) (suc n)) ∙ (ap (slice_get (bytes ++ (10 ∷ rest))) (sym here) ∙ before)))
+      inr (ap (slice_get rest) same ∙ (sym (get_after bytes (10 ∷ rest) (suc n)) ∙ (ap (slice_get (bytes ++ (10 ∷ rest))) (sym here) ∙ before)))
 ]
 
-none_behind : (bytes rest : List ℕ) (n place : ℕ) → place ≡ length bytes + n → Plain bytes → 0 < length bytes → HasNoEmptyLine rest →
+none_after : (bytes rest : List ℕ) (n place : ℕ) → place ≡ length bytes + n → Plain bytes → 0 < length bytes → HasNoEmptyLine rest →
     IsEmptyLine (bytes ++ (10 ∷ rest)) place → ⊥
-none_behind bytes rest zero place at plain some none e = elim e.begins [
+none_after bytes rest zero place at plain some none e = elim e.begins [
   | inl first ↦ omega arith
   | inr before ↦ no_end bytes (place - 1) plain (sym (get_front bytes (10 ∷ rest) (place - 1) (omega arith)) ∙ before)
 ]
-none_behind bytes rest (suc n) place at plain some none e = none n (record {
-  ends = sym (get_behind bytes (10 ∷ rest) (suc n)) ∙ (ap (slice_get (bytes ++ (10 ∷ rest))) (sym at) ∙ e.ends);
-  begins = begins_behind bytes rest n place at e;
+none_after bytes rest (suc n) place at plain some none e = none n (record {
+  ends = sym (get_after bytes (10 ∷ rest) (suc n)) ∙ (ap (slice_get (bytes ++ (10 ∷ rest))) (sym at) ∙ e.ends);
+  begins = begins_after bytes rest n place at e;
 })
 
 no_empty_line : (text : List ℕ) → Lines text → HasNoEmptyLine text
 no_empty_line _ no_line place e = no_end [] place tt e.ends
 no_empty_line _ (line bytes rest plain some more) place e = elim (cases_lt place (length bytes)) [
   | inl before ↦ no_end bytes place plain (sym (get_front bytes (10 ∷ rest) place before) ∙ e.ends)
-  | inr behind ↦ none_behind bytes rest (place - length bytes) place (omega arith) plain some (no_empty_line rest more) e
+  | inr after ↦ none_after bytes rest (place - length bytes) place (omega arith) plain some (no_empty_line rest more) e
 ]
 
 -- the last byte ends a line
@@ -248,19 +248,19 @@ ends_line _ (line bytes rest plain some more) =
     elim (ends_line rest more) [
       | inl none ↦
           let last : length (bytes ++ (10 ∷ rest)) - 1 ≡ length bytes + 0 = omega (arith, all) in
-          inr (ap (slice_get (bytes ++ (10 ∷ rest))) last ∙ get_behind bytes (10 ∷ rest) 0)
+          inr (ap (slice_get (bytes ++ (10 ∷ rest))) last ∙ get_after bytes (10 ∷ rest) 0)
       | inr end ↦
           let within : length rest - 1 < length rest = slice_get_within rest (length rest - 1) 10 end in
           let last : length (bytes ++ (10 ∷ rest)) - 1 ≡ length bytes + suc (length rest - 1) = omega (arith, all) in
-          inr (ap (slice_get (bytes ++ (10 ∷ rest))) last ∙ (get_behind bytes (10 ∷ rest) (suc (length rest - 1)) ∙ end))
+          inr (ap (slice_get (bytes ++ (10 ∷ rest))) last ∙ (get_after bytes (10 ∷ rest) (suc (length rest - 1)) ∙ end))
     ]
 
--- an empty line stands behind lines
-cut_behind : (front rest : List ℕ) → Lines front → IsCut (front ++ (10 ∷ rest)) front rest
-cut_behind front rest lines = record {
+-- an empty line stands after lines
+cut_after : (front rest : List ℕ) → Lines front → IsCut (front ++ (10 ∷ rest)) front rest
+cut_after front rest lines = record {
   is = refl;
   empty = record {
-    ends = (let here : length front ≡ length front + 0 = omega arith in ap (slice_get (front ++ (10 ∷ rest))) here ∙ get_behind front (10 ∷ rest) 0);
+    ends = (let here : length front ≡ length front + 0 = omega arith in ap (slice_get (front ++ (10 ∷ rest))) here ∙ get_after front (10 ∷ rest) 0);
     begins = elim (ends_line front lines) [
       | inl none ↦ inl none
       | inr end ↦ inr (get_front front (10 ∷ rest) (length front - 1) (slice_get_within front (length front - 1) 10 end) ∙ end)
@@ -274,19 +274,5 @@ are_read_back tricks declarers defenders few one other = record {
   few = few;
   body = graph_text declarers ++ (10 ∷ graph_text defenders);
   line = ap (λ t. codes "result " ++ t) (append_assoc (decimal tricks) (10 ∷ []) (graph_text declarers ++ (10 ∷ graph_text defenders)));
-  parts = inl (cut_behind (graph_text declarers) (graph_text defenders) (graph_lines declarers one));
+  parts = inl (cut_after (graph_text declarers) (graph_text defenders) (graph_lines declarers one));
 }
-
--- ---- an answer that was found, and not written whole
-pub SolvesLayout-unwritten : (may_find : MayFind) (value : List ℕ) (declarer : Seat) (trump : Trump) (budget : ℕ) (sink sink' : Device)
-    (deal : Deal) (answer : Answer) (result : Result Unit RunFault) →
-    IsErrAnd result (λ fault. fault ≡ Write) → SaysLayout value (Ok deal) → IsFound may_find deal declarer trump budget answer →
-    AddsBeginning sink sink' (answer_text answer.k answer.declarer answer.defenders) →
-    SolvesLayout may_find value declarer trump budget sink sink' result
-SolvesLayout-unwritten may_find value declarer trump budget sink sink' deal answer (Ok done) e spelt found begins = absurd e
-SolvesLayout-unwritten may_find value declarer trump budget sink sink' deal answer (Err fault) e spelt found begins =
-    rw e (
-      answer_text answer.k answer.declarer answer.defenders,
-      record { deal = deal; spelt = spelt; answer = answer; found = found; is = refl },
-      begins,
-    )

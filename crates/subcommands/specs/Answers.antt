@@ -6,11 +6,11 @@ use Rattle.std.specs.Fmt.{decimal}
 abbrev pub number_line : ℕ → List ℕ → List ℕ
 number_line number rest = decimal number ++ 10 ∷ rest
 
--- the first line, and what stands behind it
+-- the first line, and what stands after it
 abbrev pub result_text : ℕ → List ℕ → List ℕ
 result_text tricks body = codes "result " ++ number_line tricks body
 
--- a line without bytes stands in this place: a line feed, at the very beginning or behind another one
+-- a line without bytes stands in this place: a line feed, at the very beginning or after another one
 pub record IsEmptyLine (text : List ℕ) (place : ℕ) : Type 0 where
   pub ends : slice_get text place ≡ Some 10
   pub begins : (place ≡ 0) ⊎ (slice_get text (place - 1) ≡ Some 10)

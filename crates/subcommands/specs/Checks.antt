@@ -6,12 +6,12 @@ use Rattle.cards.specs.Deal.{Deal}
 use Rattle.cards.specs.Devices.{Device, Adds, AddsBeginning, one_more}
 use Rattle.pbn_deals.specs.LayoutValue.{SaysLayout}
 use Rattle.strategies.specs.Values.{IsValue}
-use Rattle.streams.specs.Inputs.{IsReadToEnd}
+use Rattle.streams.specs.Inputs.{IsReadToEnd, Loses}
 use Rattle.checker.specs.declared.entries.Shown.{Shown}
 use Rattle.checker.specs.declared.hand_faults.HandFault.{HandFault}
 use Rattle.checker.specs.Verdicts.{IsVerdict}
 use Rattle.subcommands.specs.declared.faults.RunFault.{RunFault}
-use Rattle.subcommands.specs.declared.faults.RunFault.TheVariants.{OutOfMemory, Read, Write, NotText, Layout, TooLarge, Pbn, NoResult, NoAnswer}
+use Rattle.subcommands.specs.declared.faults.RunFault.TheVariants.{OutOfMemory, Read, Write, Layout, NoResult}
 use Rattle.subcommands.specs.declared.statuses.Status.{Status}
 use Rattle.subcommands.specs.Answers.{IsAnswer, LacksResult}
 use Rattle.subcommands.specs.VerdictLines.{verdict_line, verdict_status}
@@ -37,37 +37,38 @@ JudgesText text deal declarer trump (Err NoResult) = LacksResult text
 JudgesText text deal declarer trump (Err OutOfMemory) = ⊤
 JudgesText text deal declarer trump (Err _) = ⊥
 
--- the source was read to its end, and its text has this verdict for the layout that the bytes spell
-pub record HasVerdict (value : List ℕ) (declarer : Seat) (trump : Trump) (old new : Device) (verdict : Result Shown HandFault)
-    : Type 0 where
-  pub deal : Deal
-  pub spelt : SaysLayout value (Ok deal)
-  pub text : List ℕ
-  pub all : IsReadToEnd old new text
-  pub judged : IsVerdictOf text deal declarer trump verdict
+-- The source was read to its end, and its text has this verdict, or is no answer; or the source failed or memory ran out, and
+-- the bytes that were read are the first of the source.
+abbrev pub ReadsVerdict : Deal → Seat → Trump → Device → Device → Result (Result Shown HandFault) RunFault → Type 0
+ReadsVerdict deal declarer trump old new (Ok verdict) =
+    (text : List ℕ) × IsReadToEnd old new text × IsVerdictOf text deal declarer trump verdict
+ReadsVerdict deal declarer trump old new (Err NoResult) = (text : List ℕ) × IsReadToEnd old new text × LacksResult text
+ReadsVerdict deal declarer trump old new (Err OutOfMemory) = Loses old new old.failed
+ReadsVerdict deal declarer trump old new (Err Read) = Loses old new (one_more old.failed)
+ReadsVerdict deal declarer trump old new (Err _) = ⊥
 
--- the bytes spell a layout
-abbrev pub SpellsLayout : List ℕ → Type 0
-SpellsLayout value = (deal : Deal) × SaysLayout value (Ok deal)
+-- the bytes spell a layout, for which this was read
+abbrev pub ReadsFor : List ℕ → Seat → Trump → Device → Device → Result (Result Shown HandFault) RunFault → Type 0
+ReadsFor value declarer trump old new read =
+    (deal : Deal) × SaysLayout value (Ok deal) × ReadsVerdict deal declarer trump old new read
+
+-- the line of a verdict was written, or a beginning of it
+abbrev pub PrintsVerdict : Result Shown HandFault → Device → Device → Result Status RunFault → Type 0
+PrintsVerdict verdict sink sink' (Ok status) = (status ≡ verdict_status verdict) × Adds sink sink' (verdict_line verdict)
+PrintsVerdict verdict sink sink' (Err Write) = AddsBeginning sink sink' (verdict_line verdict)
+PrintsVerdict verdict sink sink' (Err _) = ⊥
 
 -- What was answered, what the source has given and what the sink has got. Bytes that spell no layout leave the source as it
--- was. With all refusals but that of the sink nothing was written.
+-- was. Where the source failed or memory ran out, the bytes that were read are the first of the source. With all refusals but
+-- that of the sink nothing was written.
 abbrev pub ChecksAnswer : List ℕ → Seat → Trump → Device → Device → Device → Device → Result Status RunFault → Type 0
 ChecksAnswer value declarer trump source source' sink sink' (Ok status) =
-    (verdict : Result Shown HandFault) × HasVerdict value declarer trump source source' verdict
-    × (status ≡ verdict_status verdict) × Adds sink sink' (verdict_line verdict)
+    (verdict : Result Shown HandFault) × ReadsFor value declarer trump source source' (Ok verdict)
+    × PrintsVerdict verdict sink sink' (Ok status)
 ChecksAnswer value declarer trump source source' sink sink' (Err Write) =
-    (verdict : Result Shown HandFault) × HasVerdict value declarer trump source source' verdict
-    × AddsBeginning sink sink' (verdict_line verdict)
+    (verdict : Result Shown HandFault) × ReadsFor value declarer trump source source' (Ok verdict)
+    × PrintsVerdict verdict sink sink' (Err Write)
 ChecksAnswer value declarer trump source source' sink sink' (Err (Layout fault)) =
     SaysLayout value (Err fault) × (source' ≡ source) × (sink' ≡ sink)
-ChecksAnswer value declarer trump source source' sink sink' (Err Read) =
-    SpellsLayout value × (source'.failed ≡ one_more source.failed) × (sink' ≡ sink)
-ChecksAnswer value declarer trump source source' sink sink' (Err OutOfMemory) =
-    SpellsLayout value × (source'.failed ≡ source.failed) × (sink' ≡ sink)
-ChecksAnswer value declarer trump source source' sink sink' (Err NoResult) =
-    SpellsLayout value × (text : List ℕ) × IsReadToEnd source source' text × LacksResult text × (sink' ≡ sink)
-ChecksAnswer value declarer trump source source' sink sink' (Err NotText) = ⊥
-ChecksAnswer value declarer trump source source' sink sink' (Err TooLarge) = ⊥
-ChecksAnswer value declarer trump source source' sink sink' (Err (Pbn fault)) = ⊥
-ChecksAnswer value declarer trump source source' sink sink' (Err NoAnswer) = ⊥
+ChecksAnswer value declarer trump source source' sink sink' (Err fault) =
+    ReadsFor value declarer trump source source' (Err fault) × (sink' ≡ sink)

@@ -4,7 +4,8 @@ use Rattle.lease_book.specs.Books.{AreTries, Ledger}
 use Rattle.tables.specs.declared.sheets.Report.{Report}
 use Rattle.tournaments.specs.declared.faults.MakeFault.{MakeFault}
 use Rattle.tournaments.specs.Making.{MakesTables}
-use Rattle.tournaments.specs.Asking.{MayFind, AreWorkedOn}
+use Rattle.tournaments.specs.Asking.{MayFind}
+use Rattle.tournaments.specs.Moments.{MayTell}
 use Rattle.streams.specs.Flushes.{HandsOn}
 use Rattle.cards.specs.Devices.{Device, Fails, Adds, AddsBeginning}
 use Rattle.subcommands.specs.declared.faults.RunFault.{RunFault}
@@ -29,24 +30,25 @@ IsInRange (Solve layout declarer trump budget) = ⊤
 IsInRange (Table term tries budget) = AreTries tries × (0 < budget)
 IsInRange (Check layout declarer trump) = ⊤
 
--- What came of a run, by what the solver may find, and what its devices have given and got. A single layout leaves the input
--- as it was.
-abbrev pub Does : MayFind → Subcommand → Device → Device → Device → Device → Result Status RunFault → Type 0
-Does may_find (Plain layout leader trump) source source' sink sink' (Ok status) =
+-- What came of a run, by what the solver may find and the clock may tell, and what its devices have given and got. A single
+-- layout leaves the input as it was.
+abbrev pub Does : MayFind → MayTell → Subcommand → Device → Device → Device → Device → Result Status RunFault → Type 0
+Does may_find may_tell (Plain layout leader trump) source source' sink sink' (Ok status) =
     (status ≡ Done) × (source' ≡ source) × MeetsPlainLine layout.now leader trump sink sink' (Ok tt)
-Does may_find (Plain layout leader trump) source source' sink sink' (Err fault) =
+Does may_find may_tell (Plain layout leader trump) source source' sink sink' (Err fault) =
     (source' ≡ source) × MeetsPlainLine layout.now leader trump sink sink' (Err fault)
-Does may_find (Solve layout declarer trump budget) source source' sink sink' (Ok status) =
+Does may_find may_tell (Solve layout declarer trump budget) source source' sink sink' (Ok status) =
     (status ≡ Done) × (source' ≡ source) × SolvesLayout may_find layout.now declarer trump budget sink sink' (Ok tt)
-Does may_find (Solve layout declarer trump budget) source source' sink sink' (Err fault) =
+Does may_find may_tell (Solve layout declarer trump budget) source source' sink sink' (Err fault) =
     (source' ≡ source) × SolvesLayout may_find layout.now declarer trump budget sink sink' (Err fault)
-Does may_find (Table term tries budget) source source' sink sink' (Ok status) =
+Does may_find may_tell (Table term tries budget) source source' sink sink' (Ok status) =
     (report : Report) × (book : Ledger) × (status ≡ report_status report)
-    × MakesTables term tries source source' sink sink' (Ok (report, book))
-    × AreWorkedOn may_find budget book.terms.boards book.events
-Does may_find (Table term tries budget) source source' sink sink' (Err fault) =
-    (made : MakeFault) × (fault ≡ make_fault made) × MakesTables term tries source source' sink sink' (Err made)
-Does may_find (Check layout declarer trump) source source' sink sink' answer = ChecksAnswer layout.now declarer trump source source' sink sink' answer
+    × MakesTables may_find may_tell term tries budget source source' sink sink' (Ok (report, book))
+Does may_find may_tell (Table term tries budget) source source' sink sink' (Err fault) =
+    (made : MakeFault) × (fault ≡ make_fault made)
+    × MakesTables may_find may_tell term tries budget source source' sink sink' (Err made)
+Does may_find may_tell (Check layout declarer trump) source source' sink sink' answer =
+    ChecksAnswer layout.now declarer trump source source' sink sink' answer
 
 -- how the run ends: a fault is told on the error output, which nothing else touches
 abbrev pub Ends : Result Status RunFault → Device → Device → Status → Type 0
@@ -54,9 +56,10 @@ Ends (Ok answer) errors errors' status = (status ≡ answer) × (errors' ≡ err
 Ends (Err fault) errors errors' status = (status ≡ fault_status fault) × IsTold errors errors' (told_line fault)
 
 -- a whole run
-pub record RunsSubcommand (may_find : MayFind) (run : Subcommand) (source source' sink sink' errors errors' : Device) (status : Status) : Type 0 where
+pub record RunsSubcommand (may_find : MayFind) (may_tell : MayTell) (run : Subcommand)
+    (source source' sink sink' errors errors' : Device) (status : Status) : Type 0 where
   pub answer : Result Status RunFault
-  pub does : Does may_find run source source' sink sink' answer
+  pub does : Does may_find may_tell run source source' sink sink' answer
   pub ends : Ends answer errors errors' status
 
 -- a text was written on the output, or a beginning of it, and that it failed was told
@@ -67,11 +70,11 @@ Shows sink sink' errors errors' text Refused = ⊥
 Shows sink sink' errors errors' text Incomplete = ⊥
 Shows sink sink' errors errors' text Rejected = ⊥
 
--- The end of a run that was done: the writer behind the output's buffer has got all that was written, or that failed and
+-- The end of a run that was done: the writer below the output's buffer has got all that was written, or that failed and
 -- was told. A run that failed or was refused stays so, and nothing more is done.
 abbrev pub Closes : Device → Device → Option (List ℕ) → Device → Device → Status → Status → Type 0
-Closes sink sink' behind errors errors' Failed ended = (ended ≡ Failed) × (sink' ≡ sink) × (errors' ≡ errors)
-Closes sink sink' behind errors errors' Refused ended = (ended ≡ Refused) × (sink' ≡ sink) × (errors' ≡ errors)
-Closes sink sink' behind errors errors' status ended =
-    ((ended ≡ status) × HandsOn sink sink' behind × (errors' ≡ errors))
+Closes sink sink' below errors errors' Failed ended = (ended ≡ Failed) × (sink' ≡ sink) × (errors' ≡ errors)
+Closes sink sink' below errors errors' Refused ended = (ended ≡ Refused) × (sink' ≡ sink) × (errors' ≡ errors)
+Closes sink sink' below errors errors' status ended =
+    ((ended ≡ status) × HandsOn sink sink' below × (errors' ≡ errors))
     ⊎ ((ended ≡ Failed) × Fails sink sink' × IsTold errors errors' (told_line Write))

@@ -11,7 +11,8 @@ use Rattle.certificate_graph.specs.Graphs.{GraphShape, IsGraph}
 use Rattle.certificate_graph.specs.Texts.{graph_text}
 use Rattle.tournaments.specs.Asking.{MayFind}
 use Rattle.subcommands.specs.declared.faults.RunFault.{RunFault}
-use Rattle.subcommands.specs.declared.faults.RunFault.TheVariants.{OutOfMemory, Read, Write, NotText, Layout, TooLarge, Pbn, NoResult, NoAnswer}
+use Rattle.subcommands.specs.declared.faults.RunFault.TheVariants.{OutOfMemory, Read, Write, NotText, Layout, TooLarge}
+use Rattle.subcommands.specs.declared.faults.RunFault.TheVariants.{Pbn, NoResult, NoAnswer}
 use Rattle.subcommands.specs.Answers.{IsAnswer}
 
 -- the first line: `result `, the number, LF
@@ -28,7 +29,7 @@ pub record IsFound (may_find : MayFind) (deal : Deal) (declarer : Seat) (trump :
   pub few : answer.k ≤ 13
   pub graphs : IsGraph answer.declarer × IsGraph answer.defenders
 
--- the solver has found nothing, or more tricks than a hand has cards
+-- the solver has found nothing, or claims over 13 tricks, of which there is no result line
 abbrev pub IsNoAnswer : Option Answer → Type 0
 IsNoAnswer None = ⊤
 IsNoAnswer (Some answer) = 13 < answer.k

@@ -45,9 +45,9 @@ make_fault (make.Pbn refusal) = fault.Pbn refusal
 make_fault make.Write = fault.Write
 
 -- a place of the input before a text
-abbrev pub behind_line : Option ℕ → List ℕ → List ℕ
-behind_line None text = text
-behind_line (Some line) text = codes "line " ++ decimal line ++ codes ": " ++ text
+abbrev pub after_line : Option ℕ → List ℕ → List ℕ
+after_line None text = text
+after_line (Some line) text = codes "line " ++ decimal line ++ codes ": " ++ text
 
 -- what is said of a fault
 abbrev pub said_of : RunFault → List ℕ
@@ -57,7 +57,7 @@ said_of fault.Write = codes "writing failed"
 said_of fault.NotText = codes "a word of the command line is not UTF-8"
 said_of (fault.Layout refusal) = codes "layout: " ++ fault_text refusal
 said_of fault.TooLarge = codes "plain takes at most 4 cards a hand"
-said_of (fault.Pbn refusal) = behind_line (fault_line refusal) (fault_text refusal)
+said_of (fault.Pbn refusal) = after_line (fault_line refusal) (fault_text refusal)
 said_of fault.NoResult = codes "first line is not a result line"
 said_of fault.NoAnswer = codes "no answer"
 

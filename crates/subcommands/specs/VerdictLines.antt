@@ -19,37 +19,40 @@ abbrev pub numbered : ℕ → List ℕ → List ℕ
 numbered number name = decimal number ++ 32 ∷ name
 
 -- `i n Name`
-abbrev pub node_text : NodeFault → List ℕ
-node_text fault = decimal fault.number ++ 32 ∷ numbered (step_fault_number fault.fault) (step_fault_name fault.fault)
+abbrev pub node_fault_text : NodeFault → List ℕ
+node_fault_text fault = decimal fault.number ++ 32 ∷ numbered (step_fault_number fault.fault) (step_fault_name fault.fault)
 
--- the node behind its name, for a fault that is one of a node
-abbrev pub behind_part : PartFault → List ℕ
-behind_part (Node fault) = 32 ∷ node_text fault
-behind_part _ = []
+-- the node after its name, for a fault that is one of a node
+abbrev pub after_part : PartFault → List ℕ
+after_part (Node fault) = 32 ∷ node_fault_text fault
+after_part _ = []
 
 -- `n Name`, or `8 Node i n Name`
-abbrev pub part_text : PartFault → List ℕ
-part_text fault = numbered (part_fault_number fault) (part_fault_name fault) ++ behind_part fault
+abbrev pub part_fault_text : PartFault → List ℕ
+part_fault_text fault = numbered (part_fault_number fault) (part_fault_name fault) ++ after_part fault
 
-abbrev pub behind_text : Option ℕ → List ℕ
-behind_text None = []
-behind_text (Some line) = codes " line " ++ decimal line
+-- the line after the name, where one is named
+abbrev pub after_text : Option ℕ → List ℕ
+after_text None = []
+after_text (Some line) = codes " line " ++ decimal line
 
 -- `n Name line l`
-abbrev pub text_text : TextFault → List ℕ
-text_text fault = numbered (fault_number fault) (fault_name fault) ++ behind_text (fault_line fault)
+abbrev pub text_fault_text : TextFault → List ℕ
+text_fault_text fault = numbered (fault_number fault) (fault_name fault) ++ after_text (fault_line fault)
 
-abbrev pub hand_text : HandFault → List ℕ
-hand_text (Entry KTooLarge) = codes "9 KTooLarge"
-hand_text (Entry (Declarer fault)) = codes "declarer " ++ part_text fault
-hand_text (Entry (Defenders fault)) = codes "defenders " ++ part_text fault
-hand_text (DeclarerText fault) = codes "declarer 10 Text " ++ text_text fault
-hand_text (DefendersText fault) = codes "defenders 10 Text " ++ text_text fault
-hand_text NoDeal = codes "11 NoDeal"
+-- why two texts show nothing
+abbrev pub hand_fault_text : HandFault → List ℕ
+hand_fault_text (Entry KTooLarge) = codes "9 KTooLarge"
+hand_fault_text (Entry (Declarer fault)) = codes "declarer " ++ part_fault_text fault
+hand_fault_text (Entry (Defenders fault)) = codes "defenders " ++ part_fault_text fault
+hand_fault_text (DeclarerText fault) = codes "declarer 10 Text " ++ text_fault_text fault
+hand_fault_text (DefendersText fault) = codes "defenders 10 Text " ++ text_fault_text fault
+hand_fault_text NoDeal = codes "11 NoDeal"
 
+-- what is said of a verdict
 abbrev pub verdict_text : Result Shown HandFault → List ℕ
 verdict_text (Ok shown) = codes "accepted " ++ decimal shown.k
-verdict_text (Err fault) = codes "refused " ++ hand_text fault
+verdict_text (Err fault) = codes "refused " ++ hand_fault_text fault
 
 -- the line that is printed, and how the run ends
 abbrev pub verdict_line : Result Shown HandFault → List ℕ

@@ -1,7 +1,8 @@
 //! The text of an answer, and where it is cut.
 
 ghost use Rattle.std.specs.Prelude.{◌≢◌, ◌++◌, ◌≡◌, ◌<◌, ◌≤◌, ◌⊎◌, ◌↔◌, ℕ, List, length, IsTrue, MatchOption};
-ghost use Rattle.subcommands.specs.Answers.{IsEmptyLine, HasNoEmptyLine, IsCut, IsUncut, IsAnswer, LacksResult, HasOneAnswer, result_text, number_line};
+ghost use Rattle.subcommands.specs.Answers.{IsEmptyLine, HasNoEmptyLine, IsCut, IsUncut, IsAnswer, LacksResult};
+ghost use Rattle.subcommands.specs.Answers.{HasOneAnswer, result_text, number_line};
 
 /// Cuts the text of an answer: the number of tricks, the text for declarer's side and that for the defenders. None where
 /// the first line is not `result k` with k at most 13. Takes no memory.
@@ -15,44 +16,40 @@ pub fn read_answer(text: &[u8]) -> Option<(u8, &[u8], &[u8])>
     Some((tricks, declarers, defenders))
 }
 
-/// The number of tricks, and what stands behind its line.
+/// The number of tricks, and what stands after its line.
 fn read_result(text: &[u8]) -> Option<(u8, &[u8])>
     ensures { MatchOption result (LacksResult text.now) (λ found. (found.0 ≤ 13) × (text.now ≡ result_text found.0 found.1.now)) }
 {
-    let Some(number) = behind(text, b"result ") else {
+    let Some(number) = after(text, b"result ") else {
         return None;
     };
     for tricks in 0..=13u8 {
-        if let Some(body) = behind_number(number, tricks) {
+        if let Some(body) = after_number(number, tricks) {
             return Some((tricks, body));
         }
     }
     None
 }
 
-/// What stands behind this number and its line feed, if the text begins with them.
-fn behind_number(text: &[u8], number: u8) -> Option<&[u8]>
+/// What stands after this number and its line feed, if the text begins with them.
+fn after_number(text: &[u8], number: u8) -> Option<&[u8]>
     requires { number ≤ 13 }
     ensures { MatchOption result ((rest : List ℕ) → text.now ≢ number_line number rest) (λ rest. text.now ≡ number_line number rest.now) }
 {
     if number < 10 {
-        return behind(text, &[b'0' + number, b'\n']);
+        return after(text, &[b'0' + number, b'\n']);
     }
-    behind(text, &[b'1', b'0' + (number - 10), b'\n'])
+    after(text, &[b'1', b'0' + (number - 10), b'\n'])
 }
 
-/// What stands behind these bytes, if the text begins with them.
-fn behind<'a>(text: &'a [u8], front: &[u8]) -> Option<&'a [u8]>
+/// What stands after these bytes, if the text begins with them.
+fn after<'a>(text: &'a [u8], front: &[u8]) -> Option<&'a [u8]>
     ensures { MatchOption result ((rest : List ℕ) → text.now ≢ front.now ++ rest) (λ rest. text.now ≡ front.now ++ rest.now) }
 {
-    match (text, front) {
-        (_, []) => Some(text),
-        ([first, rest @ ..], [byte, more @ ..]) if *first == *byte => behind(rest, more),
-        _ => None,
-    }
+    text.strip_prefix(front)
 }
 
-/// What stands before the first empty line, and what stands behind it; all, and nothing, where no line is empty.
+/// What stands before the first empty line, and what stands after it; all, and nothing, where no line is empty.
 fn cut_body(body: &[u8]) -> (&[u8], &[u8])
     ensures { IsCut body.now result.0.now result.1.now ⊎ IsUncut body.now result.0.now result.1.now }
 {

@@ -1,11 +1,11 @@
 //! The check of an answer.
 
 ghost use Rattle.std.specs.Prelude.{◌≡◌};
-ghost use Rattle.subcommands.specs.Checks.{ChecksAnswer, IsTrueVerdict, JudgesText};
+ghost use Rattle.subcommands.specs.Checks.{ChecksAnswer, IsTrueVerdict, JudgesText, ReadsVerdict, PrintsVerdict};
 ghost use Rattle.subcommands.specs.VerdictLines.{verdict_status};
 
 use crate::answers::read_answer;
-use crate::faults::RunFault;
+use crate::faults::{RunFault, write_failed};
 use crate::statuses::Status;
 use crate::verdict_lines::write_verdict;
 use cards::{Layout, Seat, Sink, Source, Trump};
@@ -30,11 +30,22 @@ pub fn check_answer<I: Source, O: Sink>(
     ensures { ChecksAnswer value.now declarer trump (I.state input.old) (I.state input.new) (O.state output.old) (O.state output.new) result }
 {
     let layout = read_layout(value).map_err(RunFault::Layout)?;
+    let verdict = read_verdict(alloc, input, &layout, declarer, trump)?;
+    print_verdict(verdict, output)
+}
+
+/// Reads an answer to its end: the verdict on it.
+fn read_verdict<I: Source>(
+    alloc: Global,
+    input: &mut I,
+    layout: &Layout,
+    declarer: Seat,
+    trump: Trump,
+) -> Result<Verdict, RunFault>
+    ensures { ReadsVerdict layout.now declarer trump (I.state input.old) (I.state input.new) result }
+{
     let text = read_all(alloc, input)?;
-    let verdict = judge_text(alloc, text.as_slice(), &layout, declarer, trump)?;
-    let status = status_of(&verdict);
-    write_verdict(verdict, output)?;
-    Ok(status)
+    judge_text(alloc, text.as_slice(), layout, declarer, trump)
 }
 
 /// The verdict on the text of an answer.
@@ -74,6 +85,17 @@ fn is_true(verdict: &Verdict)
 {
     if let Ok(proven) = verdict {
         proven.invariant();
+    }
+}
+
+/// Writes the line of a verdict, and answers how the run ends with it.
+fn print_verdict<O: Sink>(verdict: Verdict, output: &mut O) -> Result<Status, RunFault>
+    ensures { PrintsVerdict verdict (O.state output.old) (O.state output.new) result }
+{
+    let status = status_of(&verdict);
+    match write_verdict(verdict, output) {
+        Ok(()) => Ok(status),
+        Err(fault) => Err(write_failed(fault)),
     }
 }
 

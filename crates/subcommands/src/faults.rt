@@ -4,7 +4,7 @@ ghost use Rattle.std.specs.Prelude.{◌≡◌};
 ghost use Rattle.cards.specs.Devices.{Writes};
 ghost use Rattle.pbn_deals.specs.Faults.{fault_text};
 ghost use Rattle.subcommands.specs.declared.faults.RunFault.TheVariants as faults;
-ghost use Rattle.subcommands.specs.Statuses.{fault_status, IsTold, told_line, said_of, behind_line};
+ghost use Rattle.subcommands.specs.Statuses.{fault_status, IsTold, told_line, said_of, after_line};
 ghost use Rattle.pbn_deals.specs.Faults.{fault_line};
 
 use crate::statuses::Status;
@@ -17,7 +17,7 @@ use tournaments::MakeFault;
 /// Why a run fails or is refused.
 #[derive(Clone, Copy, Debug, PartialEq, Eq)]
 pub enum RunFault {
-    /// There was no memory.
+    /// Memory ran out.
     OutOfMemory,
     /// The input failed.
     Read,
@@ -50,14 +50,6 @@ impl From<InputFault> for RunFault {
     }
 }
 
-impl From<DeviceFault> for RunFault {
-    ghost from_gives = { λ _ answer. answer ≡ faults.Write };
-
-    fn from(_fault: DeviceFault) -> RunFault {
-        RunFault::Write
-    }
-}
-
 impl From<MakeFault> for RunFault {
     ghost use Rattle.subcommands.specs.Statuses.{make_fault};
 
@@ -79,6 +71,13 @@ impl From<TooLarge> for RunFault {
     fn from(_fault: TooLarge) -> RunFault {
         RunFault::TooLarge
     }
+}
+
+/// The fault of an output. (That of an input is an `InputFault`.)
+pub(crate) fn write_failed(_fault: DeviceFault) -> RunFault
+    ensures { result ≡ faults.Write }
+{
+    RunFault::Write
 }
 
 /// Tells the fault on the error output, and answers how the run ends. Where the error output fails, nobody is left to be
@@ -133,7 +132,7 @@ fn write_layout_refusal<E: Sink>(refusal: PbnFault, errors: &mut E) -> Result<()
     write_refusal(refusal, errors)
 }
 
-/// Writes why a PBN text is refused, behind its line.
+/// Writes why a PBN text is refused, after its line.
 fn write_text_refusal<E: Sink>(refusal: PbnFault, errors: &mut E) -> Result<(), DeviceFault>
     ensures { Writes (E.state errors.old) (E.state errors.new) (said_of (faults.Pbn refusal)) result }
 {

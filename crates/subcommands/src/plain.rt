@@ -2,7 +2,7 @@
 
 ghost use Rattle.subcommands.specs.PlainLine.{MeetsPlainLine};
 
-use crate::faults::RunFault;
+use crate::faults::{RunFault, write_failed};
 use cards::{Seat, Sink, Trump, write_all};
 use pbn_deals::read_layout;
 use strategies::plain_value;
@@ -20,6 +20,5 @@ pub fn plain_line<S: Sink>(
 {
     let layout = read_layout(value).map_err(RunFault::Layout)?;
     let tricks = plain_value(&layout, leader, trump)?;
-    write_all(output, &[b'N', b'S', b' ', b'0' + tricks, b'\n'])?;
-    Ok(())
+    write_all(output, &[b'N', b'S', b' ', b'0' + tricks, b'\n']).map_err(write_failed)
 }

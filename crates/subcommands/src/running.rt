@@ -22,28 +22,40 @@ use tournaments::{Clock, make_tables_on_one_thread};
 pub enum Subcommand<'a> {
     /// The tricks of North and South in a layout.
     Plain {
+        /// The layout, in the form of a Deal value (PBN 2.1, 3.4.11).
         layout: &'a str,
+        /// Who leads.
         leader: Seat,
+        /// The denomination.
         trump: Trump,
     },
-    /// An answer for a layout, found in so many steps.
+    /// An answer for a layout.
     Solve {
+        /// The layout, in the form of a Deal value.
         layout: &'a str,
+        /// Who declares; the seat at declarer's left leads.
         declarer: Seat,
+        /// The denomination.
         trump: Trump,
+        /// How many steps the solver may take.
         budget: u64,
     },
-    /// The tables of the boards of the input: the term of a lease in the clock's unit, the tries that an entry has, and the steps
-    /// that a try may take.
+    /// The tables of the boards of the input.
     Table {
+        /// How long a lease is good, in the clock's unit.
         term: u64,
+        /// How often an entry may be leased, 1 to 1,000.
         tries: u32,
+        /// How many steps the solver may take for an entry each time, at least 1.
         budget: u64,
     },
     /// Whether the answer that is the input is right.
     Check {
+        /// The layout, in the form of a Deal value.
         layout: &'a str,
+        /// Who declares; the seat at declarer's left leads.
         declarer: Seat,
+        /// The denomination.
         trump: Trump,
     },
 }
@@ -62,8 +74,8 @@ pub fn run_subcommand<P: Solver, C: Clock, I: Source, O: Sink, E: Sink>(
     errors: &mut E,
 ) -> Status
     requires { IsInRange asked }
-    ensures { RunsSubcommand (P.may_find solver.now) asked.entry (I.state input.old) (I.state input.new) (O.state output.old)
-        (O.state output.new) (E.state errors.old) (E.state errors.new) result }
+    ensures { RunsSubcommand (P.may_find solver.now) (C.may_tell clock.now) asked.entry (I.state input.old) (I.state input.new)
+        (O.state output.old) (O.state output.new) (E.state errors.old) (E.state errors.new) result }
 {
     match try_subcommand(alloc, asked, solver, clock, input, output) {
         Ok(status) => status,
@@ -81,8 +93,8 @@ fn try_subcommand<P: Solver, C: Clock, I: Source, O: Sink>(
     output: &mut O,
 ) -> Result<Status, RunFault>
     requires { IsInRange asked }
-    ensures { Does (P.may_find solver.now) asked.entry (I.state input.old) (I.state input.new) (O.state output.old)
-        (O.state output.new) result }
+    ensures { Does (P.may_find solver.now) (C.may_tell clock.now) asked.entry (I.state input.old) (I.state input.new)
+        (O.state output.old) (O.state output.new) result }
 {
     match asked {
         Subcommand::Plain {

@@ -6,7 +6,7 @@ ghost use Rattle.cards.specs.Devices.{Writes};
 ghost use Rattle.certificate_graph.specs.Texts.{graph_text};
 ghost use Rattle.subcommands.specs.Solves.{FindsAnswer, SolvesLayout, AnswersAreReadBack, answer_text, result_line};
 
-use crate::faults::RunFault;
+use crate::faults::{RunFault, write_failed};
 use cards::{DeviceFault, Layout, Seat, Sink, Trump, write_all, write_number};
 use certificate_graph::{Answer, Graph};
 use partition_solver::Solver;
@@ -30,11 +30,10 @@ pub fn solve_layout<P: Solver, O: Sink>(
 {
     let layout = read_layout(value).map_err(RunFault::Layout)?;
     let answer = find_answer(alloc, &layout, declarer, trump, budget, solver)?;
-    write_answer(&answer, output)?;
-    Ok(())
+    write_answer(&answer, output).map_err(write_failed)
 }
 
-/// The answer of the solver, which gives none where its number of tricks is no number of a hand's.
+/// The answer of the solver, or that there is none: also where it claims over 13 tricks, which no result line can say.
 fn find_answer<P: Solver>(
     alloc: Global,
     layout: &Layout,

@@ -3,7 +3,8 @@
 ghost use Rattle.std.specs.Prelude.{◌∷◌, ◌++◌, codes};
 ghost use Rattle.std.specs.Fmt.{decimal};
 ghost use Rattle.cards.specs.Devices.{Writes};
-ghost use Rattle.subcommands.specs.VerdictLines.{numbered, node_text, behind_part, part_text, behind_text, text_text, hand_text, verdict_text, verdict_line};
+ghost use Rattle.subcommands.specs.VerdictLines.{numbered, node_fault_text, after_part, part_fault_text, after_text};
+ghost use Rattle.subcommands.specs.VerdictLines.{text_fault_text, hand_fault_text, verdict_text, verdict_line};
 
 use cards::{DeviceFault, Sink, write_all, write_number};
 use certificate_graph::TextFault;
@@ -37,7 +38,7 @@ fn write_accepted<S: Sink>(tricks: u8, output: &mut S) -> Result<(), DeviceFault
 
 /// Writes that the answer is refused, and why.
 fn write_refused<S: Sink>(fault: HandFault, output: &mut S) -> Result<(), DeviceFault>
-    ensures { Writes (S.state output.old) (S.state output.new) (codes "refused " ++ hand_text fault) result }
+    ensures { Writes (S.state output.old) (S.state output.new) (codes "refused " ++ hand_fault_text fault) result }
 {
     write_all(output, b"refused ")?;
     write_hand_fault(fault, output)
@@ -45,7 +46,7 @@ fn write_refused<S: Sink>(fault: HandFault, output: &mut S) -> Result<(), Device
 
 /// Writes why two texts show nothing.
 fn write_hand_fault<S: Sink>(fault: HandFault, output: &mut S) -> Result<(), DeviceFault>
-    ensures { Writes (S.state output.old) (S.state output.new) (hand_text fault) result }
+    ensures { Writes (S.state output.old) (S.state output.new) (hand_fault_text fault) result }
 {
     match fault {
         HandFault::Entry(EntryFault::KTooLarge) => write_all(output, b"9 KTooLarge"),
@@ -67,16 +68,16 @@ fn write_part_fault<S: Sink>(
     fault: PartFault,
     output: &mut S,
 ) -> Result<(), DeviceFault>
-    ensures { Writes (S.state output.old) (S.state output.new) (whose.now ++ part_text fault) result }
+    ensures { Writes (S.state output.old) (S.state output.new) (whose.now ++ part_fault_text fault) result }
 {
     write_all(output, whose)?;
     write_numbered(fault.number(), fault.name(), output)?;
-    write_behind_part(fault, output)
+    write_after_part(fault, output)
 }
 
 /// Writes the node of a fault that is one of a node.
-fn write_behind_part<S: Sink>(fault: PartFault, output: &mut S) -> Result<(), DeviceFault>
-    ensures { Writes (S.state output.old) (S.state output.new) (behind_part fault) result }
+fn write_after_part<S: Sink>(fault: PartFault, output: &mut S) -> Result<(), DeviceFault>
+    ensures { Writes (S.state output.old) (S.state output.new) (after_part fault) result }
 {
     match fault {
         PartFault::Node(fault) => write_node_fault(fault, output),
@@ -84,9 +85,9 @@ fn write_behind_part<S: Sink>(fault: PartFault, output: &mut S) -> Result<(), De
     }
 }
 
-/// Writes the number of a node, behind a blank, and why its step doesn't hold.
+/// Writes a blank, the number of a node, and why its step doesn't hold.
 fn write_node_fault<S: Sink>(fault: NodeFault, output: &mut S) -> Result<(), DeviceFault>
-    ensures { Writes (S.state output.old) (S.state output.new) (32 ∷ node_text fault) result }
+    ensures { Writes (S.state output.old) (S.state output.new) (32 ∷ node_fault_text fault) result }
 {
     write_all(output, b" ")?;
     write_number(output, u64::from(fault.number))?;
@@ -100,16 +101,16 @@ fn write_text_fault<S: Sink>(
     fault: TextFault,
     output: &mut S,
 ) -> Result<(), DeviceFault>
-    ensures { Writes (S.state output.old) (S.state output.new) (whose.now ++ text_text fault) result }
+    ensures { Writes (S.state output.old) (S.state output.new) (whose.now ++ text_fault_text fault) result }
 {
     write_all(output, whose)?;
     write_numbered(fault.number(), fault.name(), output)?;
-    write_behind_text(fault.line(), output)
+    write_after_text(fault.line(), output)
 }
 
-/// Writes the number of a line, if there is one, behind its word.
-fn write_behind_text<S: Sink>(line: Option<usize>, output: &mut S) -> Result<(), DeviceFault>
-    ensures { Writes (S.state output.old) (S.state output.new) (behind_text line) result }
+/// Writes the number of a line, if there is one, after its word.
+fn write_after_text<S: Sink>(line: Option<usize>, output: &mut S) -> Result<(), DeviceFault>
+    ensures { Writes (S.state output.old) (S.state output.new) (after_text line) result }
 {
     let Some(line) = line else {
         return write_all(output, b"");

@@ -62,7 +62,8 @@ pub record FillsBeginning (may_find : MayFind) (may_tell : MayTell) (term tries 
 
 -- What was answered, what the source has given and what the sink has got. Where the source failed or memory ran out, the bytes
 -- that were read are the first of the source. With all refusals but the last nothing was written.
-abbrev pub MakesTables : MayFind → MayTell → ℕ → ℕ → ℕ → Device → Device → Device → Device → Result (Report × Ledger) MakeFault → Type 0
+abbrev pub MakesTables :
+    MayFind → MayTell → ℕ → ℕ → ℕ → Device → Device → Device → Device → Result (Report × Ledger) MakeFault → Type 0
 MakesTables may_find may_tell term tries budget source source' sink sink' (Ok (report, book)) =
     FillsTables may_find may_tell term tries budget source source' sink sink' report book
 MakesTables may_find may_tell term tries budget source source' sink sink' (Err OutOfMemory) =

@@ -13,5 +13,5 @@ returns-in_err-write_numbered g c =
 pub returns : goal.returns
 returns g c =
     let numbered = rw c.number.ensures at (rw c.name.ensures at c.in_ok-write_numbered.ensures) in
-    Writes-then c.write_behind_part.result _ _ c.in_ok-write_all.ensures
-    (Writes-then c.write_behind_part.result _ _ numbered c.write_behind_part.ensures)
+    Writes-then c.write_after_part.result _ _ c.in_ok-write_all.ensures
+    (Writes-then c.write_after_part.result _ _ numbered c.write_after_part.ensures)

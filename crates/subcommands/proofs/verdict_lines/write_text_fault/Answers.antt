@@ -13,6 +13,6 @@ returns-in_err-write_numbered g c =
 pub returns : goal.returns
 returns g c =
     let numbered = rw c.number.ensures at (rw c.name.ensures at c.in_ok-write_numbered.ensures) in
-    let behind = rw c.line.ensures at c.write_behind_text.ensures in
-    Writes-then c.write_behind_text.result _ _ c.in_ok-write_all.ensures
-    (Writes-then c.write_behind_text.result _ _ numbered behind)
+    let after = rw c.line.ensures at c.write_after_text.ensures in
+    Writes-then c.write_after_text.result _ _ c.in_ok-write_all.ensures
+    (Writes-then c.write_after_text.result _ _ numbered after)

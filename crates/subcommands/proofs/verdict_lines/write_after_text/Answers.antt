@@ -1,5 +1,5 @@
 use Rattle.cards.proofs.WriteLemmas.{AddsBeginning-stop, Writes-then, Writes-err}
-use Rattle.subcommands.proofs.verdict_lines.write_behind_text.Goals as goal
+use Rattle.subcommands.proofs.verdict_lines.write_after_text.Goals as goal
 
 pub returns-in_err-write_all : goal.returns-in_err-write_all
 returns-in_err-write_all g c = rw c.in-Some.is (Writes-err c.from_residual.result _ c.from_residual.ensures.1 (AddsBeginning-stop _ c.in_err-write_all.ensures))
