@@ -31,11 +31,11 @@ abbrev AnswersText : Tags → ℕ → List ℕ → Result (List Board) PbnFault 
 AnswersText tags count text answer = (number : ℕ) → Answers number None tags count (lines_of text) answer
 
 -- a line that says nothing of the boards
-record IsIdle (line : List ℕ) : Type 0 where
-  as_line : IsLine line
-  not_escaped : is_escaped line ≡ false
-  not_blank : is_blank_line line ≡ false
-  read : (number count : ℕ) (tags : Tags) → Scans number count false tags line (Ends tags false)
+pub record IsIdle (line : List ℕ) : Type 0 where
+  pub as_line : IsLine line
+  pub not_escaped : is_escaped line ≡ false
+  pub not_blank : is_blank_line line ≡ false
+  pub read : (number count : ℕ) (tags : Tags) → Scans number count false tags line (Ends tags false)
 
 idle_step : (line rest : List ℕ) (tags : Tags) (count : ℕ) (answer : Result (List Board) PbnFault) → IsIdle line → AnswersText tags count rest answer → AnswersText tags count (line ++ 10 ∷ rest) answer
 idle_step line rest tags count answer idle more = λ number.
@@ -43,7 +43,7 @@ idle_step line rest tags count answer idle more = λ number.
     (whole_line idle.not_escaped idle.not_blank (idle.read number count tags) (more (number + 1)))
 
 -- ---- rows
-row_body : Seat → Trump → ℕ → List ℕ
+unfoldable pub row_body : Seat → Trump → ℕ → List ℕ
 row_body declarer denomination tricks = (seat_letter declarer ++ (32 ∷ [])) ++ (right_in_two (trump_letters denomination) ++ (32 ∷ right_in_two (decimal tricks)))
 
 row_body-calm : (declarer : Seat) (denomination : Trump) (tricks : ℕ) → tricks ≤ 13 → is_calm (row_body declarer denomination tricks) ≡ true
@@ -67,7 +67,7 @@ row_body-not_blank East denomination tricks = refl
 row_body-not_blank South denomination tricks = refl
 row_body-not_blank West denomination tricks = refl
 
-row-idle : (declarer : Seat) (denomination : Trump) (tricks : ℕ) → tricks ≤ 13 → IsIdle (row_body declarer denomination tricks)
+pub row-idle : (declarer : Seat) (denomination : Trump) (tricks : ℕ) → tricks ≤ 13 → IsIdle (row_body declarer denomination tricks)
 row-idle declarer denomination tricks h =
     let calm = row_body-calm declarer denomination tricks h in
     record {
@@ -77,7 +77,7 @@ row-idle declarer denomination tricks h =
       read = λ number count tags. Scans-quiet number count false tags _ (IsQuiet-from_calm _ calm);
     }
 
-row_text-is : (declarer : Seat) (denomination : Trump) (tricks : ℕ) (rest : List ℕ) → row_text declarer denomination tricks ++ rest ≡ row_body declarer denomination tricks ++ 10 ∷ rest
+pub row_text-is : (declarer : Seat) (denomination : Trump) (tricks : ℕ) (rest : List ℕ) → row_text declarer denomination tricks ++ rest ≡ row_body declarer denomination tricks ++ 10 ∷ rest
 unfolding row_text row_body
 row_text-is declarer denomination tricks rest = simp append_assoc
 
@@ -95,10 +95,10 @@ rows_step results (entry ∷ some) rest tags count answer small more =
         (idle_step (row_body entry.0 entry.1 tricks) (flat_map (entry_row results) some ++ rest) tags count answer (row-idle entry.0 entry.1 tricks h) after)
 
 -- ---- the table of a board
-table_tag_body : List ℕ
+unfoldable pub table_tag_body : List ℕ
 table_tag_body = codes "[OptimumResultTable " ++ (34 ∷ codes "Declarer;Denomination") ++ (92 ∷ codes "2R;Result") ++ (92 ∷ codes "2R") ++ (34 ∷ 93 ∷ [])
 
-table_tag-is : table_tag ≡ table_tag_body ++ (10 ∷ [])
+pub table_tag-is : table_tag ≡ table_tag_body ++ (10 ∷ [])
 unfolding table_tag table_tag_body
 table_tag-is = refl
 
@@ -121,7 +121,7 @@ IsTame-from_test (byte ∷ bytes) h =
     let two = and_parts (not (eqb byte 13)) _ one.1 in
     (eqb-false byte 10 (not-true _ one.0), eqb-false byte 13 (not-true _ two.0), IsTame-from_test bytes two.1)
 
-table_tag-idle : IsIdle table_tag_body
+pub table_tag-idle : IsIdle table_tag_body
 unfolding table_tag_body
 table_tag-idle = record {
   as_line = IsLine-from_tame table_tag_body (IsTame-from_test table_tag_body refl);
@@ -130,14 +130,14 @@ table_tag-idle = record {
   read = table_tag-read;
 }
 
-incomplete_body : ℕ → List ℕ
+unfoldable pub incomplete_body : ℕ → List ℕ
 incomplete_body published = codes "; table incomplete: " ++ (decimal published ++ codes " of 20")
 
-incomplete_line-is : (published : ℕ) (rest : List ℕ) → incomplete_line published ++ rest ≡ incomplete_body published ++ 10 ∷ rest
+pub incomplete_line-is : (published : ℕ) (rest : List ℕ) → incomplete_line published ++ rest ≡ incomplete_body published ++ 10 ∷ rest
 unfolding incomplete_line incomplete_body
 incomplete_line-is published rest = simp append_assoc
 
-incomplete-idle : (published : ℕ) → published ≤ 20 → IsIdle (incomplete_body published)
+pub incomplete-idle : (published : ℕ) → published ≤ 20 → IsIdle (incomplete_body published)
 unfolding incomplete_body
 incomplete-idle published h = record {
   as_line = IsLine-from_tame _ (IsTame-append (codes "; table incomplete: ") _ (IsTame-from_test (codes "; table incomplete: ") refl) (IsTame-append (decimal published) (codes " of 20") (IsTame-from_calm _ (decimal-calm published h)) (IsTame-from_test (codes " of 20") refl)));
@@ -146,7 +146,7 @@ incomplete-idle published h = record {
   read = λ number count tags. at_line_comment refl;
 }
 
-published_count-le : (results : Results) → published_count results ≤ 20
+pub published_count-le : (results : Results) → published_count results ≤ 20
 unfolding published_count
 published_count-le results = count_by-le-length (λ (entry : Seat × Trump). is_some (results entry.0 entry.1)) entries
 
@@ -167,10 +167,10 @@ table_step results rest tags count answer small more =
     ]
 
 -- ---- tag pairs with a value
-tag_body : List ℕ → List ℕ → List ℕ
+unfoldable pub tag_body : List ℕ → List ℕ → List ℕ
 tag_body name value = 91 ∷ (name ++ (32 ∷ 34 ∷ (value ++ (34 ∷ 93 ∷ []))))
 
-tag_line-is : (name value rest : List ℕ) → tag_line name value ++ rest ≡ tag_body name value ++ 10 ∷ rest
+pub tag_line-is : (name value rest : List ℕ) → tag_line name value ++ rest ≡ tag_body name value ++ 10 ∷ rest
 unfolding tag_body
 tag_line-is name value rest = simp append_assoc
 
@@ -182,10 +182,10 @@ after_value-is : (value rest : List ℕ) → NoQuote value → after_value (valu
 after_value-is [] rest h = refl
 after_value-is (byte ∷ bytes) rest h = rw (ne_eqb byte 34 h.0) (after_value-is bytes rest h.1)
 
-board_tag_of : (value : List ℕ) → NoQuote value → tag_of (codes "Board" ++ (32 ∷ 34 ∷ (value ++ (34 ∷ 93 ∷ [])))) ≡ Some (record { name = codes "Board"; value = value; rest = [] })
+pub board_tag_of : (value : List ℕ) → NoQuote value → tag_of (codes "Board" ++ (32 ∷ 34 ∷ (value ++ (34 ∷ 93 ∷ [])))) ≡ Some (record { name = codes "Board"; value = value; rest = [] })
 board_tag_of value h = rw (value_front-is value (93 ∷ []) h, after_value-is value (93 ∷ []) h) refl
 
-deal_tag_of : (value : List ℕ) → NoQuote value → tag_of (codes "Deal" ++ (32 ∷ 34 ∷ (value ++ (34 ∷ 93 ∷ [])))) ≡ Some (record { name = codes "Deal"; value = value; rest = [] })
+pub deal_tag_of : (value : List ℕ) → NoQuote value → tag_of (codes "Deal" ++ (32 ∷ 34 ∷ (value ++ (34 ∷ 93 ∷ [])))) ≡ Some (record { name = codes "Deal"; value = value; rest = [] })
 deal_tag_of value h = rw (value_front-is value (93 ∷ []) h, after_value-is value (93 ∷ []) h) refl
 
 -- a tag pair's line
@@ -194,7 +194,7 @@ bracket-return [] = refl
 bracket-return (byte ∷ []) = refl
 bracket-return (byte ∷ other ∷ bytes) = ap (λ (l : List ℕ). byte ∷ l) (bracket-return (other ∷ bytes))
 
-feedless : (text : List ℕ) → AllByRecursion (λ byte. byte ≢ 10) text → AllByRecursion (λ byte. is_line_feed byte ≡ false) text
+pub feedless : (text : List ℕ) → AllByRecursion (λ byte. byte ≢ 10) text → AllByRecursion (λ byte. is_line_feed byte ≡ false) text
 feedless [] h = tt
 feedless (byte ∷ bytes) h = (ne_eqb byte 10 h.0, feedless bytes h.1)
 
@@ -203,14 +203,14 @@ feedless-append [] other a b = b
 feedless-append (byte ∷ bytes) other a b = (a.0, feedless-append bytes other a.1 b)
 
 -- the line of a tag pair whose name and value have no line feed
-tag-line : (name value : List ℕ) → AllByRecursion (λ byte. is_line_feed byte ≡ false) name → AllByRecursion (λ byte. is_line_feed byte ≡ false) value → IsLine (tag_body name value)
+pub tag-line : (name value : List ℕ) → AllByRecursion (λ byte. is_line_feed byte ≡ false) name → AllByRecursion (λ byte. is_line_feed byte ≡ false) value → IsLine (tag_body name value)
 unfolding tag_body
 tag-line name value a b = record {
   no_feed = All-from_recursion _ (91 ∷ (name ++ (32 ∷ 34 ∷ (value ++ (34 ∷ 93 ∷ []))))) (refl, feedless-append name (32 ∷ 34 ∷ (value ++ (34 ∷ 93 ∷ []))) a (refl, (refl, feedless-append value (34 ∷ 93 ∷ []) b (refl, (refl, tt)))));
   no_return = subst (λ (l : List ℕ). without_return l ≡ l) (append_assoc (91 ∷ (name ++ (32 ∷ 34 ∷ []))) value (34 ∷ 93 ∷ []) ∙ ap (λ (l : List ℕ). 91 ∷ l) (append_assoc name (32 ∷ 34 ∷ []) (value ++ (34 ∷ 93 ∷ [])))) (bracket-return ((91 ∷ (name ++ (32 ∷ 34 ∷ []))) ++ value));
 }
 
-no_quote : (text : List ℕ) → AllByRecursion (λ byte. byte ≢ 34) text → NoQuote text
+pub no_quote : (text : List ℕ) → AllByRecursion (λ byte. byte ≢ 34) text → NoQuote text
 no_quote [] h = tt
 no_quote (byte ∷ bytes) h = (h.0, no_quote bytes h.1)
 
@@ -239,17 +239,17 @@ unfolding tag_body
 tag_body-not_blank name value = refl
 
 -- what is known of the printed deal
-record IsReadable (deal : Option Deal) : Type 0 where
-  one_line : AllByRecursion (λ byte. is_line_feed byte ≡ false) (deal_value deal)
-  quoteless : NoQuote (deal_value deal)
-  says : (line : ℕ) → SaysDeal line (deal_value deal) (Ok deal)
+pub record IsReadable (deal : Option Deal) : Type 0 where
+  pub one_line : AllByRecursion (λ byte. is_line_feed byte ≡ false) (deal_value deal)
+  pub quoteless : NoQuote (deal_value deal)
+  pub says : (line : ℕ) → SaysDeal line (deal_value deal) (Ok deal)
 
 blank_step : (rest : List ℕ) (tags : Tags) (count : ℕ) (answer : Result (List Board) PbnFault) → AnswersText no_tags (count + length (boards_of tags)) rest answer → AnswersText tags count (10 ∷ rest) (put_boards (boards_of tags) answer)
 blank_step rest tags count answer more = λ number.
     subst (λ (lines : List (List ℕ)). Answers number None tags count lines (put_boards (boards_of tags) answer)) (sym (lines_of-line [] rest (record { no_feed = All-from_recursion _ [] tt; no_return = refl })))
     (blank_line refl refl (more (number + 1)))
 
-board_text-is : (board : Board) (results : Results) (rest : List ℕ) → board_text board results ++ rest ≡ tag_body (codes "Board") board.name ++ 10 ∷ (tag_body (codes "Deal") (deal_value board.deal) ++ 10 ∷ (table_text results ++ 10 ∷ rest))
+pub board_text-is : (board : Board) (results : Results) (rest : List ℕ) → board_text board results ++ rest ≡ tag_body (codes "Board") board.name ++ 10 ∷ (tag_body (codes "Deal") (deal_value board.deal) ++ 10 ∷ (table_text results ++ 10 ∷ rest))
 unfolding board_text
 board_text-is board results rest =
     let table = table_text results ++ (10 ∷ []) in
@@ -281,7 +281,7 @@ board_step board results rest count boards printable readable small room more = 
     (whole_line (tag_body-not_escaped (codes "Board") name) (tag_body-not_blank (codes "Board") name) (board_line-read number count name quoteless printable.own_name) (deal (number + 1))) in
     subst (λ (l : List ℕ). Answers number None no_tags count (lines_of l) (Ok (board ∷ boards))) (sym (board_text-is board results rest)) (first number)
 
-readable_deal : (deal : Option Deal) → IsBoardDeal deal → IsReadable deal
+pub readable_deal : (deal : Option Deal) → IsBoardDeal deal → IsReadable deal
 readable_deal None h = record {
   one_line = (refl, tt);
   quoteless = no_quote (63 ∷ []) (eqb-false 63 34 refl, tt);
@@ -303,13 +303,16 @@ boards_step (board ∷ boards) results place count printable readable small room
     let more : AnswersText no_tags (count + 1) rest (Ok boards) = boards_step boards results (place + 1) (count + 1) printable.1 readable small (omega arith) in
     board_step board (results place) rest count boards printable.0 (readable board.deal printable.0.deal) (small place) (omega arith) more
 
-first_line : List ℕ
+unfoldable pub first_line : List ℕ
 first_line = codes "% PBN 2.1"
+
+pub first_line-is : IsLine first_line
+unfolding first_line
+first_line-is = IsLine-from_tame first_line (IsTame-from_test first_line refl)
 
 pub are_read_back : AreReadBack
 unfolding tables_text first_line
 are_read_back boards results printable small room =
     let rest = flat_map (numbered_text results) (enumerate_from 0 boards) in
     let more = boards_step boards results 0 0 (recursion_from_All _ boards printable) readable_deal small (omega arith) in
-    let first : IsLine first_line = IsLine-from_tame first_line (IsTame-from_test first_line refl) in
-    subst (λ (lines : List (List ℕ)). Answers 1 None no_tags 0 lines (Ok boards)) (sym (lines_of-line first_line rest first)) (escaped_line refl (more 2))
+    subst (λ (lines : List (List ℕ)). Answers 1 None no_tags 0 lines (Ok boards)) (sym (lines_of-line first_line rest first_line-is)) (escaped_line refl (more 2))

@@ -1,8 +1,7 @@
 -- Bytes that end no line and have no meaning of their own.
-use Rattle.std.proofs.Common.{◌≡◌, ◌≢◌, ℕ, zero, suc, ◌+◌, ◌/◌, ◌%◌, ◌<◌, ◌≤◌, Bool, true, not, ◌&&◌, eqb, List, [], ◌∷◌, ◌++◌, length, refl, ◌∙◌, ap, arith, inl, inr}
+use Rattle.std.proofs.Common.{◌≡◌, ◌≢◌, ℕ, ◌≤◌, Bool, true, not, ◌&&◌, eqb, List, [], ◌∷◌, ◌++◌, length, refl, arith, inl, inr}
 use Rattle.std.specs.Fmt.{decimal}
 use Rattle.std.proofs.lemmas.Bool.{cases_Bool, ne_eqb, eqb-false, and_parts, and_from, not-true, le-ltb}
-use Rattle.std.proofs.lemmas.Fmt.{decimal_digit, decimal_step}
 use Rattle.cards.specs.declared.seats.Seat.{Seat}
 use Rattle.cards.specs.declared.seats.Seat.TheVariants.{North, East, South, West}
 use Rattle.cards.specs.declared.suits.Suit.TheVariants.{Spades, Hearts, Diamonds, Clubs}
@@ -13,6 +12,7 @@ use Rattle.cards.specs.Seats.{seat_letter}
 use Rattle.pbn_deals.specs.Letters.{is_blank}
 use Rattle.tables.specs.TablesText.{right_in_two}
 use Rattle.tables.proofs.LinesBack.{IsTame, IsQuiet}
+use Rattle.tables.proofs.SmallNumbers.{for_small}
 
 -- no line feed, carriage return, quote, semicolon, bracket or brace
 abbrev pub is_calm_byte : ℕ → Bool
@@ -88,30 +88,5 @@ right_in_two-calm [] h = refl
 right_in_two-calm (a ∷ []) h = h
 right_in_two-calm (a ∷ b ∷ rest) h = rw (le-ltb (length (a ∷ b ∷ rest)) 2 (omega arith)) h
 
-decimal_two : (n : ℕ) → 10 ≤ n → n < 100 → decimal n ≡ (48 + n / 10) ∷ (48 + n % 10) ∷ []
-decimal_two n low high =
-    decimal_step n low (omega arith) ∙ ap (λ front. front ++ ((48 + n % 10) ∷ [])) (decimal_digit (n / 10) (omega arith))
-
 pub decimal-calm : (n : ℕ) → n ≤ 20 → is_calm (decimal n) ≡ true
-decimal-calm zero h = ap is_calm (decimal_digit 0 (omega arith))
-decimal-calm (suc zero) h = ap is_calm (decimal_digit 1 (omega arith))
-decimal-calm (suc (suc zero)) h = ap is_calm (decimal_digit 2 (omega arith))
-decimal-calm (suc (suc (suc zero))) h = ap is_calm (decimal_digit 3 (omega arith))
-decimal-calm (suc (suc (suc (suc zero)))) h = ap is_calm (decimal_digit 4 (omega arith))
-decimal-calm (suc (suc (suc (suc (suc zero))))) h = ap is_calm (decimal_digit 5 (omega arith))
-decimal-calm (suc (suc (suc (suc (suc (suc zero)))))) h = ap is_calm (decimal_digit 6 (omega arith))
-decimal-calm (suc (suc (suc (suc (suc (suc (suc zero))))))) h = ap is_calm (decimal_digit 7 (omega arith))
-decimal-calm (suc (suc (suc (suc (suc (suc (suc (suc zero)))))))) h = ap is_calm (decimal_digit 8 (omega arith))
-decimal-calm (suc (suc (suc (suc (suc (suc (suc (suc (suc zero))))))))) h = ap is_calm (decimal_digit 9 (omega arith))
-decimal-calm (suc (suc (suc (suc (suc (suc (suc (suc (suc (suc zero)))))))))) h = ap is_calm (decimal_two 10 (omega arith) (omega arith))
-decimal-calm (suc (suc (suc (suc (suc (suc (suc (suc (suc (suc (suc zero))))))))))) h = ap is_calm (decimal_two 11 (omega arith) (omega arith))
-decimal-calm (suc (suc (suc (suc (suc (suc (suc (suc (suc (suc (suc (suc zero)))))))))))) h = ap is_calm (decimal_two 12 (omega arith) (omega arith))
-decimal-calm (suc (suc (suc (suc (suc (suc (suc (suc (suc (suc (suc (suc (suc zero))))))))))))) h = ap is_calm (decimal_two 13 (omega arith) (omega arith))
-decimal-calm (suc (suc (suc (suc (suc (suc (suc (suc (suc (suc (suc (suc (suc (suc zero)))))))))))))) h = ap is_calm (decimal_two 14 (omega arith) (omega arith))
-decimal-calm (suc (suc (suc (suc (suc (suc (suc (suc (suc (suc (suc (suc (suc (suc (suc zero))))))))))))))) h = ap is_calm (decimal_two 15 (omega arith) (omega arith))
-decimal-calm (suc (suc (suc (suc (suc (suc (suc (suc (suc (suc (suc (suc (suc (suc (suc (suc zero)))))))))))))))) h = ap is_calm (decimal_two 16 (omega arith) (omega arith))
-decimal-calm (suc (suc (suc (suc (suc (suc (suc (suc (suc (suc (suc (suc (suc (suc (suc (suc (suc zero))))))))))))))))) h = ap is_calm (decimal_two 17 (omega arith) (omega arith))
-decimal-calm (suc (suc (suc (suc (suc (suc (suc (suc (suc (suc (suc (suc (suc (suc (suc (suc (suc (suc zero)))))))))))))))))) h = ap is_calm (decimal_two 18 (omega arith) (omega arith))
-decimal-calm (suc (suc (suc (suc (suc (suc (suc (suc (suc (suc (suc (suc (suc (suc (suc (suc (suc (suc (suc zero))))))))))))))))))) h = ap is_calm (decimal_two 19 (omega arith) (omega arith))
-decimal-calm (suc (suc (suc (suc (suc (suc (suc (suc (suc (suc (suc (suc (suc (suc (suc (suc (suc (suc (suc (suc zero)))))))))))))))))))) h = ap is_calm (decimal_two 20 (omega arith) (omega arith))
-decimal-calm (suc (suc (suc (suc (suc (suc (suc (suc (suc (suc (suc (suc (suc (suc (suc (suc (suc (suc (suc (suc (suc n))))))))))))))))))))) h = absurd (omega arith)
+decimal-calm = for_small (λ n text. is_calm text ≡ true) refl refl refl refl refl refl refl refl refl refl refl refl refl refl refl refl refl refl refl refl refl

@@ -1,4 +1,5 @@
 pub mod NumberLemmas
+pub mod SmallNumbers
 pub mod RowLemmas
 pub mod TableLemmas
 pub mod BoardLemmas
@@ -8,3 +9,6 @@ pub mod Dealt
 pub mod DealWords
 pub mod DealsBack
 pub mod BoardsBack
+pub mod PageLines
+pub mod PageBack
+pub mod OnePage

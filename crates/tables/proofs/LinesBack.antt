@@ -21,7 +21,7 @@ split_nonempty (byte ∷ bytes) =
       | inr f ↦ let more = split_nonempty bytes in (byte ∷ more.0, more.1, rw (f, more.2) refl)
     ]
 
--- the first line of a text, and the lines behind it
+-- the first line of a text, and the lines after it
 pub lines_of-line : (line rest : List ℕ) → IsLine line → lines_of (line ++ 10 ∷ rest) ≡ line ∷ lines_of rest
 lines_of-line line rest h =
     let cut : slice_split is_line_feed (line ++ 10 ∷ rest) ≡ line ∷ slice_split is_line_feed rest = slice_split_at is_line_feed line 10 rest h.no_feed refl in

@@ -7,7 +7,8 @@ use Rattle.cards.specs.declared.suits.Suit.TheVariants.{Spades, Hearts, Diamonds
 use Rattle.cards.specs.declared.seats.Seat.{Seat}
 use Rattle.cards.specs.declared.seats.Seat.TheVariants.{North, East, South, West}
 use Rattle.cards.specs.declared.pack.Rank.{Rank}
-use Rattle.cards.specs.declared.pack.Rank.TheVariants.{Two, Three, Four, Five, Six, Seven, Eight, Nine, Ten, Jack, Queen, King, Ace}
+use Rattle.cards.specs.declared.pack.Rank.TheVariants.{Two, Three, Four, Five, Six, Seven, Eight, Nine, Ten, Jack}
+use Rattle.cards.specs.declared.pack.Rank.TheVariants.{Queen, King, Ace}
 use Rattle.cards.specs.Pack.{rank_letter, card_of}
 use Rattle.cards.specs.Deal.{Deal, holder_of, is_held_by}
 

@@ -2,3 +2,5 @@ pub mod DealText
 pub mod TablesText
 pub mod BookResults
 pub mod ReadBack
+pub mod PageReading
+pub mod WrittenOnce

@@ -1,5 +1,6 @@
 -- The text of the tables of a list of boards (PBN 2.1, the Board, Deal and OptimumResultTable tags).
-use Rattle.std.specs.Prelude.{ℕ, ◌==◌, List, [], ◌∷◌, ◌++◌, length, codes, map, Bool, count_by, Option, Some, None, is_some, if◌then◌else◌, nat_lt}
+use Rattle.std.specs.Prelude.{ℕ, ◌==◌, List, [], ◌∷◌, ◌++◌, length, codes, map, Bool, count_by, Option, Some, None}
+use Rattle.std.specs.Prelude.{is_some, if◌then◌else◌, nat_lt}
 use Rattle.std.specs.List.{flat_map, enumerate_from}
 use Rattle.std.specs.Fmt.{decimal}
 use Rattle.cards.specs.declared.seats.Seat.{Seat}

@@ -14,6 +14,8 @@ mod sheets;
 mod tables;
 
 pub use books::write_tables;
-pub use laws::{boards_are_read_back, said_boards_are_read_back};
+pub use laws::{
+    boards_are_read_back, pages_are_read, pages_say_one_thing, said_boards_are_read_back,
+};
 pub use sheet_text::write_sheet;
 pub use sheets::{Report, Sheet};

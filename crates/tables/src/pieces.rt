@@ -5,7 +5,7 @@ ghost use Rattle.cards.specs.Devices.{Writes};
 
 use cards::{DeviceFault, Sink, write_all};
 
-/// Writes the pieces, one behind the other.
+/// Writes the pieces, one after the other.
 pub(crate) fn write_pieces<S: Sink>(sink: &mut S, pieces: &[&[u8]]) -> Result<(), DeviceFault>
     ensures { Writes (S.state sink.old) (S.state sink.new) (flat_map (λ piece. piece.now) pieces.now) result }
 {

@@ -1,0 +1,310 @@
+-- The lines of a page are read as its boards and their results.
+use Rattle.std.proofs.Common.{◌≡◌, ℕ, ◌+◌, ◌<◌, ◌≤◌, Bool, true, false, cond, List, [], ◌∷◌, ◌++◌, length, map, Option, None, Some, refl, ◌∙◌, ap, arith, inl, inr}
+use Rattle.std.specs.Prelude.{codes, IfSome, is_some, filter, unwrap_or}
+use Rattle.std.specs.List.{AllByRecursion, flat_map, enumerate_from}
+use Rattle.std.specs.Fmt.{decimal}
+use Rattle.std.proofs.lemmas.Bool.{cases_Bool, eqb-true}
+use Rattle.std.proofs.lemmas.List.Elements.{recursion_from_All, All-from_recursion}
+use Rattle.std.proofs.lemmas.List.Splits.{slice_split_at}
+use Rattle.std.proofs.lemmas.List.Sums.{length-filter, count_by-le-length}
+use Rattle.cards.specs.declared.seats.Seat.{Seat}
+use Rattle.cards.specs.declared.seats.Seat.TheVariants.{North, East, South, West}
+use Rattle.cards.specs.declared.suits.Suit.TheVariants.{Spades, Hearts, Diamonds, Clubs}
+use Rattle.cards.specs.declared.suits.Trump.{Trump}
+use Rattle.cards.specs.declared.suits.Trump.TheVariants as trump
+use Rattle.cards.specs.Pack.{trump_letters}
+use Rattle.cards.specs.Seats.{seat_letter}
+use Rattle.pbn_deals.specs.declared.boards.Board.{Board}
+use Rattle.pbn_deals.specs.DealValue.{words_of}
+use Rattle.pbn_deals.specs.Lines.{lines_of}
+use Rattle.pbn_deals.specs.Printable.{IsPrintable}
+use Rattle.tables.specs.TablesText.{Results, deal_value, right_in_two, entries, is_complete, published_count, table_text, board_text, numbered_text}
+use Rattle.tables.specs.ReadBack.{AreTricks}
+use Rattle.tables.specs.PageReading.{all_items, Row, seat_named, denomination_named, number_named, row_of_words, row_in, Table, Rows, Incomplete, rows_table, count_of_words, value_of_tag, value_in, table_in, Block, block_in, is_empty_line, has_lines, blocks_of, page_in}
+use Rattle.tables.specs.WrittenOnce.{numbers_in, SaysResults, SaysBoard, SayBoards, PagesAreRead}
+use Rattle.tables.proofs.SmallNumbers.{for_small}
+use Rattle.tables.proofs.CalmTexts.{NoQuote}
+use Rattle.tables.proofs.BoardsBack.{row_body, table_tag_body, incomplete_body, published_count-le, tag_body, board_tag_of, deal_tag_of, no_quote, IsReadable, readable_deal}
+use Rattle.tables.proofs.PageLines.{AreSmall, result_lines, entry_lines, complete-lines, incomplete-lines, empty-line, board-lines, page-lines}
+
+-- ---- a row
+number-word : (n : ℕ) → n ≤ 20 → words_of (right_in_two (decimal n)) ≡ decimal n ∷ []
+number-word = for_small (λ n text. words_of (right_in_two text) ≡ text ∷ []) refl refl refl refl refl refl refl refl refl refl refl refl refl refl refl refl refl refl refl refl refl
+
+number-named : (n : ℕ) → n ≤ 20 → number_named (decimal n) ≡ Some n
+number-named = for_small (λ n text. number_named text ≡ Some n) refl refl refl refl refl refl refl refl refl refl refl refl refl refl refl refl refl refl refl refl refl
+
+row-words : (declarer : Seat) (denomination : Trump) (tricks : ℕ) → words_of (row_body declarer denomination tricks) ≡ seat_letter declarer ∷ trump_letters denomination ∷ words_of (right_in_two (decimal tricks))
+unfolding row_body
+row-words North trump.Nt tricks = refl
+row-words North (trump.Suit Spades) tricks = refl
+row-words North (trump.Suit Hearts) tricks = refl
+row-words North (trump.Suit Diamonds) tricks = refl
+row-words North (trump.Suit Clubs) tricks = refl
+row-words East trump.Nt tricks = refl
+row-words East (trump.Suit Spades) tricks = refl
+row-words East (trump.Suit Hearts) tricks = refl
+row-words East (trump.Suit Diamonds) tricks = refl
+row-words East (trump.Suit Clubs) tricks = refl
+row-words South trump.Nt tricks = refl
+row-words South (trump.Suit Spades) tricks = refl
+row-words South (trump.Suit Hearts) tricks = refl
+row-words South (trump.Suit Diamonds) tricks = refl
+row-words South (trump.Suit Clubs) tricks = refl
+row-words West trump.Nt tricks = refl
+row-words West (trump.Suit Spades) tricks = refl
+row-words West (trump.Suit Hearts) tricks = refl
+row-words West (trump.Suit Diamonds) tricks = refl
+row-words West (trump.Suit Clubs) tricks = refl
+
+seat-named : (declarer : Seat) → seat_named (seat_letter declarer) ≡ Some declarer
+seat-named North = refl
+seat-named East = refl
+seat-named South = refl
+seat-named West = refl
+
+denomination-named : (denomination : Trump) → denomination_named (trump_letters denomination) ≡ Some denomination
+denomination-named trump.Nt = refl
+denomination-named (trump.Suit Spades) = refl
+denomination-named (trump.Suit Hearts) = refl
+denomination-named (trump.Suit Diamonds) = refl
+denomination-named (trump.Suit Clubs) = refl
+
+row-read : (declarer : Seat) (denomination : Trump) (tricks : ℕ) → tricks ≤ 13 → row_in (row_body declarer denomination tricks) ≡ Some (record { declarer = declarer; denomination = denomination; tricks = tricks })
+row-read declarer denomination tricks h =
+    let words : words_of (row_body declarer denomination tricks) ≡ seat_letter declarer ∷ trump_letters denomination ∷ decimal tricks ∷ [] =
+    row-words declarer denomination tricks ∙ ap (λ (words : List (List ℕ)). seat_letter declarer ∷ trump_letters denomination ∷ words) (number-word tricks (omega arith)) in
+    ap row_of_words words ∙ rw (seat-named declarer, denomination-named denomination, number-named tricks (omega arith)) refl
+
+-- ---- the rows of a complete table
+abbrev row_at : Results → Seat × Trump → Row
+row_at results entry = record { declarer = entry.0; denomination = entry.1; tricks = unwrap_or (results entry.0 entry.1) 0 }
+
+abbrev is_known : Results → Seat × Trump → Bool
+is_known results entry = is_some (results entry.0 entry.1)
+
+rows-read : (results : Results) (some : List (Seat × Trump)) → AreSmall results → AllByRecursion (λ entry. is_known results entry ≡ true) some → all_items (map row_in (flat_map (entry_lines results) some)) ≡ Some (map (row_at results) some)
+rows-read results [] small known = refl
+rows-read results (entry ∷ some) small known = go (results entry.0 entry.1) (small entry.0 entry.1) known.0 (rows-read results some small known.1)
+  where
+    go : (result : Option ℕ) → IfSome result (λ tricks. tricks ≤ 13) → is_some result ≡ true → all_items (map row_in (flat_map (entry_lines results) some)) ≡ Some (map (row_at results) some) → all_items (map row_in (result_lines entry.0 entry.1 result ++ flat_map (entry_lines results) some)) ≡ Some (record { declarer = entry.0; denomination = entry.1; tricks = unwrap_or result 0 } ∷ map (row_at results) some)
+    go None h e more = absurd (cc)
+    go (Some tricks) h e more = rw (row-read entry.0 entry.1 tricks h, more) refl
+
+all_kept : {X : Type 0} (p : X → Bool) (xs : List X) → length (filter p xs) ≡ length xs → AllByRecursion (λ x. p x ≡ true) xs
+all_kept p [] h = tt
+all_kept {X} p (x ∷ xs) h = go (p x) refl (all_kept p xs) h
+  where
+    go : (b : Bool) → p x ≡ b → (length (filter p xs) ≡ length xs → AllByRecursion (λ y. p y ≡ true) xs) → length (cond b (x ∷ filter p xs) (filter p xs)) ≡ length (x ∷ xs) → AllByRecursion (λ y. p y ≡ true) (x ∷ xs)
+    go true e more k = (e, more (omega (arith, k)))
+    go false e more k = absurd (omega (arith, k, length-filter p xs, count_by-le-length p xs))
+
+all_known : (results : Results) → is_complete results ≡ true → AllByRecursion (λ entry. is_known results entry ≡ true) entries
+unfolding is_complete published_count
+all_known results e = all_kept (is_known results) entries (length-filter (is_known results) entries ∙ eqb-true _ 20 e)
+
+known_result : (result : Option ℕ) → is_some result ≡ true → result ≡ Some (unwrap_or result 0)
+known_result None e = absurd (cc)
+known_result (Some tricks) e = refl
+
+known-at : (results : Results) → AllByRecursion (λ entry. is_known results entry ≡ true) entries → (declarer : Seat) (denomination : Trump) → is_some (results declarer denomination) ≡ true
+known-at results h North trump.Nt = h.0
+known-at results h North (trump.Suit Spades) = h.1.0
+known-at results h North (trump.Suit Hearts) = h.1.1.0
+known-at results h North (trump.Suit Diamonds) = h.1.1.1.0
+known-at results h North (trump.Suit Clubs) = h.1.1.1.1.0
+known-at results h South trump.Nt = h.1.1.1.1.1.0
+known-at results h South (trump.Suit Spades) = h.1.1.1.1.1.1.0
+known-at results h South (trump.Suit Hearts) = h.1.1.1.1.1.1.1.0
+known-at results h South (trump.Suit Diamonds) = h.1.1.1.1.1.1.1.1.0
+known-at results h South (trump.Suit Clubs) = h.1.1.1.1.1.1.1.1.1.0
+known-at results h East trump.Nt = h.1.1.1.1.1.1.1.1.1.1.0
+known-at results h East (trump.Suit Spades) = h.1.1.1.1.1.1.1.1.1.1.1.0
+known-at results h East (trump.Suit Hearts) = h.1.1.1.1.1.1.1.1.1.1.1.1.0
+known-at results h East (trump.Suit Diamonds) = h.1.1.1.1.1.1.1.1.1.1.1.1.1.0
+known-at results h East (trump.Suit Clubs) = h.1.1.1.1.1.1.1.1.1.1.1.1.1.1.0
+known-at results h West trump.Nt = h.1.1.1.1.1.1.1.1.1.1.1.1.1.1.1.0
+known-at results h West (trump.Suit Spades) = h.1.1.1.1.1.1.1.1.1.1.1.1.1.1.1.1.0
+known-at results h West (trump.Suit Hearts) = h.1.1.1.1.1.1.1.1.1.1.1.1.1.1.1.1.1.0
+known-at results h West (trump.Suit Diamonds) = h.1.1.1.1.1.1.1.1.1.1.1.1.1.1.1.1.1.1.0
+known-at results h West (trump.Suit Clubs) = h.1.1.1.1.1.1.1.1.1.1.1.1.1.1.1.1.1.1.1.0
+
+once-at : (results : Results) (declarer : Seat) (denomination : Trump) → numbers_in (map (row_at results) entries) declarer denomination ≡ unwrap_or (results declarer denomination) 0 ∷ []
+once-at results North trump.Nt = refl
+once-at results North (trump.Suit Spades) = refl
+once-at results North (trump.Suit Hearts) = refl
+once-at results North (trump.Suit Diamonds) = refl
+once-at results North (trump.Suit Clubs) = refl
+once-at results South trump.Nt = refl
+once-at results South (trump.Suit Spades) = refl
+once-at results South (trump.Suit Hearts) = refl
+once-at results South (trump.Suit Diamonds) = refl
+once-at results South (trump.Suit Clubs) = refl
+once-at results East trump.Nt = refl
+once-at results East (trump.Suit Spades) = refl
+once-at results East (trump.Suit Hearts) = refl
+once-at results East (trump.Suit Diamonds) = refl
+once-at results East (trump.Suit Clubs) = refl
+once-at results West trump.Nt = refl
+once-at results West (trump.Suit Spades) = refl
+once-at results West (trump.Suit Hearts) = refl
+once-at results West (trump.Suit Diamonds) = refl
+once-at results West (trump.Suit Clubs) = refl
+
+rows-say : (results : Results) → is_complete results ≡ true → SaysResults results (Rows (map (row_at results) entries))
+rows-say results e =
+    let known = known-at results (all_known results e) in (
+      refl,
+      λ declarer denomination. record {
+        tricks = unwrap_or (results declarer denomination) 0;
+        result = known_result (results declarer denomination) (known declarer denomination);
+        once = once-at results declarer denomination;
+      },
+    )
+
+-- ---- a table
+record ReadsTable (results : Results) : Type 0 where
+  line : List ℕ
+  below : List (List ℕ)
+  table : Table
+  lines : (rest : List ℕ) → lines_of (table_text results ++ rest) ≡ line ∷ (below ++ lines_of rest)
+  some_bytes : AllByRecursion (λ line. is_empty_line line ≡ false) (line ∷ below)
+  read : table_in line below ≡ Some table
+  says : SaysResults results table
+
+row-some_bytes : (declarer : Seat) (denomination : Trump) (tricks : ℕ) → is_empty_line (row_body declarer denomination tricks) ≡ false
+unfolding row_body
+row-some_bytes North denomination tricks = refl
+row-some_bytes East denomination tricks = refl
+row-some_bytes South denomination tricks = refl
+row-some_bytes West denomination tricks = refl
+
+rows-some_bytes : (results : Results) (some : List (Seat × Trump)) → AllByRecursion (λ line. is_empty_line line ≡ false) (flat_map (entry_lines results) some)
+rows-some_bytes results [] = tt
+rows-some_bytes results (entry ∷ some) = go (results entry.0 entry.1) (rows-some_bytes results some)
+  where
+    go : (result : Option ℕ) → AllByRecursion (λ line. is_empty_line line ≡ false) (flat_map (entry_lines results) some) → AllByRecursion (λ line. is_empty_line line ≡ false) (result_lines entry.0 entry.1 result ++ flat_map (entry_lines results) some)
+    go None more = more
+    go (Some tricks) more = (row-some_bytes entry.0 entry.1 tricks, more)
+
+table_tag-some_bytes : is_empty_line table_tag_body ≡ false
+unfolding table_tag_body
+table_tag-some_bytes = refl
+
+rows_below : (lines : List (List ℕ)) → table_in table_tag_body lines ≡ rows_table (all_items (map row_in lines))
+unfolding table_tag_body
+rows_below lines = refl
+
+incomplete-some_bytes : (count : ℕ) → is_empty_line (incomplete_body count) ≡ false
+unfolding incomplete_body
+incomplete-some_bytes count = refl
+
+incomplete-alone : (count : ℕ) → table_in (incomplete_body count) [] ≡ count_of_words (words_of (incomplete_body count))
+unfolding incomplete_body
+incomplete-alone count = refl
+
+incomplete-words : (count : ℕ) → count ≤ 20 → count_of_words (words_of (incomplete_body count)) ≡ Some (Incomplete count)
+unfolding incomplete_body
+incomplete-words = for_small (λ n text. count_of_words (words_of (codes "; table incomplete: " ++ (text ++ codes " of 20"))) ≡ Some (Incomplete n)) refl refl refl refl refl refl refl refl refl refl refl refl refl refl refl refl refl refl refl refl refl
+
+is_complete-from : (results : Results) → published_count results ≡ 20 → is_complete results ≡ true
+unfolding is_complete
+is_complete-from results e = rw e refl
+
+fewer : (results : Results) → is_complete results ≡ false → published_count results < 20
+fewer results e =
+    let other : published_count results ≡ 20 → ⊥ = λ same. absurd (let t = is_complete-from results same in cc) in
+    let most = published_count-le results in
+    omega (arith, most, other)
+
+reads_table : (results : Results) → AreSmall results → ReadsTable results
+reads_table results small =
+    elim (cases_Bool (is_complete results)) [
+      | inl t ↦ record {
+        line = table_tag_body;
+        below = flat_map (entry_lines results) entries;
+        table = Rows (map (row_at results) entries);
+        lines = λ rest. complete-lines results rest small t;
+        some_bytes = (table_tag-some_bytes, rows-some_bytes results entries);
+        read = rows_below (flat_map (entry_lines results) entries) ∙ ap rows_table (rows-read results entries small (all_known results t));
+        says = rows-say results t;
+      }
+      | inr f ↦ record {
+        line = incomplete_body (published_count results);
+        below = [];
+        table = Incomplete (published_count results);
+        lines = λ rest. incomplete-lines results rest f;
+        some_bytes = (incomplete-some_bytes (published_count results), tt);
+        read = incomplete-alone (published_count results) ∙ incomplete-words (published_count results) (published_count-le results);
+        says = (refl, fewer results f);
+      }
+    ]
+
+-- ---- a block
+board-value : (name : List ℕ) → NoQuote name → value_in (codes "Board") (tag_body (codes "Board") name) ≡ Some name
+unfolding tag_body
+board-value name h = ap (value_of_tag (codes "Board")) (board_tag_of name h)
+
+deal-value : (value : List ℕ) → NoQuote value → value_in (codes "Deal") (tag_body (codes "Deal") value) ≡ Some value
+unfolding tag_body
+deal-value value h = ap (value_of_tag (codes "Deal")) (deal_tag_of value h)
+
+tag-some_bytes : (name value : List ℕ) → is_empty_line (tag_body name value) ≡ false
+unfolding tag_body
+tag-some_bytes name value = refl
+
+cut_block : (line : List ℕ) (lines more : List (List ℕ)) → AllByRecursion (λ line. is_empty_line line ≡ false) (line ∷ lines) → blocks_of ((line ∷ lines) ++ [] ∷ more) ≡ (line ∷ lines) ∷ blocks_of more
+cut_block line lines more h = ap (filter has_lines) (slice_split_at is_empty_line (line ∷ lines) [] more (All-from_recursion _ (line ∷ lines) h) refl)
+
+-- what is read of the lines of a text
+abbrev blocks_in : List ℕ → Option (List Block)
+blocks_in text = all_items (map block_in (blocks_of (lines_of text)))
+
+record ReadsBoard (board : Board) (results : Results) : Type 0 where
+  block : Block
+  read : (rest : List ℕ) (blocks : List Block) → blocks_in rest ≡ Some blocks → blocks_in (board_text board results ++ rest) ≡ Some (block ∷ blocks)
+  says : SaysBoard board results block
+
+reads_board : (board : Board) (results : Results) → IsPrintable board → IsReadable board.deal → AreSmall results → ReadsBoard board results
+reads_board board results printable readable small =
+    let name = board.name in
+    let value = deal_value board.deal in
+    let board_line = tag_body (codes "Board") name in
+    let deal_line = tag_body (codes "Deal") value in
+    let t = reads_table results small in
+    let block : Block = record { name = name; deal = value; table = t.table } in
+    let quoteless = no_quote name (recursion_from_All _ name printable.no_quote) in
+    let read_one : block_in (board_line ∷ deal_line ∷ t.line ∷ t.below) ≡ Some block = rw (board-value name quoteless, deal-value value readable.quoteless, t.read) refl in
+    record {
+      block = block;
+      read = λ rest blocks more.
+          let below : lines_of (table_text results ++ 10 ∷ rest) ≡ t.line ∷ (t.below ++ [] ∷ lines_of rest) = t.lines (10 ∷ rest) ∙ ap (λ (lines : List (List ℕ)). t.line ∷ (t.below ++ lines)) (empty-line rest) in
+          let lines : lines_of (board_text board results ++ rest) ≡ (board_line ∷ deal_line ∷ t.line ∷ t.below) ++ [] ∷ lines_of rest = board-lines board results rest printable readable ∙ ap (λ (lines : List (List ℕ)). board_line ∷ deal_line ∷ lines) below in
+          let cut = cut_block board_line (deal_line ∷ t.line ∷ t.below) (lines_of rest) (tag-some_bytes (codes "Board") name, (tag-some_bytes (codes "Deal") value, t.some_bytes)) in
+          ap (λ (lines : List (List ℕ)). all_items (map block_in (blocks_of lines))) lines
+          ∙ (ap (λ (parts : List (List (List ℕ))). all_items (map block_in parts)) cut
+          ∙ rw (read_one, more) refl);
+      says = record { name = refl; deal = readable.says; table = t.says };
+    }
+
+-- ---- the page
+record ReadsBoards (boards : List Board) (results : ℕ → Results) (place : ℕ) : Type 0 where
+  blocks : List Block
+  read : blocks_in (flat_map (numbered_text results) (enumerate_from place boards)) ≡ Some blocks
+  says : SayBoards results (enumerate_from place boards) blocks
+
+reads_boards : (boards : List Board) (results : ℕ → Results) (place : ℕ) → AllByRecursion IsPrintable boards → AreTricks results → ReadsBoards boards results place
+reads_boards [] results place printable small = record { blocks = []; read = refl; says = tt }
+reads_boards (board ∷ boards) results place printable small =
+    let more = reads_boards boards results (place + 1) printable.1 small in
+    let one = reads_board board (results place) printable.0 (readable_deal board.deal printable.0.deal) (small place) in
+    record {
+      blocks = one.block ∷ more.blocks;
+      read = one.read (flat_map (numbered_text results) (enumerate_from (place + 1) boards)) more.blocks more.read;
+      says = (one.says, more.says);
+    }
+
+pub pages_are_read : PagesAreRead
+pages_are_read boards results printable small =
+    let page = reads_boards boards results 0 (recursion_from_All _ boards printable) small in
+    (page.blocks, ap page_in (page-lines boards results) ∙ page.read, page.says)

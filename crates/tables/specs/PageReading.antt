@@ -1,0 +1,144 @@
+-- How a page of tables is read, line by line. Nothing here looks at how it is written: lines end at line feeds, blocks at
+-- empty lines, words at blanks, and a tag pair is one of PBN (`Tags` of `pbn_deals`). A line out of place refuses the page.
+use Rattle.std.specs.Prelude.{ℕ, ◌==◌, Bool, true, false, not, ◌&&◌, List, [], ◌∷◌, ◌++◌, map, filter, codes}
+use Rattle.std.specs.Prelude.{Option, None, Some, if◌then◌else◌, bytes_eq}
+use Rattle.std.specs.List.{slice_split}
+use Rattle.std.specs.Str.{all_ascii_digits}
+use Rattle.std.specs.Str.Parse.{digits_value}
+use Rattle.cards.specs.declared.seats.Seat.{Seat}
+use Rattle.cards.specs.declared.seats.Seat.TheVariants.{North, East, South, West}
+use Rattle.cards.specs.declared.suits.Suit.TheVariants.{Spades, Hearts, Diamonds, Clubs}
+use Rattle.cards.specs.declared.suits.Trump.{Trump}
+use Rattle.cards.specs.declared.suits.Trump.TheVariants as trump
+use Rattle.pbn_deals.specs.DealValue.{is_word, words_of}
+use Rattle.pbn_deals.specs.Tags.{Tag, tag_of}
+
+-- the items, where all are there
+abbrev pub put_item : {A : Type 0} → Option A → Option (List A) → Option (List A)
+put_item (Some item) (Some items) = Some (item ∷ items)
+put_item (Some item) None = None
+put_item None items = None
+
+abbrev pub all_items : {A : Type 0} → List (Option A) → Option (List A)
+all_items [] = Some []
+all_items (item ∷ items) = put_item item (all_items items)
+
+-- ---- a row: a declarer, a denomination and a number
+pub record Row : Type 0 where
+  pub declarer : Seat
+  pub denomination : Trump
+  pub tricks : ℕ
+
+abbrev pub seat_named : List ℕ → Option Seat
+seat_named word =
+    if bytes_eq word (codes "N") then Some North else
+    (if bytes_eq word (codes "E") then Some East else
+    (if bytes_eq word (codes "S") then Some South else
+    (if bytes_eq word (codes "W") then Some West else
+    None)))
+
+abbrev pub denomination_named : List ℕ → Option Trump
+denomination_named word =
+    if bytes_eq word (codes "NT") then Some trump.Nt else
+    (if bytes_eq word (codes "S") then Some (trump.Suit Spades) else
+    (if bytes_eq word (codes "H") then Some (trump.Suit Hearts) else
+    (if bytes_eq word (codes "D") then Some (trump.Suit Diamonds) else
+    (if bytes_eq word (codes "C") then Some (trump.Suit Clubs) else
+    None))))
+
+-- a number in decimal digits
+abbrev pub number_named : List ℕ → Option ℕ
+number_named word = if is_word word && all_ascii_digits word then Some (digits_value 10 word) else None
+
+abbrev pub row_of : Option Seat → Option Trump → Option ℕ → Option Row
+row_of (Some declarer) (Some denomination) (Some tricks) =
+    Some (record { declarer = declarer; denomination = denomination; tricks = tricks })
+row_of _ _ _ = None
+
+abbrev pub row_of_words : List (List ℕ) → Option Row
+row_of_words (declarer ∷ denomination ∷ tricks ∷ []) =
+    row_of (seat_named declarer) (denomination_named denomination) (number_named tricks)
+row_of_words _ = None
+
+abbrev pub row_in : List ℕ → Option Row
+row_in line = row_of_words (words_of line)
+
+-- ---- a table: rows below their heading, or how many results there are
+pub data Table : Type 0 where
+  Rows : List Row → Table
+  Incomplete : ℕ → Table
+
+abbrev pub rows_table : Option (List Row) → Option Table
+rows_table (Some rows) = Some (Rows rows)
+rows_table None = None
+
+abbrev pub count_table : Option ℕ → Option Table
+count_table (Some count) = Some (Incomplete count)
+count_table None = None
+
+-- the words of `; table incomplete: m of 20`
+abbrev pub count_of_words : List (List ℕ) → Option Table
+count_of_words (mark ∷ table ∷ incomplete ∷ count ∷ out_of ∷ twenty ∷ []) =
+    if bytes_eq mark (codes ";")
+    && (bytes_eq table (codes "table")
+    && (bytes_eq incomplete (codes "incomplete:")
+    && (bytes_eq out_of (codes "of") && bytes_eq twenty (codes "20"))))
+    then count_table (number_named count) else None
+count_of_words _ = None
+
+-- the value of a tag pair of this name with nothing after it
+abbrev pub value_of_tag : List ℕ → Option Tag → Option (List ℕ)
+value_of_tag name None = None
+value_of_tag name (Some tag) = if bytes_eq tag.name name && not (is_word tag.rest) then Some tag.value else None
+
+-- the value of the tag pair of this name that is the whole line
+abbrev pub value_in : List ℕ → List ℕ → Option (List ℕ)
+value_in name [] = None
+value_in name (byte ∷ bytes) = if byte == 91 then value_of_tag name (tag_of bytes) else None
+
+-- the columns of a table (PBN 2.1, the OptimumResultTable tag)
+abbrev pub are_columns : Option (List ℕ) → Bool
+are_columns None = false
+are_columns (Some value) = bytes_eq value (codes "Declarer;Denomination" ++ (92 ∷ codes "2R;Result") ++ (92 ∷ codes "2R"))
+
+-- a line that stands alone tells a number
+abbrev pub count_alone : List ℕ → List (List ℕ) → Option Table
+count_alone line [] = count_of_words (words_of line)
+count_alone line (below ∷ lines) = None
+
+abbrev pub table_in : List ℕ → List (List ℕ) → Option Table
+table_in line below =
+    if are_columns (value_in (codes "OptimumResultTable") line) then rows_table (all_items (map row_in below))
+    else count_alone line below
+
+-- ---- a block: the value of its Board tag, the value of its Deal tag, and its table
+pub record Block : Type 0 where
+  pub name : List ℕ
+  pub deal : List ℕ
+  pub table : Table
+
+abbrev pub block_of : Option (List ℕ) → Option (List ℕ) → Option Table → Option Block
+block_of (Some name) (Some deal) (Some table) = Some (record { name = name; deal = deal; table = table })
+block_of _ _ _ = None
+
+abbrev pub block_in : List (List ℕ) → Option Block
+block_in (board ∷ deal ∷ table ∷ below) =
+    block_of (value_in (codes "Board") board) (value_in (codes "Deal") deal) (table_in table below)
+block_in _ = None
+
+-- the blocks: the parts between empty lines that have a line
+abbrev pub is_empty_line : List ℕ → Bool
+is_empty_line line = not (is_word line)
+
+abbrev pub has_lines : List (List ℕ) → Bool
+has_lines [] = false
+has_lines (line ∷ lines) = true
+
+abbrev pub blocks_of : List (List ℕ) → List (List (List ℕ))
+blocks_of lines = filter has_lines (slice_split is_empty_line lines)
+
+-- ---- a page: its first line, and the blocks below it
+abbrev pub page_in : List (List ℕ) → Option (List Block)
+page_in [] = None
+page_in (first ∷ lines) =
+    if bytes_eq first (codes "% PBN 2.1") then all_items (map block_in (blocks_of lines)) else None
