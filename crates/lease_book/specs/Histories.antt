@@ -1,5 +1,6 @@
 -- What follows from a list of events: which leases were given, which are held, what is published, what is open.
-use Rattle.std.specs.Prelude.{ℕ, Bool, false, not, ◌&&◌, List, [], ◌∷◌, ◌++◌, Option, None, Some, is_some, is_none, if◌then◌else◌, nat_eq, nat_le, nat_lt, count_by, slice_get}
+use Rattle.std.specs.Prelude.{ℕ, Bool, false, not, ◌&&◌, List, [], ◌∷◌, ◌++◌, Option, None, Some, is_some, is_none}
+use Rattle.std.specs.Prelude.{if◌then◌else◌, nat_eq, nat_le, nat_lt, count_by, slice_get}
 use Rattle.std.specs.List.{filter_map, find, list_any}
 use Rattle.std.specs.Option.{option_or}
 use Rattle.cards.specs.Deal.{Deal}
@@ -9,7 +10,8 @@ use Rattle.lease_book.specs.declared.events.Grant.{Grant}
 use Rattle.lease_book.specs.declared.events.Asked.{Asked}
 use Rattle.lease_book.specs.declared.events.Asked.TheVariants.{Lease, Expire, GiveUp, HandIn}
 use Rattle.lease_book.specs.declared.events.Reply.{Reply}
-use Rattle.lease_book.specs.declared.events.Reply.TheVariants.{Given, Nothing, Freed, GaveUp, UnknownLease, NotHeld, OtherEntry, AlreadyPublished, BadCertificate, Published}
+use Rattle.lease_book.specs.declared.events.Reply.TheVariants.{Given, Nothing, Freed, GaveUp, UnknownLease, NotHeld}
+use Rattle.lease_book.specs.declared.events.Reply.TheVariants.{OtherEntry, AlreadyPublished, BadCertificate, Published}
 use Rattle.lease_book.specs.declared.events.Event.{Event}
 use Rattle.lease_book.specs.Entries.{place_of}
 

@@ -1,5 +1,6 @@
 -- What a book keeps beside its history, and what that has to be.
-use Rattle.std.specs.Prelude.{◌≡◌, ℕ, suc, ◌-◌, ◌*◌, ◌/◌, ◌<◌, ◌≤◌, false, List, [], ◌∷◌, length, None, Some, is_some, ◌⊎◌, if◌then◌else◌, slice_index_or}
+use Rattle.std.specs.Prelude.{◌≡◌, ℕ, suc, ◌-◌, ◌*◌, ◌/◌, ◌<◌, ◌≤◌, false, List, [], ◌∷◌, length, None, Some, is_some}
+use Rattle.std.specs.Prelude.{◌⊎◌, if◌then◌else◌, slice_index_or}
 use Rattle.std.specs.List.{find, list_any}
 use Rattle.cards.specs.Deal.{Deal}
 use Rattle.lease_book.specs.declared.entries.Entry.{Entry}
@@ -8,7 +9,8 @@ use Rattle.lease_book.specs.declared.events.Event.{Event}
 use Rattle.lease_book.specs.declared.slots.Slot.{Slot}
 use Rattle.lease_book.specs.Entries.{place_of}
 use Rattle.lease_book.specs.Proofs.{IsProven}
-use Rattle.lease_book.specs.Histories.{Terms, given_in, held_after, published_at, published_in, times_leased, deal_of, is_numbered, is_for_place}
+use Rattle.lease_book.specs.Histories.{Terms, given_in, held_after, published_at, published_in, times_leased, deal_of}
+use Rattle.lease_book.specs.Histories.{is_numbered, is_for_place}
 use Rattle.lease_book.specs.Replies.{IsLegal}
 
 -- the lease is one of these

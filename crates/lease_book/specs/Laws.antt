@@ -9,7 +9,8 @@ use Rattle.lease_book.specs.declared.events.Reply.{Reply}
 use Rattle.lease_book.specs.declared.events.Reply.TheVariants.{Nothing}
 use Rattle.lease_book.specs.declared.events.Event.{Event}
 use Rattle.lease_book.specs.Entries.{place_of}
-use Rattle.lease_book.specs.Histories.{Terms, given_in, held_after, is_for_place, published_by, published_in, times_leased, deal_of}
+use Rattle.lease_book.specs.Histories.{Terms, given_in, held_after, is_for_place, published_by, published_in}
+use Rattle.lease_book.specs.Histories.{times_leased, deal_of}
 use Rattle.lease_book.specs.Replies.{IsReply, IsLegal}
 use Rattle.lease_book.specs.GoodHandIns.{first_good}
 

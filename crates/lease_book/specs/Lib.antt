@@ -9,3 +9,5 @@ pub mod GoodHandIns
 pub mod Laws
 pub mod Requests
 pub mod Replays
+pub mod ReplyTexts
+pub mod BookFaults

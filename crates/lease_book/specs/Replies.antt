@@ -1,5 +1,6 @@
 -- The reply that a history names for each request, and the histories in which each reply is that one.
-use Rattle.std.specs.Prelude.{◌≡◌, ℕ, ◌+◌, ◌-◌, ◌^◌, ◌≤◌, min, Bool, true, false, ◌&&◌, List, [], ◌∷◌, ◌++◌, length, Option, None, Some, is_some, if◌then◌else◌, nat_eq, count_by}
+use Rattle.std.specs.Prelude.{◌≡◌, ℕ, ◌+◌, ◌-◌, ◌^◌, ◌≤◌, min, Bool, true, false, ◌&&◌, List, [], ◌∷◌, ◌++◌, length}
+use Rattle.std.specs.Prelude.{Option, None, Some, is_some, if◌then◌else◌, nat_eq, count_by}
 use Rattle.cards.specs.Deal.{Deal, is_same_deal}
 use Rattle.pbn_deals.specs.declared.boards.Board.{Board}
 use Rattle.checker.specs.declared.entries.Shown.{Shown}
@@ -10,10 +11,12 @@ use Rattle.lease_book.specs.declared.events.Evidence.TheVariants.{Shows, Faulty}
 use Rattle.lease_book.specs.declared.events.Asked.{Asked}
 use Rattle.lease_book.specs.declared.events.Asked.TheVariants.{Lease, Expire, GiveUp, HandIn}
 use Rattle.lease_book.specs.declared.events.Reply.{Reply}
-use Rattle.lease_book.specs.declared.events.Reply.TheVariants.{Given, Nothing, Freed, GaveUp, UnknownLease, NotHeld, OtherEntry, AlreadyPublished, BadCertificate, Published}
+use Rattle.lease_book.specs.declared.events.Reply.TheVariants.{Given, Nothing, Freed, GaveUp, UnknownLease, NotHeld}
+use Rattle.lease_book.specs.declared.events.Reply.TheVariants.{OtherEntry, AlreadyPublished, BadCertificate, Published}
 use Rattle.lease_book.specs.declared.events.Event.{Event}
 use Rattle.lease_book.specs.Entries.{contract_place, place_of, is_same_entry}
-use Rattle.lease_book.specs.Histories.{Terms, given_in, grant_of, held_after, is_held, is_past, is_open, published_in, deal_of}
+use Rattle.lease_book.specs.Histories.{Terms, given_in, grant_of, held_after, is_held, is_past, is_open, published_in}
+use Rattle.lease_book.specs.Histories.{deal_of}
 
 -- the lease given is the next one, for the least open entry, with the moment plus the term as its deadline
 pub record IsNextLease (terms : Terms) (before : List Event) (now lease : ℕ) (entry : Entry) (deadline : ℕ) : Type 0 where

@@ -4,7 +4,6 @@ ghost use Rattle.std.specs.Prelude.{◌≡◌, ◌+◌, ◌<◌, ◌≤◌, ◌+
 
 use crate::entries::Entry;
 use checker::{HandFault, OutOfMemory, Shown};
-use thiserror::Error;
 
 /// A lease that was given.
 #[derive(Clone, Copy, Debug, PartialEq)]
@@ -56,10 +55,9 @@ pub enum Asked {
 }
 
 /// What a book replies. Every refusal but `BadCertificate` leaves leases and publications as they were.
-#[derive(Clone, Copy, Debug, PartialEq, Error)]
+#[derive(Clone, Copy, Debug, PartialEq)]
 pub enum Reply {
     /// A lease was given.
-    #[error("given {lease}")]
     Given {
         /// Its number.
         lease: u64,
@@ -69,31 +67,22 @@ pub enum Reply {
         deadline: u64,
     },
     /// No entry is open.
-    #[error("nothing")]
     Nothing,
     /// So many leases were freed.
-    #[error("freed {0}")]
     Freed(u64),
     /// The lease was taken back.
-    #[error("gave up")]
     GaveUp,
     /// No lease of this number was given.
-    #[error("1 UnknownLease")]
     UnknownLease,
     /// The lease was freed before.
-    #[error("2 NotHeld")]
     NotHeld,
     /// The lease is for another entry, or what was shown is of another layout, declarer or denomination.
-    #[error("3 OtherEntry")]
     OtherEntry,
     /// The entry has a number already.
-    #[error("4 AlreadyPublished")]
     AlreadyPublished,
     /// Nothing was shown. The lease is freed if it was held.
-    #[error("5 BadCertificate {0}")]
     BadCertificate(HandFault),
     /// The entry has this number from now on.
-    #[error("published {0}")]
     Published(u8),
 }
 

@@ -11,6 +11,7 @@ mod events;
 mod faults;
 mod laws;
 mod replays;
+mod replies;
 mod requests;
 mod slots;
 
@@ -23,4 +24,5 @@ pub use laws::{
     gives_few_leases, names_one_reply, nothing_is_left, publishes_first_good, publishes_once,
 };
 pub use replays::replay;
+pub use replies::answer_number;
 pub use requests::{GraphText, Request};
