@@ -31,7 +31,7 @@ AreBoards boards = length boards ≤ 4096
 abbrev pub AreTries : ℕ → Type 0
 AreTries tries = (1 ≤ tries) × (tries ≤ 1000)
 
--- the first fault of the terms, or memory was wanting
+-- the first fault of the terms, or, where they have none, that memory ran out
 abbrev pub IsRefused : Terms → BookFault → Type 0
 IsRefused terms TooManyBoards = 4096 < length terms.boards
 IsRefused terms Tries = AreBoards terms.boards × ((terms.tries ≡ 0) ⊎ (1000 < terms.tries))

@@ -123,8 +123,9 @@ fn is_shown_for(deal: &Option<Layout>, entry: &Entry, shown: &Shown) -> bool
 }
 
 impl Book {
-    /// A book over these boards, at most 4,096, without a history. A lease lasts a term, and an entry is leased at most
-    /// as often as `tries` says, 1 to 1,000.
+    /// A book over these boards, at most 4,096, without a history. A lease lasts a term, in the unit of the moments that
+    /// the book is told, and an entry is leased at most as often as `tries` says, 1 to 1,000. The fault is the first that
+    /// applies, in the order of [`BookFault`].
     pub fn new(alloc: Global, boards: Vec<Board>, term: u64, tries: u32) -> Result<Book, BookFault>
         ensures { IsMade (record { boards = boards.items; term = term; tries = tries }) result }
     {
@@ -174,7 +175,7 @@ impl Book {
         self.slots.slot(entry.place()).published
     }
 
-    /// Gives the least open entry to the one who asks, or answers that none is open.
+    /// Gives the least open entry to the one who asks at this moment, or answers that none is open.
     pub fn lease(&mut self, now: u64) -> Result<Reply, OutOfMemory>
         ensures ok { IfOk result (IsAnswered self.old self.new (Lease now)) }
         ensures err { OnErr result (self.new ≡ self.old) }
@@ -206,7 +207,7 @@ impl Book {
         Ok(add(&mut self.events, asked, reply))
     }
 
-    /// Frees the leases whose deadline is at this moment or before it.
+    /// Frees the leases whose deadline is at this moment or before it, and answers how many.
     pub fn expire(&mut self, now: u64) -> Result<Reply, OutOfMemory>
         ensures ok { IfOk result (IsAnswered self.old self.new (Expire now)) }
         ensures err { OnErr result (self.new ≡ self.old) }
@@ -216,7 +217,8 @@ impl Book {
         Ok(add(&mut self.events, Asked::Expire { now }, Reply::Freed(freed)))
     }
 
-    /// Takes a lease back.
+    /// Takes a lease back: [`UnknownLease`](Reply::UnknownLease), [`NotHeld`](Reply::NotHeld) or
+    /// [`GaveUp`](Reply::GaveUp), the first that applies.
     pub fn give_up(&mut self, lease: u64) -> Result<Reply, OutOfMemory>
         ensures ok { IfOk result (IsAnswered self.old self.new (GiveUp lease)) }
         ensures err { OnErr result (self.new ≡ self.old) }
@@ -231,7 +233,9 @@ impl Book {
         Ok(add(&mut self.events, asked, reply))
     }
 
-    /// Publishes what was shown, if it is the first that counts for the entry.
+    /// Publishes what was shown, if it is the first that counts for the entry: [`UnknownLease`](Reply::UnknownLease),
+    /// [`OtherEntry`](Reply::OtherEntry), [`AlreadyPublished`](Reply::AlreadyPublished),
+    /// [`BadCertificate`](Reply::BadCertificate) or [`Published`](Reply::Published), the first that applies.
     pub fn settle(
         &mut self,
         lease: u64,

@@ -8,24 +8,24 @@ use checker::{HandFault, OutOfMemory, Shown};
 /// A lease that was given.
 #[derive(Clone, Copy, Debug, PartialEq)]
 pub struct Grant {
-    /// Its number, from 1.
+    /// Its number, from 1, in the order in which leases are given.
     pub lease: u64,
     /// The entry that it is for.
     pub entry: Entry,
-    /// The moment from which on it can be expired.
+    /// The moment from which on it can be expired, in the unit of the book's moments.
     pub deadline: u64,
 }
 
 /// What was handed in.
 #[derive(Clone, Copy, Debug, PartialEq)]
 pub enum Evidence {
-    /// It shows this.
+    /// It shows this: a layout, a declarer, a denomination and the tricks of declarer's side.
     Shows(Shown),
-    /// It shows nothing, by this fault.
+    /// It shows nothing, for this fault.
     Faulty(HandFault),
 }
 
-/// What a book is asked.
+/// What a book is asked. Moments are numbers that the caller tells, in a unit of its own.
 #[derive(Clone, Copy, Debug, PartialEq)]
 pub enum Asked {
     /// For a lease, at this moment.
@@ -59,11 +59,11 @@ pub enum Asked {
 pub enum Reply {
     /// A lease was given.
     Given {
-        /// Its number.
+        /// Its number, from 1, in the order in which leases are given.
         lease: u64,
         /// The entry that it is for.
         entry: Entry,
-        /// Its deadline.
+        /// The moment from which on it can be expired.
         deadline: u64,
     },
     /// No entry is open.
@@ -82,7 +82,7 @@ pub enum Reply {
     AlreadyPublished,
     /// Nothing was shown. The lease is freed if it was held.
     BadCertificate(HandFault),
-    /// The entry has this number from now on.
+    /// The entry has this number of tricks from now on, 0 to 13.
     Published(u8),
 }
 

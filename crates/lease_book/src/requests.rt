@@ -43,7 +43,7 @@ impl GraphText {
     }
 }
 
-/// A request to a book. What is handed in is not judged yet.
+/// A request to a book, in its moments. What is handed in is not judged yet.
 #[derive(Drop, Debug)]
 pub enum Request {
     /// For a lease, at this moment.
@@ -67,7 +67,7 @@ pub enum Request {
         lease: u64,
         /// The entry that it is meant for.
         entry: Entry,
-        /// The tricks of declarer's side.
+        /// The tricks of declarer's side, of any size until they are judged.
         k: u8,
         /// The text of the graph for declarer's side.
         declarer: GraphText,
