@@ -28,14 +28,14 @@ ended-more : (part : List ℕ) (parts : List (List ℕ)) → 0 < length parts �
 ended-more part [] h = absurd (omega arith)
 ended-more part (next ∷ parts) h = refl
 
-pub lines_of-cut : (text line behind : List ℕ) → text ≡ line ++ 10 ∷ behind → Lacks 10 line → lines_of text ≡ without_return line ∷ lines_of behind
-lines_of-cut text line behind e h =
+pub lines_of-cut : (text line after : List ℕ) → text ≡ line ++ 10 ∷ after → Lacks 10 line → lines_of text ≡ without_return line ∷ lines_of after
+lines_of-cut text line after e h =
     ap lines_of e
-    ∙ (ap ended (slice_split_at is_line_feed line 10 behind (no_line_feed line h) refl)
-    ∙ ended-more line (slice_split is_line_feed behind) (omega (arith, length-slice_split is_line_feed behind)))
+    ∙ (ap ended (slice_split_at is_line_feed line 10 after (no_line_feed line h) refl)
+    ∙ ended-more line (slice_split is_line_feed after) (omega (arith, length-slice_split is_line_feed after)))
 
-pub behind_shorter : (text line behind : List ℕ) → text ≡ line ++ 10 ∷ behind → length behind < length text
-behind_shorter text line behind e = omega (arith, ap length e, length-append line (10 ∷ behind))
+pub after_shorter : (text line after : List ℕ) → text ≡ line ++ 10 ∷ after → length after < length text
+after_shorter text line after e = omega (arith, ap length e, length-append line (10 ∷ after))
 
 pub lines_of-last : (text : List ℕ) → Lacks 10 text → lines_of text ≡ text ∷ []
 lines_of-last text h = ap ended (slice_split_none is_line_feed text (no_line_feed text h))

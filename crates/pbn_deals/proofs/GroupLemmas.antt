@@ -41,7 +41,7 @@ some_group (byte ∷ bytes) = go (is_dot byte) refl where
   go true e = ([], groups_of bytes, slice_split-cons_yes is_dot byte bytes e)
   go false e = let found = onto (groups_of bytes) in (found.0, found.1, slice_split-cons_no is_dot byte bytes e ∙ found.2)
 
--- no group is left for a text behind the last suit
+-- no group is left for a text after the last suit
 groups_cards-past : (text : List ℕ) → groups_cards [] (groups_of text) ≡ None
 groups_cards-past text = let found = some_group text in ap (groups_cards []) found.2
 

@@ -183,8 +183,8 @@ stops_inj e = cc
 tags_moved : {number count : ℕ} {opened : Option ℕ} {tags tags' : Tags} {lines : List (List ℕ)} {answer : Result (List Board) PbnFault} → tags ≡ tags' → Answers number opened tags count lines answer → Answers number opened tags' count lines answer
 tags_moved {number} {count} {opened} {lines = lines} {answer = answer} e h = subst (λ t. Answers number opened t count lines answer) e h
 
-behind_moved : {number count : ℕ} {tags : Tags} (text text' : List ℕ) {line rest rest' : List ℕ} {last : LineEnd} → line ≡ text ++ 125 ∷ rest → Lacks 125 text → line ≡ text' ++ 125 ∷ rest' → Lacks 125 text' → Scans number count false tags rest' last → Scans number count false tags rest last
-behind_moved {number} {count} {tags} text text' {rest = rest} {rest' = rest'} {last = last} e l e' l' q = moved number count false tags rest' rest last (one_cut 125 text' text rest' rest (sym e' ∙ e) l' l) q
+after_moved : {number count : ℕ} {tags : Tags} (text text' : List ℕ) {line rest rest' : List ℕ} {last : LineEnd} → line ≡ text ++ 125 ∷ rest → Lacks 125 text → line ≡ text' ++ 125 ∷ rest' → Lacks 125 text' → Scans number count false tags rest' last → Scans number count false tags rest last
+after_moved {number} {count} {tags} text text' {rest = rest} {rest' = rest'} {last = last} e l e' l' q = moved number count false tags rest' rest last (one_cut 125 text' text rest' rest (sym e' ∙ e) l' l) q
 
 pub one_answer : {number count : ℕ} {opened : Option ℕ} {tags : Tags} {lines : List (List ℕ)} {one other : Result (List Board) PbnFault} → Answers number opened tags count lines one → Answers number opened tags count lines other → one ≡ other
 one_answer no_line no_line = refl
@@ -219,14 +219,14 @@ one_answer (inner_line l r) (closing_line t' e' l' q' r') = absurd (no_cut 125 _
 one_answer (inner_line l r) (reopening_line t' e' l' q' r') = absurd (no_cut 125 _ t' _ e' l)
 one_answer (inner_line l r) (faulty_closing_line t' e' l' q') = absurd (no_cut 125 _ t' _ e' l)
 one_answer (closing_line t e l q r) (inner_line l' r') = absurd (no_cut 125 _ t _ e l')
-one_answer (closing_line t e l q r) (closing_line t' e' l' q' r') = one_answer r (tags_moved (ends_inj (one_line _ _ (behind_moved t t' e l e' l' q') q)) r')
-one_answer (closing_line t e l q r) (reopening_line t' e' l' q' r') = absurd (let same = one_line _ _ q (behind_moved t t' e l e' l' q') in cc)
-one_answer (closing_line t e l q r) (faulty_closing_line t' e' l' q') = absurd (let same = one_line _ _ q (behind_moved t t' e l e' l' q') in cc)
+one_answer (closing_line t e l q r) (closing_line t' e' l' q' r') = one_answer r (tags_moved (ends_inj (one_line _ _ (after_moved t t' e l e' l' q') q)) r')
+one_answer (closing_line t e l q r) (reopening_line t' e' l' q' r') = absurd (let same = one_line _ _ q (after_moved t t' e l e' l' q') in cc)
+one_answer (closing_line t e l q r) (faulty_closing_line t' e' l' q') = absurd (let same = one_line _ _ q (after_moved t t' e l e' l' q') in cc)
 one_answer (reopening_line t e l q r) (inner_line l' r') = absurd (no_cut 125 _ t _ e l')
-one_answer (reopening_line t e l q r) (closing_line t' e' l' q' r') = absurd (let same = one_line _ _ q (behind_moved t t' e l e' l' q') in cc)
-one_answer (reopening_line t e l q r) (reopening_line t' e' l' q' r') = one_answer r (tags_moved (ends_inj (one_line _ _ (behind_moved t t' e l e' l' q') q)) r')
-one_answer (reopening_line t e l q r) (faulty_closing_line t' e' l' q') = absurd (let same = one_line _ _ q (behind_moved t t' e l e' l' q') in cc)
+one_answer (reopening_line t e l q r) (closing_line t' e' l' q' r') = absurd (let same = one_line _ _ q (after_moved t t' e l e' l' q') in cc)
+one_answer (reopening_line t e l q r) (reopening_line t' e' l' q' r') = one_answer r (tags_moved (ends_inj (one_line _ _ (after_moved t t' e l e' l' q') q)) r')
+one_answer (reopening_line t e l q r) (faulty_closing_line t' e' l' q') = absurd (let same = one_line _ _ q (after_moved t t' e l e' l' q') in cc)
 one_answer (faulty_closing_line t e l q) (inner_line l' r') = absurd (no_cut 125 _ t _ e l')
-one_answer (faulty_closing_line t e l q) (closing_line t' e' l' q' r') = absurd (let same = one_line _ _ q (behind_moved t t' e l e' l' q') in cc)
-one_answer (faulty_closing_line t e l q) (reopening_line t' e' l' q' r') = absurd (let same = one_line _ _ q (behind_moved t t' e l e' l' q') in cc)
-one_answer (faulty_closing_line t e l q) (faulty_closing_line t' e' l' q') = ap Err (stops_inj (one_line _ _ q (behind_moved t t' e l e' l' q')))
+one_answer (faulty_closing_line t e l q) (closing_line t' e' l' q' r') = absurd (let same = one_line _ _ q (after_moved t t' e l e' l' q') in cc)
+one_answer (faulty_closing_line t e l q) (reopening_line t' e' l' q' r') = absurd (let same = one_line _ _ q (after_moved t t' e l e' l' q') in cc)
+one_answer (faulty_closing_line t e l q) (faulty_closing_line t' e' l' q') = ap Err (stops_inj (one_line _ _ q (after_moved t t' e l e' l' q')))

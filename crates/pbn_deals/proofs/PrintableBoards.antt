@@ -12,7 +12,7 @@ use Rattle.pbn_deals.specs.Reading.{Lacks, LineEnd, Ends, Stops, Scans, at_end, 
 use Rattle.pbn_deals.specs.Printable.{IsBoardDeal, IsPrintable, BoardsArePrintable}
 use Rattle.pbn_deals.proofs.SomeDeal.{count_of_deal}
 use Rattle.pbn_deals.proofs.TagParts.{tag_parts}
-use Rattle.pbn_deals.proofs.LineParts.{lacks_behind, lacks_middle, lines_of-lack}
+use Rattle.pbn_deals.proofs.LineParts.{lacks_after, lacks_middle, lines_of-lack}
 
 -- ---- the tags of a game
 record IsName (name : List ℕ) : Type 0 where
@@ -62,7 +62,7 @@ scans_kept : {number count : ℕ} {in_data : Bool} {tags : Tags} {line : List �
 scans_kept kept lacks at_end = kept
 scans_kept kept lacks (at_blank m r) = scans_kept kept (All-tail (λ other. other ≢ 10) _ _ lacks) r
 scans_kept kept lacks (at_line_comment m) = kept
-scans_kept kept lacks (at_comment text m e l r) = scans_kept kept (lacks_behind 10 125 _ text _ e (All-tail (λ other. other ≢ 10) _ _ lacks)) r
+scans_kept kept lacks (at_comment text m e l r) = scans_kept kept (lacks_after 10 125 _ text _ e (All-tail (λ other. other ≢ 10) _ _ lacks)) r
 scans_kept kept lacks (at_open_comment m l) = kept
 scans_kept kept lacks (at_tag {tag = tag} m e takes r) =
     let parts = tag_parts _ tag e in
@@ -70,7 +70,7 @@ scans_kept kept lacks (at_tag {tag = tag} m e takes r) =
     scans_kept (takes_kept kept within.0 parts.no_quote takes) within.1 r
 scans_kept kept lacks (at_faulty_tag m e takes) = tt
 scans_kept kept lacks (at_no_tag m e) = tt
-scans_kept kept lacks (at_quoted text m e l r) = scans_kept kept (lacks_behind 10 34 _ text _ e (All-tail (λ other. other ≢ 10) _ _ lacks)) r
+scans_kept kept lacks (at_quoted text m e l r) = scans_kept kept (lacks_after 10 34 _ text _ e (All-tail (λ other. other ≢ 10) _ _ lacks)) r
 scans_kept kept lacks (at_unended m l) = kept
 scans_kept kept lacks (at_plain m r) = scans_kept kept (All-tail (λ other. other ≢ 10) _ _ lacks) r
 scans_kept kept lacks (at_bracket m r) = scans_kept kept (All-tail (λ other. other ≢ 10) _ _ lacks) r
@@ -103,9 +103,9 @@ answers_kept kept few lacks (opening_line e b q r) = answers_kept (scans_kept ke
 answers_kept kept few lacks (faulty_line e b q) = tt
 answers_kept kept few lacks (inner_line l r) = answers_kept kept few (All-tail (Lacks 10) _ _ lacks) r
 answers_kept kept few lacks (closing_line text e l q r) =
-    answers_kept (scans_kept kept (lacks_behind 10 125 _ text _ e (All-head (Lacks 10) _ _ lacks)) q) few (All-tail (Lacks 10) _ _ lacks) r
+    answers_kept (scans_kept kept (lacks_after 10 125 _ text _ e (All-head (Lacks 10) _ _ lacks)) q) few (All-tail (Lacks 10) _ _ lacks) r
 answers_kept kept few lacks (reopening_line text e l q r) =
-    answers_kept (scans_kept kept (lacks_behind 10 125 _ text _ e (All-head (Lacks 10) _ _ lacks)) q) few (All-tail (Lacks 10) _ _ lacks) r
+    answers_kept (scans_kept kept (lacks_after 10 125 _ text _ e (All-head (Lacks 10) _ _ lacks)) q) few (All-tail (Lacks 10) _ _ lacks) r
 answers_kept kept few lacks (faulty_closing_line text e l q) = tt
 
 pub boards_are_printable : BoardsArePrintable

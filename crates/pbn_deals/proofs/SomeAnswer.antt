@@ -18,7 +18,7 @@ module _ (number count : ℕ) where
     pub no_want : last ≢ Stops OutOfMemory
     pub scans : Scans number count in_data tags line last
 
-  -- a place whose reading goes on behind it
+  -- a place whose reading goes on after it
   goes_on : {flag in_data : Bool} {tags tags' : Tags} {line rest : List ℕ} → Scanned flag tags' rest → ((last : LineEnd) → Scans number count flag tags' rest last → Scans number count in_data tags line last) → Scanned in_data tags line
   goes_on rest step = record { last = rest.last; no_want = rest.no_want; scans = step rest.last rest.scans }
 
@@ -26,16 +26,16 @@ module _ (number count : ℕ) where
   ends {tags = tags} is_open h = record { last = Ends tags is_open; no_want = λ e. cc; scans = h }
 
   module _ (most : ℕ) (shorter : (in_data : Bool) (tags : Tags) (line : List ℕ) → length line ≤ most → Scanned in_data tags line) (in_data : Bool) (tags : Tags) (byte : ℕ) (rest : List ℕ) (within : length rest ≤ most) where
-    behind_within : (byte' : ℕ) (front behind : List ℕ) → rest ≡ front ++ byte' ∷ behind → length behind ≤ most
-    behind_within byte' front behind e = omega (arith, ap length e, length-append front (byte' ∷ behind))
+    after_within : (byte' : ℕ) (front after : List ℕ) → rest ≡ front ++ byte' ∷ after → length after ≤ most
+    after_within byte' front after e = omega (arith, ap length e, length-append front (byte' ∷ after))
 
     at_brace : meaning_of byte ≡ OpensComment → Split 125 rest → Scanned in_data tags (byte ∷ rest)
     at_brace m (split_nowhere lacks) = ends true (at_open_comment m lacks)
-    at_brace m (split_at front behind e lacks) = goes_on (shorter in_data tags behind (behind_within 125 front behind e)) (λ last h. at_comment front m e lacks h)
+    at_brace m (split_at front after e lacks) = goes_on (shorter in_data tags after (after_within 125 front after e)) (λ last h. at_comment front m e lacks h)
 
     at_quote : meaning_of byte ≡ OpensText → Split 34 rest → Scanned in_data tags (byte ∷ rest)
     at_quote m (split_nowhere lacks) = ends false (at_unended m lacks)
-    at_quote m (split_at front behind e lacks) = goes_on (shorter true tags behind (behind_within 34 front behind e)) (λ last h. at_quoted front m e lacks h)
+    at_quote m (split_at front after e lacks) = goes_on (shorter true tags after (after_within 34 front after e)) (λ last h. at_quoted front m e lacks h)
 
     at_pair : meaning_of byte ≡ OpensTag → (tag : Tag) → tag_of rest ≡ Some tag → (taken : Result Tags PbnFault) → taken ≢ Err OutOfMemory → TakesTag number count tags tag.name tag.value taken → Scanned false tags (byte ∷ rest)
     at_pair m tag e (Ok tags') n takes = goes_on (shorter false tags' tag.rest (omega (arith, tag_shorter rest tag e))) (λ last h. at_tag m e takes h)
@@ -84,14 +84,14 @@ module _ (line : List ℕ) (lines : List (List ℕ)) (later : (number : ℕ) (op
   outside e b (Ends tags' true) n h = after_line (λ answer r. opening_line e b h r)
   outside e b (Stops fault) n h = record { what = Err fault; no_want = stops-no_want fault n; is_given = faulty_line e b h }
 
-  behind_comment : (opened : ℕ) (text rest : List ℕ) → line ≡ text ++ 125 ∷ rest → Lacks 125 text → (last : LineEnd) → last ≢ Stops OutOfMemory → Scans number count false tags rest last → Answered number (Some opened) tags count (line ∷ lines)
-  behind_comment opened text rest e l (Ends tags' false) n h = after_line (λ answer r. closing_line text e l h r)
-  behind_comment opened text rest e l (Ends tags' true) n h = after_line (λ answer r. reopening_line text e l h r)
-  behind_comment opened text rest e l (Stops fault) n h = record { what = Err fault; no_want = stops-no_want fault n; is_given = faulty_closing_line text e l h }
+  after_comment : (opened : ℕ) (text rest : List ℕ) → line ≡ text ++ 125 ∷ rest → Lacks 125 text → (last : LineEnd) → last ≢ Stops OutOfMemory → Scans number count false tags rest last → Answered number (Some opened) tags count (line ∷ lines)
+  after_comment opened text rest e l (Ends tags' false) n h = after_line (λ answer r. closing_line text e l h r)
+  after_comment opened text rest e l (Ends tags' true) n h = after_line (λ answer r. reopening_line text e l h r)
+  after_comment opened text rest e l (Stops fault) n h = record { what = Err fault; no_want = stops-no_want fault n; is_given = faulty_closing_line text e l h }
 
   in_comment : (opened : ℕ) → Split 125 line → Answered number (Some opened) tags count (line ∷ lines)
   in_comment opened (split_nowhere lacks) = after_line (λ answer r. inner_line lacks r)
-  in_comment opened (split_at text rest e l) = let scan = scanned number count false tags rest in behind_comment opened text rest e l scan.last scan.no_want scan.scans
+  in_comment opened (split_at text rest e l) = let scan = scanned number count false tags rest in after_comment opened text rest e l scan.last scan.no_want scan.scans
 
   at_line : (opened : Option ℕ) (escaped : Bool) → is_escaped line ≡ escaped → (blank : Bool) → is_blank_line line ≡ blank → Answered number opened tags count (line ∷ lines)
   at_line (Some opened) escaped e blank b = in_comment opened (split 125 line)

@@ -29,17 +29,17 @@ put_boards-twice boards others (Err fault) = refl
 -- how the part of a line that stands outside a comment of an earlier line begins
 pub data Begins (line : List ℕ) : List ℕ → Option ℕ → Type 0 where
   outside : is_escaped line ≡ false → is_blank_line line ≡ false → Begins line line None
-  behind_comment : {opened : ℕ} (text : List ℕ) {rest : List ℕ} → line ≡ text ++ 125 ∷ rest → Lacks 125 text → Begins line rest (Some opened)
+  after_comment : {opened : ℕ} (text : List ℕ) {rest : List ℕ} → line ≡ text ++ 125 ∷ rest → Lacks 125 text → Begins line rest (Some opened)
 
 goes_rest : (number count : ℕ) (opened : Option ℕ) (tags tags' : Tags) (line rest : List ℕ) (is_open : Bool) (lines : List (List ℕ)) (answer : Result (List Board) PbnFault) → Begins line rest opened → Scans number count false tags rest (Ends tags' is_open) → Answers (number + 1) (opened_at is_open number) tags' count lines answer → Answers number opened tags count (line ∷ lines) answer
 goes_rest number count _ tags tags' line _ false lines answer (outside e b) reads h = whole_line e b reads h
 goes_rest number count _ tags tags' line _ true lines answer (outside e b) reads h = opening_line e b reads h
-goes_rest number count _ tags tags' line _ false lines answer (behind_comment text e l) reads h = closing_line text e l reads h
-goes_rest number count _ tags tags' line _ true lines answer (behind_comment text e l) reads h = reopening_line text e l reads h
+goes_rest number count _ tags tags' line _ false lines answer (after_comment text e l) reads h = closing_line text e l reads h
+goes_rest number count _ tags tags' line _ true lines answer (after_comment text e l) reads h = reopening_line text e l reads h
 
 stops_rest : (number count : ℕ) (opened : Option ℕ) (tags : Tags) (line rest : List ℕ) (fault : PbnFault) (lines : List (List ℕ)) → Begins line rest opened → Scans number count false tags rest (Stops fault) → Answers number opened tags count (line ∷ lines) (Err fault)
 stops_rest number count _ tags line _ fault lines (outside e b) reads = faulty_line e b reads
-stops_rest number count _ tags line _ fault lines (behind_comment text e l) reads = faulty_closing_line text e l reads
+stops_rest number count _ tags line _ fault lines (after_comment text e l) reads = faulty_closing_line text e l reads
 
 pub takes_rest : {X : Type 0} (r : Result X PbnFault) (number : ℕ) (line rest : List ℕ) (old new : Reader) → Begins line rest old.opened → TakesRest r number rest old new → TakesLine r number line old new
 takes_rest (Ok done) number line rest old new begins reads = record {
@@ -91,12 +91,12 @@ ends_game (Err fault) number line old new o e b adds =
     unless_memory-weaker fault ⊥ ((lines : List (List ℕ)) → AnswersFrom number old (line ∷ lines) (Err fault)) (λ none. absurd none) adds
 
 -- ---- a whole text
-pub cut_more : (text : List ℕ) (line : Bor (List ℕ)) (behind : Option (Bor (List ℕ))) → CutsLine text (line, behind) → (more : List (List ℕ)) × (lines_of text ≡ line.now ∷ more)
-cut_more text line (Some behind) cuts = (lines_of behind.now, cuts.0)
+pub cut_more : (text : List ℕ) (line : Bor (List ℕ)) (after : Option (Bor (List ℕ))) → CutsLine text (line, after) → (more : List (List ℕ)) × (lines_of text ≡ line.now ∷ more)
+cut_more text line (Some after) cuts = (lines_of after.now, cuts.0)
 cut_more text line None cuts = ([], cuts)
 
-pub cut_last : (text : List ℕ) (line : Bor (List ℕ)) (behind : Option (Bor (List ℕ))) → CutsLine text (line, behind) → behind ≡ None → lines_of text ≡ line.now ∷ []
-cut_last text line (Some behind) cuts e = absurd (cc)
+pub cut_last : (text : List ℕ) (line : Bor (List ℕ)) (after : Option (Bor (List ℕ))) → CutsLine text (line, after) → after ≡ None → lines_of text ≡ line.now ∷ []
+cut_last text line (Some after) cuts e = absurd (cc)
 cut_last text line None cuts e = cuts
 
 pub says_unless_memory : (text : List ℕ) (fault : PbnFault) → UnlessMemory fault (TextAnswers text (Err fault)) → SaysBoards text (Err fault)
@@ -114,26 +114,26 @@ module _ (text : List ℕ) (number : ℕ) (rest : List ℕ) (old : Reader) (goes
   answers_here : (line : List ℕ) (more : List (List ℕ)) (answer : Result (List Board) PbnFault) → lines_of rest ≡ line ∷ more → AnswersFrom number old (line ∷ more) answer → TextAnswers text (put_boards old.boards.items answer)
   answers_here line more answer e h = goes answer (subst (λ lines. AnswersFrom number old lines answer) (sym e) h)
 
-  pub fault_here : (line : Bor (List ℕ)) (behind : Option (Bor (List ℕ))) (fault : PbnFault) → CutsLine rest (line, behind) → UnlessMemory fault ((lines : List (List ℕ)) → AnswersFrom number old (line.now ∷ lines) (Err fault)) → SaysBoards text (Err fault)
-  fault_here line behind fault cuts h =
-      let found = cut_more rest line behind cuts in
+  pub fault_here : (line : Bor (List ℕ)) (after : Option (Bor (List ℕ))) (fault : PbnFault) → CutsLine rest (line, after) → UnlessMemory fault ((lines : List (List ℕ)) → AnswersFrom number old (line.now ∷ lines) (Err fault)) → SaysBoards text (Err fault)
+  fault_here line after fault cuts h =
+      let found = cut_more rest line after cuts in
       says_unless_memory text fault
       (unless_memory-weaker fault ((lines : List (List ℕ)) → AnswersFrom number old (line.now ∷ lines) (Err fault)) (TextAnswers text (Err fault))
       (λ at_line. answers_here line.now found.0 (Err fault) found.1 (at_line found.0)) h)
 
-  module _ (line : Bor (List ℕ)) (behind : Option (Bor (List ℕ))) (cuts : CutsLine rest (line, behind)) (is_last : behind ≡ None) (new : Reader) (reads : ReadsWhole number line.now old new) where
+  module _ (line : Bor (List ℕ)) (after : Option (Bor (List ℕ))) (cuts : CutsLine rest (line, after)) (is_last : after ≡ None) (new : Reader) (reads : ReadsWhole number line.now old new) where
     pub open_at_end : (opened : ℕ) → new.opened ≡ Some opened → TextAnswers text (Err (OpenComment opened))
     open_at_end opened o =
         let tags = tags_seen new.tags in
         let count = length new.boards.items in
-        answers_here line.now [] (Err (OpenComment opened)) (cut_last rest line behind cuts is_last)
+        answers_here line.now [] (Err (OpenComment opened)) (cut_last rest line after cuts is_last)
         (reads.goes [] (Err (OpenComment opened)) (Answers-same (number + 1) (Some opened) new.opened tags tags count count [] (Err (OpenComment opened)) (sym o) refl refl unclosed))
 
     pub whole_at_end : (final : List Board) → new.opened ≡ None → final ≡ new.boards.items ++ boards_of (tags_seen new.tags) → TextAnswers text (Ok final)
     whole_at_end final o e =
         let tags = tags_seen new.tags in
         let count = length new.boards.items in
-        let whole = answers_here line.now [] (Ok (reads.added ++ boards_of tags)) (cut_last rest line behind cuts is_last)
+        let whole = answers_here line.now [] (Ok (reads.added ++ boards_of tags)) (cut_last rest line after cuts is_last)
         (reads.goes [] (Ok (boards_of tags)) (Answers-same (number + 1) None new.opened tags tags count count [] (Ok (boards_of tags)) (sym o) refl refl no_line)) in
         let same : old.boards.items ++ (reads.added ++ boards_of tags) ≡ final =
         sym (append_assoc old.boards.items reads.added (boards_of tags)) ∙ (ap (λ b. b ++ boards_of tags) (sym reads.boards) ∙ sym e) in

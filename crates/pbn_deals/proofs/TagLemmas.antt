@@ -10,47 +10,47 @@ use Rattle.pbn_deals.specs.Tags.{value_front, after_value, tag_of, named_tag, ta
 other_byte : (byte : ℕ) (bytes : List ℕ) → Lacks 34 (byte ∷ bytes) → eqb byte 34 ≡ false
 other_byte byte bytes h = ne_eqb byte 34 (All-head (λ other. other ≢ 34) byte bytes h)
 
-pub value_front-at : (value behind : List ℕ) → Lacks 34 value → value_front (value ++ 34 ∷ behind) ≡ value
-value_front-at [] behind h = refl
-value_front-at (byte ∷ bytes) behind h =
-    ap (λ b. cond b [] (byte ∷ value_front (bytes ++ 34 ∷ behind))) (other_byte byte bytes h) ∙ ap (λ x. byte ∷ x) (value_front-at bytes behind (All-tail (λ other. other ≢ 34) byte bytes h))
+pub value_front-at : (value after : List ℕ) → Lacks 34 value → value_front (value ++ 34 ∷ after) ≡ value
+value_front-at [] after h = refl
+value_front-at (byte ∷ bytes) after h =
+    ap (λ b. cond b [] (byte ∷ value_front (bytes ++ 34 ∷ after))) (other_byte byte bytes h) ∙ ap (λ x. byte ∷ x) (value_front-at bytes after (All-tail (λ other. other ≢ 34) byte bytes h))
 
-pub after_value-at : (value behind : List ℕ) → Lacks 34 value → after_value (value ++ 34 ∷ behind) ≡ Some behind
-after_value-at [] behind h = refl
-after_value-at (byte ∷ bytes) behind h =
-    ap (λ b. cond b (Some (bytes ++ 34 ∷ behind)) (after_value (bytes ++ 34 ∷ behind))) (other_byte byte bytes h) ∙ after_value-at bytes behind (All-tail (λ other. other ≢ 34) byte bytes h)
+pub after_value-at : (value after : List ℕ) → Lacks 34 value → after_value (value ++ 34 ∷ after) ≡ Some after
+after_value-at [] after h = refl
+after_value-at (byte ∷ bytes) after h =
+    ap (λ b. cond b (Some (bytes ++ 34 ∷ after)) (after_value (bytes ++ 34 ∷ after))) (other_byte byte bytes h) ∙ after_value-at bytes after (All-tail (λ other. other ≢ 34) byte bytes h)
 
 pub after_value-none : (value : List ℕ) → Lacks 34 value → after_value value ≡ None
 after_value-none [] h = refl
 after_value-none (byte ∷ bytes) h =
     ap (λ b. cond b (Some bytes) (after_value bytes)) (other_byte byte bytes h) ∙ after_value-none bytes (All-tail (λ other. other ≢ 34) byte bytes h)
 
-named_by : (name behind : List ℕ) → 0 < length name → named_tag name behind ≡ tag_with_name name (after_blanks behind)
-named_by [] behind h = absurd (omega arith)
-named_by (byte ∷ bytes) behind h = refl
+named_by : (name after : List ℕ) → 0 < length name → named_tag name after ≡ tag_with_name name (after_blanks after)
+named_by [] after h = absurd (omega arith)
+named_by (byte ∷ bytes) after h = refl
 
 module _ (text : List ℕ) (some : 0 < length (name_front (after_blanks text))) where
   abbrev name : List ℕ
   name = name_front (after_blanks text)
 
-  abbrev behind_name : List ℕ
-  behind_name = after_blanks (after_name (after_blanks text))
+  abbrev at_quote : List ℕ
+  at_quote = after_blanks (after_name (after_blanks text))
 
-  tag_of-named : tag_of text ≡ tag_with_name name behind_name
+  tag_of-named : tag_of text ≡ tag_with_name name at_quote
   tag_of-named = named_by name (after_name (after_blanks text)) some
 
-  pub tag_of-quoted : (bytes : List ℕ) → behind_name ≡ 34 ∷ bytes → tag_of text ≡ tag_with_value name (value_front bytes) (after_value bytes)
+  pub tag_of-quoted : (bytes : List ℕ) → at_quote ≡ 34 ∷ bytes → tag_of text ≡ tag_with_value name (value_front bytes) (after_value bytes)
   tag_of-quoted bytes e = tag_of-named ∙ ap (tag_with_name name) e
 
-  pub tag_of-unended : (bytes : List ℕ) → behind_name ≡ 34 ∷ bytes → Lacks 34 bytes → tag_of text ≡ None
+  pub tag_of-unended : (bytes : List ℕ) → at_quote ≡ 34 ∷ bytes → Lacks 34 bytes → tag_of text ≡ None
   tag_of-unended bytes e h = tag_of-quoted bytes e ∙ ap (tag_with_value name (value_front bytes)) (after_value-none bytes h)
 
-  pub tag_of-valued : (bytes value behind : List ℕ) → behind_name ≡ 34 ∷ bytes → bytes ≡ value ++ 34 ∷ behind → Lacks 34 value → tag_of text ≡ closed_tag name value (after_blanks behind)
-  tag_of-valued bytes value behind e whole h =
+  pub tag_of-valued : (bytes value after : List ℕ) → at_quote ≡ 34 ∷ bytes → bytes ≡ value ++ 34 ∷ after → Lacks 34 value → tag_of text ≡ closed_tag name value (after_blanks after)
+  tag_of-valued bytes value after e whole h =
       tag_of-quoted bytes e
       ∙ (ap (λ x. tag_with_value name (value_front x) (after_value x)) whole
-      ∙ (ap (λ x. tag_with_value name x (after_value (value ++ 34 ∷ behind))) (value_front-at value behind h)
-      ∙ ap (tag_with_value name value) (after_value-at value behind h)))
+      ∙ (ap (λ x. tag_with_value name x (after_value (value ++ 34 ∷ after))) (value_front-at value after h)
+      ∙ ap (tag_with_value name value) (after_value-at value after h)))
 
 -- a list that has a first byte
 front_byte : (bytes : List ℕ) → 1 ≤ length bytes → bytes ≡ get_or bytes 0 0 ∷ take (length bytes - 1) (drop 1 bytes)
@@ -73,19 +73,19 @@ module _ (text a name b q : List ℕ) (is_a : a ≡ after_blanks text) (is_name 
   name_some : 0 < length (name_front (after_blanks text))
   name_some = rw same_name at some
 
-  quoted_behind : after_blanks (after_name (after_blanks text)) ≡ 34 ∷ take (length q - 1) (drop 1 q)
-  quoted_behind =
+  quoted_rest : after_blanks (after_name (after_blanks text)) ≡ 34 ∷ take (length q - 1) (drop 1 q)
+  quoted_rest =
       sym (is_q ∙ (ap after_blanks is_b ∙ ap (λ x. after_blanks (after_name x)) is_a))
       ∙ (front_byte q long ∙ ap (λ x. x ∷ take (length q - 1) (drop 1 q)) quote)
 
   pub value_unended : Lacks 34 (take (length q - 1) (drop 1 q)) → None ≡ tag_of text
-  value_unended h = sym (tag_of-unended text name_some (take (length q - 1) (drop 1 q)) quoted_behind h)
+  value_unended h = sym (tag_of-unended text name_some (take (length q - 1) (drop 1 q)) quoted_rest h)
 
-  module _ (value behind r : List ℕ) (whole : take (length q - 1) (drop 1 q) ≡ value ++ 34 ∷ behind) (lacks : Lacks 34 value) (is_r : r ≡ after_blanks behind) where
+  module _ (value after r : List ℕ) (whole : take (length q - 1) (drop 1 q) ≡ value ++ 34 ∷ after) (lacks : Lacks 34 value) (is_r : r ≡ after_blanks after) where
     closing : tag_of text ≡ closed_tag name value r
     closing =
-        tag_of-valued text name_some (take (length q - 1) (drop 1 q)) value behind quoted_behind whole lacks
-        ∙ (ap (λ n. closed_tag n value (after_blanks behind)) (sym same_name) ∙ ap (closed_tag name value) (sym is_r))
+        tag_of-valued text name_some (take (length q - 1) (drop 1 q)) value after quoted_rest whole lacks
+        ∙ (ap (λ n. closed_tag n value (after_blanks after)) (sym same_name) ∙ ap (closed_tag name value) (sym is_r))
 
     pub bracket_missing : length r < 1 → None ≡ tag_of text
     bracket_missing h = sym (closing ∙ closed-none name value r h)

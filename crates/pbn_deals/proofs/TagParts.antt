@@ -10,7 +10,7 @@ use Rattle.pbn_deals.specs.Tags.{Tag, is_name_byte, name_front, after_name, valu
 -- ---- a text up to the first such byte
 pub data Split (byte : ℕ) (text : List ℕ) : Type 0 where
   split_nowhere : Lacks byte text → Split byte text
-  split_at : (front behind : List ℕ) → text ≡ front ++ byte ∷ behind → Lacks byte front → Split byte text
+  split_at : (front after : List ℕ) → text ≡ front ++ byte ∷ after → Lacks byte front → Split byte text
 
 pub split : (byte : ℕ) (text : List ℕ) → Split byte text
 split byte [] = split_nowhere (All-nil (λ other. other ≢ byte))
@@ -19,8 +19,8 @@ split byte (first ∷ rest) =
       | inl e ↦ split_at [] rest (ap (λ x. x ∷ rest) e) (All-nil (λ other. other ≢ byte))
       | inr ne ↦ elim (split byte rest) [
         | split_nowhere lacks ↦ split_nowhere (All-cons (λ other. other ≢ byte) first rest ne lacks)
-        | split_at front behind e lacks ↦
-            split_at (first ∷ front) behind (ap (λ x. first ∷ x) e) (All-cons (λ other. other ≢ byte) first front ne lacks)
+        | split_at front after e lacks ↦
+            split_at (first ∷ front) after (ap (λ x. first ∷ x) e) (All-cons (λ other. other ≢ byte) first front ne lacks)
       ]
     ]
 
@@ -59,11 +59,11 @@ value_front-lacks (byte ∷ bytes) = go (eqb byte 34) refl (value_front-lacks by
   go true e h = All-nil (λ other. other ≢ 34)
   go false e h = All-cons (λ other. other ≢ 34) byte (value_front bytes) (eqb-false byte 34 e) h
 
-value_whole : (text behind : List ℕ) → after_value text ≡ Some behind → text ≡ value_front text ++ 34 ∷ behind
-value_whole [] behind e = absurd (cc)
-value_whole (byte ∷ bytes) behind e = go (eqb byte 34) refl (value_whole bytes behind) e where
-  go : (b : Bool) → eqb byte 34 ≡ b → (after_value bytes ≡ Some behind → bytes ≡ value_front bytes ++ 34 ∷ behind) → cond b (Some bytes) (after_value bytes) ≡ Some behind → byte ∷ bytes ≡ cond b [] (byte ∷ value_front bytes) ++ 34 ∷ behind
-  go true q later f = let same : bytes ≡ behind = cc in let quote : byte ≡ 34 = eqb-true byte 34 q in cc
+value_whole : (text after : List ℕ) → after_value text ≡ Some after → text ≡ value_front text ++ 34 ∷ after
+value_whole [] after e = absurd (cc)
+value_whole (byte ∷ bytes) after e = go (eqb byte 34) refl (value_whole bytes after) e where
+  go : (b : Bool) → eqb byte 34 ≡ b → (after_value bytes ≡ Some after → bytes ≡ value_front bytes ++ 34 ∷ after) → cond b (Some bytes) (after_value bytes) ≡ Some after → byte ∷ bytes ≡ cond b [] (byte ∷ value_front bytes) ++ 34 ∷ after
+  go true q later f = let same : bytes ≡ after = cc in let quote : byte ≡ 34 = eqb-true byte 34 q in cc
   go false q later f = ap (λ x. byte ∷ x) (later f)
 
 -- ---- a tag pair
@@ -82,16 +82,16 @@ closed_parts name value (byte ∷ bytes) tag e = go (eqb byte 93) e where
       ((byte ∷ [], ap (λ (t : Tag). byte ∷ t.rest) same), sym (ap (λ (t : Tag). t.value) same))
   go false f = absurd (cc)
 
-valued_parts : (name text : List ℕ) (behind : Option (List ℕ)) (tag : Tag) → after_value text ≡ behind → tag_with_value name (value_front text) behind ≡ Some tag → Parts text tag
+valued_parts : (name text : List ℕ) (after : Option (List ℕ)) (tag : Tag) → after_value text ≡ after → tag_with_value name (value_front text) after ≡ Some tag → Parts text tag
 valued_parts name text None tag e f = absurd (cc)
-valued_parts name text (Some behind) tag e f =
-    let closed = closed_parts name (value_front text) (after_blanks behind) tag f in
-    let ends = ends_twice behind (after_blanks behind) tag.rest (after_blanks-ends behind) closed.0 in
+valued_parts name text (Some after) tag e f =
+    let closed = closed_parts name (value_front text) (after_blanks after) tag f in
+    let ends = ends_twice after (after_blanks after) tag.rest (after_blanks-ends after) closed.0 in
     let value : tag.value ≡ value_front text = closed.1 in
     record {
       front = [];
       closing = ends.0;
-      whole = value_whole text behind e ∙ (ap (λ x. value_front text ++ 34 ∷ x) ends.1 ∙ ap (λ x. x ++ 34 ∷ (ends.0 ++ tag.rest)) (sym value));
+      whole = value_whole text after e ∙ (ap (λ x. value_front text ++ 34 ∷ x) ends.1 ∙ ap (λ x. x ++ 34 ∷ (ends.0 ++ tag.rest)) (sym value));
       no_quote = subst (λ x. Lacks 34 x) (sym value) (value_front-lacks text);
     }
 

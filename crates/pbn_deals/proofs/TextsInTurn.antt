@@ -16,32 +16,32 @@ use Rattle.pbn_deals.proofs.NoRoom.{same, too_many, answers_full}
 use Rattle.pbn_deals.proofs.TrailingReturn.{last_ended, answers_ended}
 
 -- ---- the lines of both texts
-without_mark-before : (text behind : List ℕ) → without_mark (text ++ 10 ∷ 10 ∷ behind) ≡ without_mark text ++ 10 ∷ 10 ∷ behind
+without_mark-before : (text after : List ℕ) → without_mark (text ++ 10 ∷ 10 ∷ after) ≡ without_mark text ++ 10 ∷ 10 ∷ after
 without_mark-before [] [] = refl
 without_mark-before [] (byte ∷ bytes) = refl
-without_mark-before (a ∷ []) behind = go (eqb a 239) where
+without_mark-before (a ∷ []) after = go (eqb a 239) where
   whole : List ℕ
-  whole = a ∷ 10 ∷ 10 ∷ behind
+  whole = a ∷ 10 ∷ 10 ∷ after
 
-  go : (one : Bool) → cond (one && false) behind whole ≡ whole
+  go : (one : Bool) → cond (one && false) after whole ≡ whole
   go true = refl
   go false = refl
-without_mark-before (a ∷ b ∷ []) behind = go (eqb a 239) (eqb b 187) where
+without_mark-before (a ∷ b ∷ []) after = go (eqb a 239) (eqb b 187) where
   whole : List ℕ
-  whole = a ∷ b ∷ 10 ∷ 10 ∷ behind
+  whole = a ∷ b ∷ 10 ∷ 10 ∷ after
 
-  go : (one two : Bool) → cond (one && (two && false)) (10 ∷ behind) whole ≡ whole
+  go : (one two : Bool) → cond (one && (two && false)) (10 ∷ after) whole ≡ whole
   go true true = refl
   go true false = refl
   go false two = refl
-without_mark-before (a ∷ b ∷ c ∷ text) behind = go (eqb a 239 && (eqb b 187 && eqb c 191)) where
-  go : (marked : Bool) → cond marked (text ++ 10 ∷ 10 ∷ behind) (a ∷ b ∷ c ∷ text ++ 10 ∷ 10 ∷ behind) ≡ cond marked text (a ∷ b ∷ c ∷ text) ++ 10 ∷ 10 ∷ behind
+without_mark-before (a ∷ b ∷ c ∷ text) after = go (eqb a 239 && (eqb b 187 && eqb c 191)) where
+  go : (marked : Bool) → cond marked (text ++ 10 ∷ 10 ∷ after) (a ∷ b ∷ c ∷ text ++ 10 ∷ 10 ∷ after) ≡ cond marked text (a ∷ b ∷ c ∷ text) ++ 10 ∷ 10 ∷ after
   go true = refl
   go false = refl
 
 some_line : (text : List ℕ) → Lined text → 0 < length (lines_of text)
 some_line text (last_line lacks) = omega (arith, ap length (lines_of-last text lacks))
-some_line text (more_lines line behind e lacks rest) = omega (arith, ap length (lines_of-cut text line behind e lacks))
+some_line text (more_lines line after e lacks rest) = omega (arith, ap length (lines_of-cut text line after e lacks))
 
 last_ended-more : (line : List ℕ) (lines : List (List ℕ)) → 0 < length lines → last_ended (line ∷ lines) ≡ line ∷ last_ended lines
 last_ended-more line [] h = absurd (omega arith)
@@ -52,25 +52,25 @@ length-last_ended [] = refl
 length-last_ended (line ∷ []) = refl
 length-last_ended (line ∷ next ∷ lines) = omega (arith, length-last_ended (next ∷ lines))
 
-lines_of-before : (text behind : List ℕ) → Lined text → lines_of (text ++ 10 ∷ behind) ≡ last_ended (lines_of text) ++ lines_of behind
-lines_of-before text behind (last_line lacks) =
-    lines_of-cut (text ++ 10 ∷ behind) text behind refl lacks
-    ∙ ap (λ lines. last_ended lines ++ lines_of behind) (sym (lines_of-last text lacks))
-lines_of-before text behind (more_lines line rest e lacks more) =
-    lines_of-cut (text ++ 10 ∷ behind) line (rest ++ 10 ∷ behind) (ap (λ t. t ++ 10 ∷ behind) e ∙ append_assoc line (10 ∷ rest) (10 ∷ behind)) lacks
-    ∙ (ap (λ lines. without_return line ∷ lines) (lines_of-before rest behind more)
-    ∙ (ap (λ lines. lines ++ lines_of behind) (sym (last_ended-more (without_return line) (lines_of rest) (some_line rest more)))
-    ∙ ap (λ lines. last_ended lines ++ lines_of behind) (sym (lines_of-cut text line rest e lacks))))
+lines_of-before : (text after : List ℕ) → Lined text → lines_of (text ++ 10 ∷ after) ≡ last_ended (lines_of text) ++ lines_of after
+lines_of-before text after (last_line lacks) =
+    lines_of-cut (text ++ 10 ∷ after) text after refl lacks
+    ∙ ap (λ lines. last_ended lines ++ lines_of after) (sym (lines_of-last text lacks))
+lines_of-before text after (more_lines line rest e lacks more) =
+    lines_of-cut (text ++ 10 ∷ after) line (rest ++ 10 ∷ after) (ap (λ t. t ++ 10 ∷ after) e ∙ append_assoc line (10 ∷ rest) (10 ∷ after)) lacks
+    ∙ (ap (λ lines. without_return line ∷ lines) (lines_of-before rest after more)
+    ∙ (ap (λ lines. lines ++ lines_of after) (sym (last_ended-more (without_return line) (lines_of rest) (some_line rest more)))
+    ∙ ap (λ lines. last_ended lines ++ lines_of after) (sym (lines_of-cut text line rest e lacks))))
 
 lines_of-joined : (first second : List ℕ) → lines_of (without_mark (joined first second)) ≡ last_ended (lines_of (without_mark first)) ++ [] ∷ lines_of (without_mark second)
 lines_of-joined first second =
     let text = without_mark first in
-    let behind = without_mark second in
-    ap lines_of (without_mark-before first behind)
-    ∙ (lines_of-before text (10 ∷ behind) (lined text)
-    ∙ ap (λ lines. last_ended (lines_of text) ++ lines) (lines_of-cut (10 ∷ behind) [] behind refl (All-nil (λ other. other ≢ 10))))
+    let after = without_mark second in
+    ap lines_of (without_mark-before first after)
+    ∙ (lines_of-before text (10 ∷ after) (lined text)
+    ∙ ap (λ lines. last_ended (lines_of text) ++ lines) (lines_of-cut (10 ∷ after) [] after refl (All-nil (λ other. other ≢ 10))))
 
--- ---- the answer for lines before a blank one, and then that for those behind it
+-- ---- the answer for lines before a blank one, and then that for those after it
 abbrev then_answer : Result (List Board) PbnFault → Result (List Board) PbnFault → Result (List Board) PbnFault
 then_answer (Ok boards) other = put_boards boards other
 then_answer (Err fault) other = Err fault
@@ -129,7 +129,7 @@ module _ (first second : List ℕ) (outside : EndsOutside first) where
       subst (λ l. Answers 1 None no_tags 0 l (then_answer one other)) (sym (lines_of-joined first second))
       (answers_then (lines_of (without_mark second)) other (answers_ended lines h) (closed_outside first outside one h) (1 + lines_before first) e follows)
 
-  -- the second text's answer, behind the boards and the lines of the first
+  -- the second text's answer, after the boards and the lines of the first
   follows_boards : (boards : List Board) (other : Result (List Board) PbnFault) → Answers (lines_before first + 1) None no_tags (length boards) (lines_of (without_mark second)) other → Follows (1 + lines_before first) 0 (Ok boards) (lines_of (without_mark second)) other
   follows_boards boards other h =
       let n : lines_before first + 1 ≡ 1 + lines_before first = omega arith in

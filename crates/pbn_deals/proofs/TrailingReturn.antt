@@ -35,25 +35,25 @@ after_name-returned (byte ∷ bytes) = go (is_name_byte byte) (after_name-return
   go true h = h
   go false h = refl
 
-abbrev behind_returned : Option (List ℕ) → Option (List ℕ)
-behind_returned None = None
-behind_returned (Some behind) = Some (returned behind)
+abbrev after_returned : Option (List ℕ) → Option (List ℕ)
+after_returned None = None
+after_returned (Some after) = Some (returned after)
 
-after_value-returned : (text : List ℕ) → after_value (returned text) ≡ behind_returned (after_value text)
+after_value-returned : (text : List ℕ) → after_value (returned text) ≡ after_returned (after_value text)
 after_value-returned [] = refl
 after_value-returned (byte ∷ bytes) = go (eqb byte 34) (after_value-returned bytes) where
-  go : (b : Bool) → after_value (returned bytes) ≡ behind_returned (after_value bytes) → cond b (Some (returned bytes)) (after_value (returned bytes)) ≡ behind_returned (cond b (Some bytes) (after_value bytes))
+  go : (b : Bool) → after_value (returned bytes) ≡ after_returned (after_value bytes) → cond b (Some (returned bytes)) (after_value (returned bytes)) ≡ after_returned (cond b (Some bytes) (after_value bytes))
   go true h = refl
   go false h = h
 
-value_front-returned : (text behind : List ℕ) → after_value text ≡ Some behind → value_front (returned text) ≡ value_front text
-value_front-returned [] behind e = absurd (cc)
-value_front-returned (byte ∷ bytes) behind e = go (eqb byte 34) (value_front-returned bytes behind) e where
-  go : (b : Bool) → (after_value bytes ≡ Some behind → value_front (returned bytes) ≡ value_front bytes) → cond b (Some bytes) (after_value bytes) ≡ Some behind → cond b [] (byte ∷ value_front (returned bytes)) ≡ cond b [] (byte ∷ value_front bytes)
+value_front-returned : (text after : List ℕ) → after_value text ≡ Some after → value_front (returned text) ≡ value_front text
+value_front-returned [] after e = absurd (cc)
+value_front-returned (byte ∷ bytes) after e = go (eqb byte 34) (value_front-returned bytes after) e where
+  go : (b : Bool) → (after_value bytes ≡ Some after → value_front (returned bytes) ≡ value_front bytes) → cond b (Some bytes) (after_value bytes) ≡ Some after → cond b [] (byte ∷ value_front (returned bytes)) ≡ cond b [] (byte ∷ value_front bytes)
   go true h f = refl
   go false h f = ap (λ x. byte ∷ x) (h f)
 
--- the pair with one byte more behind it
+-- the pair with one byte more after it
 abbrev tag_returned : Tag → Tag
 tag_returned tag = record { name = tag.name; value = tag.value; rest = returned tag.rest }
 
@@ -68,16 +68,16 @@ closed_tag-returned name value (byte ∷ bytes) = go (eqb byte 93) where
   go true = refl
   go false = refl
 
-tag_with_value-returned : (name value : List ℕ) (behind : Option (List ℕ)) → tag_with_value name value (behind_returned behind) ≡ found_returned (tag_with_value name value behind)
+tag_with_value-returned : (name value : List ℕ) (after : Option (List ℕ)) → tag_with_value name value (after_returned after) ≡ found_returned (tag_with_value name value after)
 tag_with_value-returned name value None = refl
-tag_with_value-returned name value (Some behind) = ap (closed_tag name value) (after_blanks-returned behind) ∙ closed_tag-returned name value (after_blanks behind)
+tag_with_value-returned name value (Some after) = ap (closed_tag name value) (after_blanks-returned after) ∙ closed_tag-returned name value (after_blanks after)
 
-valued-returned : (name text : List ℕ) (behind : Option (List ℕ)) → after_value text ≡ behind → tag_with_value name (value_front (returned text)) (after_value (returned text)) ≡ found_returned (tag_with_value name (value_front text) (after_value text))
+valued-returned : (name text : List ℕ) (after : Option (List ℕ)) → after_value text ≡ after → tag_with_value name (value_front (returned text)) (after_value (returned text)) ≡ found_returned (tag_with_value name (value_front text) (after_value text))
 valued-returned name text None e =
-    ap (tag_with_value name (value_front (returned text))) (after_value-returned text ∙ ap behind_returned e)
+    ap (tag_with_value name (value_front (returned text))) (after_value-returned text ∙ ap after_returned e)
     ∙ sym (ap (λ b. found_returned (tag_with_value name (value_front text) b)) e)
-valued-returned name text (Some behind) e =
-    ap (λ v. tag_with_value name v (after_value (returned text))) (value_front-returned text behind e)
+valued-returned name text (Some after) e =
+    ap (λ v. tag_with_value name v (after_value (returned text))) (value_front-returned text after e)
     ∙ (ap (tag_with_value name (value_front text)) (after_value-returned text) ∙ tag_with_value-returned name (value_front text) (after_value text))
 
 tag_with_name-returned : (name text : List ℕ) → tag_with_name name (returned text) ≡ found_returned (tag_with_name name text)
@@ -87,9 +87,9 @@ tag_with_name-returned name (byte ∷ bytes) = go (eqb byte 34) where
   go true = valued-returned name bytes (after_value bytes) refl
   go false = refl
 
-named_tag-returned : (name behind : List ℕ) → named_tag name (returned behind) ≡ found_returned (named_tag name behind)
-named_tag-returned [] behind = refl
-named_tag-returned (byte ∷ bytes) behind = ap (tag_with_name (byte ∷ bytes)) (after_blanks-returned behind) ∙ tag_with_name-returned (byte ∷ bytes) (after_blanks behind)
+named_tag-returned : (name after : List ℕ) → named_tag name (returned after) ≡ found_returned (named_tag name after)
+named_tag-returned [] after = refl
+named_tag-returned (byte ∷ bytes) after = ap (tag_with_name (byte ∷ bytes)) (after_blanks-returned after) ∙ tag_with_name-returned (byte ∷ bytes) (after_blanks after)
 
 tag_of-returned : (text : List ℕ) → tag_of (returned text) ≡ found_returned (tag_of text)
 tag_of-returned text =
@@ -99,8 +99,8 @@ tag_of-returned text =
     ∙ (ap (named_tag (name_front start)) (after_name-returned start) ∙ named_tag-returned (name_front start) (after_name start)))
 
 -- ---- a line
-behind_more : (byte : ℕ) (rest front behind : List ℕ) → rest ≡ front ++ byte ∷ behind → returned rest ≡ front ++ byte ∷ returned behind
-behind_more byte rest front behind e = ap returned e ∙ append_assoc front (byte ∷ behind) (13 ∷ [])
+after_more : (byte : ℕ) (rest front after : List ℕ) → rest ≡ front ++ byte ∷ after → returned rest ≡ front ++ byte ∷ returned after
+after_more byte rest front after e = ap returned e ∙ append_assoc front (byte ∷ after) (13 ∷ [])
 
 lacks_more : (byte : ℕ) (text : List ℕ) → 13 ≢ byte → Lacks byte text → Lacks byte (returned text)
 lacks_more byte text ne h = All-push (λ other. other ≢ byte) text 13 h ne
@@ -116,12 +116,12 @@ module _ (number count : ℕ) where
   scans_returned at_end = at_plain refl at_end
   scans_returned (at_blank m r) = at_blank m (scans_returned r)
   scans_returned (at_line_comment m) = at_line_comment m
-  scans_returned (at_comment text {rest} {behind} m e l r) = at_comment text m (behind_more 125 rest text behind e) l (scans_returned r)
+  scans_returned (at_comment text {rest} {after} m e l r) = at_comment text m (after_more 125 rest text after e) l (scans_returned r)
   scans_returned (at_open_comment {rest = rest} m l) = at_open_comment m (lacks_more 125 rest no_brace l)
   scans_returned (at_tag {rest = rest} {tag} m e t r) = at_tag {tag = tag_returned tag} m (tag_of-returned rest ∙ ap found_returned e) t (scans_returned r)
   scans_returned (at_faulty_tag {rest = rest} {tag} m e t) = at_faulty_tag {tag = tag_returned tag} m (tag_of-returned rest ∙ ap found_returned e) t
   scans_returned (at_no_tag {rest = rest} m e) = at_no_tag m (tag_of-returned rest ∙ ap found_returned e)
-  scans_returned (at_quoted text {rest} {behind} m e l r) = at_quoted text m (behind_more 34 rest text behind e) l (scans_returned r)
+  scans_returned (at_quoted text {rest} {after} m e l r) = at_quoted text m (after_more 34 rest text after e) l (scans_returned r)
   scans_returned (at_unended {rest = rest} m l) = at_unended m (lacks_more 34 rest no_quote l)
   scans_returned (at_plain m r) = at_plain m (scans_returned r)
   scans_returned (at_bracket m r) = at_bracket m (scans_returned r)
@@ -163,9 +163,9 @@ answers_returned line (whole_line e b q r) = whole_line (escaped-returned line f
 answers_returned line (opening_line e b q r) = opening_line (escaped-returned line false e) (blank-returned line) (scans_returned _ _ q) r
 answers_returned line (faulty_line e b q) = faulty_line (escaped-returned line false e) (blank-returned line) (scans_returned _ _ q)
 answers_returned line (inner_line l r) = inner_line (lacks_more 125 line no_brace l) r
-answers_returned line (closing_line text {rest = rest} e l q r) = closing_line text (behind_more 125 line text rest e) l (scans_returned _ _ q) r
-answers_returned line (reopening_line text {rest = rest} e l q r) = reopening_line text (behind_more 125 line text rest e) l (scans_returned _ _ q) r
-answers_returned line (faulty_closing_line text {rest = rest} e l q) = faulty_closing_line text (behind_more 125 line text rest e) l (scans_returned _ _ q)
+answers_returned line (closing_line text {rest = rest} e l q r) = closing_line text (after_more 125 line text rest e) l (scans_returned _ _ q) r
+answers_returned line (reopening_line text {rest = rest} e l q r) = reopening_line text (after_more 125 line text rest e) l (scans_returned _ _ q) r
+answers_returned line (faulty_closing_line text {rest = rest} e l q) = faulty_closing_line text (after_more 125 line text rest e) l (scans_returned _ _ q)
 
 return_cases : (line : List ℕ) → (without_return line ≡ line) ⊎ (returned (without_return line) ≡ line)
 return_cases [] = inl refl

@@ -22,7 +22,7 @@ words_of-after_blanks (byte ∷ rest) = go (is_blank byte) refl (words_of-after_
   go true e h = words_of-blank true byte rest e ∙ h
   go false e h = refl
 
--- what stands behind the blanks begins with no blank
+-- what stands after the blanks begins with no blank
 pub after_blanks-front : (text : List ℕ) (byte : ℕ) (rest : List ℕ) → after_blanks text ≡ byte ∷ rest → is_blank byte ≡ false
 after_blanks-front [] byte rest e = absurd (cc)
 after_blanks-front (first ∷ others) byte rest e = go (is_blank first) refl e (after_blanks-front others byte rest) where
@@ -49,22 +49,22 @@ words_of-cut text i d h none some blank =
     let short : 0 < length (take i text) = omega (arith, length-take i text) in
     ap words_of whole ∙ (words_of-front (take i text) (get_or text i d) (drop (i + 1) text) none short blank ∙ ap (λ x. take i text ∷ words_of x) (sym rest))
 
-module _ (text behind : List ℕ) (is_behind : behind ≡ after_blanks text) where
-  words_of-behind : words_of text ≡ words_of behind
-  words_of-behind = words_of-after_blanks text ∙ ap words_of (sym is_behind)
+module _ (text after : List ℕ) (is_after_blanks : after ≡ after_blanks text) where
+  words_of-after : words_of text ≡ words_of after
+  words_of-after = words_of-after_blanks text ∙ ap words_of (sym is_after_blanks)
 
-  pub no_word : length behind ≡ 0 → words_of text ≡ []
-  no_word none = words_of-behind ∙ ap words_of (nil_from_length behind none)
+  pub no_word : length after ≡ 0 → words_of text ≡ []
+  no_word none = words_of-after ∙ ap words_of (nil_from_length after none)
 
-  pub last_word : 0 < length behind → AreNoBlanks behind → words_of text ≡ behind ∷ []
-  last_word some none = words_of-behind ∙ words_of-last behind none some
+  pub last_word : 0 < length after → AreNoBlanks after → words_of text ≡ after ∷ []
+  last_word some none = words_of-after ∙ words_of-last after none some
 
-  pub one_word : (i d : ℕ) → i < length behind → AreNoBlanks (take i behind) → is_blank (get_or behind i d) ≡ true → words_of text ≡ take i behind ∷ words_of (drop i behind)
+  pub one_word : (i d : ℕ) → i < length after → AreNoBlanks (take i after) → is_blank (get_or after i d) ≡ true → words_of text ≡ take i after ∷ words_of (drop i after)
   one_word i d h none blank =
       elim (cases_eq i 0) [
         | inl e ↦
-            let first : is_blank (get_or behind 0 d) ≡ true = subst (λ n. is_blank (get_or behind n d) ≡ true) e blank in
-            let front : is_blank (get_or behind 0 d) ≡ false = after_blanks-front text (get_or behind 0 d) (drop 1 behind) (sym is_behind ∙ drop_more behind 0 d (omega arith)) in
+            let first : is_blank (get_or after 0 d) ≡ true = subst (λ n. is_blank (get_or after n d) ≡ true) e blank in
+            let front : is_blank (get_or after 0 d) ≡ false = after_blanks-front text (get_or after 0 d) (drop 1 after) (sym is_after_blanks ∙ drop_more after 0 d (omega arith)) in
             absurd (false≢true (sym front ∙ first))
-        | inr n ↦ words_of-behind ∙ words_of-cut behind i d h none (omega arith) blank
+        | inr n ↦ words_of-after ∙ words_of-cut after i d h none (omega arith) blank
       ]

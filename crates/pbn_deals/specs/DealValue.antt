@@ -1,7 +1,8 @@
 -- How a Deal value names cards: a seat letter, a colon, and four hands clockwise from that seat, with blanks
 -- between two. A hand is four groups between dots, spades, hearts, diamonds and clubs, or `-` where it is not
 -- known (PBN 2.1, section 3.4.11).
-use Rattle.std.specs.Prelude.{ℕ, zero, suc, ◌==◌, Bool, true, false, List, [], ◌∷◌, ◌++◌, map, filter, Option, Some, None, if◌then◌else◌}
+use Rattle.std.specs.Prelude.{ℕ, zero, suc, ◌==◌, Bool, true, false, List, [], ◌∷◌, ◌++◌, map, filter, Option, Some}
+use Rattle.std.specs.Prelude.{None, if◌then◌else◌}
 use Rattle.std.specs.List.{slice_split, list_any}
 use Rattle.cards.specs.declared.suits.Suit.{Suit}
 use Rattle.cards.specs.declared.suits.Suit.TheVariants.{Spades, Hearts, Diamonds, Clubs}
@@ -12,7 +13,7 @@ use Rattle.cards.specs.Seats.{next_of}
 use Rattle.pbn_deals.specs.Letters.{is_blank, is_dot, seat_of_letter, rank_of_letter}
 use Rattle.pbn_deals.specs.Dealing.{Holding, held_by}
 
--- what stands behind the blanks at the front
+-- what stands after the blanks at the front
 abbrev pub after_blanks : List ℕ → List ℕ
 after_blanks [] = []
 after_blanks (byte ∷ bytes) = if is_blank byte then after_blanks bytes else (byte ∷ bytes)

@@ -1,11 +1,13 @@
 -- A game as its tags come, and what one more tag does: the first Board tag names the board, wherever it stands, and
 -- one Deal tag gives its deal.
-use Rattle.std.specs.Prelude.{◌≡◌, ◌≢◌, ℕ, ◌≤◌, ◌<◌, true, false, List, [], ◌∷◌, Option, Some, None, Result, Ok, Err, ◌⊎◌, unwrap_or}
+use Rattle.std.specs.Prelude.{◌≡◌, ◌≢◌, ℕ, ◌≤◌, ◌<◌, true, false, List, [], ◌∷◌, Option, Some, None, Result, Ok, Err}
+use Rattle.std.specs.Prelude.{◌⊎◌, unwrap_or}
 use Rattle.cards.specs.declared.seats.Seat.{Seat}
 use Rattle.cards.specs.Deal.{Deal}
 use Rattle.pbn_deals.specs.declared.boards.Board.{Board}
 use Rattle.pbn_deals.specs.declared.faults.PbnFault.{PbnFault}
-use Rattle.pbn_deals.specs.declared.faults.PbnFault.TheVariants.{SecondDeal, DealForm, CardTwice, HandSize, Inherited, TooManyBoards}
+use Rattle.pbn_deals.specs.declared.faults.PbnFault.TheVariants.{SecondDeal, DealForm, CardTwice, HandSize, Inherited}
+use Rattle.pbn_deals.specs.declared.faults.PbnFault.TheVariants.{TooManyBoards}
 use Rattle.pbn_deals.specs.Dealing.{Holding, cards_named, NamesOnce, NamesTwice, IsDealOf}
 use Rattle.pbn_deals.specs.DealValue.{Naming, naming_of, words_of, after_blanks, full}
 use Rattle.pbn_deals.specs.Tags.{is_board, is_deal, is_inherited}

@@ -20,7 +20,7 @@ without_return [] = []
 without_return (byte ∷ []) = if byte == 13 then [] else (byte ∷ [])
 without_return (byte ∷ other ∷ bytes) = byte ∷ without_return (other ∷ bytes)
 
--- what is left of the parts between line feeds: the last part has no line feed behind it
+-- what is left of the parts between line feeds: the last part has no line feed after it
 abbrev pub ended : List (List ℕ) → List (List ℕ)
 ended [] = []
 ended (part ∷ []) = part ∷ []

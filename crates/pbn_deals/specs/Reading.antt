@@ -51,9 +51,9 @@ pub data Scans (number count : ℕ) : Bool → Tags → List ℕ → LineEnd →
       meaning_of byte ≡ EndsLine →
       Scans number count in_data tags (byte ∷ rest) (Ends tags false)
   at_comment :
-      {in_data : Bool} {tags : Tags} {byte : ℕ} (text : List ℕ) {rest behind : List ℕ} {last : LineEnd} →
-      meaning_of byte ≡ OpensComment → rest ≡ text ++ 125 ∷ behind → Lacks 125 text →
-      Scans number count in_data tags behind last →
+      {in_data : Bool} {tags : Tags} {byte : ℕ} (text : List ℕ) {rest after : List ℕ} {last : LineEnd} →
+      meaning_of byte ≡ OpensComment → rest ≡ text ++ 125 ∷ after → Lacks 125 text →
+      Scans number count in_data tags after last →
       Scans number count in_data tags (byte ∷ rest) last
   at_open_comment :
       {in_data : Bool} {tags : Tags} {byte : ℕ} {rest : List ℕ} →
@@ -74,9 +74,9 @@ pub data Scans (number count : ℕ) : Bool → Tags → List ℕ → LineEnd →
       meaning_of byte ≡ OpensTag → tag_of rest ≡ None →
       Scans number count false tags (byte ∷ rest) (Stops (TagForm number))
   at_quoted :
-      {in_data : Bool} {tags : Tags} {byte : ℕ} (text : List ℕ) {rest behind : List ℕ} {last : LineEnd} →
-      meaning_of byte ≡ OpensText → rest ≡ text ++ 34 ∷ behind → Lacks 34 text →
-      Scans number count true tags behind last →
+      {in_data : Bool} {tags : Tags} {byte : ℕ} (text : List ℕ) {rest after : List ℕ} {last : LineEnd} →
+      meaning_of byte ≡ OpensText → rest ≡ text ++ 34 ∷ after → Lacks 34 text →
+      Scans number count true tags after last →
       Scans number count in_data tags (byte ∷ rest) last
   at_unended :
       {in_data : Bool} {tags : Tags} {byte : ℕ} {rest : List ℕ} →

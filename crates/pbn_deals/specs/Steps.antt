@@ -1,5 +1,6 @@
 -- What the steps of a reader do to the answer for the lines that follow, unless memory runs out.
-use Rattle.std.specs.Prelude.{◌≡◌, ℕ, ◌+◌, List, ◌∷◌, ◌++◌, length, Option, Some, None, Result, Ok, Err, Bool, true, false}
+use Rattle.std.specs.Prelude.{◌≡◌, ℕ, ◌+◌, List, ◌∷◌, ◌++◌, length, Option, Some, None, Result, Ok, Err, Bool, true}
+use Rattle.std.specs.Prelude.{false}
 use Rattle.pbn_deals.specs.declared.boards.Board.{Board}
 use Rattle.pbn_deals.specs.declared.readers.Reader.{Reader}
 use Rattle.pbn_deals.specs.declared.faults.PbnFault.{PbnFault}
@@ -40,7 +41,7 @@ TakesRest (Ok done) number rest old new = ReadsRest number rest old new
 TakesRest (Err fault) number rest old new =
     UnlessMemory fault (Scans number (length old.boards.items) false (tags_seen old.tags) rest (Stops fault))
 
--- a line was read: the answer for it and what follows is that for what follows, behind the board that it ends
+-- a line was read: the answer for it and what follows is that for what follows, after the board that it ends
 pub record ReadsWhole (number : ℕ) (line : List ℕ) (old new : Reader) : Type 0 where
   pub added : List Board
   pub boards : new.boards.items ≡ old.boards.items ++ added

@@ -1,5 +1,6 @@
 -- Tag pairs (PBN 2.1, section 3.2): a name and a value in quotes between brackets, on one line.
-use Rattle.std.specs.Prelude.{ℕ, ◌==◌, ◌&&◌, ◌||◌, Bool, true, false, List, [], ◌∷◌, Option, Some, None, if◌then◌else◌, nat_le, codes}
+use Rattle.std.specs.Prelude.{ℕ, ◌==◌, ◌&&◌, ◌||◌, Bool, true, false, List, [], ◌∷◌, Option, Some, None, if◌then◌else◌}
+use Rattle.std.specs.Prelude.{nat_le, codes}
 use Rattle.pbn_deals.specs.Letters.{is_letter}
 use Rattle.pbn_deals.specs.DealValue.{after_blanks}
 
@@ -10,13 +11,13 @@ is_name_byte byte =
     ((nat_le 97 byte && nat_le byte 122) ||
     ((nat_le 48 byte && nat_le byte 57) || (byte == 95)))
 
--- a tag pair, and what stands behind it in its line
+-- a tag pair, and what stands after it in its line
 pub record Tag : Type 0 where
   pub name : List ℕ
   pub value : List ℕ
   pub rest : List ℕ
 
--- the bytes of a name at the front, and what stands behind them
+-- the bytes of a name at the front, and what stands after them
 abbrev pub name_front : List ℕ → List ℕ
 name_front [] = []
 name_front (byte ∷ bytes) = if is_name_byte byte then byte ∷ name_front bytes else []
@@ -25,7 +26,7 @@ abbrev pub after_name : List ℕ → List ℕ
 after_name [] = []
 after_name (byte ∷ bytes) = if is_name_byte byte then after_name bytes else (byte ∷ bytes)
 
--- what stands before the next quote, and behind it
+-- what stands before the next quote, and after it
 abbrev pub value_front : List ℕ → List ℕ
 value_front [] = []
 value_front (byte ∷ bytes) = if byte == 34 then [] else byte ∷ value_front bytes
@@ -41,7 +42,7 @@ closed_tag name value (byte ∷ bytes) =
     if byte == 93 then Some (record { name = name; value = value; rest = bytes }) else None
 
 abbrev pub tag_with_value : List ℕ → List ℕ → Option (List ℕ) → Option Tag
-tag_with_value name value (Some behind) = closed_tag name value (after_blanks behind)
+tag_with_value name value (Some after) = closed_tag name value (after_blanks after)
 tag_with_value name value None = None
 
 -- the opening quote, and the value up to the next quote
@@ -52,10 +53,10 @@ tag_with_name name (byte ∷ bytes) =
 
 -- a name of one byte at least
 abbrev pub named_tag : List ℕ → List ℕ → Option Tag
-named_tag [] behind = None
-named_tag (byte ∷ bytes) behind = tag_with_name (byte ∷ bytes) (after_blanks behind)
+named_tag [] after = None
+named_tag (byte ∷ bytes) after = tag_with_name (byte ∷ bytes) (after_blanks after)
 
--- the tag pair that stands behind an opening bracket
+-- the tag pair that stands after an opening bracket
 abbrev pub tag_of : List ℕ → Option Tag
 tag_of text = named_tag (name_front (after_blanks text)) (after_name (after_blanks text))
 

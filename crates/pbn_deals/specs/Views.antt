@@ -29,11 +29,11 @@ abbrev pub Steps : {X : Type 0} → (Result Tags PbnFault → Type 0) → Result
 Steps takes (Ok done) tags = takes (Ok (tags_seen tags))
 Steps takes (Err fault) tags = UnlessMemory fault (takes (Err fault))
 
--- What a tag pair does, unless memory runs out: from its bracket on the line does what it does from behind the pair on.
+-- What a tag pair does, unless memory runs out: from its bracket on the line does what it does from after the pair on.
 abbrev pub ReadsTag : ℕ → ℕ → GameTags → GameTags → List ℕ → Result (Bor (List ℕ)) PbnFault → Type 0
-ReadsTag number count old new text (Ok behind) =
+ReadsTag number count old new text (Ok after) =
     (last : LineEnd) →
-    Scans number count false (tags_seen new) behind.now last →
+    Scans number count false (tags_seen new) after.now last →
     Scans number count false (tags_seen old) (91 ∷ text) last
 ReadsTag number count old new text (Err fault) =
     UnlessMemory fault (Scans number count false (tags_seen old) (91 ∷ text) (Stops fault))
@@ -45,9 +45,9 @@ ReadsLine number count old new line (Ok is_open) =
 ReadsLine number count old new line (Err fault) =
     UnlessMemory fault (Scans number count false (tags_seen old) line (Stops fault))
 
--- the first line of a text, and what stands behind its line feed
+-- the first line of a text, and what stands after its line feed
 abbrev pub CutsLine : List ℕ → Bor (List ℕ) × Option (Bor (List ℕ)) → Type 0
-CutsLine text (line, Some behind) = (lines_of text ≡ line.now ∷ lines_of behind.now) × (length behind.now < length text)
+CutsLine text (line, Some after) = (lines_of text ≡ line.now ∷ lines_of after.now) × (length after.now < length text)
 CutsLine text (line, None) = lines_of text ≡ line.now ∷ []
 
 -- the boards of a vector

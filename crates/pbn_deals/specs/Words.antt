@@ -1,5 +1,6 @@
 -- What the words of bits say of the cards that were named.
-use Rattle.std.specs.Prelude.{◌≡◌, ℕ, ◌^◌, ◌<◌, Bool, true, false, List, ◌++◌, map, length, Contains, count_ones, Option, Some, None}
+use Rattle.std.specs.Prelude.{◌≡◌, ℕ, ◌^◌, ◌<◌, Bool, true, false, List, ◌++◌, map, length, Contains, count_ones}
+use Rattle.std.specs.Prelude.{Option, Some, None}
 use Rattle.cards.specs.declared.seats.Seat.{Seat}
 use Rattle.cards.specs.declared.pack.Card.{Card}
 use Rattle.cards.specs.Hands.{word_of, HasBit}

@@ -54,12 +54,12 @@ fn read_hands(first: Seat, text: &[u8]) -> Option<Dealing>
     let mut seat = first;
     let mut rest = text;
     for _hand in 0..4u8 {
-        let (word, behind) = first_word(rest)?;
+        let (word, after) = first_word(rest)?;
         if !dealing.add_hand(seat, word) {
             return None;
         }
         seat = seat.next();
-        rest = behind;
+        rest = after;
     }
     match first_word(rest) {
         None => Some(dealing),

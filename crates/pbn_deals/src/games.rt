@@ -126,7 +126,7 @@ fn is_no_deal(value: &[u8]) -> bool
 {
     match first_word(value) {
         None => true,
-        Some((word, behind)) => is_question(word) && first_word(behind).is_none(),
+        Some((word, after)) => is_question(word) && first_word(after).is_none(),
     }
 }
 

@@ -6,7 +6,7 @@ ghost use Rattle.pbn_deals.specs.DealValue.{after_blanks, words_of, is_unknown};
 
 use crate::letters::is_blank;
 
-/// What stands behind the blanks at the front.
+/// What stands after the blanks at the front.
 pub(crate) fn after_blanks(text: &[u8]) -> &[u8]
     ensures value { result.now ≡ after_blanks text.now }
     ensures within { length result.now ≤ length text.now }
@@ -19,7 +19,7 @@ pub(crate) fn after_blanks(text: &[u8]) -> &[u8]
     &text[text.len()..]
 }
 
-/// The first byte and what stands behind it.
+/// The first byte and what stands after it.
 pub(crate) fn first_byte(text: &[u8]) -> Option<(u8, &[u8])>
     ensures { MatchOption result (text.now ≡ []) (λ found. text.now ≡ found.0 ∷ found.1.now) }
 {
@@ -29,7 +29,7 @@ pub(crate) fn first_byte(text: &[u8]) -> Option<(u8, &[u8])>
     }
 }
 
-/// The first word, and what stands behind it, where there is a word.
+/// The first word, and what stands after it, where there is a word.
 pub(crate) fn first_word(text: &[u8]) -> Option<(&[u8], &[u8])>
     ensures { MatchOption result (words_of text.now ≡ []) (λ found. words_of text.now ≡ found.0.now ∷ words_of found.1.now) }
 {

@@ -29,12 +29,12 @@ fn without_return(line: &[u8]) -> &[u8]
     }
 }
 
-/// The first line, and what stands behind its line feed, where it has one.
+/// The first line, and what stands after its line feed, where it has one.
 pub(crate) fn cut_line(text: &[u8]) -> (&[u8], Option<&[u8]>)
     ensures { CutsLine text.now result }
 {
     match split_at_byte(text, b'\n') {
-        Some((line, behind)) => (without_return(line), Some(behind)),
+        Some((line, after)) => (without_return(line), Some(after)),
         None => (text, None),
     }
 }

@@ -10,7 +10,7 @@ use crate::letters::is_blank;
 use crate::tags::{read_tag, split_at_byte};
 use std::alloc::Global;
 
-/// Takes the tag pair behind an opening bracket that stands before all section data, and answers what stands behind it.
+/// Takes the tag pair after an opening bracket that stands before all section data, and answers what stands after it.
 fn take_tag<'a>(
     tags: &mut GameTags,
     alloc: Global,
@@ -19,7 +19,7 @@ fn take_tag<'a>(
     count: usize,
 ) -> Result<&'a [u8], PbnFault>
     ensures pair { ReadsTag number count tags.old tags.new text.now result }
-    ensures within { IfOk result (λ behind. length behind.now ≤ length text.now) }
+    ensures within { IfOk result (λ after. length after.now ≤ length text.now) }
 {
     let Some(tag) = read_tag(text) else {
         return Err(PbnFault::TagForm { line: number });
@@ -45,16 +45,16 @@ pub(crate) fn read_line(
         if first == b';' {
             return Ok(false);
         } else if first == b'{' {
-            let Some((_, behind)) = split_at_byte(others, b'}') else {
+            let Some((_, after)) = split_at_byte(others, b'}') else {
                 return Ok(true);
             };
-            rest = behind;
+            rest = after;
         } else if first == b'"' {
-            let Some((_, behind)) = split_at_byte(others, b'"') else {
+            let Some((_, after)) = split_at_byte(others, b'"') else {
                 return Ok(false);
             };
             in_data = true;
-            rest = behind;
+            rest = after;
         } else if first == b'[' && !in_data {
             rest = take_tag(tags, alloc, others, number, count)?;
         } else {

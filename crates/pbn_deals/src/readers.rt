@@ -89,9 +89,9 @@ pub fn read_boards(alloc: Global, text: &[u8]) -> Result<Vec<Board>, PbnFault>
     let mut rest = without_mark(text);
     let mut number = 1;
     'lines: loop {
-        let (line, behind) = cut_line(rest);
+        let (line, after) = cut_line(rest);
         reader.take_line(alloc, line, number)?;
-        let Some(next) = behind else {
+        let Some(next) = after else {
             break 'lines;
         };
         number += 1;

@@ -8,7 +8,7 @@ ghost use Rattle.pbn_deals.specs.Views.{tag_seen};
 
 use crate::hands::after_blanks;
 
-/// A tag pair of a line, and what stands behind it.
+/// A tag pair of a line, and what stands after it.
 #[derive(Clone, Copy)]
 pub(crate) struct Tag<'a> {
     pub(crate) name: &'a [u8],
@@ -16,7 +16,7 @@ pub(crate) struct Tag<'a> {
     pub(crate) rest: &'a [u8],
 }
 
-/// What stands before the first such byte and behind it, where there is one.
+/// What stands before the first such byte and after it, where there is one.
 pub(crate) fn split_at_byte(text: &[u8], byte: u8) -> Option<(&[u8], &[u8])>
     ensures { MatchOption result (Lacks byte text.now) (λ found. (text.now ≡ found.0.now ++ byte ∷ found.1.now) × Lacks byte found.0.now) }
 {
@@ -34,10 +34,10 @@ fn is_name_byte(byte: u8) -> bool
     byte.is_ascii_alphanumeric() || byte == b'_'
 }
 
-/// The bytes of a name at the front, and what stands behind them.
+/// The bytes of a name at the front, and what stands after them.
 fn split_name(text: &[u8]) -> (&[u8], &[u8])
     ensures front { result.0.now ≡ name_front text.now }
-    ensures behind { result.1.now ≡ after_name text.now }
+    ensures after { result.1.now ≡ after_name text.now }
     ensures within { length result.1.now ≤ length text.now }
 {
     for (i, byte) in text.iter().enumerate() {
@@ -93,25 +93,25 @@ pub(crate) fn is_inherited(value: &[u8]) -> bool
     }
 }
 
-/// The tag pair that stands behind an opening bracket.
+/// The tag pair that stands after an opening bracket.
 pub(crate) fn read_tag(text: &[u8]) -> Option<Tag<'_>>
     ensures value { tag_seen result ≡ tag_of text.now }
     ensures within { IfSome result (λ tag. length tag.rest.now ≤ length text.now) }
 {
-    let (name, behind) = split_name(after_blanks(text));
+    let (name, after) = split_name(after_blanks(text));
     if name.is_empty() {
         return None;
     }
-    let [quote, behind @ ..] = after_blanks(behind) else {
+    let [quote, after @ ..] = after_blanks(after) else {
         return None;
     };
     if *quote != b'"' {
         return None;
     }
-    let Some((value, behind)) = split_at_byte(behind, b'"') else {
+    let Some((value, after)) = split_at_byte(after, b'"') else {
         return None;
     };
-    let [bracket, rest @ ..] = after_blanks(behind) else {
+    let [bracket, rest @ ..] = after_blanks(after) else {
         return None;
     };
     if *bracket != b']' {

@@ -26,13 +26,13 @@ returns-then-not-add_hand c =
     let text = c.args.text.now in
     let now = c.loop-hand in
     let found = c.in_ok-word in
-    HandsRead-bad now.dealing now.seat c.args.first (words_of text) c.add_hand.new.self (4 - now._hand) (4 - (now._hand + 1)) found.word.now (words_of now.rest.now) (words_of found.behind.now) text refl now.invariant (omega arith) found.ensures c.if-not-add_hand.ensures.reads
+    HandsRead-bad now.dealing now.seat c.args.first (words_of text) c.add_hand.new.self (4 - now._hand) (4 - (now._hand + 1)) found.word.now (words_of now.rest.now) (words_of found.after.now) text refl now.invariant (omega arith) found.ensures c.if-not-add_hand.ensures.reads
 
 pub loop-hand-preserved : goal.loop-hand-preserved
 loop-hand-preserved c =
     let now = c.loop-hand in
     let found = c.in_ok-word in
-    rw c.next-seat.ensures (HandsRead-more now.dealing now.seat c.args.first (words_of c.args.text.now) c.add_hand.new.self (4 - now._hand) (4 - (now._hand + 1)) found.word.now (words_of now.rest.now) (words_of found.behind.now) now.invariant (omega arith) found.ensures c.if-not-add_hand.ensures.reads c.if-not-add_hand.ensures.partial)
+    rw c.next-seat.ensures (HandsRead-more now.dealing now.seat c.args.first (words_of c.args.text.now) c.add_hand.new.self (4 - now._hand) (4 - (now._hand + 1)) found.word.now (words_of now.rest.now) (words_of found.after.now) now.invariant (omega arith) found.ensures c.if-not-add_hand.ensures.reads c.if-not-add_hand.ensures.partial)
 
 pub returns-in-None : goal.returns-in-None
 returns-in-None c =

@@ -1,4 +1,4 @@
--- Behind the blanks passed so far the text goes on as it does behind all of its blanks.
+-- After the blanks passed so far the text goes on as it does after all of its blanks.
 use Rattle.std.proofs.Common.{◌≡◌, drop}
 use Rattle.pbn_deals.specs.DealValue.{after_blanks}
 use Rattle.pbn_deals.proofs.hands.after_blanks.Given as goal

@@ -21,6 +21,6 @@ loop-i-preserved c =
 
 pub returns : goal.returns
 returns c =
-    let behind = c.after_blanks-text.result.now in
-    let some : 0 < length behind = (let no = eqb-false _ 0 (sym c.is_empty.ensures ∙ c.if-is_empty.false) in omega (arith, no)) in
-    last_word c.args.text.now behind c.after_blanks-text.ensures.value some (rw (take_all c.loop-i.i behind (omega arith)) at c.loop-i.invariant)
+    let after = c.after_blanks-text.result.now in
+    let some : 0 < length after = (let no = eqb-false _ 0 (sym c.is_empty.ensures ∙ c.if-is_empty.false) in omega (arith, no)) in
+    last_word c.args.text.now after c.after_blanks-text.ensures.value some (rw (take_all c.loop-i.i after (omega arith)) at c.loop-i.invariant)

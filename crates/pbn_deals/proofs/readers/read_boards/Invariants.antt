@@ -1,4 +1,4 @@
--- What is answered for the rest of the text, behind the boards that have been read, is the answer for the text.
+-- What is answered for the rest of the text, after the boards that have been read, is the answer for the text.
 use Rattle.std.proofs.Common.{◌+◌, ◌≤◌, List, length, Result}
 use Rattle.pbn_deals.specs.declared.boards.Board.{Board}
 use Rattle.pbn_deals.specs.declared.faults.PbnFault.{PbnFault}

@@ -1,6 +1,6 @@
 use Rattle.std.proofs.Common.{sym, subst}
 use Rattle.pbn_deals.proofs.GameLemmas.{some_of, none_of}
-use Rattle.pbn_deals.proofs.StepLemmas.{Begins, outside, behind_comment, takes_rest, inner, escaped, ends_game}
+use Rattle.pbn_deals.proofs.StepLemmas.{Begins, outside, after_comment, takes_rest, inner, escaped, ends_game}
 use Rattle.pbn_deals.proofs.readers.Reader.take_line.Goals as goal
 
 pub returns-in-Some : goal.returns-in-Some
@@ -8,7 +8,7 @@ returns-in-Some c =
     let old = c.args.self.now in
     let found = c.in-Some in
     let opened = some_of old.opened c.if-is_some.ensures in
-    let begins = subst (Begins c.args.line.now found.rest.now) (sym opened.1) (behind_comment found.field-0-0.now found.ensures.0 found.ensures.1) in
+    let begins = subst (Begins c.args.line.now found.rest.now) (sym opened.1) (after_comment found.field-0-0.now found.ensures.0 found.ensures.1) in
     takes_rest c.take_rest.result c.args.number c.args.line.now found.rest.now old c.take_rest.new.self begins c.take_rest.ensures
 
 pub returns-in-None : goal.returns-in-None
