@@ -1,10 +1,9 @@
 -- The first of a list of adds that serves.
-use Rattle.std.proofs.Common.{◌≡◌, ℕ, suc, ◌+◌, ◌<◌, ◌≤◌, List, [], ◌∷◌, ◌++◌, length, Contains, take, drop, get_or, refl, subst, inl, inr, arith}
+use Rattle.std.proofs.Common.{ℕ, suc, ◌+◌, ◌<◌, List, [], length, take, drop, get_or, refl, subst, inl, inr, arith}
 use Rattle.std.proofs.lemmas.List.{take_more}
 use Rattle.std.proofs.lemmas.List.Elements.{Contains-push_cases}
 use Rattle.std.proofs.Math.Seq.{split_at}
 use Rattle.cards.specs.Deal.{Deal}
-use Rattle.patterns.specs.Holders.{Matches}
 use Rattle.pattern_store.specs.declared.keys.Added.{Added}
 use Rattle.pattern_store.specs.Stores.{Serves, NoneServes, FirstServes}
 
@@ -21,7 +20,7 @@ pub first_at : (deal : Deal) (need : ℕ) (adds : List Added) (i : ℕ) (d : Add
 first_at deal need adds i d lt before serves = record {
   before = take i adds;
   first = get_or adds i d;
-  behind = drop (suc i) adds;
+  after = drop (suc i) adds;
   is = split_at adds i d lt;
   none_before = before;
   serves = serves;

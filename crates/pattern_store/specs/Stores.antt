@@ -32,8 +32,8 @@ NoneServes deal need adds = (added : Added) → Contains adds added → Serves d
 pub record FirstServes (deal : Deal) (need : ℕ) (adds : List Added) (number : ℕ) : Type 0 where
   pub before : List Added
   pub first : Added
-  pub behind : List Added
-  pub is : adds ≡ before ++ (first ∷ behind)
+  pub after : List Added
+  pub is : adds ≡ before ++ (first ∷ after)
   pub none_before : NoneServes deal need before
   pub serves : Serves deal need first
   pub number_is : first.number ≡ number

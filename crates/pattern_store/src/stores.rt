@@ -1,7 +1,7 @@
 //! The store.
 
 ghost use Rattle.std.specs.Prelude.{◌≡◌, [], OnOk, OnErr, MatchOption};
-ghost use Rattle.pattern_store.specs.Lengths.{lengths_of, layout_lengths};
+ghost use Rattle.pattern_store.specs.Lengths.{key_with, lengths_of, layout_lengths};
 ghost use Rattle.pattern_store.specs.Stores.{list_at, AddsTo, NoneServes, FirstServes};
 
 use crate::keys::{Added, Key, key_of};
@@ -38,8 +38,8 @@ impl Store {
         }
     }
 
-    /// Adds that the side can win so many tricks of what the pattern stands for, with this seat to lead. A refused add
-    /// changes nothing.
+    /// Adds that the side can win `need` tricks of what the pattern stands for, with this seat to lead. Where memory runs
+    /// out the store stays as it was.
     pub fn add(
         &mut self,
         pattern: Pattern,
@@ -48,7 +48,9 @@ impl Store {
         need: u8,
         number: u32,
     ) -> Result<(), AllocError>
-        ensures ok { OnOk result (AddsTo ⟦<Key as PartialEq>⟧.eq self.old self.new (record { lengths = lengths_of pattern; lead = lead; side = side }) (record { pattern = pattern; need = need; number = number })) }
+        ensures ok { OnOk result (AddsTo ⟦<Key as PartialEq>⟧.eq self.old self.new
+            (key_with (lengths_of pattern) lead side)
+            (record { pattern = pattern; need = need; number = number })) }
         ensures err { OnErr result (self.new ≡ self.old) }
     {
         let key = key_of(&pattern, lead, side);
@@ -73,7 +75,8 @@ impl Store {
     /// The number of the first add with this lead and side, a need of at least this one, and a pattern that the layout
     /// matches. Takes no memory.
     pub fn find(&self, layout: &Layout, lead: Seat, side: Side, need: u8) -> Option<u32>
-        ensures { MatchOption result (NoneServes layout.now need (list_at (⟦<Key as PartialEq>⟧.eq (record { lengths = layout_lengths layout.now; lead = lead; side = side })) self.now)) (FirstServes layout.now need (list_at (⟦<Key as PartialEq>⟧.eq (record { lengths = layout_lengths layout.now; lead = lead; side = side })) self.now)) }
+        ensures { let list = list_at (⟦<Key as PartialEq>⟧.eq (key_with (layout_lengths layout.now) lead side)) self.now in
+            MatchOption result (NoneServes layout.now need list) (FirstServes layout.now need list) }
     {
         let key = key_of(&Pattern::of_layout(layout, [0; 4]), lead, side);
         match self.lists.get(&key) {

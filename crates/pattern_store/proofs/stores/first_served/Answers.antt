@@ -1,7 +1,6 @@
-use Rattle.std.proofs.Common.{◌≡◌, length, take, sym, ◌∙◌, ◌≤◌, true≢false, arith}
+use Rattle.std.proofs.Common.{sym, ◌∙◌, true≢false, arith}
 use Rattle.std.proofs.lemmas.List.{take_all}
-use Rattle.pattern_store.specs.declared.keys.Added.{Added}
-use Rattle.pattern_store.specs.Stores.{Serves, NoneServes, FirstServes}
+use Rattle.pattern_store.specs.Stores.{Serves}
 use Rattle.pattern_store.proofs.Firsts.{none_more, first_at}
 use Rattle.pattern_store.proofs.stores.first_served.Goals as goal
 use Rattle.pattern_store.proofs.stores.first_served.Goals.{else-added-need-via-then-added-need+else-matches, else-added-need-via-else-added-need}

@@ -1,6 +1,5 @@
-use Rattle.std.proofs.Common.{◌≡◌, ◌∙◌, ◌++◌, ◌∷◌, [], ap, sym, refl, List, rules, cond, true, arith, Option, Vec, Global}
+use Rattle.std.proofs.Common.{◌∙◌, ◌++◌, ◌∷◌, [], ap, List, rules, Option, Vec, Global}
 use Rattle.std.specs.Option.{option_map_or}
-use Rattle.pattern_store.specs.declared.keys.Key.{Key}
 use Rattle.pattern_store.specs.declared.keys.Added.{Added}
 use Rattle.pattern_store.proofs.Held.{adds_to, shown, shown-set_same, on_err}
 use Rattle.pattern_store.proofs.SameKeys.{keys_equal, keys_equal-same, keys_equal-apart}

@@ -1,9 +1,8 @@
-use Rattle.std.proofs.Common.{◌≡◌, ◌∙◌, ap, sym, refl, List, [], rules, arith, MatchOption, subst, Option, Vec, Global}
+use Rattle.std.proofs.Common.{◌≡◌, ◌∙◌, ap, sym, List, [], MatchOption, subst, Option, Vec, Global}
 use Rattle.std.specs.Option.{option_map_or}
 use Rattle.patterns.specs.Shapes.{Shape}
 use Rattle.pattern_store.specs.Lengths.{lengths_of, layout_lengths}
-use Rattle.pattern_store.specs.Stores.{NoneServes, FirstServes, list_at}
-use Rattle.pattern_store.specs.declared.keys.Key.{Key}
+use Rattle.pattern_store.specs.Stores.{NoneServes, FirstServes}
 use Rattle.pattern_store.specs.declared.keys.Added.{Added}
 use Rattle.pattern_store.proofs.Firsts.{none_of_none}
 use Rattle.pattern_store.proofs.Held.{list_at-shown}
