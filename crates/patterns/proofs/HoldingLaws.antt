@@ -152,7 +152,7 @@ pub take-full : (depth : ℕ) (holders : List Seat) (more : List Seat) → depth
 take-full depth holders more full =
     take-append-le depth holders more (omega (arith, full, length-take depth holders))
 
--- the holders, cut behind some of the cards
+-- the holders, cut after some of the cards
 pub holders_in-split : (words : List ℕ) (n : ℕ) → holders_in words ≡ holders_above words n ++ filter_map (holder_in words) (drop n falling_numbers)
 unfolding holders_in
 holders_in-split words n =

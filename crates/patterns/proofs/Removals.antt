@@ -29,7 +29,7 @@ pub kept-none : (owners : List Seat) → kept 0 owners ≡ owners
 kept-none [] = refl
 kept-none (owner ∷ owners) = ap (λ rest. owner ∷ rest) (kept-none owners)
 
--- places behind the owners are of no account
+-- places after the owners do not matter
 pub kept-mod : (k m : ℕ) (owners : List Seat) → length owners ≤ k → kept (m % 2 ^ k) owners ≡ kept m owners
 kept-mod k m [] h = refl
 kept-mod zero m (owner ∷ owners) h = absurd (omega arith)
@@ -40,7 +40,7 @@ kept-mod (suc k) m (owner ∷ owners) h =
     let high : m % 2 ^ suc k / 2 ≡ m / 2 % 2 ^ k = omega (arith, whole) in
     rw (low, high, kept-mod k (m / 2) owners (omega arith)) refl
 
--- the places behind the first one that is taken, moved down by one
+-- the places after the first one that is taken, moved down by one
 abbrev pub moved_down : ℕ → ℕ → ℕ
 moved_down m p = m / 2 ^ (p + 1) * 2 ^ p
 

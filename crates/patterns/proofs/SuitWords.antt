@@ -114,7 +114,7 @@ take-owners_in zero k n h = refl
 take-owners_in (suc i) zero n h = absurd (omega arith)
 take-owners_in (suc i) (suc k) n h = ap (λ owners. seat_at (n % 4) ∷ owners) (take-owners_in i k (n / 4) (omega arith))
 
--- bits above the owners are of no account
+-- bits above the owners do not matter
 pub owners_in-mod : (k n : ℕ) → owners_in k (n % 2 ^ (2 * k)) ≡ owners_in k n
 owners_in-mod zero n = refl
 owners_in-mod (suc k) n =
@@ -158,7 +158,7 @@ HasWord-fits suit four fits owned =
       within = omega (arith, all, owned North, owned East, owned South, owned West);
     }
 
--- whether there are bits behind the last owner
+-- whether there are bits after the last owner
 pub tells_by_bits : (word k : ℕ) → k ≡ owner_count word → k ≤ 13 → MatchBool (nat_eq (word / 2 ^ 20 / 2 ^ (2 * k)) 0) (IsSuitWord word) (IsWrongWord word)
 tells_by_bits word k is within = go (nat_eq above 0) refl
   where

@@ -5,7 +5,8 @@ use Rattle.std.proofs.Common.{refl, ◌∙◌, ap, arith}
 use Rattle.std.proofs.lemmas.Nat.{pow-add}
 use Rattle.cards.specs.declared.suits.Suit.TheVariants.{Spades, Hearts, Diamonds, Clubs}
 use Rattle.cards.specs.Seats.{seat_number}
-use Rattle.patterns.specs.Words.{seat_at, owners_in, owner_bits, owner_count, suit_in, word_of, IsSuitWord, words_of, shape_in, AreWords}
+use Rattle.patterns.specs.Words.{seat_at, owners_in, owner_bits, owner_count, suit_in}
+use Rattle.patterns.specs.Words.{word_of, IsSuitWord, words_of, shape_in, AreWords}
 
 -- one place more has two bits more
 pub place_more : (k : ℕ) → 2 ^ (2 * suc k) ≡ 4 * 2 ^ (2 * k)

@@ -1,7 +1,8 @@
 -- One suit as a word of 64 bits: bits 0 to 3 are the length of North, 4 to 7 of East, 8 to 11 of South, 12 to 15 of
 -- West; bits 16 to 19 are the number of owners; owner i, from 0, stands in bits 20 + 2 i and 21 + 2 i, North being 0,
 -- East 1, South 2 and West 3. All other bits are 0.
-use Rattle.std.specs.Prelude.{◌≡◌, ℕ, zero, suc, ◌+◌, ◌*◌, ◌/◌, ◌%◌, ◌^◌, ◌<◌, ◌≤◌, ◌==◌, ◌⊎◌, List, [], ◌∷◌, length, slice_index, Result, Ok, Err, if◌then◌else◌}
+use Rattle.std.specs.Prelude.{◌≡◌, ℕ, zero, suc, ◌+◌, ◌*◌, ◌/◌, ◌%◌, ◌^◌, ◌<◌, ◌≤◌, ◌==◌, ◌⊎◌}
+use Rattle.std.specs.Prelude.{List, [], ◌∷◌, length, slice_index, Result, Ok, Err, if◌then◌else◌}
 use Rattle.cards.specs.declared.suits.Suit.{Suit}
 use Rattle.cards.specs.declared.seats.Seat.{Seat}
 use Rattle.cards.specs.declared.seats.Seat.TheVariants.{North, East, South, West}
@@ -58,12 +59,12 @@ pub record HasWord (suit : SuitShape) : Type 0 where
 abbrev pub HaveWords : Shape → Type 0
 HaveWords shape = (suit : Suit) → HasWord (suit_of shape suit)
 
--- a word tells a suit: it has at most 13 owners, and no bit behind the last of them
+-- a word tells a suit: it has at most 13 owners, and no bit after the last of them
 pub record IsSuitWord (word : ℕ) : Type 0 where
   pub within : owner_count word ≤ 13
   pub blank : word / 2 ^ 20 < 2 ^ (2 * owner_count word)
 
--- a word tells none: it has over 13 owners, or a bit behind the last of them
+-- a word tells none: it has over 13 owners, or a bit after the last of them
 abbrev pub IsWrongWord : ℕ → Type 0
 IsWrongWord word = (13 < owner_count word) ⊎ (2 ^ (2 * owner_count word) ≤ word / 2 ^ 20)
 

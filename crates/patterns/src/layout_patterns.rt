@@ -72,7 +72,7 @@ impl Pattern {
         ensures shape { result ≡ shape_of_layout layout.now depths }
         ensures matches { Matches result layout.now }
     {
-        let _size = layout.len();
+        layout.invariant();
         Pattern {
             held: ShapeWords::of_layout(layout, depths),
         }
@@ -144,6 +144,7 @@ impl Pattern {
         self.held.suit(suit).owner(place)
     }
 
+    /// The four suits in their words.
     pub(crate) fn held(&self) -> &ShapeWords
         ensures { result.now ≡ self.now }
     {

@@ -96,6 +96,7 @@ impl Rest {
         self.held.suit(suit).part()
     }
 
+    /// The four suits in their words.
     pub(crate) fn held(&self) -> &ShapeWords
         ensures { result.now ≡ self.now }
     {

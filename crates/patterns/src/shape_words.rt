@@ -4,7 +4,8 @@ ghost use Rattle.std.specs.Prelude.{◌≡◌, ◌↔◌, length, IsTrue, MatchB
 ghost use Rattle.std.specs.Bool.{OnTrue};
 ghost use Rattle.patterns.specs.Shapes.{suit_of, suit_size, hand_size, CoversSuit, Covers};
 ghost use Rattle.patterns.specs.Holders.{holders_of, MatchesSuit, Matches, shape_of_layout};
-ghost use Rattle.patterns.specs.Parts.{shape_of_parts, HasFourSeats, SuitsFit, HasLongSuit, HandsFit, HasWrongHands, HasItsOwners, HasExcessOwner, OwnersFit, HasWrongOwner, MeetsParts};
+ghost use Rattle.patterns.specs.Parts.{shape_of_parts, HasFourSeats, SuitsFit, HasLongSuit, HandsFit, HasWrongHands};
+ghost use Rattle.patterns.specs.Parts.{HasItsOwners, HasExcessOwner, OwnersFit, HasWrongOwner, MeetsParts};
 ghost use Rattle.patterns.specs.Words.{shape_with, shape_in, words_of, HaveWords, AreWords, HasWrongWord};
 
 use crate::faults::PatternFault;

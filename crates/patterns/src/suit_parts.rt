@@ -25,6 +25,7 @@ impl SuitPart {
         ensures four { length self.now.lens ≡ 4 }
         ensures within { length self.now.owners.items ≤ 13 }
     {
+        // at most as many as the list has room for
         let _owners = self.owners.as_slice();
         u16::from(self.lens[0])
             + u16::from(self.lens[1])

@@ -1,6 +1,7 @@
 //! One suit in a word.
 
-ghost use Rattle.std.specs.Prelude.{◌≡◌, ◌≢◌, ◌↔◌, ◌≤◌, ◌<◌, ◌+◌, ◌-◌, ◌*◌, ◌/◌, ◌%◌, ◌^◌, IsTrue, MatchBool, length, min, slice_get};
+ghost use Rattle.std.specs.Prelude.{◌≡◌, ◌≢◌, ◌↔◌, ◌≤◌, ◌<◌, ◌+◌, ◌-◌, ◌*◌, ◌/◌, ◌%◌};
+ghost use Rattle.std.specs.Prelude.{◌^◌, IsTrue, MatchBool, length, min, slice_get};
 ghost use Rattle.patterns.specs.Shapes.{len_of, tops_of, suit_size, BeginsWith, CoversSuit};
 ghost use Rattle.std.specs.Prelude.{count_ones, slice_index, slice_index_or};
 ghost use Rattle.cards.specs.declared.seats.Seat.TheVariants.{North};
@@ -43,13 +44,23 @@ impl Model for SuitWord {
     ghost inverse_ok = { λ held h. ap (λ (n : ℕ). record { word = n }) (word_of-suit_in held.word h) };
 }
 
-/// Where the number of owners stands in a word, and where the owners begin.
+/// Where the number of owners stands in a word.
 const COUNT: u32 = 16;
 
+/// Where the owners begin.
 const OWNERS: u32 = 20;
 
 /// The lower of the two bits of each of thirteen places.
 const EACH_PLACE: u64 = 0x1555555;
+
+/// A bit for each of thirteen places.
+const ALL_PLACES: u64 = 0x1fff;
+
+/// The four lengths in a word.
+const LENS: u64 = 0xffff;
+
+/// The bit above each of the four lengths.
+const ABOVE_LENS: u64 = 0x11110;
 
 impl SuitWord {
     /// The suit that a word tells.
@@ -138,6 +149,7 @@ impl SuitWord {
         requires { place < length self.now.owners }
         ensures { result ≡ slice_index_or self.now.owners place North }
     {
+        // at most 13, so the word has bits for the place
         let _count = self.owner_count();
         owner_at(self.word >> OWNERS, place)
     }
@@ -155,13 +167,12 @@ impl SuitWord {
     }
 
     /// The suit without the owners in these places, which have a bit each, that of place 0 lowest. They are taken out
-    /// one by one, the lowest first, and the places behind move down by one each time.
+    /// one by one, the lowest first, and the places after it move down by one each time.
     pub fn without(self, places: u64) -> SuitWord
         ensures lens { result.lens ≡ self.lens }
         ensures owners { result.owners ≡ owners_but places self.owners }
     {
-        // none of the thirteen places that an owner can have
-        if places & 0x1fff == 0 {
+        if places & ALL_PLACES == 0 {
             return self;
         }
         let mut word = self.word;
@@ -217,7 +228,7 @@ impl SuitWord {
     {
         let count = nibble(self.word, COUNT);
         let among = (1 << (2 * count)) - 1;
-        self.word & 0xffff == rest.word & 0xffff
+        self.word & LENS == rest.word & LENS
             && count <= nibble(rest.word, COUNT)
             && self.word >> OWNERS == rest.word >> OWNERS & among
     }
@@ -299,9 +310,9 @@ fn lesser_lens(one: u64, other: u64) -> u64
     ensures below { result < 2 ^ 16 }
     ensures lesser { (seat : Seat) → len_of (suit_in result) seat ≡ min (len_of (suit_in one) seat) (len_of (suit_in other) seat) }
 {
-    let lens = other & 0xffff;
+    let lens = other & LENS;
     // a length that is taken from a lesser one borrows from the bit above its four
-    if (one ^ lens ^ one.wrapping_sub(lens)) & 0x11110 == 0 {
+    if (one ^ lens ^ one.wrapping_sub(lens)) & ABOVE_LENS == 0 {
         return lens;
     }
     nibble(one, 0).min(nibble(other, 0))
@@ -334,7 +345,7 @@ fn owner_at(bits: u64, place: usize) -> Seat
     }
 }
 
-/// Whether the word tells a suit: it has at most 13 owners, and no bit behind the last of them.
+/// Whether the word tells a suit: it has at most 13 owners, and no bit after the last of them.
 pub(crate) fn tells_suit(word: u64) -> bool
     ensures { MatchBool result (IsSuitWord word) (IsWrongWord word) }
 {
