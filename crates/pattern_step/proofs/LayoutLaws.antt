@@ -25,7 +25,7 @@ use Rattle.pattern_step.specs.PatCards.{suit_of_card, HasCard}
 use Rattle.pattern_step.proofs.PatCardLaws.{slice_get-within}
 use Rattle.pattern_step.specs.LayoutCards.{ranks_above, place_in_suit, StandsFor, IsOnePatCard, IsSomeCard, HoldsSuit, IsBelowTop}
 
--- an item that gives something stands, among what all items give, behind what those before it give
+-- an item that gives something stands, among what all items give, after what those before it give
 at_place : {X : Type 0} (f : X → Option Seat) (xs : List X) (i : ℕ) (x : X) (seat : Seat) → slice_get xs i ≡ Some x → f x ≡ Some seat → slice_get (filter_map f xs) (length (filter_map f (take i xs))) ≡ Some seat
 at_place f [] i x seat there gives = absurd (let e : None ≡ Some x = there in cc)
 at_place f (y ∷ ys) zero x seat there gives =
@@ -201,9 +201,9 @@ hand_size-covered pattern rest seat covers = four_same _ _ _ _ _ _ _ _ (same Spa
     same : (suit : Suit) → len_of (suit_of pattern suit) seat ≡ len_of (suit_of rest suit) seat
     same suit = ap (λ lens. slice_index lens (seat_number seat)) (covers suit).lens
 
--- how many of a suit a seat has behind the owners
-behind : (suit : SuitShape) (holders : List Seat) (m : MatchesSuit suit holders) (seat : Seat) → len_of suit seat ≡ tops_of suit seat + count_in m.owners.0 seat
-behind suit holders m seat =
+-- how many of a suit a seat has after the owners
+after_owners : (suit : SuitShape) (holders : List Seat) (m : MatchesSuit suit holders) (seat : Seat) → len_of suit seat ≡ tops_of suit seat + count_in m.owners.0 seat
+after_owners suit holders m seat =
     m.lens seat ∙ (ap (λ xs. count_in xs seat) m.owners.1 ∙ sum_by-append (λ x. cond (is_same_seat seat x) 1 0) suit.owners m.owners.0)
 
 -- Each card of a matching layout is exactly one pattern card of the seat that holds it.
@@ -230,7 +230,7 @@ IsOnePatCard-of shape deal seat card matches held =
         let e : length owners + j ≡ place_in_suit deal card = omega arith in
         let at : slice_get m.owners.0 j ≡ Some seat =
         sym (slice_get-back owners m.owners.0 j) ∙ (ap (slice_get (owners ++ m.owners.0)) e ∙ (ap (λ xs. slice_get xs (place_in_suit deal card)) (sym m.owners.1) ∙ there)) in
-        omega (arith, counted m.owners.0 j seat at, behind (suit_of shape card.suit) (holders_of deal card.suit) m seat)
+        omega (arith, counted m.owners.0 j seat at, after_owners (suit_of shape card.suit) (holders_of deal card.suit) m seat)
 
     no_other_top : place_in_suit deal card < length (suit_of shape card.suit).owners → (other : PatCard) → StandsFor shape deal other card → other ≡ Top card.suit (place_in_suit deal card)
     no_other_top less (Top suit place) stands = ap (λ s. Top s place) (sym stands.0) ∙ ap (Top card.suit) (sym stands.1)
@@ -256,7 +256,7 @@ IsSomeCard-of shape deal seat (Top suit place) matches has =
 IsSomeCard-of shape deal seat (Low suit) matches has =
     let m = matches suit in
     let owners = (suit_of shape suit).owners in
-    let some = stands_there m.owners.0 seat (omega (arith, has, behind (suit_of shape suit) (holders_of deal suit) m seat)) in
+    let some = stands_there m.owners.0 seat (omega (arith, has, after_owners (suit_of shape suit) (holders_of deal suit) m seat)) in
     let there : slice_get (holders_of deal suit) (length owners + some.0) ≡ Some seat =
     ap (λ xs. slice_get xs (length owners + some.0)) m.owners.1 ∙ (slice_get-back owners m.owners.0 some.0 ∙ some.1) in
     let held = card_at_place deal suit (length owners + some.0) seat there in

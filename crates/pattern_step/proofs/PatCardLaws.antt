@@ -75,7 +75,7 @@ length-tops_in shape seat suit (suc n) h within =
     one_or_none true = refl
     one_or_none false = refl
 
--- behind the owners there is no top
+-- after the owners there is no top
 pub tops_in-past : (shape : Shape) (seat : Seat) (suit : Suit) (n : ℕ) (k : ℕ) → n + k ≤ 13 → length (suit_of shape suit).owners ≤ n → tops_in shape seat suit (n + k) ≡ tops_in shape seat suit n
 tops_in-past shape seat suit n zero h past = ap (tops_in shape seat suit) (omega arith)
 tops_in-past shape seat suit n (suc k) h past =

@@ -21,7 +21,7 @@ use Rattle.pattern_step.specs.TrickBits.{card_lens, one_of, trick_lens}
 use Rattle.pattern_step.proofs.PatCardLaws.{owners-le-13}
 use Rattle.pattern_step.proofs.PlaceLaws.{is_among-or, is_among-one, owners_left-but}
 
--- a bit behind a shift
+-- a bit after a shift
 is_among-shr : (bits from place : ℕ) → is_among (bits / 2 ^ from) place ≡ is_among bits (from + place)
 is_among-shr bits from place = ap (λ n. eqb (n % 2) 1) (shr-shr bits from place)
 

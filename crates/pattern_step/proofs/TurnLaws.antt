@@ -51,7 +51,7 @@ place_of-seat_in_place West (suc (suc zero)) h = refl
 place_of-seat_in_place West (suc (suc (suc zero))) h = refl
 place_of-seat_in_place leader (suc (suc (suc (suc place)))) h = absurd (omega arith)
 
--- the suit led in the places behind the first
+-- the suit led in the places after the first
 pub suit_led_by-take : (cards : List PatCard) (place : ℕ) → length cards ≡ 4 → suit_led_by (take (suc place) cards) ≡ Some (suit_of_lead cards)
 suit_led_by-take [] place four = absurd (omega (arith, four))
 suit_led_by-take (card ∷ cards) place four = refl

@@ -11,7 +11,8 @@ use Rattle.pattern_step.specs.declared.pat_cards.PatCard.{PatCard}
 use Rattle.pattern_step.specs.declared.pat_cards.PatCard.TheVariants.{Top}
 use Rattle.pattern_step.specs.PatCards.{suit_of_card, HasCard}
 use Rattle.pattern_step.specs.Tricks.{AreLegalInTurn, IsLeft}
-use Rattle.pattern_step.specs.LayoutCards.{StandsFor, IsOnePatCard, IsSomeCard, HoldsSuit, IsBelowTop, ArePlayed, IsWithout}
+use Rattle.pattern_step.specs.LayoutCards.{StandsFor, IsOnePatCard, IsSomeCard}
+use Rattle.pattern_step.specs.LayoutCards.{HoldsSuit, IsBelowTop, ArePlayed, IsWithout}
 
 -- each card of a matching deal is exactly one pattern card, of the seat that holds it
 abbrev pub EachCardIsOne : Type 0

@@ -27,7 +27,7 @@ place_in_suit deal card =
     length (filter_map (λ rank. holder_of deal (card_of card.suit rank)) (ranks_above card.rank))
 
 -- A pattern card stands for a card of the layout: a top for the card of its suit in its place, and a low card for
--- each card of its suit in a place behind the owners.
+-- each card of its suit in a place after the owners.
 abbrev pub StandsFor : Shape → Deal → PatCard → Card → Type 0
 StandsFor shape deal (Top suit place) card =
     (card.suit ≡ suit) × (place_in_suit deal card ≡ place) × (place < length (suit_of shape suit).owners)

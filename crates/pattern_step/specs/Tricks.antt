@@ -1,5 +1,6 @@
 -- One trick of pattern cards: who plays which card, who may win, and what is left.
-use Rattle.std.specs.Prelude.{◌≡◌, ℕ, ◌-◌, ◌<◌, ◌≤◌, not, List, [], ◌∷◌, length, take, map, filter, Option, None, Some, ◌⊎◌, Contains, slice_index_or, slice_get, if◌then◌else◌}
+use Rattle.std.specs.Prelude.{◌≡◌, ℕ, ◌-◌, ◌<◌, ◌≤◌, not, List, [], ◌∷◌, length, take, map, filter}
+use Rattle.std.specs.Prelude.{Option, None, Some, ◌⊎◌, Contains, slice_index_or, slice_get, if◌then◌else◌}
 use Rattle.std.specs.List.{list_any, enumerate_from}
 use Rattle.cards.specs.declared.suits.Suit.{Suit}
 use Rattle.cards.specs.declared.suits.Suit.TheVariants.{Spades}
@@ -12,7 +13,7 @@ use Rattle.pattern_step.specs.declared.pat_cards.PatCard.{PatCard}
 use Rattle.pattern_step.specs.declared.pat_cards.PatCard.TheVariants.{Top, Low}
 use Rattle.pattern_step.specs.PatCards.{suit_of_card, is_of_suit, is_top, IsLegal}
 
--- the card that was played first, second, third or last (where no card was, it is of no account which this is)
+-- the card that was played first, second, third or last (where none was, it does not matter which this is)
 abbrev pub played_in_place : List PatCard → ℕ → PatCard
 played_in_place cards place = slice_index_or cards place (Top Spades 0)
 

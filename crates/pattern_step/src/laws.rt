@@ -4,7 +4,9 @@ ghost use Rattle.std.specs.Prelude.{◌≡◌};
 ghost use Rattle.std.specs.Bool.{Decides};
 ghost use Rattle.pattern_step.specs.declared.pat_cards.PatCard.{PatCard};
 ghost use Rattle.pattern_step.specs.SeatSets.{Seats};
-ghost use Rattle.pattern_step.specs.Laws.{EachCardIsOne, EachPatCardIsSome, TopsRankAbove, WhatIsLeftMatches, StandsForItsSuit, LengthsAreHeld, HandsAreAsLarge, CoveredHandsAreAsLarge, OneIsLeft, EachHandHasOneLess};
+ghost use Rattle.pattern_step.specs.Laws.{EachCardIsOne, EachPatCardIsSome, TopsRankAbove};
+ghost use Rattle.pattern_step.specs.Laws.{WhatIsLeftMatches, StandsForItsSuit, LengthsAreHeld, HandsAreAsLarge};
+ghost use Rattle.pattern_step.specs.Laws.{CoveredHandsAreAsLarge, OneIsLeft, EachHandHasOneLess};
 
 use crate::pat_cards::PatCard;
 use crate::seat_sets::SeatSet;

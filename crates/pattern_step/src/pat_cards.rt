@@ -11,7 +11,9 @@ use cards::Suit;
 /// highest, or one of the low cards, which have no rank.
 #[derive(Clone, Copy, Debug, PartialEq, Eq)]
 pub enum PatCard {
+    /// The card of the suit in this place of the list of owners, from 0 for the highest.
     Top(Suit, u8),
+    /// A card of the suit below all that have an owner.
     Low(Suit),
 }
 

@@ -16,6 +16,12 @@ use crate::pat_cards::PatCard;
 use cards::{Seat, Suit};
 use patterns::{Pattern, Rest, SuitWord};
 
+/// How many bits each suit has in the numbers that tell a trick: those of the four lengths in a word.
+const SUIT_BITS: usize = 16;
+
+/// The bits of one suit.
+const SUIT: u64 = 0xffff;
+
 /// What is left of a pattern after four pattern cards that were played clockwise from the leader: each player's
 /// length in the suit played goes down by one, and the tops that were played are taken out of the owners. The cards
 /// must be legal in turn.
@@ -40,8 +46,8 @@ fn left(held: SuitWord, suit: Suit, lens: u64, places: u64) -> SuitWord
     ensures lens { (seat : Seat) → len_of result seat ≡ len_of held seat - len_of (suit_in (lens / 2 ^ (16 * suit_number suit) % 2 ^ 16)) seat }
     ensures owners { result.owners ≡ owners_but (places / 2 ^ (16 * suit_number suit)) held.owners }
 {
-    let from = 16 * suit.number();
-    held.less(lens >> from & 0xffff).without(places >> from)
+    let from = SUIT_BITS * suit.number();
+    held.less(lens >> from & SUIT).without(places >> from)
 }
 
 /// The lengths that the cards take from their players, sixteen bits a suit, spades lowest, in each as in a word.
@@ -60,7 +66,7 @@ fn trick_lens(leader: Seat, cards: &[PatCard; 4]) -> u64
 fn card_lens(seat: Seat, card: PatCard) -> u64
     ensures { result ≡ card_lens seat card }
 {
-    1 << (16 * card.suit().number() + 4 * seat.number())
+    1 << (SUIT_BITS * card.suit().number() + 4 * seat.number())
 }
 
 /// The places of the tops among the cards, sixteen bits a suit, spades lowest, in each that of place 0 lowest.
@@ -75,7 +81,8 @@ fn place_bit(card: PatCard) -> u64
     ensures { (suit : Suit) (place : ℕ) → place < 13 → is_among (result / 2 ^ (16 * suit_number suit)) place ≡ is_top suit place card }
 {
     match card {
-        PatCard::Top(suit, place) if place < 13 => 1 << (16 * suit.number() + place as usize),
+        PatCard::Top(suit, place) if place < 13 => 1
+            << (SUIT_BITS * suit.number() + place as usize),
         _ => 0,
     }
 }
