@@ -1,4 +1,5 @@
-//! The laws of patterns and of the deals that match them. Each is a function that does nothing: its contract is the law.
+//! The laws of patterns and of the deals that match them. Each is a function that does nothing: its contract is the
+//! law.
 
 ghost use Rattle.std.specs.Prelude.{◌≡◌};
 ghost use Rattle.std.specs.Bool.{Decides};

@@ -2,12 +2,14 @@
 
 ghost use Rattle.std.specs.Prelude.{◌≡◌, ◌↔◌, Result, Ok};
 ghost use Rattle.std.specs.Bool.{Decides};
+ghost use Rattle.cards.specs.Orders.{SaysSame};
 ghost use Rattle.patterns.specs.Shapes.{Shape, IsPattern, IsRest};
 ghost use Rattle.patterns.specs.Parts.{suit_shape};
 ghost use Rattle.patterns.specs.Words.{words_of, MeetsWords};
 ghost use Rattle.patterns.specs.declared.faults.PatternFault.{PatternFault};
 ghost use Rattle.patterns.specs.declared.suit_parts.SuitPart.{SuitPart};
 
+use crate::faults::PatternFault;
 use crate::layout_patterns::Pattern;
 use crate::rests::Rest;
 use crate::suit_parts::SuitPart;
@@ -25,6 +27,11 @@ pub fn equal_rests_are_one()
 /// `==` of two parts says whether they tell the same suit.
 pub fn equal_parts_are_one()
     ensures { (one other : SuitPart) → Decides (⟦<SuitPart as PartialEq>⟧.eq one other) (suit_shape one ≡ suit_shape other) }
+{}
+
+/// `==` of two faults says whether they are the same.
+pub fn equal_faults_are_one()
+    ensures { SaysSame ⟦<PatternFault as PartialEq>⟧.eq }
 {}
 
 /// Two patterns are the same exactly where their words are, so their words may stand for them as a key.
