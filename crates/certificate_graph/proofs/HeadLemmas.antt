@@ -51,19 +51,19 @@ no_side text a b NorthSouth rest e = a rest (e ∙ side_line-cut NorthSouth rest
 no_side text a b EastWest rest e = b rest (e ∙ side_line-cut EastWest rest)
 
 -- ---- the number of nodes
-same_digits : (text rest digits behind other more : List ℕ) → text ≡ rest → rest ≡ digits ++ behind → AllDigits 10 digits → StopsDigits behind → IsNumber other → text ≡ other ++ (10 ∷ more) → (digits ≡ other) × (behind ≡ 10 ∷ more)
-same_digits text rest digits behind other more e parts all stops number is =
-    one_digits digits other behind (10 ∷ more) all number.numeral.1 stops (lit≤ tt) (sym parts ∙ (sym e ∙ is))
+same_digits : (text rest digits after other more : List ℕ) → text ≡ rest → rest ≡ digits ++ after → AllDigits 10 digits → StopsDigits after → IsNumber other → text ≡ other ++ (10 ∷ more) → (digits ≡ other) × (after ≡ 10 ∷ more)
+same_digits text rest digits after other more e parts all stops number is =
+    one_digits digits other after (10 ∷ more) all number.numeral.1 stops (lit≤ tt) (sym parts ∙ (sym e ∙ is))
 
-pub digits_by_end : (text rest digits behind : List ℕ) → text ≡ 110 ∷ 111 ∷ 100 ∷ 101 ∷ 115 ∷ 32 ∷ rest → rest ≡ digits ++ behind → AllDigits 10 digits → StopsDigits behind → LacksByte 10 behind → LacksDigits text
-digits_by_end text rest digits behind e parts all stops lacks other more begins =
+pub digits_by_end : (text rest digits after : List ℕ) → text ≡ 110 ∷ 111 ∷ 100 ∷ 101 ∷ 115 ∷ 32 ∷ rest → rest ≡ digits ++ after → AllDigits 10 digits → StopsDigits after → LacksByte 10 after → LacksDigits text
+digits_by_end text rest digits after e parts all stops lacks other more begins =
     let same : rest ≡ other ++ (10 ∷ more) = (let h = begins.is in cc) in
-    lacks more (same_digits rest rest digits behind other more refl parts all stops begins.number same).1
+    lacks more (same_digits rest rest digits after other more refl parts all stops begins.number same).1
 
-pub digits_by_number : (text rest digits behind : List ℕ) → text ≡ 110 ∷ 111 ∷ 100 ∷ 101 ∷ 115 ∷ 32 ∷ rest → rest ≡ digits ++ behind → AllDigits 10 digits → StopsDigits behind → (IsNumber digits → ⊥) → LacksDigits text
-digits_by_number text rest digits behind e parts all stops lacks other more begins =
+pub digits_by_number : (text rest digits after : List ℕ) → text ≡ 110 ∷ 111 ∷ 100 ∷ 101 ∷ 115 ∷ 32 ∷ rest → rest ≡ digits ++ after → AllDigits 10 digits → StopsDigits after → (IsNumber digits → ⊥) → LacksDigits text
+digits_by_number text rest digits after e parts all stops lacks other more begins =
     let same : rest ≡ other ++ (10 ∷ more) = (let h = begins.is in cc) in
-    lacks (subst IsNumber (sym (same_digits rest rest digits behind other more refl parts all stops begins.number same).0) begins.number)
+    lacks (subst IsNumber (sym (same_digits rest rest digits after other more refl parts all stops begins.number same).0) begins.number)
 
 -- a number of eight digits or more is too large
 one_more : (digits : List ℕ) (i : ℕ) → i < length digits → 10 * digits_value 10 (take i digits) ≤ digits_value 10 (take (i + 1) digits)

@@ -17,37 +17,37 @@ match_map (Some a) f g h = g a h
 abbrev pub LacksByte : ℕ → List ℕ → Type 0
 LacksByte byte text = (rest : List ℕ) → text ≡ byte ∷ rest → ⊥
 
-first_child : (c d : Child) (text behind : List ℕ) (cs : List Child) (rest : List ℕ) → IsShort d.number → BeginsChild text c behind → text ≡ child_text d (more_children_text cs rest) → (c ≡ d) × (behind ≡ more_children_text cs rest)
-first_child c d text behind cs rest short begins e = one_child c d behind _ begins.short short begins.stops (more-stops cs rest) (sym begins.is ∙ e)
+first_child : (c d : Child) (text after : List ℕ) (cs : List Child) (rest : List ℕ) → IsShort d.number → BeginsChild text c after → text ≡ child_text d (more_children_text cs rest) → (c ≡ d) × (after ≡ more_children_text cs rest)
+first_child c d text after cs rest short begins e = one_child c d after _ begins.short short begins.stops (more-stops cs rest) (sym begins.is ∙ e)
 
 pub lacks_by_blank : (least : ℕ) (text : List ℕ) → LacksByte 125 text → LacksByte 32 text → LacksMore least text
 lacks_by_blank least text closing blank [] rest begins = closing rest begins.is
 lacks_by_blank least text closing blank (c ∷ cs) rest begins = blank _ begins.is
 
-pub lacks_by_child : (least : ℕ) (text after : List ℕ) → LacksByte 125 text → text ≡ 32 ∷ after → LacksChild after → LacksMore least text
-lacks_by_child least text after closing e lacks [] rest begins = closing rest begins.is
-lacks_by_child least text after closing e lacks (c ∷ cs) rest begins =
+pub lacks_by_child : (least : ℕ) (text next : List ℕ) → LacksByte 125 text → text ≡ 32 ∷ next → LacksChild next → LacksMore least text
+lacks_by_child least text next closing e lacks [] rest begins = closing rest begins.is
+lacks_by_child least text next closing e lacks (c ∷ cs) rest begins =
     lacks c (more_children_text cs rest) (record { short = begins.short.0; stops = more-stops cs rest; is = tails _ _ _ _ (sym e ∙ begins.is) })
 
-pub lacks_by_seat : (least : ℕ) (text after : List ℕ) (child : Child) (behind : List ℕ) → LacksByte 125 text → text ≡ 32 ∷ after → BeginsChild after child behind → seat_number child.winner < least → LacksMore least text
-lacks_by_seat least text after child behind closing e first low [] rest begins = closing rest begins.is
-lacks_by_seat least text after child behind closing e first low (c ∷ cs) rest begins =
-    let same = first_child child c after behind cs rest begins.short.0 first (tails _ _ _ _ (sym e ∙ begins.is)) in
+pub lacks_by_seat : (least : ℕ) (text next : List ℕ) (child : Child) (after : List ℕ) → LacksByte 125 text → text ≡ 32 ∷ next → BeginsChild next child after → seat_number child.winner < least → LacksMore least text
+lacks_by_seat least text next child after closing e first low [] rest begins = closing rest begins.is
+lacks_by_seat least text next child after closing e first low (c ∷ cs) rest begins =
+    let same = first_child child c next after cs rest begins.short.0 first (tails _ _ _ _ (sym e ∙ begins.is)) in
     let seat : seat_number child.winner ≡ seat_number c.winner = ap (λ (k : Child). seat_number k.winner) same.0 in
     absurd (omega (arith, begins.rise.0))
 
-pub lacks_by_more : (least : ℕ) (text after : List ℕ) (child : Child) (behind : List ℕ) → LacksByte 125 text → text ≡ 32 ∷ after → BeginsChild after child behind → LacksMore (seat_number child.winner + 1) behind → LacksMore least text
-lacks_by_more least text after child behind closing e first lacks [] rest begins = closing rest begins.is
-lacks_by_more least text after child behind closing e first lacks (c ∷ cs) rest begins =
-    let same = first_child child c after behind cs rest begins.short.0 first (tails _ _ _ _ (sym e ∙ begins.is)) in
+pub lacks_by_more : (least : ℕ) (text next : List ℕ) (child : Child) (after : List ℕ) → LacksByte 125 text → text ≡ 32 ∷ next → BeginsChild next child after → LacksMore (seat_number child.winner + 1) after → LacksMore least text
+lacks_by_more least text next child after closing e first lacks [] rest begins = closing rest begins.is
+lacks_by_more least text next child after closing e first lacks (c ∷ cs) rest begins =
+    let same = first_child child c next after cs rest begins.short.0 first (tails _ _ _ _ (sym e ∙ begins.is)) in
     lacks cs rest (record {
       rise = rw same.0 begins.rise.1;
       short = begins.short.1;
       is = same.1;
     })
 
-pub more_read : (least : ℕ) (text after : List ℕ) (child : Child) (behind : List ℕ) (more : List Child) (rest : List ℕ) → text ≡ 32 ∷ after → BeginsChild after child behind → least ≤ seat_number child.winner → BeginsMore (seat_number child.winner + 1) behind more rest → BeginsMore least text (child ∷ more) rest
-more_read least text after child behind more rest e first high begins = record {
+pub more_read : (least : ℕ) (text next : List ℕ) (child : Child) (after : List ℕ) (more : List Child) (rest : List ℕ) → text ≡ 32 ∷ next → BeginsChild next child after → least ≤ seat_number child.winner → BeginsMore (seat_number child.winner + 1) after more rest → BeginsMore least text (child ∷ more) rest
+more_read least text next child after more rest e first high begins = record {
   rise = (high, begins.rise);
   short = (first.short, begins.short);
   is = e ∙ ap (λ t. 32 ∷ t) (first.is ∙ ap (child_text child) begins.is);
@@ -58,18 +58,18 @@ lacks_children_by_child text closing lacks [] rest begins = closing rest begins.
 lacks_children_by_child text closing lacks (c ∷ cs) rest begins =
     lacks c (more_children_text cs rest) (record { short = begins.short.0; stops = more-stops cs rest; is = begins.is })
 
-pub lacks_children_by_more : (text : List ℕ) (child : Child) (behind : List ℕ) → LacksByte 125 text → BeginsChild text child behind → LacksMore (seat_number child.winner + 1) behind → LacksChildren text
-lacks_children_by_more text child behind closing first lacks [] rest begins = closing rest begins.is
-lacks_children_by_more text child behind closing first lacks (c ∷ cs) rest begins =
-    let same = first_child child c text behind cs rest begins.short.0 first begins.is in
+pub lacks_children_by_more : (text : List ℕ) (child : Child) (after : List ℕ) → LacksByte 125 text → BeginsChild text child after → LacksMore (seat_number child.winner + 1) after → LacksChildren text
+lacks_children_by_more text child after closing first lacks [] rest begins = closing rest begins.is
+lacks_children_by_more text child after closing first lacks (c ∷ cs) rest begins =
+    let same = first_child child c text after cs rest begins.short.0 first begins.is in
     lacks cs rest (record {
       rise = rw same.0 begins.rise.1;
       short = begins.short.1;
       is = same.1;
     })
 
-pub children_read : (text : List ℕ) (child : Child) (behind : List ℕ) (more : List Child) (rest : List ℕ) → BeginsChild text child behind → BeginsMore (seat_number child.winner + 1) behind more rest → BeginsChildren text (child ∷ more) rest
-children_read text child behind more rest first begins = record {
+pub children_read : (text : List ℕ) (child : Child) (after : List ℕ) (more : List Child) (rest : List ℕ) → BeginsChild text child after → BeginsMore (seat_number child.winner + 1) after more rest → BeginsChildren text (child ∷ more) rest
+children_read text child after more rest first begins = record {
   rise = (omega arith, begins.rise);
   short = (first.short, begins.short);
   is = first.is ∙ ap (child_text child) begins.is;

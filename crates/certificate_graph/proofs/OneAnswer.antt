@@ -230,7 +230,7 @@ one_count d e a b p q h =
 small_count : (n : ℕ) → n ≤ greatest_count → n ≤ 10 ^ 7
 small_count n h = omega arith
 
--- two endings behind one number
+-- two endings after one number
 one_stop : (count : ℕ) (text : List ℕ) (f g : TextFault) → count ≤ greatest_count → StopsAt count text f → StopsAt count text g → f ≡ g
 one_stop count text f g few p q =
     let same = one_ending count 0 p.nodes q.nodes p.rest q.rest (Some f) (Some g) (small_count count few) p.each q.each (sym p.is ∙ q.is)

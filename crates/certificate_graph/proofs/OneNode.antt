@@ -101,7 +101,7 @@ mutual
       (ap (λ (k : PatCard). Branch k t ts) card.0 ∙ (ap (λ (k : TrickTree). Branch d k ts) below.0 ∙ ap (Branch d u) more.0), more.1)
 
 -- ---- patterns
--- owners, and the blank behind them
+-- owners, and the blank after them
 pub one_owners : (os ps : List Seat) (a b : List ℕ) → owners_text os (32 ∷ a) ≡ owners_text ps (32 ∷ b) → (os ≡ ps) × (a ≡ b)
 one_owners [] [] a b h = (refl, tails _ _ a b h)
 one_owners [] (p ∷ ps) a b h = let e = seat_first p _ _ _ (sym h) in absurd (omega arith)

@@ -25,8 +25,8 @@ pub record Heads (text : List ℕ) (trump : Trump) (side : Side) (rest : List �
 pub heads_are : (text second third : List ℕ) (trump : Trump) (side : Side) (rest : List ℕ) → text ≡ title_text second → second ≡ trump_text trump third → third ≡ side_text side rest → Heads text trump side rest
 heads_are text second third trump side rest a b c = record { second = second; third = third; title = a; of_trump = b; of_side = c }
 
-pub fault_behind : (text : List ℕ) (trump : Trump) (side : Side) (rest : List ℕ) (fault : TextFault) → Heads text trump side rest → IsCountFault rest fault → IsTextFault text fault
-fault_behind text trump side rest fault heads wrong =
+pub fault_after : (text : List ℕ) (trump : Trump) (side : Side) (rest : List ℕ) (fault : TextFault) → Heads text trump side rest → IsCountFault rest fault → IsTextFault text fault
+fault_after text trump side rest fault heads wrong =
     inr (heads.second, heads.title, inr (trump, heads.third, heads.of_trump, inr (side, rest, heads.of_side, wrong)))
 
 pub count_fault : (text : List ℕ) (fault : TextFault) → IsCountLineFault text fault → IsCountFault text fault
@@ -43,10 +43,10 @@ nodes_fault text count rest fault read stops =
       inr ((let value = read.value in omega (arith, read.within)), subst (λ n. StopsAt n rest fault) (sym read.value) stops),
     )
 
--- the nodes' fault, or want of memory
+-- the nodes' fault, or memory ran out
 pub nodes_answer : (text : List ℕ) (trump : Trump) (side : Side) (third : List ℕ) (count : ℕ) (rest : List ℕ) (fault : TextFault) → Heads text trump side third → ReadsCount third count rest → MayFail (StopsAt count rest) fault → MayFail (IsTextFault text) fault
 nodes_answer text trump side third count rest fault heads read (inl none) = inl none
-nodes_answer text trump side third count rest fault heads read (inr stops) = inr (fault_behind text trump side third fault heads (nodes_fault third count rest fault read stops))
+nodes_answer text trump side third count rest fault heads read (inr stops) = inr (fault_after text trump side third fault heads (nodes_fault third count rest fault read stops))
 
 -- the exit of a `?`
 pub answer_fault : (text : List ℕ) (r : Result GraphShape TextFault) (told : TextFault) → IsErrAnd r (λ fault. fault ≡ told) → MayFail (IsTextFault text) told → (r ≡ Err OutOfMemory) ⊎ TextAnswers text r

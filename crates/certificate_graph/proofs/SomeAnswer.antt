@@ -25,7 +25,7 @@ use Rattle.certificate_graph.specs.TextFaults.{IsLineFault, StopsAt, IsCountFaul
 use Rattle.certificate_graph.specs.Readings.{AreAllNodes, ReadsCount, BeginsDigits, LacksDigits}
 use Rattle.certificate_graph.proofs.TextParts.{nodes-more}
 use Rattle.certificate_graph.proofs.HeadLemmas.{trump_line-cut, no_side, digits_by_end, digits_by_number}
-use Rattle.certificate_graph.proofs.ReadLemmas.{heads_are, fault_behind, nodes_fault, graph_read}
+use Rattle.certificate_graph.proofs.ReadLemmas.{heads_are, fault_after, nodes_fault, graph_read}
 use Rattle.certificate_graph.proofs.SomeForm.{same_or_not, some_byte, split, number_or_not}
 use Rattle.certificate_graph.proofs.SomeTree.{some_node}
 
@@ -221,7 +221,7 @@ some_answer text = elim (some_front (title_text []) text) [
       | inr of_side ↦
           let heads = heads_are text title.0 of_trump.1 of_trump.0 of_side.0 of_side.1 title.1 of_trump.2 of_side.2 in
           elim (some_end of_side.1) [
-            | inl wrong ↦ (Err wrong.0, fault_behind text of_trump.0 of_side.0 of_side.1 wrong.0 heads wrong.1)
+            | inl wrong ↦ (Err wrong.0, fault_after text of_trump.0 of_side.0 of_side.1 wrong.0 heads wrong.1)
             | inr all ↦ (Ok (record { trump = of_trump.0; side = of_side.0; nodes = all.2 }), graph_read text of_trump.0 of_side.0 of_side.1 all.0 all.1 all.2 heads all.3 all.4)
           ]
     ]

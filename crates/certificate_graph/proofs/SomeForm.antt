@@ -79,12 +79,12 @@ no_card_at_all : (text : List ℕ) (suit : Suit) → text ≡ suit_letter suit +
 no_card_at_all text suit e (Top other place) rest good is = let same = (one_suit suit other [] _ (sym e ∙ is)).1 in cc
 no_card_at_all text suit e (Low other) rest good is = let same = (one_suit suit other [] _ (sym e ∙ is)).1 in cc
 
-no_card_here : (text : List ℕ) (suit : Suit) (byte : ℕ) (behind : List ℕ) → text ≡ suit_letter suit ++ (byte ∷ behind) → byte ≢ 120 → (97 ≤ byte → 110 ≤ byte) → Lacks IsCard card_text text
-no_card_here text suit byte behind e apart out (Top other place) rest good is =
+no_card_here : (text : List ℕ) (suit : Suit) (byte : ℕ) (after : List ℕ) → text ≡ suit_letter suit ++ (byte ∷ after) → byte ≢ 120 → (97 ≤ byte → 110 ≤ byte) → Lacks IsCard card_text text
+no_card_here text suit byte after e apart out (Top other place) rest good is =
     let same = heads _ _ _ _ (one_suit suit other _ _ (sym e ∙ is)).1 in
     let high : 110 ≤ byte = out (omega arith) in
     omega arith
-no_card_here text suit byte behind e apart out (Low other) rest good is = apart (heads _ _ _ _ (one_suit suit other _ _ (sym e ∙ is)).1)
+no_card_here text suit byte after e apart out (Low other) rest good is = apart (heads _ _ _ _ (one_suit suit other _ _ (sym e ∙ is)).1)
 
 pub some_card : (text : List ℕ) → Lacks IsCard card_text text ⊎ ((card : PatCard) × (rest : List ℕ) × Begins IsCard card_text text card rest)
 some_card text = elim (some_suit text) [
@@ -92,22 +92,22 @@ some_card text = elim (some_suit text) [
   | inr found ↦ of_suit found.0 found.1 found.2
 ]
   where
-    top : (suit : Suit) (byte : ℕ) (behind : List ℕ) → text ≡ suit_letter suit ++ (byte ∷ behind) → byte ≢ 120 → Lacks IsCard card_text text ⊎ ((card : PatCard) × (rest : List ℕ) × Begins IsCard card_text text card rest)
-    top suit byte behind e apart = elim (cases_lt byte 97) [
-      | inl low ↦ inl (no_card_here text suit byte behind e apart (λ h. omega arith))
+    top : (suit : Suit) (byte : ℕ) (after : List ℕ) → text ≡ suit_letter suit ++ (byte ∷ after) → byte ≢ 120 → Lacks IsCard card_text text ⊎ ((card : PatCard) × (rest : List ℕ) × Begins IsCard card_text text card rest)
+    top suit byte after e apart = elim (cases_lt byte 97) [
+      | inl low ↦ inl (no_card_here text suit byte after e apart (λ h. omega arith))
       | inr high ↦ elim (cases_lt byte 110) [
         | inl below ↦
             let place : byte ≡ 97 + (byte - 97) = omega arith in
-            inr (Top suit (byte - 97), behind, record { good = omega arith; is = e ∙ ap (λ n. suit_letter suit ++ (n ∷ behind)) place })
-        | inr above ↦ inl (no_card_here text suit byte behind e apart (λ h. above))
+            inr (Top suit (byte - 97), after, record { good = omega arith; is = e ∙ ap (λ n. suit_letter suit ++ (n ∷ after)) place })
+        | inr above ↦ inl (no_card_here text suit byte after e apart (λ h. above))
       ]
     ]
 
     of_suit : (suit : Suit) (rest : List ℕ) → text ≡ suit_letter suit ++ rest → Lacks IsCard card_text text ⊎ ((card : PatCard) × (rest : List ℕ) × Begins IsCard card_text text card rest)
     of_suit suit [] e = inl (no_card_at_all text suit e)
-    of_suit suit (byte ∷ behind) e = elim (same_or_not byte 120) [
-      | inl low ↦ inr (Low suit, behind, record { good = tt; is = e ∙ ap (λ n. suit_letter suit ++ (n ∷ behind)) low })
-      | inr apart ↦ top suit byte behind e apart
+    of_suit suit (byte ∷ after) e = elim (same_or_not byte 120) [
+      | inl low ↦ inr (Low suit, after, record { good = tt; is = e ∙ ap (λ n. suit_letter suit ++ (n ∷ after)) low })
+      | inr apart ↦ top suit byte after e apart
     ]
 
 -- ---- numbers

@@ -112,9 +112,9 @@ no_branches_left room least text high closing (Branch card below more) rest begi
 no_branch_card : (room : ℕ) (text : List ℕ) → Lacks IsCard card_text text → LacksBranch room text
 no_branch_card room text lacks card below rest begins = lacks card _ begins.of_pack begins.is
 
-no_branch_tree : (room : ℕ) (text : List ℕ) (card : PatCard) (behind : List ℕ) → Begins IsCard card_text text card behind → LacksTree room behind → LacksBranch room text
-no_branch_tree room text card behind first lacks other below rest begins =
-    lacks below rest (record { good = begins.form; is = (one_card card other behind _ first.good begins.of_pack (sym first.is ∙ begins.is)).1 })
+no_branch_tree : (room : ℕ) (text : List ℕ) (card : PatCard) (after : List ℕ) → Begins IsCard card_text text card after → LacksTree room after → LacksBranch room text
+no_branch_tree room text card after first lacks other below rest begins =
+    lacks below rest (record { good = begins.form; is = (one_card card other after _ first.good begins.of_pack (sym first.is ∙ begins.is)).1 })
 
 mutual
   some_tree : (fuel room : ℕ) (text : List ℕ) → 100 * room < fuel → LacksTree room text ⊎ ((tree : TrickTree) × (rest : List ℕ) × BeginsTree room text tree rest)

@@ -128,7 +128,7 @@ graph-parts graph =
     sym (heading-cut graph.trump graph.side (count_text count [] ++ nodes))
     ∙ ap (λ t. title_text (trump_text graph.trump (side_text graph.side t))) (sym (count-cut count nodes))
 
--- a node behind others
+-- a node after others
 pub nodes-more : (nodes : List Node) (node : Node) (rest : List ℕ) → nodes_text nodes (node_text node rest) ≡ nodes_text (nodes ++ (node ∷ [])) rest
 nodes-more [] node rest = refl
 nodes-more (first ∷ more) node rest = ap (node_text first) (nodes-more more node rest)

@@ -69,9 +69,9 @@ lacks_own room text brace bracket lacks (Reply branches) rest begins = bracket _
 lacks_own room text brace bracket lacks (Leaf children) rest begins = brace _ begins.is
 
 -- ---- branches
-first_branch : (room least : ℕ) (text : List ℕ) (c : PatCard) (t : TrickTree) (behind : List ℕ) (d : PatCard) (u : TrickTree) (us : Branches) (rest : List ℕ)
-    → BeginsBranch room text c t behind → BeginsBranches room least text (Branch d u us) rest → (c ≡ d) × (behind ≡ branches_text us rest)
-first_branch room least text c t behind d u us rest first begins =
+first_branch : (room least : ℕ) (text : List ℕ) (c : PatCard) (t : TrickTree) (after : List ℕ) (d : PatCard) (u : TrickTree) (us : Branches) (rest : List ℕ)
+    → BeginsBranch room text c t after → BeginsBranches room least text (Branch d u us) rest → (c ≡ d) × (after ≡ branches_text us rest)
+first_branch room least text c t after d u us rest first begins =
     let card = one_card c d _ _ first.of_pack begins.form.0 (sym first.is ∙ begins.is) in
     let below = one_tree t u room room _ _ first.form.form begins.form.2 first.form.numbers begins.numbers.0 card.1 in
     (card.0, below.1)
@@ -85,17 +85,17 @@ lacks_by_first room least text closing lacks (Branch card below more) rest begin
       is = begins.is;
     })
 
-pub lacks_by_place : (room least : ℕ) (text : List ℕ) (card : PatCard) (below : TrickTree) (behind : List ℕ) → LacksByte 41 text → BeginsBranch room text card below behind → card_place card < least → LacksBranches room least text
-lacks_by_place room least text card below behind closing first low NoBranch rest begins = closing rest begins.is
-lacks_by_place room least text card below behind closing first low (Branch d u us) rest begins =
-    let same = first_branch room least text card below behind d u us rest first begins in
+pub lacks_by_place : (room least : ℕ) (text : List ℕ) (card : PatCard) (below : TrickTree) (after : List ℕ) → LacksByte 41 text → BeginsBranch room text card below after → card_place card < least → LacksBranches room least text
+lacks_by_place room least text card below after closing first low NoBranch rest begins = closing rest begins.is
+lacks_by_place room least text card below after closing first low (Branch d u us) rest begins =
+    let same = first_branch room least text card below after d u us rest first begins in
     let place : card_place card ≡ card_place d = ap (λ (k : PatCard). card_place k) same.0 in
     omega (arith, begins.form.1)
 
-pub lacks_by_rest : (room least : ℕ) (text : List ℕ) (card : PatCard) (below : TrickTree) (behind : List ℕ) → LacksByte 41 text → BeginsBranch room text card below behind → LacksBranches room (card_place card + 1) behind → LacksBranches room least text
-lacks_by_rest room least text card below behind closing first lacks NoBranch rest begins = closing rest begins.is
-lacks_by_rest room least text card below behind closing first lacks (Branch d u us) rest begins =
-    let same = first_branch room least text card below behind d u us rest first begins in
+pub lacks_by_rest : (room least : ℕ) (text : List ℕ) (card : PatCard) (below : TrickTree) (after : List ℕ) → LacksByte 41 text → BeginsBranch room text card below after → LacksBranches room (card_place card + 1) after → LacksBranches room least text
+lacks_by_rest room least text card below after closing first lacks NoBranch rest begins = closing rest begins.is
+lacks_by_rest room least text card below after closing first lacks (Branch d u us) rest begins =
+    let same = first_branch room least text card below after d u us rest first begins in
     let place : card_place d + 1 ≡ card_place card + 1 = ap (λ (k : PatCard). card_place k + 1) (sym same.0) in
     lacks us rest (record {
       form = subst (λ (n : ℕ). HaveForm room n us) place begins.form.3;
@@ -103,8 +103,8 @@ lacks_by_rest room least text card below behind closing first lacks (Branch d u 
       is = same.1;
     })
 
-pub branches_read : (room least : ℕ) (text : List ℕ) (card : PatCard) (below : TrickTree) (behind : List ℕ) (more : Branches) (rest : List ℕ) → BeginsBranch room text card below behind → least ≤ card_place card → BeginsBranches room (card_place card + 1) behind more rest → BeginsBranches room least text (Branch card below more) rest
-branches_read room least text card below behind more rest first high begins = record {
+pub branches_read : (room least : ℕ) (text : List ℕ) (card : PatCard) (below : TrickTree) (after : List ℕ) (more : Branches) (rest : List ℕ) → BeginsBranch room text card below after → least ≤ card_place card → BeginsBranches room (card_place card + 1) after more rest → BeginsBranches room least text (Branch card below more) rest
+branches_read room least text card below after more rest first high begins = record {
   form = (first.of_pack, high, first.form.form, begins.form);
   numbers = (first.form.numbers, begins.numbers);
   is = first.is ∙ ap (λ t. card_text card (tree_text below t)) begins.is;

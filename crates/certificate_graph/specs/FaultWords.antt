@@ -1,8 +1,34 @@
--- What is printed of a text's fault, and the line that it names.
-use Rattle.std.specs.Prelude.{ℕ, List, codes, Option, Some, None}
+-- What is printed of a fault, and the line that the fault of a text names.
+use Rattle.std.specs.Prelude.{ℕ, List, ◌∷◌, ◌++◌, codes, Option, Some, None}
+use Rattle.std.specs.Fmt.{decimal}
+use Rattle.certificate_graph.specs.declared.faults.GraphFault.{GraphFault}
+use Rattle.certificate_graph.specs.declared.faults.GraphFault.TheVariants as graph
 use Rattle.certificate_graph.specs.declared.faults.TextFault.{TextFault}
-use Rattle.certificate_graph.specs.declared.faults.TextFault.TheVariants.{Head, NodeForm, BadPattern, ChildNumber, Count, TooLarge, OutOfMemory}
+use Rattle.certificate_graph.specs.declared.faults.TextFault.TheVariants.{Head, NodeForm, BadPattern, ChildNumber}
+use Rattle.certificate_graph.specs.declared.faults.TextFault.TheVariants.{Count}
+use Rattle.certificate_graph.specs.declared.faults.TextFault.TheVariants.{TooLarge, OutOfMemory}
 
+-- a number, a blank and a name, as in `2 Need`
+abbrev pub numbered : ℕ → List ℕ → List ℕ
+numbered number name = decimal number ++ 32 ∷ name
+
+-- ---- nodes that make no graph
+abbrev pub graph_fault_number : GraphFault → ℕ
+graph_fault_number graph.TooLarge = 1
+graph_fault_number graph.Need = 2
+graph_fault_number graph.TreeForm = 3
+graph_fault_number graph.ChildNumber = 4
+
+abbrev pub graph_fault_name : GraphFault → List ℕ
+graph_fault_name graph.TooLarge = codes "TooLarge"
+graph_fault_name graph.Need = codes "Need"
+graph_fault_name graph.TreeForm = codes "TreeForm"
+graph_fault_name graph.ChildNumber = codes "ChildNumber"
+
+abbrev pub graph_fault_text : GraphFault → List ℕ
+graph_fault_text fault = numbered (graph_fault_number fault) (graph_fault_name fault)
+
+-- ---- texts of no graph
 abbrev pub fault_number : TextFault → ℕ
 fault_number (Head line) = 1
 fault_number (NodeForm line) = 2
@@ -20,6 +46,9 @@ fault_name (ChildNumber line) = codes "ChildNumber"
 fault_name (Count line) = codes "Count"
 fault_name (TooLarge line) = codes "TooLarge"
 fault_name OutOfMemory = codes "OutOfMemory"
+
+abbrev pub fault_text : TextFault → List ℕ
+fault_text fault = numbered (fault_number fault) (fault_name fault)
 
 abbrev pub fault_line : TextFault → Option ℕ
 fault_line (Head line) = Some line

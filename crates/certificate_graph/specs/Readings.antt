@@ -16,7 +16,9 @@ use Rattle.pattern_step.specs.declared.pat_cards.PatCard.{PatCard}
 use Rattle.certificate_graph.specs.Trees.{TrickTree, Own, Reply, Leaf, Branches}
 use Rattle.certificate_graph.specs.Graphs.{IsCard, IsNeed, IsNode, greatest_count, SeatsRise, HaveForm, NameBelow}
 use Rattle.certificate_graph.specs.LineForms.{IsSuitForm, IsPatternForm, IsTreeForm}
-use Rattle.certificate_graph.specs.Texts.{card_text, child_text, more_children_text, children_text, tree_text, branches_text, owners_text, suit_text, pattern_text, claim_text, nodes_text, count_text}
+use Rattle.certificate_graph.specs.Texts.{card_text, child_text, more_children_text, children_text, tree_text}
+use Rattle.certificate_graph.specs.Texts.{branches_text, owners_text, suit_text, pattern_text, claim_text, nodes_text}
+use Rattle.certificate_graph.specs.Texts.{count_text}
 
 -- a text that begins with no digit
 abbrev pub StopsDigits : List ℕ → Type 0
@@ -71,7 +73,7 @@ LacksChild text = (child : Child) (rest : List ℕ) → BeginsChild text child r
 abbrev pub AreShort : List Child → Type 0
 AreShort children = AllByRecursion (λ child. IsShort child.number) children
 
--- children behind another one, from this seat on
+-- children that follow another one, from this seat on
 pub record BeginsMore (least : ℕ) (text : List ℕ) (children : List Child) (rest : List ℕ) : Type 0 where
   pub rise : SeatsRise least children
   pub short : AreShort children
@@ -116,7 +118,7 @@ BeginsTree room text tree rest = Begins (IsTreeForm room) tree_text text tree re
 abbrev pub LacksTree : ℕ → List ℕ → Type 0
 LacksTree room text = (tree : TrickTree) (rest : List ℕ) → BeginsTree room text tree rest → ⊥
 
--- a leaf behind its opening brace
+-- a leaf after its opening brace
 abbrev pub BeginsLeaf : List ℕ → TrickTree → List ℕ → Type 0
 BeginsLeaf text (Leaf children) rest = BeginsChildren text children rest
 BeginsLeaf text _ rest = ⊥
@@ -132,7 +134,7 @@ BeginsOwn room text _ rest = ⊥
 abbrev pub LacksOwn : ℕ → List ℕ → Type 0
 LacksOwn room text = (tree : TrickTree) (rest : List ℕ) → BeginsOwn room text tree rest → ⊥
 
--- the opponents' cards behind the opening parenthesis
+-- the opponents' cards after the opening parenthesis
 abbrev pub BeginsReply : ℕ → List ℕ → TrickTree → List ℕ → Type 0
 BeginsReply room text (Reply branches) rest = BeginsBranches room 0 text branches rest
 BeginsReply room text _ rest = ⊥
@@ -173,7 +175,7 @@ pub record BeginsSuit (text : List ℕ) (suit : SuitShape) (rest : List ℕ) : T
 abbrev pub LacksSuit : List ℕ → Type 0
 LacksSuit text = (suit : SuitShape) (rest : List ℕ) → BeginsSuit text suit rest → ⊥
 
--- two suits with a blank behind each
+-- two suits with a blank after each
 pub record BeginsTwoSuits (text : List ℕ) (first second : SuitShape) (rest : List ℕ) : Type 0 where
   pub form : IsSuitForm first
   pub also : IsSuitForm second
@@ -191,7 +193,7 @@ abbrev pub LacksPattern : List ℕ → Type 0
 LacksPattern text = (pattern : Shape) (rest : List ℕ) → BeginsPattern text pattern rest → ⊥
 
 -- ---- nodes
--- a lead and a need, with a blank behind each
+-- a lead and a need, with a blank after each
 pub record BeginsClaim (text : List ℕ) (lead : Seat) (need : ℕ) (rest : List ℕ) : Type 0 where
   pub is_need : IsNeed need
   pub is : text ≡ claim_text lead need rest
@@ -199,7 +201,7 @@ pub record BeginsClaim (text : List ℕ) (lead : Seat) (need : ℕ) (rest : List
 abbrev pub LacksClaim : List ℕ → Type 0
 LacksClaim text = (lead : Seat) (need : ℕ) (rest : List ℕ) → BeginsClaim text lead need rest → ⊥
 
--- a fault, or want of memory
+-- a fault, or memory ran out
 abbrev pub MayFail : (TextFault → Type 0) → TextFault → Type 0
 MayFail IsFault fault = (fault ≡ OutOfMemory) ⊎ IsFault fault
 

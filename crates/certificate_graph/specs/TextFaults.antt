@@ -7,10 +7,12 @@ use Rattle.cards.specs.declared.suits.Trump.{Trump}
 use Rattle.patterns.specs.Shapes.{IsPattern}
 use Rattle.certificate_graph.specs.declared.nodes.Node.{Node}
 use Rattle.certificate_graph.specs.declared.faults.TextFault.{TextFault}
-use Rattle.certificate_graph.specs.declared.faults.TextFault.TheVariants.{Head, NodeForm, BadPattern, ChildNumber, Count, TooLarge}
+use Rattle.certificate_graph.specs.declared.faults.TextFault.TheVariants.{Head, NodeForm, BadPattern, ChildNumber}
+use Rattle.certificate_graph.specs.declared.faults.TextFault.TheVariants.{Count, TooLarge}
 use Rattle.certificate_graph.specs.Graphs.{GraphShape, IsGraph, IsNode, NamesBelow, greatest_count}
 use Rattle.certificate_graph.specs.LineForms.{IsNodeForm}
-use Rattle.certificate_graph.specs.Texts.{title_text, trump_text, side_text, count_text, node_text, nodes_text, graph_text}
+use Rattle.certificate_graph.specs.Texts.{title_text, trump_text, side_text, count_text, node_text, nodes_text}
+use Rattle.certificate_graph.specs.Texts.{graph_text}
 
 -- digits without a leading zero
 pub record IsNumber (digits : List ℕ) : Type 0 where
@@ -31,7 +33,7 @@ LacksNode text = (node : Node) (rest : List ℕ) → BeginsNode text node rest �
 abbrev pub HasNode : (Node → Type 0) → List ℕ → Type 0
 HasNode Holds text = (node : Node) × (rest : List ℕ) × BeginsNode text node rest × Holds node
 
--- the text is that of this line and those behind it, and the line, one of a node, is at fault
+-- the text is that of this line and those after it, and the line, one of a node, is at fault
 abbrev pub IsLineFault : ℕ → ℕ → List ℕ → TextFault → Type 0
 IsLineFault count line text (NodeForm at) = (at ≡ line) × (text ≢ []) × LacksNode text
 IsLineFault count line text (BadPattern at) = (at ≡ line) × HasNode (λ node. IsPattern node.pattern → ⊥) text
@@ -40,12 +42,12 @@ IsLineFault count line text (ChildNumber at) =
 IsLineFault count line text (Count at) = (at ≡ line) × (text ≡ [])
 IsLineFault count line text _ = ⊥
 
--- something stands behind the last line
+-- there is text after the last line
 abbrev pub IsEndFault : ℕ → List ℕ → TextFault → Type 0
 IsEndFault line text (Count at) = (at ≡ line) × (text ≢ [])
 IsEndFault line text _ = ⊥
 
--- some lines are those of nodes, and the next one is at fault, or what stands behind the last
+-- some lines are those of nodes, and the next one is at fault, or there is text after the last
 pub record StopsAt (count : ℕ) (text : List ℕ) (fault : TextFault) : Type 0 where
   pub nodes : List Node
   pub rest : List ℕ

@@ -26,7 +26,7 @@ card_text (Low suit) rest = suit_letter suit ++ (120 ∷ rest)
 abbrev pub child_text : Child → List ℕ → List ℕ
 child_text child rest = seat_letter child.winner ++ (decimal child.number ++ rest)
 
--- children behind another one, each behind a blank, and the closing brace
+-- children that follow another one, each after a blank, and the closing brace
 abbrev pub more_children_text : List Child → List ℕ → List ℕ
 more_children_text [] rest = 125 ∷ rest
 more_children_text (child ∷ more) rest = 32 ∷ child_text child (more_children_text more rest)
@@ -65,7 +65,7 @@ pattern_text shape rest =
     suit_text shape.spades (32 ∷ suit_text shape.hearts (32 ∷ suit_text shape.diamonds (32 ∷ suit_text shape.clubs rest)))
 
 -- ---- lines
--- a lead and a need, with a blank behind each
+-- a lead and a need, with a blank after each
 abbrev pub claim_text : Seat → ℕ → List ℕ → List ℕ
 claim_text lead need rest = seat_letter lead ++ (32 ∷ (decimal need ++ (32 ∷ rest)))
 

@@ -6,7 +6,10 @@ use crate::graphs::Graph;
 /// it takes as many, and that of the defenders, that it takes no more.
 #[derive(Drop)]
 pub struct Answer {
+    /// The tricks that declarer's side takes, 0 to 13.
     pub k: u8,
+    /// That declarer's side takes as many.
     pub declarer: Graph,
+    /// That the defenders take all others.
     pub defenders: Graph,
 }

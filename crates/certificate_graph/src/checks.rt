@@ -5,22 +5,25 @@ ghost use Rattle.certificate_graph.specs.Graphs.{IsNode, AreNodes};
 ghost use Rattle.certificate_graph.specs.GraphFaults.{IsNodeFault, IsGraphFault};
 
 use crate::faults::GraphFault;
-use crate::forms::{has_form, names_below};
+use crate::forms::{TRICK_CARDS, has_form, names_below};
 use crate::nodes::Node;
 
-/// The greatest number of nodes.
+/// The greatest number of nodes, so that a graph and its text stay within a bounded memory.
 pub(crate) const GREATEST_COUNT: usize = 1_000_000;
+
+/// The greatest need: the tricks of a deal.
+const GREATEST_NEED: u8 = 13;
 
 /// Whether this is a node of a graph with so many nodes, else its first fault.
 fn check_node(node: &Node, count: u32) -> Result<(), GraphFault>
     ensures { MatchResult result (λ _. IsNode count node.now) (IsNodeFault count node.now) }
 {
     node.pattern.invariant();
-    if node.need < 1 || node.need > 13 {
+    if node.need < 1 || node.need > GREATEST_NEED {
         return Err(GraphFault::Need);
     }
     let root = node.tree.root();
-    if !has_form(&root, 4) {
+    if !has_form(&root, TRICK_CARDS) {
         return Err(GraphFault::TreeForm);
     }
     if !names_below(&root, count) {

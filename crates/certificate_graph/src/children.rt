@@ -7,6 +7,6 @@ use cards::Seat;
 pub struct Child {
     /// The seat that may win.
     pub winner: Seat,
-    /// The number of the node.
+    /// The number of the node: its place in the list of the graph, from 0.
     pub number: u32,
 }

@@ -1,51 +1,95 @@
-//! Why nodes make no graph.
+//! Why nodes make no graph, and why a text is that of none.
 
-ghost use Rattle.std.specs.Prelude.{◌≡◌};
-ghost use Rattle.certificate_graph.specs.FaultWords.{fault_number, fault_name, fault_line};
+ghost use Rattle.std.specs.Prelude.{◌≡◌, Some};
+ghost use Rattle.certificate_graph.specs.FaultWords.{graph_fault_number, graph_fault_name, graph_fault_text, fault_number, fault_name, fault_line, fault_text};
 
-use thiserror::Error;
+use std::error::Error;
+use std::fmt;
 
 /// Why nodes make no graph.
-#[derive(Clone, Copy, Debug, PartialEq, Eq, Error)]
+#[derive(Clone, Copy, Debug, PartialEq, Eq)]
 pub enum GraphFault {
     /// There are over 1,000,000 nodes.
-    #[error("over 1,000,000 nodes")]
-    TooLarge = 1,
+    TooLarge,
     /// The need of a node is not 1 to 13.
-    #[error("a need that is not 1 to 13")]
-    Need = 2,
+    Need,
     /// A tree is not of the form: a top past the thirteenth, branches or seats that do not rise, or over four cards
     /// one below another.
-    #[error("a tree that is not of the form")]
-    TreeForm = 3,
+    TreeForm,
     /// A leaf names a node that is not there.
-    #[error("a number of no node")]
-    ChildNumber = 4,
+    ChildNumber,
 }
 
-/// Why a text is not one of a graph. All but want of memory name the line, counted from 1.
-#[derive(Clone, Copy, Debug, PartialEq, Eq, Error)]
+impl GraphFault {
+    /// The printed number.
+    pub fn number(&self) -> u8
+        ensures { result ≡ graph_fault_number self.now }
+    {
+        match self {
+            GraphFault::TooLarge => 1,
+            GraphFault::Need => 2,
+            GraphFault::TreeForm => 3,
+            GraphFault::ChildNumber => 4,
+        }
+    }
+
+    /// The printed name.
+    pub fn name(&self) -> &'static str
+        ensures { result.now ≡ graph_fault_name self.now }
+    {
+        match self {
+            GraphFault::TooLarge => "TooLarge",
+            GraphFault::Need => "Need",
+            GraphFault::TreeForm => "TreeForm",
+            GraphFault::ChildNumber => "ChildNumber",
+        }
+    }
+}
+
+impl fmt::Display for GraphFault {
+    ghost output = { λ fault. Some (graph_fault_text fault) };
+
+    fn fmt<W: fmt::Write>(&self, f: &mut fmt::Formatter<W>) -> fmt::Result {
+        write!(f, "{} {}", self.number(), self.name())
+    }
+}
+
+impl Error for GraphFault {}
+
+/// Why a text is not one of a graph. Each fault but that memory ran out names its line, counted from 1.
+#[derive(Clone, Copy, Debug, PartialEq, Eq)]
 pub enum TextFault {
     /// One of the first four lines is missing, lacks its line feed, or is not of the form.
-    #[error("1 Head")]
-    Head { line: usize },
+    Head {
+        /// The number of the line, 1 to 4.
+        line: usize,
+    },
     /// The line of a node lacks its line feed, or is not of the form.
-    #[error("2 NodeForm")]
-    NodeForm { line: usize },
+    NodeForm {
+        /// The number of the line, 5 or more.
+        line: usize,
+    },
     /// The four suits of a node are no pattern.
-    #[error("3 BadPattern")]
-    BadPattern { line: usize },
+    BadPattern {
+        /// The number of the line, 5 or more.
+        line: usize,
+    },
     /// A leaf names a node that is not there.
-    #[error("4 ChildNumber")]
-    ChildNumber { line: usize },
-    /// The text ends before the line of a node, or does not end behind the last one.
-    #[error("5 Count")]
-    Count { line: usize },
+    ChildNumber {
+        /// The number of the line, 5 or more.
+        line: usize,
+    },
+    /// The text ends before the line of a node, or does not end after the last one.
+    Count {
+        /// The number of the line that is missing, or of the first that is too many; 5 or more.
+        line: usize,
+    },
     /// There are to be over 1,000,000 nodes.
-    #[error("6 TooLarge")]
-    TooLarge { line: usize },
-    /// A growth was refused.
-    #[error("7 OutOfMemory")]
+    TooLarge {
+        /// The number of the line, 4.
+        line: usize,
+    },
+    /// Memory ran out.
     OutOfMemory,
 }
 
@@ -80,7 +124,7 @@ impl TextFault {
         }
     }
 
-    /// The line that is named, counted from 1; none for want of memory.
+    /// The line that is named, counted from 1; none where memory ran out.
     pub fn line(&self) -> Option<usize>
         ensures { result ≡ fault_line self.now }
     {
@@ -95,3 +139,13 @@ impl TextFault {
         }
     }
 }
+
+impl fmt::Display for TextFault {
+    ghost output = { λ fault. Some (fault_text fault) };
+
+    fn fmt<W: fmt::Write>(&self, f: &mut fmt::Formatter<W>) -> fmt::Result {
+        write!(f, "{} {}", self.number(), self.name())
+    }
+}
+
+impl Error for TextFault {}

@@ -8,13 +8,22 @@ use crate::children::Child;
 use crate::places::{Branches, Place, View};
 use pattern_step::PatCard;
 
+/// The cards of a trick: so many stand one below another in a tree at most.
+pub(crate) const TRICK_CARDS: u8 = 4;
+
+/// The tops of a suit, whose places are 0 to 12.
+const TOPS: u8 = 13;
+
+/// The places of a suit in the order of cards: its tops, and then the low card.
+const SUIT_PLACES: u16 = 14;
+
 /// The place of a card in the order by suit, and in a suit the tops by their places and then the low card.
 pub(crate) fn card_place(card: PatCard) -> u16
     ensures { result ≡ card_place card }
 {
     match card {
-        PatCard::Top(suit, place) => 14 * suit.number() as u16 + u16::from(place),
-        PatCard::Low(suit) => 14 * suit.number() as u16 + 13,
+        PatCard::Top(suit, place) => SUIT_PLACES * suit.number() as u16 + u16::from(place),
+        PatCard::Low(suit) => SUIT_PLACES * suit.number() as u16 + u16::from(TOPS),
     }
 }
 
@@ -23,7 +32,7 @@ fn is_card(card: PatCard) -> bool
     ensures { IsTrue result ↔ IsCard card }
 {
     match card {
-        PatCard::Top(_, place) => place < 13,
+        PatCard::Top(_, place) => place < TOPS,
         PatCard::Low(_) => true,
     }
 }

@@ -41,7 +41,8 @@ impl Model for Graph {
 }
 
 impl Graph {
-    /// The graph of these nodes, else why there is none. Takes no memory.
+    /// The graph of these nodes; else `TooLarge`, or the first fault, in the order of their numbers, of the first node
+    /// that has one. Takes no memory.
     pub fn new(trump: Trump, side: Side, nodes: Vec<Node>) -> Result<Graph, GraphFault>
         ensures { MakesGraph trump side nodes.items result }
     {
@@ -71,7 +72,7 @@ impl Graph {
     }
 
     /// The graph that the text tells, else the fault of the first line that has one, in a line the first in the order
-    /// of their numbers, or want of memory.
+    /// of their numbers, or that memory ran out.
     pub fn read(alloc: Global, text: &[u8]) -> Result<Graph, TextFault>
         ensures { (result ≡ Err OutOfMemory) ⊎ TextAnswers text.now result }
     {

@@ -5,11 +5,11 @@ ghost use Rattle.certificate_graph.specs.Readings.{BeginsChild, LacksChild, Begi
 ghost use Rattle.certificate_graph.specs.declared.children.Child.{Child};
 
 use crate::children::Child;
-use crate::scanning::{behind, read_number, read_seat};
+use crate::scanning::{after_byte, read_number, read_seat};
 use arrayvec::ArrayVec;
 use std::alloc::{AllocError, Global};
 
-/// A child, and what stands behind it.
+/// A child, and the text after it.
 fn read_child(text: &[u8]) -> Option<(Child, &[u8])>
     ensures { MatchOption result (LacksChild text.now) (λ p. BeginsChild text.now p.0 p.1.now) }
 {
@@ -22,7 +22,7 @@ fn read_child(text: &[u8]) -> Option<(Child, &[u8])>
     Some((Child { winner, number }, rest))
 }
 
-/// Children behind another one, whose seats rise from this number on, and what stands behind the closing brace.
+/// Children that follow another one, whose seats rise from this number on, and the text after the closing brace.
 fn read_more<'a>(
     text: &'a [u8],
     least: usize,
@@ -32,10 +32,10 @@ fn read_more<'a>(
     requires seats { least ≤ 4 }
     ensures { MatchOption result (LacksMore least text.now) (λ rest. (more : List Child) × BeginsMore least text.now more rest.now × (children.new.items ≡ children.old.items ++ more)) }
 {
-    if let Some(rest) = behind(text, b'}') {
+    if let Some(rest) = after_byte(text, b'}') {
         return Some(rest);
     }
-    let Some(rest) = behind(text, b' ') else {
+    let Some(rest) = after_byte(text, b' ') else {
         return None;
     };
     let Some((child, rest)) = read_child(rest) else {
@@ -49,12 +49,12 @@ fn read_more<'a>(
     read_more(rest, seat + 1, children)
 }
 
-/// Children whose seats rise, and what stands behind the closing brace.
+/// Children whose seats rise, and the text after the closing brace.
 fn read_rising<'a>(text: &'a [u8], children: &mut ArrayVec<Child, 4>) -> Option<&'a [u8]>
     requires { children.old.items ≡ [] }
     ensures { MatchOption result (LacksChildren text.now) (λ rest. BeginsChildren text.now children.new.items rest.now) }
 {
-    if let Some(rest) = behind(text, b'}') {
+    if let Some(rest) = after_byte(text, b'}') {
         return Some(rest);
     }
     let Some((child, rest)) = read_child(text) else {
@@ -64,7 +64,7 @@ fn read_rising<'a>(text: &'a [u8], children: &mut ArrayVec<Child, 4>) -> Option<
     read_more(rest, child.winner.number() + 1, children)
 }
 
-/// The children of a leaf, and what stands behind the closing brace.
+/// The children of a leaf, and the text after the closing brace.
 pub(crate) fn read_children(
     alloc: Global,
     text: &[u8],

@@ -7,8 +7,9 @@ ghost use Rattle.certificate_graph.specs.TextFaults.{BeginsNode, LacksNode};
 ghost use Rattle.certificate_graph.specs.Readings.{BeginsClaim, LacksClaim};
 ghost use Rattle.certificate_graph.specs.Suits.{node_read};
 
+use crate::forms::TRICK_CARDS;
 use crate::pattern_reading::{Suits, read_suits};
-use crate::scanning::{behind, read_len, read_seat};
+use crate::scanning::{after_byte, read_len, read_seat};
 use crate::tree_reading::read_tree;
 use crate::trees::Tree;
 use cards::Seat;
@@ -17,20 +18,24 @@ use std::alloc::{AllocError, Global};
 /// What the line of a node says.
 #[derive(Drop)]
 pub(crate) struct Line {
+    /// The seat that leads.
     pub(crate) lead: Seat,
+    /// The tricks that the side can win, 1 to 13.
     pub(crate) need: u8,
+    /// The suits of the pattern.
     pub(crate) suits: Suits,
+    /// How the first trick is played.
     pub(crate) tree: Tree,
 }
 
-/// A lead and a need, and what stands behind the blank after them.
+/// A lead and a need, and the text after the blank that ends them.
 fn read_claim(text: &[u8]) -> Option<(Seat, u8, &[u8])>
     ensures { MatchOption result (LacksClaim text.now) (λ p. BeginsClaim text.now p.0 p.1 p.2.now) }
 {
     let Some((lead, rest)) = read_seat(text) else {
         return None;
     };
-    let Some(rest) = behind(rest, b' ') else {
+    let Some(rest) = after_byte(rest, b' ') else {
         return None;
     };
     let Some((need, rest)) = read_len(rest, b' ') else {
@@ -42,7 +47,7 @@ fn read_claim(text: &[u8]) -> Option<(Seat, u8, &[u8])>
     Some((lead, need, rest))
 }
 
-/// The line of a node, and what stands behind it.
+/// The line of a node, and the text after it.
 pub(crate) fn read_line(alloc: Global, text: &[u8]) -> Result<Option<(Line, &[u8])>, AllocError>
     ensures { IfOk result (λ read. MatchOption read (LacksNode text.now) (λ p. BeginsNode text.now (node_read p.0) p.1.now)) }
 {
@@ -52,10 +57,10 @@ pub(crate) fn read_line(alloc: Global, text: &[u8]) -> Result<Option<(Line, &[u8
     let Some((suits, rest)) = read_suits(rest) else {
         return Ok(None);
     };
-    let Some((tree, rest)) = read_tree(alloc, rest, 4)? else {
+    let Some((tree, rest)) = read_tree(alloc, rest, TRICK_CARDS)? else {
         return Ok(None);
     };
-    let Some(rest) = behind(rest, b'\n') else {
+    let Some(rest) = after_byte(rest, b'\n') else {
         return Ok(None);
     };
     let line = Line {

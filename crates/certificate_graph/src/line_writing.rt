@@ -10,7 +10,7 @@ use crate::nodes::Node;
 use crate::writing::{seat_byte, write_len, write_pattern, write_tree};
 use cards::{DeviceFault, Seat, Side, Sink, Suit, Trump, write_all, write_number};
 
-/// Writes a lead and a need, with a blank behind each.
+/// Writes a lead and a need, with a blank after each.
 fn write_claim<S: Sink>(sink: &mut S, lead: Seat, need: u8) -> Result<(), DeviceFault>
     ensures { Writes (S.state sink.old) (S.state sink.new) (claim_text lead need []) result }
 {

@@ -8,16 +8,16 @@ ghost use Rattle.certificate_graph.specs.Readings.{MayFail, AreAllNodes};
 
 use crate::faults::TextFault;
 use crate::forms::names_below;
-use crate::line_reading::{Line, read_line};
+use crate::line_reading::read_line;
 use crate::nodes::Node;
 use crate::pattern_reading::Suits;
 use patterns::Pattern;
 use std::alloc::Global;
 
-/// The line of the first node.
+/// The line of the first node, after the four lines of the heading.
 const FIRST_LINE: usize = 5;
 
-/// The node whose line stands at the beginning, and what stands behind the line.
+/// The node whose line stands at the beginning, and the text after the line.
 fn read_node(
     alloc: Global,
     count: u32,
@@ -32,37 +32,31 @@ fn read_node(
     let Ok(read) = read_line(alloc, text) else {
         return Err(TextFault::OutOfMemory);
     };
-    let Some((node, rest)) = read else {
+    let Some((said, rest)) = read else {
         return Err(TextFault::NodeForm { line });
     };
-    let Line {
-        lead,
-        need,
-        suits,
-        tree,
-    } = node;
     let Suits {
         spades,
         hearts,
         diamonds,
         clubs,
-    } = suits;
+    } = said.suits;
     let Ok(pattern) = Pattern::from_parts([spades, hearts, diamonds, clubs]) else {
         return Err(TextFault::BadPattern { line });
     };
-    if !names_below(&tree.root(), count) {
+    if !names_below(&said.tree.root(), count) {
         return Err(TextFault::ChildNumber { line });
     }
     let node = Node {
         pattern,
-        lead,
-        need,
-        tree,
+        lead: said.lead,
+        need: said.need,
+        tree: said.tree,
     };
     Ok((node, rest))
 }
 
-/// So many nodes, with nothing behind them.
+/// So many nodes, with nothing after them.
 pub(crate) fn read_nodes(alloc: Global, count: u32, text: &[u8]) -> Result<Vec<Node>, TextFault>
     requires { count ≤ greatest_count }
     ensures { MatchResult result (λ nodes. AreAllNodes count text.now nodes.items) (MayFail (StopsAt count text.now)) }
@@ -70,11 +64,11 @@ pub(crate) fn read_nodes(alloc: Global, count: u32, text: &[u8]) -> Result<Vec<N
     let mut nodes = Vec::new(alloc);
     let mut rest = text;
     for number in 0..count {
-        let (node, behind) = read_node(alloc, count, FIRST_LINE + number as usize, rest)?;
+        let (node, after) = read_node(alloc, count, FIRST_LINE + number as usize, rest)?;
         let Ok(()) = nodes.push(node) else {
             return Err(TextFault::OutOfMemory);
         };
-        rest = behind;
+        rest = after;
     }
     if !rest.is_empty() {
         return Err(TextFault::Count {

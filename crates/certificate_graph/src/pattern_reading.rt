@@ -8,7 +8,7 @@ ghost use Rattle.certificate_graph.specs.Texts.{owners_text};
 ghost use Rattle.certificate_graph.specs.Suits.{shape_read};
 ghost use Rattle.certificate_graph.specs.Readings.{LacksOwners, BeginsTwo, LacksTwo, BeginsSuit, LacksSuit, BeginsTwoSuits, LacksTwoSuits, BeginsPattern, LacksPattern};
 
-use crate::scanning::{behind, read_len, read_seat};
+use crate::scanning::{after_byte, read_len, read_seat};
 use arrayvec::ArrayVec;
 use cards::Seat;
 use patterns::SuitPart;
@@ -22,12 +22,12 @@ pub(crate) struct Suits {
     pub(crate) clubs: SuitPart,
 }
 
-/// Owners, at most so many, and what stands behind the blank after them.
+/// Owners, at most so many, and the text after the blank that ends them.
 fn read_owners<'a>(text: &'a [u8], room: usize, owners: &mut ArrayVec<Seat, 13>) -> Option<&'a [u8]>
     requires { length owners.old.items + room ≡ 13 }
     ensures { MatchOption result (LacksOwners room text.now) (λ rest. (more : List Seat) × (length more ≤ room) × (text.now ≡ owners_text more (32 ∷ rest.now)) × (owners.new.items ≡ owners.old.items ++ more)) }
 {
-    if let Some(rest) = behind(text, b' ') {
+    if let Some(rest) = after_byte(text, b' ') {
         return Some(rest);
     }
     if room == 0 {
@@ -55,7 +55,7 @@ fn read_two(text: &[u8], first: u8, second: u8) -> Option<(u8, u8, &[u8])>
     Some((one, other, rest))
 }
 
-/// A suit, and what stands behind the blank after it.
+/// A suit, and the text after the blank that ends it.
 fn read_suit(text: &[u8]) -> Option<(SuitPart, &[u8])>
     ensures { MatchOption result (LacksSuit text.now) (λ p. BeginsSuit text.now (suit_shape p.0) p.1.now) }
 {
@@ -73,7 +73,7 @@ fn read_suit(text: &[u8]) -> Option<(SuitPart, &[u8])>
     Some((SuitPart { lens, owners }, rest))
 }
 
-/// Two suits, and what stands behind the blank after them.
+/// Two suits, and the text after the blank that ends them.
 fn read_two_suits(text: &[u8]) -> Option<(SuitPart, SuitPart, &[u8])>
     ensures { MatchOption result (LacksTwoSuits text.now) (λ p. BeginsTwoSuits text.now (suit_shape p.0) (suit_shape p.1) p.2.now) }
 {
@@ -86,7 +86,7 @@ fn read_two_suits(text: &[u8]) -> Option<(SuitPart, SuitPart, &[u8])>
     Some((first, second, rest))
 }
 
-/// Four suits, and what stands behind the blank after them.
+/// Four suits, and the text after the blank that ends them.
 pub(crate) fn read_suits(text: &[u8]) -> Option<(Suits, &[u8])>
     ensures { MatchOption result (LacksPattern text.now) (λ p. BeginsPattern text.now (shape_read p.0) p.1.now) }
 {

@@ -21,8 +21,11 @@ pub struct Place<'a> {
 /// Where a place stands: in a tree of its own, or beside the card of the side before it.
 #[derive(Drop)]
 pub(crate) enum At<'a> {
+    /// In a tree of its own.
     Tree(&'a Tree),
+    /// Branches beside the card before them.
     Reply(&'a [trees::Branch]),
+    /// Children beside the card before them.
     Leaf(&'a [Child]),
 }
 
@@ -35,8 +38,11 @@ pub struct Branches<'a> {
 /// What stands in a place: a card of the side, the cards of the opponents, or the nodes after the trick.
 #[derive(Drop)]
 pub enum View<'a> {
+    /// A card of the side, and the place after it.
     Own(PatCard, Place<'a>),
+    /// The cards of the opponents, each with the place after it.
     Reply(Branches<'a>),
+    /// The end of the trick: the nodes that go on.
     Leaf(&'a [Child]),
 }
 
@@ -112,7 +118,7 @@ fn view_of<'a>(tree: &'a Tree) -> View<'a>
 }
 
 impl<'a> Branches<'a> {
-    /// The first branch, its card and what follows it, and the other branches.
+    /// The card of the first branch, the place after it, and the other branches; none where there is no branch.
     pub fn split_first(&self) -> Option<(PatCard, Place<'a>, Branches<'a>)>
         ensures { MatchOption result (self.now ≡ NoBranch) (λ first. self.now ≡ Branch first.0 first.1 first.2) }
     {

@@ -9,60 +9,57 @@ ghost use Rattle.certificate_graph.specs.Readings.{BeginsDigits, LacksDigits, Re
 use crate::checks::GREATEST_COUNT;
 use crate::faults::TextFault;
 use crate::line_writing::{side_line, trump_line};
-use crate::scanning::{behind, is_number, split_digits, value_of};
+use crate::scanning::{GREATEST_DIGITS, after_byte, is_number, split_digits, value_of};
 use cards::{Side, Trump};
 
-/// What stands behind these bytes, if the text begins with them.
-fn behind_all<'a>(text: &'a [u8], front: &[u8]) -> Option<&'a [u8]>
-    ensures { MatchOption result ((rest : List ℕ) → text.now ≢ front.now ++ rest) (λ rest. text.now ≡ front.now ++ rest.now) }
+/// The text after this prefix, if it begins with it.
+fn after_prefix<'a>(text: &'a [u8], prefix: &[u8]) -> Option<&'a [u8]>
+    ensures { MatchOption result ((rest : List ℕ) → text.now ≢ prefix.now ++ rest) (λ rest. text.now ≡ prefix.now ++ rest.now) }
 {
-    match front.split_first() {
-        None => Some(text),
-        Some((byte, more)) => behind_all(behind(text, *byte)?, more),
-    }
+    text.strip_prefix(prefix)
 }
 
-/// What stands behind the title, if the text begins with it.
+/// The text after the title, if the text begins with it.
 pub(crate) fn read_title(text: &[u8]) -> Option<&[u8]>
     ensures { MatchOption result ((rest : List ℕ) → text.now ≢ title_text rest) (λ rest. text.now ≡ title_text rest.now) }
 {
-    behind_all(text, b"DDC 1\n")
+    after_prefix(text, b"DDC 1\n")
 }
 
-/// The trump, and what stands behind its line.
+/// The trump, and the text after its line.
 pub(crate) fn read_trump(text: &[u8]) -> Option<(Trump, &[u8])>
     ensures { MatchOption result ((trump : Trump) (rest : List ℕ) → text.now ≢ trump_text trump rest) (λ p. text.now ≡ trump_text p.0 p.1.now) }
 {
     for trump in Trump::ALL {
-        if let Some(rest) = behind_all(text, trump_line(trump)) {
+        if let Some(rest) = after_prefix(text, trump_line(trump)) {
             return Some((trump, rest));
         }
     }
     None
 }
 
-/// The side, and what stands behind its line.
+/// The side, and the text after its line.
 pub(crate) fn read_side(text: &[u8]) -> Option<(Side, &[u8])>
     ensures { MatchOption result ((side : Side) (rest : List ℕ) → text.now ≢ side_text side rest) (λ p. text.now ≡ side_text p.0 p.1.now) }
 {
-    if let Some(rest) = behind_all(text, side_line(Side::NorthSouth)) {
+    if let Some(rest) = after_prefix(text, side_line(Side::NorthSouth)) {
         return Some((Side::NorthSouth, rest));
     }
-    let Some(rest) = behind_all(text, side_line(Side::EastWest)) else {
+    let Some(rest) = after_prefix(text, side_line(Side::EastWest)) else {
         return None;
     };
     Some((Side::EastWest, rest))
 }
 
-/// The digits of the number of nodes, and what stands behind their line.
+/// The digits of the number of nodes, and the text after their line.
 fn read_digits(text: &[u8]) -> Option<(&[u8], &[u8])>
     ensures { MatchOption result (LacksDigits text.now) (λ p. BeginsDigits text.now p.0.now p.1.now) }
 {
-    let Some(rest) = behind_all(text, b"nodes ") else {
+    let Some(rest) = after_prefix(text, b"nodes ") else {
         return None;
     };
     let (digits, rest) = split_digits(rest);
-    let Some(rest) = behind(rest, b'\n') else {
+    let Some(rest) = after_byte(rest, b'\n') else {
         return None;
     };
     if is_number(digits) {
@@ -72,14 +69,14 @@ fn read_digits(text: &[u8]) -> Option<(&[u8], &[u8])>
     }
 }
 
-/// The number of nodes, and what stands behind its line.
+/// The number of nodes, and the text after its line.
 pub(crate) fn read_count(text: &[u8]) -> Result<(u32, &[u8]), TextFault>
     ensures { MatchResult result (λ p. ReadsCount text.now p.0 p.1.now) (IsCountLineFault text.now) }
 {
     let Some((digits, rest)) = read_digits(text) else {
         return Err(TextFault::Head { line: 4 });
     };
-    if digits.len() > 7 {
+    if digits.len() > GREATEST_DIGITS {
         return Err(TextFault::TooLarge { line: 4 });
     }
     let count = value_of(digits);

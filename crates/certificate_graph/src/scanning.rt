@@ -15,8 +15,14 @@ ghost use Rattle.certificate_graph.specs.Readings.{seat_text, len_text, StopsDig
 use cards::{Seat, Suit};
 use pattern_step::PatCard;
 
-/// What stands behind this byte, if the text begins with it.
-pub(crate) fn behind(text: &[u8], byte: u8) -> Option<&[u8]>
+/// The most digits that a number of nodes may have: those of the greatest count of nodes.
+pub(crate) const GREATEST_DIGITS: usize = 7;
+
+/// The greatest length of a suit: the cards of a hand.
+const GREATEST_LEN: u32 = 13;
+
+/// The text after this byte, if the text begins with it.
+pub(crate) fn after_byte(text: &[u8], byte: u8) -> Option<&[u8]>
     ensures { MatchOption result ((rest : List ℕ) → text.now ≡ byte ∷ rest → ⊥) (λ rest. text.now ≡ byte ∷ rest.now) }
 {
     match text {
@@ -38,7 +44,7 @@ fn seat_of_letter(byte: u8) -> Option<Seat>
     }
 }
 
-/// A seat, and what stands behind its letter.
+/// A seat, and the text after its letter.
 pub(crate) fn read_seat(text: &[u8]) -> Option<(Seat, &[u8])>
     ensures { MatchOption result (Lacks Always seat_text text.now) (λ p. text.now ≡ seat_text p.0 p.1.now) }
 {
@@ -62,7 +68,7 @@ fn suit_of_letter(byte: u8) -> Option<Suit>
     }
 }
 
-/// A card, and what stands behind it.
+/// A card, and the text after it.
 pub(crate) fn read_card(text: &[u8]) -> Option<(PatCard, &[u8])>
     ensures { MatchOption result (Lacks IsCard card_text text.now) (λ p. Begins IsCard card_text text.now p.0 p.1.now) }
 {
@@ -77,7 +83,7 @@ pub(crate) fn read_card(text: &[u8]) -> Option<(PatCard, &[u8])>
     }
 }
 
-/// The digits at the beginning, and what stands behind them.
+/// The digits at the beginning, and the text after them.
 pub(crate) fn split_digits(text: &[u8]) -> (&[u8], &[u8])
     ensures parts { text.now ≡ result.0.now ++ result.1.now }
     ensures digits { AllDigits 10 result.0.now }
@@ -115,19 +121,19 @@ pub(crate) fn value_of(digits: &[u8]) -> u32
     value
 }
 
-/// A number of at most seven digits, and what stands behind it.
+/// A number of at most seven digits, and the text after it.
 pub(crate) fn read_number(text: &[u8]) -> Option<(u32, &[u8])>
     ensures { MatchOption result (LacksNumber text.now) (λ p. BeginsNumber text.now p.0 p.1.now) }
 {
     let (digits, rest) = split_digits(text);
-    if is_number(digits) && digits.len() <= 7 {
+    if is_number(digits) && digits.len() <= GREATEST_DIGITS {
         Some((value_of(digits), rest))
     } else {
         None
     }
 }
 
-/// A length of at most 13 before this byte, and what stands behind the byte.
+/// A length of at most 13 before this byte, and the text after the byte.
 pub(crate) fn read_len(text: &[u8], byte: u8) -> Option<(u8, &[u8])>
     requires { 10 ≤ digit_value byte }
     ensures { MatchOption result (Lacks IsLen (len_text byte) text.now) (λ p. Begins IsLen (len_text byte) text.now p.0 p.1.now) }
@@ -135,10 +141,10 @@ pub(crate) fn read_len(text: &[u8], byte: u8) -> Option<(u8, &[u8])>
     let Some((len, rest)) = read_number(text) else {
         return None;
     };
-    if len > 13 {
+    if len > GREATEST_LEN {
         return None;
     }
-    let Some(rest) = behind(rest, byte) else {
+    let Some(rest) = after_byte(rest, byte) else {
         return None;
     };
     Some((len as u8, rest))

@@ -18,24 +18,32 @@ pub struct Tree {
     stored: Stored,
 }
 
-/// A card of the opponents, and what follows it.
+/// A card of the opponents, and what is played after it.
 #[cycle(tree)]
 #[derive(Drop)]
 pub struct Branch {
+    /// The card.
     pub card: PatCard,
+    /// What is played after it.
     pub below: Tree,
 }
 
-/// A place of a tree with all below it. A leaf of one child, and what mostly follows a card of the side, stand here
+/// A place of a tree with all below it. A leaf of one child, and what mostly comes after a card of the side, stand here
 /// themselves and take no memory of their own.
 #[cycle(tree)]
 #[derive(Drop)]
 pub(crate) enum Stored {
+    /// A card of the side, and another thing after it than those of the next two.
     Own(PatCard, Box<Tree>),
+    /// A card of the side, and cards of the opponents.
     OwnThenReply(PatCard, Vec<Branch>),
+    /// A card of the side, and a leaf of one child.
     OwnThenOne(PatCard, Child),
+    /// Cards of the opponents.
     Reply(Vec<Branch>),
+    /// A leaf of one child.
     One(Child),
+    /// Any leaf.
     Leaf(Vec<Child>),
 }
 
@@ -61,7 +69,7 @@ impl Model for Tree {
 }
 
 impl Tree {
-    /// A card of the side, and what follows it.
+    /// A card of the side, and what is played after it. Fails only where memory runs out.
     pub fn own(alloc: Global, card: PatCard, below: Tree) -> Result<Tree, AllocError>
         ensures { IfOk result (λ tree. tree ≡ Own card below) }
     {
@@ -73,7 +81,7 @@ impl Tree {
         Ok(Tree { stored })
     }
 
-    /// The cards of the opponents, each with what follows it.
+    /// The cards of the opponents, each with what is played after it.
     pub fn reply(branches: Vec<Branch>) -> Tree
         ensures { result ≡ Reply (branches_of branches.items) }
     {
@@ -82,7 +90,7 @@ impl Tree {
         }
     }
 
-    /// The nodes that go on after the trick.
+    /// The end of the trick, with the nodes that go on after it.
     pub fn leaf(children: Vec<Child>) -> Tree
         ensures { result ≡ Leaf children.items }
     {

@@ -58,7 +58,7 @@ fn write_child<S: Sink>(sink: &mut S, child: &Child) -> Result<(), DeviceFault>
     write_number(sink, u64::from(child.number))
 }
 
-/// Writes children behind another one, and the closing brace.
+/// Writes children that follow another one, and the closing brace.
 fn write_more_children<S: Sink>(sink: &mut S, children: &[Child]) -> Result<(), DeviceFault>
     ensures { Writes (S.state sink.old) (S.state sink.new) (more_children_text children.now []) result }
 {
@@ -136,12 +136,12 @@ fn write_owners<S: Sink>(sink: &mut S, owners: &[Seat]) -> Result<(), DeviceFaul
     }
 }
 
-/// Writes a length and the byte behind it.
-pub(crate) fn write_len<S: Sink>(sink: &mut S, len: u8, behind: u8) -> Result<(), DeviceFault>
-    ensures { Writes (S.state sink.old) (S.state sink.new) (decimal len ++ (behind ∷ [])) result }
+/// Writes a length and the byte after it.
+pub(crate) fn write_len<S: Sink>(sink: &mut S, len: u8, after: u8) -> Result<(), DeviceFault>
+    ensures { Writes (S.state sink.old) (S.state sink.new) (decimal len ++ (after ∷ [])) result }
 {
     write_number(sink, u64::from(len))?;
-    write_all(sink, &[behind])
+    write_all(sink, &[after])
 }
 
 /// Writes a suit of a pattern.

@@ -1,4 +1,4 @@
-use Rattle.std.proofs.Common.{length, subst, sym, arith}
+use Rattle.std.proofs.Common.{length, subst, arith}
 use Rattle.std.proofs.lemmas.List.Elements.{All-more}
 use Rattle.std.proofs.lemmas.List.{take_all}
 use Rattle.certificate_graph.specs.Graphs.{IsNode}
@@ -12,7 +12,7 @@ returns-in_err-check_node c =
     let i = c.loop-node.node-index in
     let node = c.node-item.result in
     let told = graph_fault nodes i node c.in_err-check_node.field-0.0 (omega arith) (omega arith) c.loop-node.invariant c.node-item.is c.in_err-check_node.ensures in
-    fault_out _ (IsGraphFault nodes) c.from_residual.result _ c.from_residual.ensures.1 (λ fault e. subst (IsGraphFault nodes) (sym e) told)
+    fault_out _ (IsGraphFault nodes) c.from_residual.result _ c.from_residual.ensures.1 told
 
 pub loop-node-preserved : goal.loop-node-preserved
 loop-node-preserved c =

@@ -8,6 +8,6 @@ pub returns-in_default-2 : goal.returns-in_default-2
 returns-in_default-2 c =
     node_by_tree c.args.text.now _ _ _ _ _ c.in-Some.ensures c.in-Some-read_suits.ensures (rw c.in_default-2.is at c.in_ok-tree.ensures)
 
-pub returns-in_default-behind : goal.returns-in_default-behind
-returns-in_default-behind c =
-    node_by_end c.args.text.now _ _ _ _ _ _ _ c.in-Some.ensures c.in-Some-read_suits.ensures (rw c.in-Some-2.is at c.in_ok-tree.ensures) c.in_default-behind.ensures
+pub returns-in_default-after_byte : goal.returns-in_default-after_byte
+returns-in_default-after_byte c =
+    node_by_end c.args.text.now _ _ _ _ _ _ _ c.in-Some.ensures c.in-Some-read_suits.ensures (rw c.in-Some-2.is at c.in_ok-tree.ensures) c.in_default-after_byte.ensures

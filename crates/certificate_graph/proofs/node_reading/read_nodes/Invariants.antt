@@ -1,4 +1,4 @@
--- The nodes so far stand at the beginning of the text, and what is left stands behind them.
+-- The nodes so far stand at the beginning of the text, and what is left stands after them.
 use Rattle.std.proofs.Common.{◌≡◌, length, All}
 use Rattle.certificate_graph.specs.Graphs.{IsNode}
 use Rattle.certificate_graph.specs.Texts.{nodes_text}

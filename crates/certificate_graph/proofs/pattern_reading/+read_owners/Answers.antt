@@ -11,9 +11,9 @@ pub returns : goal.returns
 returns t c =
     let text = c.args.text.now in
     let owner = c.in-Some-read_seat.owner in
-    let behind = c.in-Some-read_seat.rest.now in
+    let after = c.in-Some-read_seat.rest.now in
     match_map c.read_owners.result
-    (λ lacks. owners_by_more c.args.room text owner behind c.in_default.ensures c.in-Some-read_seat.ensures lacks)
+    (λ lacks. owners_by_more c.args.room text owner after c.in_default.ensures c.in-Some-read_seat.ensures lacks)
     (λ rest begins. (
       owner ∷ begins.0,
       (let few = begins.1 in omega arith),

@@ -1,10 +1,10 @@
 use Rattle.certificate_graph.proofs.HeadLemmas.{digits_by_end, digits_by_number}
 use Rattle.certificate_graph.proofs.reading.read_digits.Goals as goal
 
-pub returns-in_default-behind : goal.returns-in_default-behind
-returns-in_default-behind c =
+pub returns-in_default-after_byte : goal.returns-in_default-after_byte
+returns-in_default-after_byte c =
     let split = c.split_digits.ensures in
-    digits_by_end c.args.text.now _ _ _ c.in-Some.ensures split.parts split.digits split.stops c.in_default-behind.ensures
+    digits_by_end c.args.text.now _ _ _ c.in-Some.ensures split.parts split.digits split.stops c.in_default-after_byte.ensures
 
 pub returns-else-is_number : goal.returns-else-is_number
 returns-else-is_number c =

@@ -25,7 +25,7 @@ write_tree-returns-in_ok-write_all-in-Leaf g t c =
     let done = c.write_children.result in
     writes_same _ _ done (rw (← c.in-Leaf.ensures) refl) (Writes-then done _ _ c.in_ok-write_all-in-Leaf.ensures c.write_children.ensures)
 
--- a card, what follows it, and the branches behind it
+-- a card, what follows it, and the branches after it
 parts : (card : PatCard) (below : TrickTree) (more : Branches) → card_text card [] ++ (tree_text below [] ++ branches_text more []) ≡ branches_text (Branch card below more) []
 parts card below more =
     ap (λ s. card_text card [] ++ s) (sym (tree-cut below [] (branches_text more [])))

@@ -6,11 +6,11 @@ use Rattle.cards.proofs.WriteLemmas.{AddsBeginning-then, Writes-then}
 use Rattle.certificate_graph.proofs.WriteLemmas.{writes_same, stops_within}
 use Rattle.certificate_graph.proofs.writing.write_pattern.Goals as goal
 
--- a suit and a blank, and a text behind them
+-- a suit and a blank, and a text after them
 next : (suit : SuitShape) (text : List ℕ) → suit_text suit (32 ∷ []) ++ text ≡ suit_text suit (32 ∷ text)
 next suit text = sym (suit-cut suit (32 ∷ []) text)
 
--- the text behind the first suit, the second and the third
+-- the text after the first suit, the second and the third
 abbrev third : Shape → List ℕ
 third shape = suit_text shape.clubs []
 

@@ -6,9 +6,9 @@ use Rattle.cards.proofs.WriteLemmas.{AddsBeginning-then, Writes-then}
 use Rattle.certificate_graph.proofs.WriteLemmas.{writes_same, stops_within}
 use Rattle.certificate_graph.proofs.writing.write_suit.Goals as goal
 
--- a length and the byte behind it
+-- a length and the byte after it
 abbrev len_text : List ℕ → ℕ → ℕ → List ℕ
-len_text lens seat behind = decimal (slice_index lens seat) ++ (behind ∷ [])
+len_text lens seat after = decimal (slice_index lens seat) ++ (after ∷ [])
 
 pub returns-in_err-write_len-2 : goal.returns-in_err-write_len-2
 returns-in_err-write_len-2 g c =

@@ -1,5 +1,5 @@
 use Rattle.std.proofs.Common.{refl, inl, inr}
-use Rattle.certificate_graph.proofs.ReadLemmas.{heads_are, fault_behind, count_fault, nodes_answer, answer_fault, graph_read}
+use Rattle.certificate_graph.proofs.ReadLemmas.{heads_are, fault_after, count_fault, nodes_answer, answer_fault, graph_read}
 use Rattle.certificate_graph.proofs.graphs.Graph.read.Goals as goal
 
 pub returns-in_default-read_side : goal.returns-in_default-read_side
@@ -12,7 +12,7 @@ returns-in_err-count c =
     let heads = heads_are text _ _ _ _ _ c.in-Some.ensures c.in-Some-read_trump.ensures c.in-Some-read_side.ensures in
     let fault = c.in_err-count.field-0.0 in
     answer_fault text c.from_residual.result fault c.from_residual.ensures.1
-    (inr (fault_behind text _ _ _ fault heads (count_fault _ fault c.in_err-count.ensures)))
+    (inr (fault_after text _ _ _ fault heads (count_fault _ fault c.in_err-count.ensures)))
 
 pub returns-in_err-nodes : goal.returns-in_err-nodes
 returns-in_err-nodes c =
