@@ -28,8 +28,8 @@ impl fmt::Display for HandFault {
     fn fmt<W: fmt::Write>(&self, f: &mut fmt::Formatter<W>) -> fmt::Result {
         match self {
             HandFault::Entry(fault) => write!(f, "{fault}"),
-            HandFault::DeclarerText(fault) => write!(f, "declarer 10 Text {}", TextWords(*fault)),
-            HandFault::DefendersText(fault) => write!(f, "defenders 10 Text {}", TextWords(*fault)),
+            HandFault::DeclarerText(fault) => write!(f, "declarer 10 Text {}", TextWords(fault)),
+            HandFault::DefendersText(fault) => write!(f, "defenders 10 Text {}", TextWords(fault)),
             HandFault::NoDeal => write!(f, "11 NoDeal"),
         }
     }
@@ -38,11 +38,11 @@ impl fmt::Display for HandFault {
 impl Error for HandFault {}
 
 /// What is printed of a text that is not that of a graph: the fault, and the line that it names.
-#[derive(Clone, Copy)]
-struct TextWords(TextFault);
+#[derive(Drop)]
+struct TextWords<'a>(&'a TextFault);
 
-impl fmt::Display for TextWords {
-    ghost output = { λ words. Some (text_fault_text words.0) };
+impl fmt::Display for TextWords<'_> {
+    ghost output = { λ words. Some (text_fault_text words.0.now) };
 
     fn fmt<W: fmt::Write>(&self, f: &mut fmt::Formatter<W>) -> fmt::Result {
         let fault = self.0;
