@@ -1,5 +1,5 @@
 -- A source that was read to its end has given its first bytes, and no call failed.
-use Rattle.std.proofs.Common.{◌≡◌, ℕ, List, [], ◌++◌, Option, None, Some, sym, ◌∙◌, append-nil}
+use Rattle.std.proofs.Common.{ℕ, List, [], Option, None, Some, sym, ◌∙◌, append-nil}
 use Rattle.cards.specs.Devices.{Device, TakesWhereTold}
 use Rattle.streams.specs.Inputs.{IsAllOf, IsReadToEnd, Loses}
 

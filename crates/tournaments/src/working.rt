@@ -1,16 +1,40 @@
 //! The work on the entries of a book, one after another.
 
-ghost use Rattle.std.specs.Prelude.{◌≡◌, [], OnOk};
+ghost use Rattle.std.specs.Prelude.{◌≡◌, [], OnOk, MatchOption};
 ghost use Rattle.lease_book.specs.Histories.{deal_of};
-ghost use Rattle.tournaments.specs.Asking.{IsFoundFor};
+ghost use Rattle.tournaments.specs.Asking.{IsVerdictOn, IsFoundFor};
 ghost use Rattle.tournaments.specs.Working.{GivesOut, WorksOn};
 
 use crate::clocks::Clock;
+use cards::Layout;
+use certificate_graph::Answer;
 use checker::{HandFault, OutOfMemory, Verdict, check_entry};
 use lease_book::{Book, Entry, Reply};
 use partition_solver::Solver;
 use pbn_deals::Board;
 use std::alloc::Global;
+
+/// The layout of an entry's board, if it has one.
+fn layout_for(boards: &[Board], entry: Entry) -> Option<&Layout>
+    ensures { MatchOption result (deal_of boards.now entry.board ≡ None) (λ layout. deal_of boards.now entry.board ≡ Some layout.now) }
+{
+    boards.get(entry.board)?.deal.as_ref()
+}
+
+/// The checker's verdict on an answer for an entry, whose layout this is.
+fn verdict_of(layout: &Layout, entry: Entry, answer: &Answer) -> Verdict
+    ensures { IsVerdictOn layout.now entry (Some answer.now) (Some result) }
+{
+    let checked = check_entry(
+        layout,
+        entry.declarer,
+        entry.trump,
+        answer.k,
+        &answer.declarer,
+        &answer.defenders,
+    );
+    checked.map_err(HandFault::Entry)
+}
 
 /// The verdict on the solver's answer for an entry, if it has one: none where the board has no deal, where nothing was
 /// found within the budget, and where the solver had no memory.
@@ -23,19 +47,11 @@ fn verdict_on<S: Solver>(
 ) -> Option<Verdict>
     ensures { IsFoundFor (S.may_find solver.now) budget (deal_of boards.now entry.board) entry result }
 {
-    let layout = boards.get(entry.board)?.deal.as_ref()?;
-    let Ok(Some(answer)) = solver.solve(alloc, layout, entry.declarer, entry.trump, budget) else {
-        return None;
-    };
-    let checked = check_entry(
-        layout,
-        entry.declarer,
-        entry.trump,
-        answer.k,
-        &answer.declarer,
-        &answer.defenders,
-    );
-    Some(checked.map_err(HandFault::Entry))
+    let layout = layout_for(boards, entry)?;
+    match solver.solve(alloc, layout, entry.declarer, entry.trump, budget) {
+        Ok(Some(answer)) => Some(verdict_of(layout, entry, &answer)),
+        _ => None,
+    }
 }
 
 /// Hands in what the solver answers for the entry of a lease, or gives the lease up.
