@@ -1,6 +1,5 @@
 -- The text of an answer is cut where its parts meet: the text of a graph is made of lines, none of them empty.
-use Rattle.std.proofs.Common.{◌≡◌, ◌≢◌, ℕ, zero, suc, ◌+◌, ◌-◌, ◌%◌, ◌^◌, ◌<◌, ◌≤◌, List, [], ◌∷◌, ◌++◌, length, slice_get, Some, codes, inl, inr, ◌⊎◌, refl, sym, ◌∙◌, ap, subst, arith, append_assoc, All, rules, Result, Ok, Err}
-use Rattle.std.specs.Prelude.{IsErrAnd}
+use Rattle.std.proofs.Common.{◌≡◌, ◌≢◌, ℕ, zero, suc, ◌+◌, ◌-◌, ◌%◌, ◌^◌, ◌<◌, ◌≤◌, List, [], ◌∷◌, ◌++◌, length, slice_get, Some, codes, inl, inr, ◌⊎◌, refl, sym, ◌∙◌, ap, subst, arith, append_assoc, All, rules}
 use Rattle.std.specs.List.{AllByRecursion}
 use Rattle.std.specs.Fmt.{decimal}
 use Rattle.std.proofs.lemmas.Fmt.{decimal_by_steps}
@@ -18,13 +17,9 @@ use Rattle.cards.specs.declared.suits.Trump.{Trump}
 use Rattle.cards.specs.declared.suits.Trump.TheVariants as trump
 use Rattle.cards.specs.Seats.{seat_letter, side_letters}
 use Rattle.cards.specs.Pack.{suit_letter, trump_letters}
-use Rattle.cards.specs.Deal.{Deal}
-use Rattle.cards.specs.Devices.{Device, AddsBeginning}
-use Rattle.pbn_deals.specs.LayoutValue.{SaysLayout}
 use Rattle.patterns.specs.Shapes.{SuitShape, Shape, len_of}
 use Rattle.pattern_step.specs.declared.pat_cards.PatCard.{PatCard}
 use Rattle.pattern_step.specs.declared.pat_cards.PatCard.TheVariants.{Top, Low}
-use Rattle.certificate_graph.specs.declared.answers.Answer.{Answer}
 use Rattle.certificate_graph.specs.declared.children.Child.{Child}
 use Rattle.certificate_graph.specs.declared.nodes.Node.{Node}
 use Rattle.certificate_graph.specs.Trees.{TrickTree, Own, Reply, Leaf, Branches, NoBranch, Branch}
@@ -33,11 +28,8 @@ use Rattle.certificate_graph.specs.LineForms.{IsSuitForm, IsPatternForm, IsNodeF
 use Rattle.certificate_graph.specs.Texts.{card_text, child_text, more_children_text, children_text, tree_text, branches_text, owners_text, suit_text, pattern_text, claim_text, node_text, nodes_text, graph_text}
 use Rattle.certificate_graph.proofs.TextParts.{tree-cut, pattern-cut, claim-cut}
 use Rattle.certificate_graph.proofs.OneAnswer.{node_form}
-use Rattle.tournaments.specs.Asking.{MayFind}
 use Rattle.subcommands.specs.Answers.{IsEmptyLine, HasNoEmptyLine, IsCut}
-use Rattle.subcommands.specs.declared.faults.RunFault.{RunFault}
-use Rattle.subcommands.specs.declared.faults.RunFault.TheVariants.{Write}
-use Rattle.subcommands.specs.Solves.{AnswersAreReadBack, IsFound, SolvesLayout, answer_text}
+use Rattle.subcommands.specs.Solves.{AnswersAreReadBack}
 
 -- ---- bytes without a line's end
 abbrev pub Plain : List ℕ → Type 0
