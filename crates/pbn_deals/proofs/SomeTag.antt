@@ -1,4 +1,4 @@
--- A tag does something to a game, or has a fault, and want of memory is none.
+-- A tag does something to a game, or has a fault, and that memory runs out is none.
 use Rattle.std.proofs.Common.{◌≡◌, ◌≢◌, ℕ, Bool, true, false, List, [], ◌∷◌, Option, Some, None, Result, Ok, Err, refl, ◌∙◌, ap, inl, inr, ◌⊎◌}
 use Rattle.std.proofs.lemmas.Bool.{cases_eq, cases_lt}
 use Rattle.cards.specs.declared.seats.Seat.TheVariants.{North}
@@ -13,7 +13,7 @@ use Rattle.pbn_deals.proofs.GameLemmas.{other_size}
 use Rattle.pbn_deals.proofs.SomeDeal.{Judged, judged, judged_twice, judged_missized, judged_deal}
 use Rattle.pbn_deals.proofs.SomeLayout.{full_from}
 
--- something that is given, and is not want of memory
+-- something that is given, and is not that memory runs out
 pub record Given {A : Type 0} (Gives : Result A PbnFault → Type 0) : Type 0 where
   pub what : Result A PbnFault
   pub no_want : what ≢ Err OutOfMemory

@@ -158,7 +158,7 @@ pub data Answers : ℕ → Option ℕ → Tags → ℕ → List (List ℕ) → R
 abbrev pub TextAnswers : List ℕ → Result (List Board) PbnFault → Type 0
 TextAnswers text answer = Answers 1 None no_tags 0 (lines_of (without_mark text)) answer
 
--- what a reader answers: that, or want of memory, of which nothing is said
+-- what a reader answers: that, or that memory ran out, of which nothing is said
 abbrev pub SaysBoards : List ℕ → Result (List Board) PbnFault → Type 0
 SaysBoards text (Ok boards) = TextAnswers text (Ok boards)
 SaysBoards text (Err OutOfMemory) = Unit {0}
@@ -170,7 +170,7 @@ HasOneAnswer =
     (text : List ℕ) (one other : Result (List Board) PbnFault) →
     TextAnswers text one → TextAnswers text other → one ≡ other
 
--- a text has an answer, and it is not want of memory
+-- a text has an answer, and it is not that memory ran out
 abbrev pub HasSomeAnswer : Type 0
 HasSomeAnswer =
     (text : List ℕ) →

@@ -19,7 +19,7 @@ tag_seen None = None
 abbrev pub tags_seen : GameTags → Tags
 tags_seen tags = record { name = tags.name; deal = tags.deal }
 
--- a fact of each fault but want of memory
+-- a fact of each fault but that memory ran out
 abbrev pub UnlessMemory : PbnFault → Type 0 → Type 0
 UnlessMemory OutOfMemory P = Unit {0}
 UnlessMemory fault P = P

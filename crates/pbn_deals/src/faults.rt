@@ -8,26 +8,51 @@ use std::alloc::{AllocError, AllocFailed};
 use std::error::Error;
 use std::fmt;
 
-/// Why a PBN text, or a Deal value alone, is refused. All but want of memory name the line, counted from 1.
+/// Why a PBN text, or a Deal value alone, is refused (`docs/FORMATS.md`). All but `OutOfMemory` name the line, counted
+/// from 1; of a Deal value alone it is 1.
 #[derive(Clone, Copy, Debug, PartialEq, Eq)]
 pub enum PbnFault {
     /// A `[` that should begin a tag pair does not.
-    TagForm { line: usize },
+    TagForm {
+        /// Of the bracket.
+        line: usize,
+    },
     /// A brace comment is never closed.
-    OpenComment { line: usize },
+    OpenComment {
+        /// Of the opening brace.
+        line: usize,
+    },
     /// A game has two Deal tags.
-    SecondDeal { line: usize },
+    SecondDeal {
+        /// Of the second tag.
+        line: usize,
+    },
     /// A Deal value is not of the form.
-    DealForm { line: usize },
+    DealForm {
+        /// Of the tag.
+        line: usize,
+    },
     /// A Deal value names a card twice.
-    CardTwice { line: usize },
+    CardTwice {
+        /// Of the tag.
+        line: usize,
+    },
     /// The hands of a Deal value are not of the size that is wanted.
-    HandSize { line: usize },
+    HandSize {
+        /// Of the tag.
+        line: usize,
+    },
     /// A Board or Deal value is handed on from another game (`#`).
-    Inherited { line: usize },
+    Inherited {
+        /// Of the tag.
+        line: usize,
+    },
     /// The text has more boards than are taken.
-    TooManyBoards { line: usize },
-    /// A growth was refused.
+    TooManyBoards {
+        /// Of the Deal tag of the board that is too many.
+        line: usize,
+    },
+    /// Memory ran out.
     OutOfMemory,
 }
 
@@ -66,7 +91,7 @@ impl PbnFault {
         }
     }
 
-    /// The line that is named, counted from 1; none for want of memory.
+    /// The line that is named, counted from 1; none where memory ran out.
     pub fn line(&self) -> Option<usize>
         ensures { result ≡ fault_line self.now }
     {

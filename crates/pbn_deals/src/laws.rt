@@ -11,8 +11,8 @@ pub fn one_answer()
     ensures { HasOneAnswer }
 {}
 
-/// Every text has an answer, its boards or its first fault, and want of memory is none: a reader that refuses a text
-/// for want of memory leaves an answer out.
+/// Every text has an answer, its boards or its first fault, and that memory runs out is none: a reader that answers so
+/// leaves the text's answer out.
 pub fn some_answer()
     ensures { HasSomeAnswer }
 {}

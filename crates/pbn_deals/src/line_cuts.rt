@@ -7,15 +7,17 @@ ghost use Rattle.pbn_deals.specs.Views.{CutsLine};
 use crate::hands::after_blanks;
 use crate::tags::split_at_byte;
 
+/// The byte order mark of UTF-8.
+const BYTE_ORDER_MARK: &[u8] = b"\xef\xbb\xbf";
+
 /// The text without the byte order mark at its start.
 pub(crate) fn without_mark(text: &[u8]) -> &[u8]
     ensures value { result.now ≡ without_mark text.now }
     ensures within { length result.now ≤ length text.now }
 {
-    match text {
-        [first, second, third, rest @ ..] if *first == 0xef && *second == 0xbb && *third == 0xbf =>
-            rest,
-        _ => text,
+    match text.strip_prefix(BYTE_ORDER_MARK) {
+        Some(rest) => rest,
+        None => text,
     }
 }
 
@@ -43,10 +45,7 @@ pub(crate) fn cut_line(text: &[u8]) -> (&[u8], Option<&[u8]>)
 pub(crate) fn is_escaped(line: &[u8]) -> bool
     ensures { result ≡ is_escaped line.now }
 {
-    match line {
-        [first, ..] => *first == b'%',
-        [] => false,
-    }
+    line.starts_with(b"%")
 }
 
 /// Whether the line holds only blanks.

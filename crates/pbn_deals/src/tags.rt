@@ -87,10 +87,7 @@ pub(crate) fn is_deal(name: &[u8]) -> bool
 pub(crate) fn is_inherited(value: &[u8]) -> bool
     ensures { result ≡ is_inherited value.now }
 {
-    match value {
-        [first, ..] => *first == b'#',
-        [] => false,
-    }
+    value.starts_with(b"#")
 }
 
 /// The tag pair that stands after an opening bracket.
