@@ -2,6 +2,7 @@
 use Rattle.std.specs.Prelude.{ℕ, List, [], ◌∷◌, ◌++◌, codes, Option, None, Some, Result, Ok, Err}
 use Rattle.std.specs.Fmt.{decimal}
 use Rattle.checker.specs.declared.hand_faults.OutOfMemory.{OutOfMemory}
+use Rattle.checker.specs.FaultWords.{hand_fault_text}
 use Rattle.lease_book.specs.declared.events.Reply.{Reply}
 use Rattle.lease_book.specs.declared.events.Reply.TheVariants.{Given, Nothing, Freed, GaveUp}
 use Rattle.lease_book.specs.declared.events.Reply.TheVariants.{UnknownLease, NotHeld, OtherEntry, AlreadyPublished}
@@ -38,11 +39,14 @@ abbrev pub number_text : Option ℕ → List ℕ
 number_text (Some number) = decimal number ++ 32 ∷ []
 number_text None = []
 
--- the number of a refusal, the name, and the number that the reply tells, as in `2 NotHeld` and `published 7`. Of a
--- faulty certificate the fault's own text stands after the name.
-abbrev pub reply_text : Reply → Option (List ℕ)
-reply_text (Given lease entry deadline) = Some (reply_name (Given lease entry deadline) ++ 32 ∷ decimal lease)
-reply_text (Freed count) = Some (reply_name (Freed count) ++ 32 ∷ decimal count)
-reply_text (Published tricks) = Some (reply_name (Published tricks) ++ 32 ∷ decimal tricks)
-reply_text (BadCertificate fault) = None
-reply_text reply = Some (number_text (refusal_number reply) ++ reply_name reply)
+-- what the reply tells after its name: a number, or the certificate's own fault
+abbrev pub told_text : Reply → List ℕ
+told_text (Given lease entry deadline) = 32 ∷ decimal lease
+told_text (Freed count) = 32 ∷ decimal count
+told_text (Published tricks) = 32 ∷ decimal tricks
+told_text (BadCertificate fault) = 32 ∷ hand_fault_text fault
+told_text _ = []
+
+-- the number of a refusal, the name, and what it tells, as in `2 NotHeld`, `published 7` and `5 BadCertificate 11 NoDeal`
+abbrev pub reply_text : Reply → List ℕ
+reply_text reply = number_text (refusal_number reply) ++ (reply_name reply ++ told_text reply)

@@ -1,6 +1,6 @@
 //! What is printed of a reply.
 
-ghost use Rattle.std.specs.Prelude.{◌≡◌};
+ghost use Rattle.std.specs.Prelude.{◌≡◌, Some};
 ghost use Rattle.lease_book.specs.ReplyTexts.{refusal_number, reply_name, reply_text, answer_number};
 
 use crate::events::Reply;
@@ -52,7 +52,7 @@ pub fn answer_number(answer: &Result<Reply, OutOfMemory>) -> Option<u8>
 }
 
 impl fmt::Display for Reply {
-    ghost output = { λ reply. reply_text reply };
+    ghost output = { λ reply. Some (reply_text reply) };
 
     fn fmt<W: fmt::Write>(&self, f: &mut fmt::Formatter<W>) -> fmt::Result {
         if let Some(number) = self.number() {
