@@ -33,9 +33,9 @@ trick, the certificate of declarer's side, an empty line, and that of the defend
 
 Exit status:
   0  an answer was found
-  1  memory or a device failed
-  2  the command line is refused
-  3  no answer was found in so many steps";
+  1  the output failed, or memory ran out outside the search
+  2  the command line or the layout is refused
+  3  no answer was found in so many steps, or memory ran out in the search";
 
 pub const BUDGET: &str = "\
 How many steps a search for an answer may take, each one card tried: 1 to 1000000000";
@@ -65,9 +65,9 @@ What is refused, each with its line:
 
 Exit status:
   0  every table is complete
-  1  memory or a device failed
+  1  the input or the output failed, or memory ran out outside a search
   2  the command line or the text is refused
-  3  a table is incomplete";
+  3  a table is incomplete: steps or memory ran out in a search";
 
 pub const TERM: &str = "\
 How many seconds an entry is lent to a search before it is free again: 0 to 1000000000";
@@ -87,7 +87,7 @@ reads an answer from the standard input: a line `result 1`, the certificate of
 declarer's side, an empty line, and that of the defenders. Where they show that
 North takes 1 trick, `accepted 1` is printed.
 
-What is refused is printed behind `refused`, with `declarer` or `defenders` before
+What is refused is printed after `refused`, with `declarer` or `defenders` before
 all but 9:
   1 RootMissing   tricks are to be won, and there are no nodes
   2 RootNeedless  no tricks are to be won, and there are nodes
@@ -102,8 +102,8 @@ all but 9:
 
 Exit status:
   0  the answer is accepted
-  1  memory or a device failed
-  2  the command line is refused, or the first line is not a result line
+  1  the input or the output failed, or memory ran out
+  2  the command line or the layout is refused, or the first line is not a result line
   4  the answer is refused";
 
 pub const LAYOUT: &str = "\

@@ -1,7 +1,9 @@
-//! The command line of the program: which run its words ask for, and the texts of `--help`.
+//! The words of the command line: which subcommand they ask for, and the texts of `--help`.
 #![tactic(auto)]
 
+mod command;
 mod help;
+mod matched;
 mod words;
 
 pub use words::parse_arguments;

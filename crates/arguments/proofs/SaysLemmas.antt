@@ -1,0 +1,59 @@
+-- What the words of a subcommand say, from what its matches hold.
+use Rattle.std.proofs.Common.{◌≡◌, ◌∙◌, ℕ, List, Option, Some, None, sym, refl, false, true, codes}
+use Rattle.std.specs.Str.{bytes_eq}
+use Rattle.std.proofs.lemmas.Slice.Eq.{bytes_eq-Decides}
+use Rattle.clap.specs.Words.{Row, Text}
+use Rattle.subcommands.specs.declared.running.Subcommand.{Subcommand}
+use Rattle.subcommands.specs.declared.running.Subcommand.TheVariants.{Plain, Solve, Table, Check}
+use Rattle.arguments.specs.Words.{IsRead, Says, SaysHand, SaysNumber}
+use Rattle.arguments.specs.declared.matched.Hand.{Hand}
+
+pub nothing_read : {T : Type 0} (Said : T → Type 0) (read : Option T) → read ≡ None → ((x : T) → Said x → ⊥) → IsRead Said read
+nothing_read Said read none nothing = rw none nothing
+
+-- ---- a subcommand of another name says nothing
+
+apart : (a b : Text) → bytes_eq a b ≡ false → a ≡ b → ⊥
+apart a b differ same =
+    let yes : bytes_eq a b ≡ true = (bytes_eq-Decides a b).1 same in
+    let bad : false ≡ true = sym differ ∙ yes in
+    cc
+
+pub no_plain : (said : List Row) → ((hand : Hand) → SaysHand said (codes "LEADER") hand → ⊥)
+    → (read : Subcommand) → Says (codes "plain") said read → ⊥
+no_plain said none (Plain layout leader trump) h = none (record { layout = layout; seat = leader; trump = trump }) h.1
+no_plain said none (Solve layout declarer trump budget) h = absurd (apart (codes "plain") (codes "solve") refl h.0)
+no_plain said none (Table term tries budget) h = absurd (apart (codes "plain") (codes "table") refl h.0)
+no_plain said none (Check layout declarer trump) h = absurd (apart (codes "plain") (codes "check") refl h.0)
+
+pub no_solve : (said : List Row)
+    → ((hand : Hand) (budget : ℕ) → SaysHand said (codes "DECLARER") hand → SaysNumber said (codes "budget") 1 1000000000 budget → ⊥)
+    → (read : Subcommand) → Says (codes "solve") said read → ⊥
+no_solve said none (Plain layout leader trump) h = absurd (apart (codes "solve") (codes "plain") refl h.0)
+no_solve said none (Solve layout declarer trump budget) h = none (record { layout = layout; seat = declarer; trump = trump }) budget h.1 h.2
+no_solve said none (Table term tries budget) h = absurd (apart (codes "solve") (codes "table") refl h.0)
+no_solve said none (Check layout declarer trump) h = absurd (apart (codes "solve") (codes "check") refl h.0)
+
+pub no_table : (said : List Row)
+    → ((term tries budget : ℕ) → SaysNumber said (codes "term") 0 1000000000 term → SaysNumber said (codes "tries") 1 1000 tries
+    → SaysNumber said (codes "budget") 1 1000000000 budget → ⊥)
+    → (read : Subcommand) → Says (codes "table") said read → ⊥
+no_table said none (Plain layout leader trump) h = absurd (apart (codes "table") (codes "plain") refl h.0)
+no_table said none (Solve layout declarer trump budget) h = absurd (apart (codes "table") (codes "solve") refl h.0)
+no_table said none (Table term tries budget) h = none term tries budget h.1 h.2 h.3
+no_table said none (Check layout declarer trump) h = absurd (apart (codes "table") (codes "check") refl h.0)
+
+pub no_check : (said : List Row) → ((hand : Hand) → SaysHand said (codes "DECLARER") hand → ⊥)
+    → (read : Subcommand) → Says (codes "check") said read → ⊥
+no_check said none (Plain layout leader trump) h = absurd (apart (codes "check") (codes "plain") refl h.0)
+no_check said none (Solve layout declarer trump budget) h = absurd (apart (codes "check") (codes "solve") refl h.0)
+no_check said none (Table term tries budget) h = absurd (apart (codes "check") (codes "table") refl h.0)
+no_check said none (Check layout declarer trump) h = none (record { layout = layout; seat = declarer; trump = trump }) h.1
+
+-- ---- texts
+
+pub has_text : {T : Type 0} (o : Option Text) (v : T) → (o ≡ None → Some v ≡ None) → (t : Text) × (o ≡ Some t)
+has_text None v none =
+    let bad : Some v ≡ None = none refl in
+    cc
+has_text (Some t) v none = (t, refl)

@@ -1,0 +1,25 @@
+use Rattle.std.proofs.Common.{◌≡◌, ◌∙◌, ap, ap₂, true, codes}
+use Rattle.std.proofs.lemmas.Result.{IfOk-weaker}
+use Rattle.clap.specs.Words.{App, app_of, new_app, with_subcommand}
+use Rattle.clap.specs.Simple.{app_of_fields, on_top}
+use Rattle.arguments.proofs.command.command.Goals as goal
+
+pub returns : goal.returns
+returns c =
+    let told : app_of c.after_help.result ≡ new_app (codes "ddfarm") = ap app_of_fields c.after_help.ensures
+    ∙ (ap app_of_fields c.about.ensures ∙ (ap app_of_fields c.in_ok-bin_name.ensures.0 ∙ c.new.ensures.app)) in
+    let named = ap app_of_fields c.subcommand_required.ensures
+    ∙ ap (on_top (λ s. record s { subcommand_required = true })) told in
+    let shown = ap app_of_fields c.arg_required_else_help.ensures
+    ∙ ap (on_top (λ s. record s { arg_required_else_help = true })) named in
+    let top = ap app_of_fields c.disable_help_subcommand-command.ensures
+    ∙ ap (on_top (λ s. record s { disable_help_subcommand = true })) shown in
+    let shape = λ (a : App). a.top in
+    let plain = c.in_ok-plain_command.ensures in
+    let solve = c.in_ok-solve_command.ensures in
+    let table = c.in_ok-table_command.ensures in
+    let one = c.in_ok-subcommand.ensures.shape plain.1 ∙ ap₂ with_subcommand top (ap shape plain.0) in
+    let two = c.in_ok-subcommand-2.ensures.shape solve.1 ∙ ap₂ with_subcommand one (ap shape solve.0) in
+    let three = c.in_ok-subcommand-3.ensures.shape table.1 ∙ ap₂ with_subcommand two (ap shape table.0) in
+    IfOk-weaker c.subcommand-4.result _ _ (λ made added.
+    added.shape c.in_ok-check_command.ensures.1 ∙ ap₂ with_subcommand three (ap shape c.in_ok-check_command.ensures.0)) c.subcommand-4.ensures

@@ -1,0 +1,97 @@
+-- The command line in the terms of `clap`: its subcommands, the words that each has to have, and its options with their ranges
+-- and defaults.
+use Rattle.std.specs.Prelude.{◌≡◌, List, [], ◌∷◌, ◌++◌, Some, map, fold, codes, true, false, pos}
+use Rattle.std.specs.Borrow.{Bor}
+use Rattle.clap.specs.Words.{App, Rule, Shape, Text, app_of, new_rule, rule_of, with_rule}
+use Rattle.clap.specs.Simple.{new_shape}
+use Rattle.clap.specs.declared.builder.arg.Arg.{Arg}
+use Rattle.clap.specs.declared.builder.command.Command.{Command}
+use Rattle.clap.specs.declared.builder.command.Command.TheViews.{out-Command as fields_of}
+use Rattle.clap.specs.declared.builder.value_parser.ValueParser.{ValueParser}
+use Rattle.clap.specs.declared.builder.value_parser.ValueParser.TheVariants.{Names, Signed, Unsigned}
+use Rattle.cards.specs.Seats.{seat_letter}
+use Rattle.cards.specs.Pack.{trump_letters}
+use Rattle.cards.specs.declared.seats.Seat.TheVariants.{North, East, South, West}
+use Rattle.cards.specs.declared.suits.Suit.TheVariants.{Spades, Hearts, Diamonds, Clubs}
+use Rattle.cards.specs.declared.suits.Trump.TheVariants.{Nt, Suit}
+use Rattle.arguments.specs.declared.command.Letters.{Letters}
+
+-- the letters are those of the seats and of the denominations
+pub record AreLetters (letters : Letters) : Type 0 where
+  pub seats : map (λ s. s.now) letters.seats.now ≡ map seat_letter (North ∷ East ∷ South ∷ West ∷ [])
+  pub trumps : map (λ s. s.now) letters.trumps.now
+      ≡ map trump_letters (Nt ∷ Suit Spades ∷ Suit Hearts ∷ Suit Diamonds ∷ Suit Clubs ∷ [])
+
+-- a word that has to be there
+abbrev pub word : Text → Rule
+word name = record (new_rule name) { required = true }
+
+-- one of these texts
+abbrev pub choice : Text → Bor (List (Bor Text)) → Rule
+choice name texts = record (word name) { parser = Some (Names texts) }
+
+-- the layout, a seat of this name, and the denomination
+abbrev pub hand_words : Letters → Text → List Rule
+hand_words letters seat = word (codes "LAYOUT") ∷ choice seat letters.seats ∷ choice (codes "TRUMP") letters.trumps ∷ []
+
+-- `--name NUMBER`, with the number that stands for a missing one
+abbrev pub option : Text → ValueParser → Text → Rule
+option name numbers default = record (new_rule name) {
+  long = Some name;
+  parser = Some numbers;
+  defaults = default ∷ [];
+  value_names = 1;
+}
+
+-- how many steps a search may take
+abbrev pub budget : Rule
+budget = option (codes "budget") (Unsigned 1 1000000000) (codes "10000000")
+
+-- how many seconds an entry is lent
+abbrev pub term : Rule
+term = option (codes "term") (Unsigned 0 1000000000) (codes "600")
+
+-- how often an entry is searched
+abbrev pub tries : Rule
+tries = option (codes "tries") (Signed (pos 1) (pos 1000)) (codes "3")
+
+abbrev pub subcommand : Text → List Rule → Shape
+subcommand name rules = record (new_shape name) { rules = rules }
+
+abbrev pub plain : Letters → Shape
+plain letters = subcommand (codes "plain") (hand_words letters (codes "LEADER"))
+
+abbrev pub solve : Letters → Shape
+solve letters = subcommand (codes "solve")
+    (hand_words letters (codes "DECLARER") ++ budget ∷ [])
+
+abbrev pub table : Shape
+table = subcommand (codes "table") (term ∷ tries ∷ budget ∷ [])
+
+abbrev pub check : Letters → Shape
+check letters = subcommand (codes "check") (hand_words letters (codes "DECLARER"))
+
+-- the program's words: one of the four subcommands has to be named
+abbrev pub command_line : Letters → App
+command_line letters = record {
+  top = record (new_shape (codes "ddfarm")) {
+    is_leaf = false;
+    disable_help_subcommand = true;
+    arg_required_else_help = true;
+    subcommand_required = true;
+  };
+  subs = plain letters ∷ solve letters ∷ table ∷ check letters ∷ [];
+}
+
+-- the argument has the rule, and is none of the subcommands' too
+abbrev pub IsArg : Rule → Arg → Type 0
+IsArg rule arg = (rule_of arg ≡ rule) × (arg.global ≡ false)
+
+-- the command has these rules more, at the end, and keeps no argument for its subcommands too
+abbrev pub AddsRules : Command → List Rule → Command → Type 0
+AddsRules old rules new = (app_of new ≡ fold with_rule (app_of old) rules)
+    × ((fields_of old).has_globals ≡ false → (fields_of new).has_globals ≡ false)
+
+-- the command is the subcommand of this shape
+abbrev pub IsLeaf : Shape → Command → Type 0
+IsLeaf shape made = (app_of made ≡ record { top = shape; subs = [] }) × ((fields_of made).has_globals ≡ false)

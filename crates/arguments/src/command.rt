@@ -1,0 +1,154 @@
+//! The command line as `clap` is told of it.
+
+ghost use Rattle.std.specs.Prelude.{◌≡◌, IfOk, codes};
+ghost use Rattle.clap.specs.Words.{app_of};
+ghost use Rattle.arguments.specs.CommandLine.{AddsRules, AreLetters, IsArg, IsLeaf, budget, check, choice, command_line};
+ghost use Rattle.arguments.specs.CommandLine.{hand_words, plain, solve, table, term, tries, word};
+
+use crate::help;
+use clap::{Arg, Command, value_parser};
+use std::alloc::{AllocError, Global};
+
+static SEATS: [&str; 4] = ["N", "E", "S", "W"];
+
+static TRUMPS: [&str; 5] = ["NT", "S", "H", "D", "C"];
+
+/// The letters of the seats and of the denominations, which `clap` takes by reference.
+#[derive(Clone, Copy)]
+pub struct Letters<'a> {
+    pub seats: &'a [&'a str],
+    pub trumps: &'a [&'a str],
+}
+
+pub(crate) fn known_letters() -> Letters<'static>
+    ensures { AreLetters result }
+{
+    Letters {
+        seats: SEATS.as_slice(),
+        trumps: TRUMPS.as_slice(),
+    }
+}
+
+/// The command line that is understood.
+pub(crate) fn command<'a>(alloc: Global, letters: Letters<'a>) -> Result<Command<'a>, AllocError>
+    ensures { IfOk result (λ made. app_of made ≡ command_line letters.entry) }
+{
+    let command = Command::new(alloc, "ddfarm")
+        .bin_name("ddfarm")?
+        .about(help::ABOUT)
+        .after_help(help::EXAMPLE)
+        .subcommand_required(true)
+        .arg_required_else_help(true)
+        .disable_help_subcommand(true);
+    command
+        .subcommand(plain_command(alloc, letters)?)?
+        .subcommand(solve_command(alloc, letters)?)?
+        .subcommand(table_command(alloc)?)?
+        .subcommand(check_command(alloc, letters)?)
+}
+
+fn plain_command<'a>(alloc: Global, letters: Letters<'a>) -> Result<Command<'a>, AllocError>
+    ensures { IfOk result (IsLeaf (plain letters.entry)) }
+{
+    let command = Command::new(alloc, "plain")
+        .about(help::PLAIN_ABOUT)
+        .after_help(help::PLAIN_EXAMPLE);
+    with_hand(alloc, command, letters, "LEADER", help::LEADER)
+}
+
+fn solve_command<'a>(alloc: Global, letters: Letters<'a>) -> Result<Command<'a>, AllocError>
+    ensures { IfOk result (IsLeaf (solve letters.entry)) }
+{
+    let command = Command::new(alloc, "solve")
+        .about(help::SOLVE_ABOUT)
+        .override_usage(help::SOLVE_USAGE)
+        .after_help(help::SOLVE_EXAMPLE);
+    with_hand(alloc, command, letters, "DECLARER", help::DECLARER)?.arg(budget_arg(alloc))
+}
+
+fn check_command<'a>(alloc: Global, letters: Letters<'a>) -> Result<Command<'a>, AllocError>
+    ensures { IfOk result (IsLeaf (check letters.entry)) }
+{
+    let command = Command::new(alloc, "check")
+        .about(help::CHECK_ABOUT)
+        .override_usage(help::CHECK_USAGE)
+        .after_help(help::CHECK_EXAMPLE);
+    with_hand(alloc, command, letters, "DECLARER", help::DECLARER)
+}
+
+fn table_command<'a>(alloc: Global) -> Result<Command<'a>, AllocError>
+    ensures { IfOk result (IsLeaf table) }
+{
+    Command::new(alloc, "table")
+        .about(help::TABLE_ABOUT)
+        .override_usage(help::TABLE_USAGE)
+        .after_help(help::TABLE_EXAMPLE)
+        .arg(term_arg(alloc))?
+        .arg(tries_arg(alloc))?
+        .arg(budget_arg(alloc))
+}
+
+/// The command with the words of a layout, of a seat that has this name, and of the denomination.
+fn with_hand<'a>(
+    alloc: Global,
+    command: Command<'a>,
+    letters: Letters<'a>,
+    seat: &'a str,
+    help: &'a str,
+) -> Result<Command<'a>, AllocError>
+    ensures { IfOk result (AddsRules command.entry (hand_words letters.entry seat.entry.now)) }
+{
+    command
+        .arg(layout_arg(alloc))?
+        .arg(choice_arg(alloc, seat, letters.seats, help))?
+        .arg(choice_arg(alloc, "TRUMP", letters.trumps, help::TRUMP))
+}
+
+fn layout_arg<'a>(alloc: Global) -> Arg<'a>
+    ensures { IsArg (word (codes "LAYOUT")) result }
+{
+    Arg::new(alloc, "LAYOUT").required(true).help(help::LAYOUT)
+}
+
+/// A word that is one of these texts.
+fn choice_arg<'a>(alloc: Global, name: &'a str, texts: &'a [&'a str], help: &'a str) -> Arg<'a>
+    ensures { IsArg (choice name.entry.now texts.entry) result }
+{
+    Arg::new(alloc, name)
+        .required(true)
+        .value_parser(texts)
+        .help(help)
+}
+
+fn budget_arg<'a>(alloc: Global) -> Arg<'a>
+    ensures { IsArg budget result }
+{
+    Arg::new(alloc, "budget")
+        .long("budget")
+        .value_name("STEPS")
+        .value_parser(value_parser!(u64).range(1..=1_000_000_000))
+        .default_value("10000000")
+        .help(help::BUDGET)
+}
+
+fn term_arg<'a>(alloc: Global) -> Arg<'a>
+    ensures { IsArg term result }
+{
+    Arg::new(alloc, "term")
+        .long("term")
+        .value_name("SECONDS")
+        .value_parser(value_parser!(u64).range(0..=1_000_000_000))
+        .default_value("600")
+        .help(help::TERM)
+}
+
+fn tries_arg<'a>(alloc: Global) -> Arg<'a>
+    ensures { IsArg tries result }
+{
+    Arg::new(alloc, "tries")
+        .long("tries")
+        .value_name("TRIES")
+        .value_parser(value_parser!(u32).range(1..=1000))
+        .default_value("3")
+        .help(help::TRIES)
+}

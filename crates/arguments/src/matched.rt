@@ -1,0 +1,129 @@
+//! The subcommand that `clap`'s matches name.
+
+ghost use Rattle.std.specs.Prelude.{◌≡◌, ◌↔◌, Some, codes, option_map};
+ghost use Rattle.clap.specs.Words.{first_of, found_of, rows_of, subcommand_rows_of};
+ghost use Rattle.cards.specs.Seats.{seat_letter};
+ghost use Rattle.cards.specs.Pack.{trump_letters};
+ghost use Rattle.arguments.specs.Words.{IsRead, Says, SaysMatched, SaysHand, SaysNumber};
+
+use cards::{Seat, Trump};
+use clap::ArgMatches;
+use subcommands::Subcommand;
+
+/// The most steps of a search, and the most seconds of a lease.
+const BILLION: u64 = 1_000_000_000;
+
+/// The words that stand for a layout, a seat and a denomination.
+#[derive(Clone, Copy)]
+pub struct Hand<'a> {
+    pub layout: &'a str,
+    pub seat: Seat,
+    pub trump: Trump,
+}
+
+/// The subcommand that the words name, where the matches have its words.
+pub(crate) fn matched_subcommand<'a>(matches: &ArgMatches<'a>) -> Option<Subcommand<'a>>
+    ensures { IsRead (SaysMatched (subcommand_rows_of matches.now)) result }
+{
+    let (name, said) = matches.subcommand()?;
+    match name {
+        "plain" => plain_subcommand(said),
+        "solve" => solve_subcommand(said),
+        "table" => table_subcommand(said),
+        "check" => check_subcommand(said),
+        _ => None,
+    }
+}
+
+fn plain_subcommand<'a>(said: &ArgMatches<'a>) -> Option<Subcommand<'a>>
+    ensures { IsRead (Says (codes "plain") (rows_of (found_of said.now))) result }
+{
+    let hand = hand_of(said, "LEADER")?;
+    Some(Subcommand::Plain {
+        layout: hand.layout,
+        leader: hand.seat,
+        trump: hand.trump,
+    })
+}
+
+fn solve_subcommand<'a>(said: &ArgMatches<'a>) -> Option<Subcommand<'a>>
+    ensures { IsRead (Says (codes "solve") (rows_of (found_of said.now))) result }
+{
+    let hand = hand_of(said, "DECLARER")?;
+    let budget = number_of(said, "budget", 1, BILLION)?;
+    Some(Subcommand::Solve {
+        layout: hand.layout,
+        declarer: hand.seat,
+        trump: hand.trump,
+        budget,
+    })
+}
+
+fn table_subcommand<'a>(said: &ArgMatches<'a>) -> Option<Subcommand<'a>>
+    ensures { IsRead (Says (codes "table") (rows_of (found_of said.now))) result }
+{
+    let term = number_of(said, "term", 0, BILLION)?;
+    let tries = number_of(said, "tries", 1, 1000)?;
+    let budget = number_of(said, "budget", 1, BILLION)?;
+    Some(Subcommand::Table {
+        term,
+        tries: tries as u32,
+        budget,
+    })
+}
+
+fn check_subcommand<'a>(said: &ArgMatches<'a>) -> Option<Subcommand<'a>>
+    ensures { IsRead (Says (codes "check") (rows_of (found_of said.now))) result }
+{
+    let hand = hand_of(said, "DECLARER")?;
+    Some(Subcommand::Check {
+        layout: hand.layout,
+        declarer: hand.seat,
+        trump: hand.trump,
+    })
+}
+
+/// The layout, the seat of this name and the denomination.
+fn hand_of<'a>(said: &ArgMatches<'a>, seat: &str) -> Option<Hand<'a>>
+    ensures { IsRead (SaysHand (rows_of (found_of said.now)) seat.now) result }
+{
+    let layout = word_of(said, "LAYOUT")?;
+    let seat = seat_of(said, seat)?;
+    let trump = trump_of(said)?;
+    Some(Hand {
+        layout,
+        seat,
+        trump,
+    })
+}
+
+fn seat_of(said: &ArgMatches<'_>, name: &str) -> Option<Seat>
+    ensures { (seat : _) → (result ≡ Some seat) ↔ (first_of name.now (rows_of (found_of said.now)) ≡ Some (seat_letter seat)) }
+{
+    Seat::of_letter(word_of(said, name)?)
+}
+
+fn trump_of(said: &ArgMatches<'_>) -> Option<Trump>
+    ensures { (trump : _) → (result ≡ Some trump)
+        ↔ (first_of (codes "TRUMP") (rows_of (found_of said.now)) ≡ Some (trump_letters trump)) }
+{
+    Trump::of_letters(word_of(said, "TRUMP")?)
+}
+
+/// The text of a required word.
+fn word_of<'a>(said: &ArgMatches<'a>, name: &str) -> Option<&'a str>
+    ensures { option_map (λ text. text.now) result ≡ first_of name.now (rows_of (found_of said.now)) }
+{
+    said.get_str(name)
+}
+
+/// The number of an option, where it is from `least` to `most`.
+fn number_of(said: &ArgMatches<'_>, name: &str, least: u64, most: u64) -> Option<u64>
+    ensures { IsRead (SaysNumber (rows_of (found_of said.now)) name.now least most) result }
+{
+    let number = said.get_one::<u64>(name)?;
+    if number < least || most < number {
+        return None;
+    }
+    Some(number)
+}
