@@ -3,8 +3,9 @@
 //! [`run_command`] works over any input, output and error output, so that tests can run it over memory.
 #![tactic(auto)]
 
+ghost use Rattle.std.specs.Prelude.{IfSome, map};
 ghost use Rattle.clap.specs.Values.{kind_of};
-ghost use Rattle.command_line.specs.Commands.{MeetsWords, EndsWords};
+ghost use Rattle.command_line.specs.Commands.{AreLines, EndsWords, MeetsWords, TellsRefusal, ShowsHelp};
 
 use arguments::parse_arguments;
 use cards::{Sink, Source, write_all};
@@ -15,6 +16,9 @@ use std::alloc::Global;
 use std::convert::AsStr;
 use subcommands::{RunFault, Status, run_subcommand, show, tell};
 use tournaments::Clock;
+
+/// What is told of refused words where there is no memory for more.
+const REFUSED: &str = "ddfarm: the command line is refused\n";
 
 /// Does what the words ask for, the first of them being the program's name, and answers how the run ends.
 ///
@@ -29,8 +33,8 @@ pub fn run_command<'a, S: AsStr, P: Solver, C: Clock, I: Source, O: Sink, E: Sin
     output: &mut O,
     errors: &mut E,
 ) -> Status
-    ensures { MeetsWords (P.may_find solver.now) (I.state input.old) (I.state input.new) (O.state output.old)
-        (O.state output.new) (E.state errors.old) (E.state errors.new) result }
+    ensures { MeetsWords (P.may_find solver.now) (map S.text words.entry.now) (I.state input.old) (I.state input.new)
+        (O.state output.old) (O.state output.new) (E.state errors.old) (E.state errors.new) result }
 {
     match parse_arguments(alloc, words) {
         Ok(asked) => run_subcommand(alloc, asked, solver, clock, input, output, errors),
@@ -47,17 +51,46 @@ fn tell_words<O: Sink, E: Sink>(
 ) -> Status
     ensures { EndsWords (O.state output.old) (O.state output.new) (E.state errors.old) (E.state errors.new) (kind_of error) result }
 {
-    let Ok(text) = format!(in alloc; "{error}") else {
-        return tell(RunFault::OutOfMemory, errors);
-    };
     match error.kind() {
         ErrorKind::OutOfMemory => tell(RunFault::OutOfMemory, errors),
         ErrorKind::DisplayHelp | ErrorKind::DisplayVersion => {
-            show(text.as_bytes(), output, errors)
+            show_help(alloc, error, output, errors)
         }
-        _ => {
-            let _ = write_all(errors, text.as_bytes());
-            Status::Refused
-        }
+        _ => tell_refusal(alloc, error, errors),
     }
+}
+
+/// Writes the help that was asked for.
+fn show_help<O: Sink, E: Sink>(
+    alloc: Global,
+    error: Error,
+    output: &mut O,
+    errors: &mut E,
+) -> Status
+    ensures { ShowsHelp (O.state output.old) (O.state output.new) (E.state errors.old) (E.state errors.new) result }
+{
+    match lines_of(alloc, error) {
+        Some(text) => show(text.as_bytes(), output, errors),
+        None => tell(RunFault::OutOfMemory, errors),
+    }
+}
+
+/// Tells why the words are refused.
+fn tell_refusal<E: Sink>(alloc: Global, error: Error, errors: &mut E) -> Status
+    ensures { TellsRefusal (E.state errors.old) (E.state errors.new) result }
+{
+    let _ = match lines_of(alloc, error) {
+        Some(text) => write_all(errors, text.as_bytes()),
+        None => write_all(errors, REFUSED.as_bytes()),
+    };
+    Status::Refused
+}
+
+/// What `clap` says of the words, in whole lines; `None` where there is no memory for it.
+fn lines_of(alloc: Global, error: Error) -> Option<String>
+    ensures { IfSome result (λ text. AreLines text.bytes.items) }
+{
+    let text = format!(in alloc; "{error}").ok()?;
+    let lines = text.strip_suffix("\n").unwrap_or(text.as_str());
+    format!(in alloc; "{lines}\n").ok()
 }

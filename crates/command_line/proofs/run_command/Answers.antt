@@ -1,9 +1,14 @@
 use Rattle.std.proofs.Common.{refl}
-use Rattle.command_line.specs.Commands.{is_run, is_no_run}
+use Rattle.clap.specs.Values.{kind_of}
+use Rattle.command_line.specs.Commands.{is_done, is_none}
 use Rattle.command_line.proofs.run_command.Goals as goal
 
 pub returns-in-Ok : goal.returns-in-Ok
-returns-in-Ok g c = is_run c.in-Ok.asked c.run_subcommand.ensures
+returns-in-Ok g c =
+    let read = c.in-Ok.ensures in
+    is_done read.0 read.1 c.in-Ok.asked read.2 c.run_subcommand.ensures
 
 pub returns-in-Err : goal.returns-in-Err
-returns-in-Err g c = is_no_run _ refl c.tell_words.ensures
+returns-in-Err g c =
+    let read = c.in-Err.ensures in
+    is_none read.0 read.1 (kind_of c.in-Err.error) read.2 refl c.tell_words.ensures
