@@ -1,31 +1,38 @@
-//! How entries are kept: three in a block, which takes 64 bytes.
+//! How records are kept: three in a block, which takes 64 bytes.
 
 use crate::deals::Owners;
 
-/// How many entries a block has.
+/// How many records a block has.
 pub(crate) const PLACES: usize = 3;
-/// The lead of an entry that names none.
-pub(crate) const NO_LEAD: u8 = 0xff;
+/// The first card of a record that names none.
+pub(crate) const NO_CARD: u8 = 0xff;
 
-/// A pattern of a shape: the owners down to four depths, how many tricks the side can win, and the lead that shows it.
-#[derive(Clone, Copy, Debug, Default)]
-pub(crate) struct Entry {
+/// What is remembered of a shape, a leader and a side: who owns the highest cards, and what the side then wins.
+#[derive(Clone, Copy, Default)]
+pub(crate) struct Record {
+    /// The owners that are named, of the first eight of each suit.
     pub near: u64,
+    /// The bits of `near` that are named.
     pub mask: u64,
+    /// The owners that are named after the eighth of each suit.
     pub deep: u64,
+    /// How many owners are named, four bits a suit.
     pub depths: u16,
+    /// How many tricks the side can win.
     pub need: u8,
-    pub lead: u8,
+    /// The card that showed it, as the pattern names it: its suit times sixteen, and its place, or 15 for a low card.
+    pub first_card: u8,
 }
 
-/// Entries of a list, the most general first, and the block that goes on. A need of 0 is a free place.
-#[derive(Clone, Copy, Debug, Default)]
+/// Records of a list, those that name the fewest owners first, and the block that goes on. A need of 0 is a free place.
+#[derive(Clone, Copy, Default)]
 pub(crate) struct Block {
     pub near: [u64; 3],
     pub mask: [u64; 3],
     pub depths: [u16; 3],
     pub need: [u8; 3],
-    lead: [u8; 3],
+    first_card: [u8; 3],
+    /// The number of the next block of the list, 0 after the last.
     pub next: u32,
 }
 
@@ -35,21 +42,21 @@ fn near_bits(depth: u16) -> u64 {
         .wrapping_sub(1)
 }
 
-/// The bits of the owners behind the eighth.
+/// The bits of the owners after the eighth.
 fn deep_bits(depth: u16) -> u64 {
     1u64.wrapping_shl(u32::from(depth.max(8) & 15) * 2 & 15)
         .wrapping_sub(1)
 }
 
 /// The bits of the first owners, up to eight a suit, down to these depths.
-pub(crate) fn near_mask(depths: u16) -> u64 {
+fn near_mask(depths: u16) -> u64 {
     near_bits(depths & 15)
         | near_bits(depths >> 4 & 15).wrapping_shl(16)
         | near_bits(depths >> 8 & 15).wrapping_shl(32)
         | near_bits(depths >> 12).wrapping_shl(48)
 }
 
-/// The bits of the owners behind the eighth, down to these depths.
+/// The bits of the owners after the eighth, down to these depths.
 pub(crate) fn deep_mask(depths: u16) -> u64 {
     deep_bits(depths & 15)
         | deep_bits(depths >> 4 & 15).wrapping_shl(16)
@@ -57,28 +64,33 @@ pub(crate) fn deep_mask(depths: u16) -> u64 {
         | deep_bits(depths >> 12).wrapping_shl(48)
 }
 
-impl Entry {
-    /// An entry with the owners down to these depths.
-    pub(crate) fn new(owners: Owners, depths: u16, need: u8, lead: u8) -> Entry {
+/// Whether eight owners of a suit or more are named.
+pub(crate) fn is_deep(depths: u16) -> bool {
+    depths & 0x8888 != 0
+}
+
+impl Record {
+    /// A record with the owners down to these depths.
+    pub(crate) fn new(owners: Owners, depths: u16, need: u8, first_card: u8) -> Record {
         let mask = near_mask(depths);
-        Entry {
+        Record {
             near: owners.near & mask,
             mask,
             deep: owners.deep & deep_mask(depths),
             depths,
             need,
-            lead,
+            first_card,
         }
     }
 
-    /// How much it names: less is more general.
-    pub(crate) fn generality(&self) -> u16 {
+    /// How many owners it names. The fewer, the more positions it serves.
+    pub(crate) fn owners_named(&self) -> u16 {
         let pairs = (self.depths & 0x0f0f).wrapping_add(self.depths >> 4 & 0x0f0f);
         pairs.wrapping_add(pairs >> 8) & 0xff
     }
 
-    /// Whether the entry says at least what the other says.
-    pub(crate) fn serves(&self, other: &Entry) -> bool {
+    /// Whether the record says at least what the other says.
+    pub(crate) fn serves(&self, other: &Record) -> bool {
         let deep = deep_mask(self.depths);
         self.need >= other.need
             && self.mask & !other.mask == 0
@@ -89,39 +101,39 @@ impl Entry {
 }
 
 impl Block {
-    /// Whether these owners begin as the entry in this place says.
+    /// Whether these owners begin as the record in this place says.
     pub(crate) fn begins(&self, place: usize, near: u64) -> bool {
         let place = place.min(2);
         (self.near[place] ^ near) & self.mask[place] == 0
     }
 
-    /// The entry in a place, with its owners behind the eighth.
-    pub(crate) fn entry(&self, place: usize, deep: u64) -> Entry {
+    /// The record in a place, with its owners after the eighth.
+    pub(crate) fn record(&self, place: usize, deep: u64) -> Record {
         let place = place.min(2);
-        Entry {
+        Record {
             near: self.near[place],
             mask: self.mask[place],
             deep,
             depths: self.depths[place],
             need: self.need[place],
-            lead: self.lead[place],
+            first_card: self.first_card[place],
         }
     }
 
-    /// Puts an entry into a place.
-    pub(crate) fn set(&mut self, place: usize, entry: Entry) {
+    /// Puts a record into a place.
+    pub(crate) fn set(&mut self, place: usize, record: Record) {
         let place = place.min(2);
-        self.near[place] = entry.near;
-        self.mask[place] = entry.mask;
-        self.depths[place] = entry.depths;
-        self.need[place] = entry.need;
-        self.lead[place] = entry.lead;
+        self.near[place] = record.near;
+        self.mask[place] = record.mask;
+        self.depths[place] = record.depths;
+        self.need[place] = record.need;
+        self.first_card[place] = record.first_card;
     }
 
-    /// A block with one entry, and its owners behind the eighth.
-    pub(crate) fn of(entry: Entry) -> (Block, [u64; 3]) {
+    /// A block with one record.
+    pub(crate) fn of(record: Record) -> Block {
         let mut block = Block::default();
-        block.set(0, entry);
-        (block, [entry.deep, 0, 0])
+        block.set(0, record);
+        block
     }
 }

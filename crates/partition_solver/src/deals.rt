@@ -8,7 +8,7 @@ const SETS: usize = 8192;
 
 /// The owners of the cards in all hands, two bits each, in every suit the highest card first: `near` has the first
 /// eight of each suit, `deep` the others.
-#[derive(Clone, Copy, Debug, Default, PartialEq, Eq)]
+#[derive(Clone, Copy, Default)]
 pub(crate) struct Owners {
     pub near: u64,
     pub deep: u64,

@@ -1,10 +1,11 @@
 //! The graph of a side, written from the root on, each node after those that name it first.
 
-use crate::entries::list_of;
-use crate::plans::{Goal, Known, Piece, Plan};
-use crate::played_patterns::{LOW, PatternTrick, PlainCard};
+use crate::plans::{Goal, PLAN_FUEL, Piece, Plan, TrickStart};
+use crate::played_patterns::{LOW, PlainCard, PlayedPattern};
+use crate::positions::Position;
+use crate::records::list_of;
 use crate::search::Search;
-use crate::tricks::Trick;
+use crate::words::MOST_CARDS;
 use arrayvec::ArrayVec;
 use cards::{Seat, Side, Suit, Trump};
 use certificate_graph::{Branch, Child, Graph, Node, Tree};
@@ -15,43 +16,43 @@ use std::alloc::{AllocError, Global};
 /// How many nodes a graph has at most.
 const MOST_NODES: usize = 1_000_000;
 
+/// How deep the calls for a tree lie in one another: at most two a card (`tree` and `branches`), and one for the leaf.
+const TREE_FUEL: u32 = 4 * 2 + 1;
+
 /// A graph in work.
 #[derive(Drop)]
 struct Writing {
     alloc: Global,
     suits: [Suit; 4],
     plan: Plan,
-    todo: Vec<Known>,
+    todo: Vec<TrickStart>,
     nodes: Vec<Node>,
 }
 
 /// The graph that shows that the side can win so many tricks with this seat to lead. None where what is remembered does
-/// not show it, or no steps are left.
+/// not show it, no steps are left, or memory ran out.
 pub(crate) fn write_graph(
-    alloc: Global,
     search: &mut Search,
     trump: Trump,
     leader: usize,
     ours: bool,
     need: i32,
-) -> Result<Option<Graph>, AllocError> {
+) -> Option<Graph> {
+    let Ok(plan) = Plan::new(search.alloc, search, ours) else {
+        search.run_out();
+        return None;
+    };
     let mut writing = Writing {
-        alloc,
+        alloc: search.alloc,
         suits: search.deal.suits,
-        plan: Plan::new(alloc, search, ours)?,
-        todo: Vec::new(alloc),
-        nodes: Vec::new(alloc),
+        plan,
+        todo: Vec::new(search.alloc),
+        nodes: Vec::new(search.alloc),
     };
-    if need > 0 && (!writing.add_root(search, leader, need)? || !writing.add_nodes(search)?) {
-        return Ok(None);
+    if need > 0 && !writing.add_all(search, leader, need) {
+        return None;
     }
-    let side = if ours {
-        Side::NorthSouth
-    } else {
-        Side::EastWest
-    };
-    let Writing { nodes, .. } = writing;
-    Ok(Graph::new(trump, side, nodes).ok())
+    writing.into_graph(trump, ours)
 }
 
 /// The seat with this number.
@@ -60,85 +61,102 @@ fn seat_at(number: usize) -> Seat {
 }
 
 impl Writing {
-    /// Puts the root down for writing. False where it is not known.
-    fn add_root(&mut self, search: &Search, leader: usize, need: i32) -> Result<bool, AllocError> {
-        let trick = Trick::start(search.deal.hands, leader);
-        let Some(slot) = search.entries.slot(trick.lengths) else {
-            return Ok(false);
+    /// The graph that is written.
+    fn into_graph(self, trump: Trump, ours: bool) -> Option<Graph> {
+        let side = if ours {
+            Side::NorthSouth
+        } else {
+            Side::EastWest
         };
-        let list = list_of(leader, self.plan.ours);
-        let Some(entry) = search.entries.find(slot, list, search.all_owners(), need) else {
-            return Ok(false);
+        let Writing { nodes, .. } = self;
+        Graph::new(trump, side, nodes).ok()
+    }
+
+    /// Writes the root and all nodes that are named. False where one is not shown.
+    fn add_all(&mut self, search: &mut Search, leader: usize, need: i32) -> bool {
+        let Some(root) = self.root(search, leader, need) else {
+            return false;
         };
-        if i32::from(search.entries.entry(entry).need) != need {
-            return Ok(false);
+        if self.put_down(root).is_err() {
+            search.run_out();
+            return false;
         }
-        self.put_down(Known {
-            lengths: trick.lengths,
-            entry,
-            lead: leader,
-        })?;
-        Ok(true)
+        for number in 0..MOST_NODES {
+            let Some(start) = self.todo.get(number).copied() else {
+                return true;
+            };
+            if self.add_node(search, start).is_none() {
+                return false;
+            }
+        }
+        self.todo.len() <= MOST_NODES
+    }
+
+    /// Where play starts, if it is known that the side wins just so many tricks.
+    fn root(&self, search: &Search, leader: usize, need: i32) -> Option<TrickStart> {
+        let lengths = Position::start(search.deal.hands, leader).lengths;
+        let slot = search.records.slot(lengths)?;
+        let list = list_of(leader, self.plan.ours);
+        let record = search.records.find(slot, list, search.all_owners(), need)?;
+        if i32::from(search.records.record(record).need) != need {
+            return None;
+        }
+        Some(TrickStart {
+            lengths,
+            record,
+            leader,
+        })
     }
 
     /// Puts a node down for writing, with the next number.
-    fn put_down(&mut self, todo: Known) -> Result<(), AllocError> {
-        self.todo.push(todo)?;
+    fn put_down(&mut self, start: TrickStart) -> Result<(), AllocError> {
+        self.todo.push(start)?;
         let number = (self.todo.len() & 0xffff_ffff) as u32;
-        if let Some(old) = self.plan.numbers.get_mut(todo.entry as usize) {
+        if let Some(old) = self.plan.numbers.get_mut(start.record as usize) {
             *old = number;
         }
         Ok(())
     }
 
-    /// Writes the nodes that are put down, and those that they name. False where one is not shown.
-    fn add_nodes(&mut self, search: &mut Search) -> Result<bool, AllocError> {
-        for number in 0..MOST_NODES {
-            let Some(todo) = self.todo.get(number).copied() else {
-                return Ok(true);
-            };
-            let Some(node) = self.node(search, todo)? else {
-                return Ok(false);
-            };
-            self.nodes.push(node)?;
-        }
-        Ok(self.todo.len() <= MOST_NODES)
-    }
-
-    /// The node of an entry.
-    fn node(&mut self, search: &mut Search, todo: Known) -> Result<Option<Node>, AllocError> {
-        let entry = search.entries.entry(todo.entry);
-        let trick = PatternTrick::start(&entry, todo.lengths, todo.lead);
-        let Some(pattern) = self.pattern(&trick) else {
-            return Ok(None);
-        };
-        self.plan.pieces.truncate(0);
+    /// Writes a node. None where it is not shown, no steps are left or memory runs out.
+    fn add_node(&mut self, search: &mut Search, start: TrickStart) -> Option<()> {
+        let record = search.records.record(start.record);
+        let played = PlayedPattern::start(&record, start.lengths, start.leader);
+        let pattern = self.pattern_of(&played)?;
         let goal = Goal {
-            need: i32::from(entry.need),
+            need: i32::from(record.need),
             limit: u32::MAX,
         };
-        if self.plan.add_tree(search, 32, &trick, goal)?.is_none() {
-            return Ok(None);
+        self.plan.pieces.truncate(0);
+        self.plan.add_tree(search, PLAN_FUEL, &played, goal)?;
+        let lead = seat_at(start.leader);
+        if self.write_node(pattern, lead, record.need).is_err() {
+            search.run_out();
+            return None;
         }
+        Some(())
+    }
+
+    /// Adds a node with the tree in work, and puts down those that it names.
+    fn write_node(&mut self, pattern: Pattern, lead: Seat, need: u8) -> Result<(), AllocError> {
         self.put_down_children()?;
         let mut place = 0;
-        let Some(tree) = self.tree(8, &mut place)? else {
-            return Ok(None);
-        };
-        Ok(Some(Node {
+        let tree = self.tree(TREE_FUEL, &mut place)?;
+        self.nodes.push(Node {
             pattern,
-            lead: seat_at(todo.lead),
-            need: entry.need,
+            lead,
+            need,
             tree,
-        }))
+        })?;
+        Ok(())
     }
 
     /// Puts down the nodes that the tree in work names and that have no number yet.
     fn put_down_children(&mut self) -> Result<(), AllocError> {
         for place in 0..self.plan.pieces.len() {
-            if let Some(Piece::Child(known)) = self.plan.pieces.get(place).copied() {
-                if self.plan.number(known.entry) == 0 {
-                    self.put_down(known)?;
+            if let Some(Piece::Child(start)) = self.plan.pieces.get(place).copied() {
+                if self.plan.number(start.record) == 0 {
+                    self.put_down(start)?;
                 }
             }
         }
@@ -146,13 +164,13 @@ impl Writing {
     }
 
     /// The pattern at a trick's start.
-    fn pattern(&self, trick: &PatternTrick) -> Option<Pattern> {
+    fn pattern_of(&self, played: &PlayedPattern) -> Option<Pattern> {
         let lanes = self.plan.lanes;
         Pattern::from_parts([
-            part(trick, lanes[0]),
-            part(trick, lanes[1]),
-            part(trick, lanes[2]),
-            part(trick, lanes[3]),
+            part(played, lanes[0]),
+            part(played, lanes[1]),
+            part(played, lanes[2]),
+            part(played, lanes[3]),
         ])
         .ok()
     }
@@ -167,63 +185,51 @@ impl Writing {
         }
     }
 
-    /// The tree of the pieces from this place on, which then stands behind them. None where they are none.
+    /// The tree of the pieces from this place on, which then stands after them. Where they are none, which a plan never
+    /// leaves, it is a leaf without children.
     #[cycle(writing)]
-    fn tree(&self, fuel: u32, place: &mut usize) -> Result<Option<Tree>, AllocError> {
-        if fuel == 0 {
-            return Ok(None);
-        }
+    fn tree(&self, fuel: u32, place: &mut usize) -> Result<Tree, AllocError> {
         let piece = self.plan.pieces.get(*place).copied();
         *place = place.wrapping_add(1);
         match piece {
-            Some(Piece::Own(card)) => {
-                let Some(below) = self.tree(fuel - 1, place)? else {
-                    return Ok(None);
-                };
-                Ok(Some(Tree::own(self.alloc, self.card(card), below)?))
+            Some(Piece::Own(card)) if fuel > 0 => {
+                let below = self.tree(fuel - 1, place)?;
+                Tree::own(self.alloc, self.card(card), below)
             }
-            Some(Piece::Reply(count)) => self.branches(fuel - 1, count, place),
-            Some(Piece::Leaf(count)) => Ok(Some(self.leaf(count, place)?)),
-            _ => Ok(None),
+            Some(Piece::Reply(count)) if fuel > 0 => self.branches(fuel - 1, count, place),
+            Some(Piece::Leaf(count)) => self.leaf(count, place),
+            _ => self.leaf(0, place),
         }
     }
 
     /// The tree of so many branches.
     #[cycle(writing)]
-    fn branches(
-        &self,
-        fuel: u32,
-        count: usize,
-        place: &mut usize,
-    ) -> Result<Option<Tree>, AllocError> {
-        if fuel == 0 {
-            return Ok(None);
-        }
+    fn branches(&self, fuel: u32, count: usize, place: &mut usize) -> Result<Tree, AllocError> {
         let mut branches = Vec::with_capacity(self.alloc, count.min(52))?;
         for _ in 0..count {
-            let Some(Piece::Branch(card)) = self.plan.pieces.get(*place).copied() else {
-                return Ok(None);
-            };
-            *place = place.wrapping_add(1);
-            let Some(below) = self.tree(fuel - 1, place)? else {
-                return Ok(None);
-            };
-            branches.push(Branch {
-                card: self.card(card),
-                below,
-            })?;
+            if let Some(Piece::Branch(card)) = self.plan.pieces.get(*place).copied() {
+                if fuel == 0 {
+                    break;
+                }
+                *place = place.wrapping_add(1);
+                let below = self.tree(fuel - 1, place)?;
+                branches.push(Branch {
+                    card: self.card(card),
+                    below,
+                })?;
+            }
         }
-        Ok(Some(Tree::reply(branches)))
+        Ok(Tree::reply(branches))
     }
 
     /// The leaf of so many children.
     fn leaf(&self, count: usize, place: &mut usize) -> Result<Tree, AllocError> {
         let mut children = Vec::with_capacity(self.alloc, count.min(4))?;
         for _ in 0..count {
-            if let Some(Piece::Child(known)) = self.plan.pieces.get(*place).copied() {
+            if let Some(Piece::Child(start)) = self.plan.pieces.get(*place).copied() {
                 children.push(Child {
-                    winner: seat_at(known.lead),
-                    number: self.plan.number(known.entry).wrapping_sub(1),
+                    winner: seat_at(start.leader),
+                    number: self.plan.number(start.record).wrapping_sub(1),
                 })?;
             }
             *place = place.wrapping_add(1);
@@ -233,19 +239,19 @@ impl Writing {
 }
 
 /// One suit of a pattern.
-fn part(trick: &PatternTrick, lane: usize) -> SuitPart {
+fn part(played: &PlayedPattern, lane: usize) -> SuitPart {
     let mut owners = ArrayVec::new();
-    for place in 0..13u32 {
-        if place < trick.depth(lane) && owners.len() < 13 {
-            owners.push(seat_at(trick.owner(lane, place)));
+    for place in 0..MOST_CARDS {
+        if place < played.depth(lane) && owners.len() < 13 {
+            owners.push(seat_at(played.owner(lane, place)));
         }
     }
     SuitPart {
         lens: [
-            trick.length_of(lane, 0),
-            trick.length_of(lane, 1),
-            trick.length_of(lane, 2),
-            trick.length_of(lane, 3),
+            played.length_of(lane, 0),
+            played.length_of(lane, 1),
+            played.length_of(lane, 2),
+            played.length_of(lane, 3),
         ],
         owners,
     }

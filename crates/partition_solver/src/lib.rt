@@ -7,16 +7,19 @@
 
 mod blocks;
 mod deals;
-mod entries;
 mod graph_writing;
 mod memory;
 mod moves;
 mod order;
 mod plans;
 mod played_patterns;
+mod positions;
+mod records;
+mod relevant_cards;
+mod remembering;
 mod search;
 mod solving;
-mod tricks;
+mod values;
 mod weights;
 mod words;
 

@@ -1,10 +1,13 @@
 //! What is remembered from one call to the next: the searches of one deal, one for each denomination.
 
-use crate::entries::MOST_BLOCKS;
+use crate::records::MOST_BLOCKS;
 use crate::search::Search;
 use cards::{Layout, Trump};
 use std::alloc::{AllocError, Global};
 use std::sync::Mutex;
+
+/// How many blocks the searches of the other denominations may have. All together have the room of one.
+const MOST_OTHERS: usize = MOST_BLOCKS / 2;
 
 /// The searches that no call has in use.
 #[derive(Drop)]
@@ -38,8 +41,8 @@ impl Memory {
 }
 
 /// The search of this deal in this denomination, with so many steps: taken out of the others, else a new one. Those of
-/// another deal are dropped. All of them together get the room of one, so the others are dropped too where they have more
-/// than half of it, or where this one could not remember all that it found.
+/// another deal are dropped. So are the others where they have more than half of the room, or where this one could not
+/// remember all that it found.
 pub(crate) fn search_of(
     alloc: Global,
     others: &mut Vec<Search>,
@@ -47,29 +50,39 @@ pub(crate) fn search_of(
     trump: Trump,
     steps: u64,
 ) -> Result<Search, AllocError> {
-    if !others.iter().all(|search| search.deal.is_of(layout)) {
-        others.truncate(0);
-    }
-    let place = others
-        .iter()
-        .position(|search| search.deal.has_trump(trump));
-    let mut search = match place {
-        Some(place) => others.swap_remove(place),
+    let mut search = match taken(others, layout, trump) {
+        Some(search) => search,
         None => Search::new(alloc, layout, trump)?,
     };
-    if search.entries.is_full() {
-        others.truncate(0);
-        search = Search::new(alloc, layout, trump)?;
-    }
-    let mut held = 0usize;
-    for other in others.iter() {
-        held = held.saturating_add(other.entries.weight());
-    }
-    if held > MOST_BLOCKS / 2 {
-        others.truncate(0);
-        held = 0;
-    }
-    search.entries.room = MOST_BLOCKS - held;
+    search.records.room = MOST_BLOCKS.saturating_sub(room_of(others));
     search.steps = steps;
     Ok(search)
+}
+
+/// The search of this deal in this denomination, taken out of the others, where it can go on. Others that are of no use are
+/// dropped.
+fn taken(others: &mut Vec<Search>, layout: &Layout, trump: Trump) -> Option<Search> {
+    if !others.iter().all(|other| other.deal.is_of(layout)) {
+        others.truncate(0);
+    }
+    let place = others.iter().position(|other| other.deal.has_trump(trump))?;
+    let search = others.swap_remove(place);
+    if search.records.is_full() {
+        others.truncate(0);
+        return None;
+    }
+    Some(search)
+}
+
+/// How much room the searches take, in blocks. Where it is too much they are dropped.
+fn room_of(searches: &mut Vec<Search>) -> usize {
+    let mut held = 0usize;
+    for search in searches.iter() {
+        held = held.saturating_add(search.records.size());
+    }
+    if held > MOST_OTHERS {
+        searches.truncate(0);
+        return 0;
+    }
+    held
 }

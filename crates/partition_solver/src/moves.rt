@@ -2,11 +2,20 @@
 
 use crate::deals::Deal;
 use crate::order::Order;
-use crate::tricks::Trick;
-use crate::words::{below, bottoms, highest, lowest, suit_of, top_of_run, without_lowest};
+use crate::positions::Position;
+use crate::words::{
+    ABOVE, MOST_CARDS, below, bottoms, highest, lowest, start_of, suit_of, top_of_run,
+    without_lowest,
+};
+
+/// How many runs a hand has at most.
+const MOST_RUNS: usize = MOST_CARDS as usize;
+
+/// The weight of the card that is tried first in any case.
+const FIRST: i32 = 1_000_000;
 
 /// A card to be tried, with the lowest and the highest card of its run.
-#[derive(Clone, Copy, Debug)]
+#[derive(Clone, Copy)]
 pub(crate) struct Move {
     pub card: u64,
     pub bottom: u64,
@@ -14,76 +23,85 @@ pub(crate) struct Move {
 }
 
 /// The runs that are still to be tried, each named by its lowest card, and the order.
-#[derive(Clone, Copy, Debug)]
+#[derive(Clone, Copy)]
 pub(crate) struct Moves {
     own: u64,
     left: u64,
     bottoms: u64,
     waiting: u64,
-    keys: [i32; 16],
+    /// Of each run the weight of its card, times 64, and the bit of its lowest card.
+    keys: [i32; MOST_RUNS],
     count: usize,
 }
 
 /// The card of a run that is tried: the highest where it beats what lies, else the lowest.
-fn choice(trick: &Trick, bottom: u64, top: u64, trumps: u64) -> u64 {
-    if trick.beats(top, trumps) {
+fn choice(position: &Position, bottom: u64, top: u64, trumps: u64) -> u64 {
+    if position.beats(top, trumps) {
         top
     } else {
         bottom
     }
 }
 
+/// The key of a run whose card has this weight.
+fn key_of(weight: i32, bottom: u64) -> i32 {
+    weight.wrapping_mul(64) | (bottom.trailing_zeros() & 63) as i32
+}
+
 impl Moves {
     /// The cards to be tried, after this hint where it is one of them.
-    pub(crate) fn of(deal: &Deal, trick: &Trick, hint: u64) -> Moves {
-        let own = trick.legal();
-        let all = bottoms(own, trick.left);
+    pub(crate) fn of(deal: &Deal, position: &Position, hint: u64) -> Moves {
+        let own = position.legal();
+        let all = bottoms(own, position.left);
         let mut moves = Moves {
             own,
-            left: trick.left,
+            left: position.left,
             bottoms: all,
             waiting: all,
-            keys: [0; 16],
+            keys: [0; MOST_RUNS],
             count: 0,
         };
-        if all & all.wrapping_sub(1) == 0 {
-            moves.keys[0] = (all.trailing_zeros() & 63) as i32;
+        if without_lowest(all) == 0 {
+            moves.keys[0] = key_of(0, all);
             moves.count = 1;
-            return moves;
+        } else {
+            moves.weigh(Order::of(deal, position), deal.trumps, hint);
         }
-        let order = Order::of(deal, trick);
-        let mut rest = all;
-        for place in 0..16 {
+        moves
+    }
+
+    /// Gives each run its key.
+    fn weigh(&mut self, order: Order, trumps: u64, hint: u64) {
+        let mut rest = self.bottoms;
+        for place in 0..MOST_RUNS {
             if rest == 0 {
                 break;
             }
             let bottom = lowest(rest);
             rest = without_lowest(rest);
-            let card = choice(
-                trick,
-                bottom,
-                top_of_run(bottom, own, trick.left),
-                deal.trumps,
-            );
+            let top = top_of_run(bottom, self.own, self.left);
+            let card = choice(order.position, bottom, top, trumps);
             let weight = if card & hint != 0 {
-                1_000_000
+                FIRST
             } else {
                 order.weigh(card)
             };
-            moves.keys[place] = weight.wrapping_mul(64) | (bottom.trailing_zeros() & 63) as i32;
-            moves.count = place + 1;
+            self.keys[place] = key_of(weight, bottom);
+            self.count = place + 1;
         }
-        moves
     }
 
     /// The next card.
-    pub(crate) fn next(&mut self, trick: &Trick, trumps: u64) -> Option<Move> {
+    pub(crate) fn next(&mut self, position: &Position, trumps: u64) -> Option<Move> {
         if self.waiting == 0 {
             return None;
         }
         let mut best = i32::MIN;
-        for key in self.keys.as_slice().iter().take(self.count) {
-            let key = *key;
+        for place in 0..MOST_RUNS {
+            if place >= self.count {
+                break;
+            }
+            let key = self.keys[place];
             if key > best && 1u64.wrapping_shl((key & 63) as u32) & self.waiting != 0 {
                 best = key;
             }
@@ -92,7 +110,7 @@ impl Moves {
         self.waiting &= !bottom;
         let top = top_of_run(bottom, self.own, self.left);
         Some(Move {
-            card: choice(trick, bottom, top, trumps),
+            card: choice(position, bottom, top, trumps),
             bottom,
             top,
         })
@@ -104,7 +122,7 @@ impl Moves {
         let suit = suit_of(tried.bottom);
         let named = relevant & suit;
         let limit = if named == 0 {
-            0x2000 << (tried.bottom.trailing_zeros() & 48)
+            ABOVE.wrapping_shl(start_of(tried.bottom))
         } else {
             lowest(named)
         };
@@ -116,16 +134,5 @@ impl Moves {
             alike &= !highest(self.bottoms & suit & (below(limit) | limit));
         }
         self.waiting &= !alike;
-    }
-}
-
-/// The cards that were relevant to a card of the other side: those that its answer needs, and its whole run where its
-/// lowest relevant card would cut it.
-pub(crate) fn whole_runs(tried: Move, relevant: u64) -> u64 {
-    let cut = lowest(relevant & suit_of(tried.bottom));
-    if cut > tried.bottom && cut <= tried.top {
-        relevant | tried.bottom
-    } else {
-        relevant
     }
 }

@@ -1,18 +1,22 @@
-//! The proof of an entry: one trick on its pattern, worked out anew from what the search remembers.
+//! The proof of a record: one trick on its pattern, worked out anew from what the search remembers.
 
 use crate::blocks::PLACES;
-use crate::entries::{Slot, list_of, number_of};
-use crate::played_patterns::{LOWS, PatternTrick, PlainCard, Remains};
+use crate::played_patterns::{LOWS, PlainCard, PlayedPattern, Remains};
+use crate::records::{Slot, list_of, number_of};
 use crate::search::Search;
-use crate::words::SUIT;
+use crate::words::{SUIT, lowest};
 use cards::Suit;
 use std::alloc::{AllocError, Global};
 
-/// How many steps the writing of both graphs may take, by the blocks of entries.
+/// How deep the calls for a tree lie in one another: three a card (`add_tree`, `add_own` or `add_reply`, and `add_card`), and
+/// one for the leaf.
+pub(crate) const PLAN_FUEL: u32 = 4 * 3 + 1;
+
+/// Where fewer steps than these are left for each block of records, the first card that shows a tree is taken.
 const STEPS_A_BLOCK: u64 = 40;
 
 /// A piece of a tree, in the order of its text.
-#[derive(Clone, Copy, Debug, PartialEq, Eq)]
+#[derive(Clone, Copy)]
 pub(crate) enum Piece {
     /// A card of the side; what follows it comes next.
     Own(PlainCard),
@@ -22,42 +26,46 @@ pub(crate) enum Piece {
     Branch(PlainCard),
     /// So many children come next.
     Leaf(usize),
-    /// A seat that may win, and the entry that goes on.
-    Child(Known),
+    /// One of them.
+    Child(TrickStart),
 }
 
-/// An entry with its shape, and the seat that leads.
-#[derive(Clone, Copy, Debug, PartialEq, Eq)]
-pub(crate) struct Known {
+/// The start of a trick, as a node has it: a record with its shape, and the seat that leads. In a child that seat has won the
+/// trick before.
+#[derive(Clone, Copy)]
+pub(crate) struct TrickStart {
+    /// The lengths, as the search has them.
     pub lengths: u64,
-    pub entry: u32,
-    pub lead: usize,
+    /// The number of the record.
+    pub record: u32,
+    pub leader: usize,
 }
 
 /// What of a side is proved so far: the tree in work, and the numbers of the nodes.
 #[derive(Drop)]
 pub(crate) struct Plan {
     pub pieces: Vec<Piece>,
-    /// By the number of an entry that of its node, from 1.
+    /// By the number of a record that of its node, from 1.
     pub numbers: Vec<u32>,
+    /// Whether the side is North's and South's.
     pub ours: bool,
     /// Whether the first card that shows a tree is taken, since steps are short.
-    thrifty: bool,
+    is_thrifty: bool,
     /// Where the suits lie in a word, spades first.
     pub lanes: [usize; 4],
 }
 
-/// The entries that go on after a trick, by the seat that won it, 0 where none is needed, and what
-/// the new nodes cost: one each, and one for each owner that they name.
-#[derive(Clone, Copy, Debug)]
+/// The records that go on after a trick, by the seat that won it, 0 where none is needed, and what the new nodes cost: one
+/// each, and one for each owner that they name.
+#[derive(Clone, Copy)]
 struct Leaf {
     lengths: u64,
-    entries: [u32; 4],
+    records: [u32; 4],
     cost: u32,
 }
 
 /// What a tree has to show: so many tricks, with new nodes that cost less than the limit.
-#[derive(Clone, Copy, Debug)]
+#[derive(Clone, Copy)]
 pub(crate) struct Goal {
     pub need: i32,
     pub limit: u32,
@@ -76,9 +84,13 @@ fn lane_of(suits: [Suit; 4], suit: Suit) -> usize {
     }
 }
 
-/// The cards of one suit.
-fn lane_of_word(cards: u64, lane: usize) -> u32 {
-    (cards.wrapping_shr((lane & 3) as u32 * 16) & SUIT) as u32
+/// So many nodes without a number.
+fn no_numbers(alloc: Global, count: usize) -> Result<Vec<u32>, AllocError> {
+    let mut numbers = Vec::new(alloc);
+    for _ in 0..count {
+        numbers.push(0)?;
+    }
+    Ok(numbers)
 }
 
 /// The highest place of each run of touching tops of one seat, and the low card.
@@ -90,15 +102,12 @@ impl Plan {
     /// Nothing is proved yet.
     pub(crate) fn new(alloc: Global, search: &Search, ours: bool) -> Result<Plan, AllocError> {
         let suits = search.deal.suits;
-        let mut numbers = Vec::new(alloc);
-        for _ in 0..search.entries.numbers() {
-            numbers.push(0)?;
-        }
+        let short = STEPS_A_BLOCK.saturating_mul(search.records.blocks());
         Ok(Plan {
             pieces: Vec::new(alloc),
-            numbers,
+            numbers: no_numbers(alloc, search.records.numbers())?,
             ours,
-            thrifty: search.steps < STEPS_A_BLOCK.saturating_mul(search.entries.blocks()),
+            is_thrifty: search.steps < short,
             lanes: [
                 lane_of(suits, Suit::Spades),
                 lane_of(suits, Suit::Hearts),
@@ -108,35 +117,53 @@ impl Plan {
         })
     }
 
-    /// The number of an entry's node, from 1; 0 where it has none.
-    pub(crate) fn number(&self, entry: u32) -> u32 {
-        self.numbers.get(entry as usize).copied().unwrap_or(0)
+    /// The number of a record's node, from 1; 0 where it has none.
+    pub(crate) fn number(&self, record: u32) -> u32 {
+        self.numbers.get(record as usize).copied().unwrap_or(0)
     }
 
-    /// Adds the tree of what follows, and answers what its new nodes cost. None where what is remembered does not
-    /// show it for less than the limit, or no steps are left; what was added is then of no use.
+    /// Adds a piece. None where memory runs out.
+    fn push(&mut self, search: &mut Search, piece: Piece) -> Option<()> {
+        if self.pieces.push(piece).is_err() {
+            search.run_out();
+            return None;
+        }
+        Some(())
+    }
+
+    /// Spends a step. None where none is left.
+    fn spend(search: &mut Search) -> Option<()> {
+        if search.steps == 0 {
+            return None;
+        }
+        search.steps -= 1;
+        Some(())
+    }
+
+    /// Adds the tree of what follows, and answers what its new nodes cost. None where what is remembered does not show it for
+    /// less than the limit, no steps are left or memory runs out; what was added is then of no use.
     #[cycle(planning)]
     pub(crate) fn add_tree(
         &mut self,
         search: &mut Search,
         fuel: u32,
-        trick: &PatternTrick,
+        played: &PlayedPattern,
         goal: Goal,
-    ) -> Result<Option<u32>, AllocError> {
+    ) -> Option<u32> {
         if fuel == 0 {
-            return Ok(None);
+            return None;
         }
-        if trick.played >= 4 {
-            return self.add_leaf(search, trick, goal);
+        if played.on_table >= 4 {
+            let leaf = self.leaf(search, played, goal)?;
+            return self.add_leaf(search, &leaf);
         }
-        if (trick.seat & 1 == 0) == self.ours {
-            if trick.played == 3 {
-                return self.add_last(search, trick, goal);
-            }
-            self.add_own(search, fuel - 1, trick, goal)
-        } else {
-            self.add_reply(search, fuel - 1, trick, goal)
+        if (played.seat & 1 == 0) != self.ours {
+            return self.add_reply(search, fuel - 1, played, goal);
         }
+        if played.on_table == 3 {
+            return self.add_last(search, played, goal);
+        }
+        self.add_own(search, fuel - 1, played, goal)
     }
 
     /// Adds a card and what follows it.
@@ -145,17 +172,17 @@ impl Plan {
         &mut self,
         search: &mut Search,
         fuel: u32,
-        trick: &PatternTrick,
+        played: &PlayedPattern,
         goal: Goal,
         piece: Piece,
         card: PlainCard,
-    ) -> Result<Option<u32>, AllocError> {
-        if fuel == 0 || search.steps == 0 {
-            return Ok(None);
+    ) -> Option<u32> {
+        if fuel == 0 {
+            return None;
         }
-        search.steps -= 1;
-        self.pieces.push(piece)?;
-        let after = trick.after(card, search.deal.trumps != 0);
+        Plan::spend(search)?;
+        self.push(search, piece)?;
+        let after = played.after(card, search.deal.trumps != 0);
         self.add_tree(search, fuel - 1, &after, goal)
     }
 
@@ -165,52 +192,53 @@ impl Plan {
         &mut self,
         search: &mut Search,
         fuel: u32,
-        trick: &PatternTrick,
+        played: &PlayedPattern,
         goal: Goal,
-    ) -> Result<Option<u32>, AllocError> {
+    ) -> Option<u32> {
         if fuel == 0 {
-            return Ok(None);
+            return None;
         }
         let begin = self.pieces.len();
         let mut least = goal;
         let mut found = None;
-        let mut waiting = tops_of_runs(trick.legal_cards());
-        let first = trick.hint & waiting;
-        for _ in 0..64 {
-            if waiting == 0 || least.limit == 0 || self.thrifty && found.is_some() {
+        let mut waiting = tops_of_runs(played.legal_cards());
+        let first = played.first_card & waiting;
+        for _ in 0..u64::BITS {
+            if waiting == 0 || least.limit == 0 || self.is_thrifty && found.is_some() {
                 break;
             }
-            let bit = trick.choose(waiting, first);
+            let bit = played.choose(waiting, first);
             waiting &= !bit;
             let card = PlainCard::of(bit);
             let from = self.pieces.len();
-            let cost = self.add_card(search, fuel - 1, trick, least, Piece::Own(card), card)?;
+            let cost = self.add_card(search, fuel - 1, played, least, Piece::Own(card), card);
             if let Some(new) = cost {
-                self.keep(begin, from);
+                self.drop_pieces(begin, from);
                 least.limit = new;
                 found = cost;
             } else {
                 self.pieces.truncate(from);
             }
         }
-        Ok(found)
+        found
     }
 
     /// Drops the pieces from the first place up to the second.
-    fn keep(&mut self, begin: usize, from: usize) {
+    fn drop_pieces(&mut self, begin: usize, from: usize) {
         if begin == from {
             return;
         }
-        let count = self.pieces.len().saturating_sub(from);
-        for place in 0..count {
-            let Some(piece) = self.pieces.get(from.wrapping_add(place)).copied() else {
+        let mut to = begin;
+        for place in from..self.pieces.len() {
+            let Some(piece) = self.pieces.get(place).copied() else {
                 break;
             };
-            if let Some(old) = self.pieces.get_mut(begin.wrapping_add(place)) {
+            if let Some(old) = self.pieces.get_mut(to) {
                 *old = piece;
             }
+            to = to.wrapping_add(1);
         }
-        self.pieces.truncate(begin.wrapping_add(count));
+        self.pieces.truncate(to);
     }
 
     /// Adds all cards of the opponents.
@@ -219,140 +247,124 @@ impl Plan {
         &mut self,
         search: &mut Search,
         fuel: u32,
-        trick: &PatternTrick,
+        played: &PlayedPattern,
         goal: Goal,
-    ) -> Result<Option<u32>, AllocError> {
+    ) -> Option<u32> {
         if fuel == 0 {
-            return Ok(None);
+            return None;
         }
         let begin = self.pieces.len();
-        self.pieces.push(Piece::Reply(0))?;
+        self.push(search, Piece::Reply(0))?;
         let mut count = 0usize;
         let mut sum = 0u32;
-        let cards = trick.legal_cards();
-        for number in 0..4usize {
-            let lane = self.lanes[number];
-            let mut legal = lane_of_word(cards, lane);
-            for _ in 0..16 {
-                if legal == 0 {
-                    break;
-                }
-                let place = legal.trailing_zeros();
-                legal &= legal.wrapping_sub(1);
-                let card = PlainCard { lane, place };
-                let rest = Goal {
-                    need: goal.need,
-                    limit: goal.limit.saturating_sub(sum),
-                };
-                let cost = self.add_card(search, fuel - 1, trick, rest, Piece::Branch(card), card)?;
-                let Some(cost) = cost else {
-                    return Ok(None);
-                };
-                count = count.wrapping_add(1);
-                sum = sum.saturating_add(cost);
+        let mut waiting = played.legal_cards();
+        for _ in 0..u64::BITS {
+            if waiting == 0 {
+                break;
             }
+            let bit = self.first_of(waiting);
+            waiting &= !bit;
+            let card = PlainCard::of(bit);
+            let rest = Goal {
+                need: goal.need,
+                limit: goal.limit.saturating_sub(sum),
+            };
+            let cost = self.add_card(search, fuel - 1, played, rest, Piece::Branch(card), card)?;
+            count = count.wrapping_add(1);
+            sum = sum.saturating_add(cost);
         }
         if let Some(piece) = self.pieces.get_mut(begin) {
             *piece = Piece::Reply(count);
         }
-        Ok(Some(sum))
+        Some(sum)
+    }
+
+    /// The first of these cards: spades first, and of a suit the highest first.
+    fn first_of(&self, cards: u64) -> u64 {
+        for number in 0..4usize {
+            let suit = cards & SUIT.wrapping_shl((self.lanes[number] & 3) as u32 * 16);
+            if suit != 0 {
+                return lowest(suit);
+            }
+        }
+        0
     }
 
     /// Adds the last card of a trick, where it is the side's: the one whose new children cost least.
-    fn add_last(
-        &mut self,
-        search: &mut Search,
-        trick: &PatternTrick,
+    fn add_last(&mut self, search: &mut Search, played: &PlayedPattern, goal: Goal) -> Option<u32> {
+        let (card, leaf) = self.best_last(search, played, goal)?;
+        Plan::spend(search)?;
+        self.push(search, Piece::Own(card))?;
+        self.add_leaf(search, &leaf)
+    }
+
+    /// The last card of a trick whose new children cost least, and the children.
+    fn best_last(
+        &self,
+        search: &Search,
+        played: &PlayedPattern,
         goal: Goal,
-    ) -> Result<Option<u32>, AllocError> {
-        let mut waiting = tops_of_runs(trick.legal_cards());
+    ) -> Option<(PlainCard, Leaf)> {
+        let mut waiting = tops_of_runs(played.legal_cards());
         let mut least = goal;
         let mut best = None;
-        for _ in 0..64 {
+        for _ in 0..u64::BITS {
             if waiting == 0 || least.limit == 0 {
                 break;
             }
-            let bit = trick.choose(waiting, 0);
+            let bit = played.choose(waiting, 0);
             waiting &= !bit;
             let card = PlainCard::of(bit);
-            let after = trick.after(card, search.deal.trumps != 0);
+            let after = played.after(card, search.deal.trumps != 0);
             if let Some(leaf) = self.leaf(search, &after, least) {
                 least.limit = leaf.cost;
                 best = Some((card, leaf));
             }
         }
-        let Some((card, leaf)) = best else {
-            return Ok(None);
-        };
-        if search.steps == 0 {
-            return Ok(None);
-        }
-        search.steps -= 1;
-        self.pieces.push(Piece::Own(card))?;
-        self.push_leaf(&leaf)?;
-        Ok(Some(leaf.cost))
+        best
     }
 
-    /// Adds the children after a trick.
-    fn add_leaf(
-        &mut self,
-        search: &Search,
-        trick: &PatternTrick,
-        goal: Goal,
-    ) -> Result<Option<u32>, AllocError> {
-        let Some(leaf) = self.leaf(search, trick, goal) else {
-            return Ok(None);
-        };
-        self.push_leaf(&leaf)?;
-        Ok(Some(leaf.cost))
-    }
-
-    /// Adds the pieces of a leaf.
-    fn push_leaf(&mut self, leaf: &Leaf) -> Result<(), AllocError> {
-        let count = leaf
-            .entries
-            .as_slice()
-            .iter()
-            .filter(|entry| **entry != 0)
-            .count();
-        self.pieces.push(Piece::Leaf(count))?;
+    /// Adds the pieces of a leaf, and answers its cost.
+    fn add_leaf(&mut self, search: &mut Search, leaf: &Leaf) -> Option<u32> {
+        let mut count = 0usize;
         for seat in 0..4usize {
-            if leaf.entries[seat] != 0 {
-                self.pieces.push(Piece::Child(Known {
-                    lengths: leaf.lengths,
-                    entry: leaf.entries[seat],
-                    lead: seat,
-                }))?;
+            if leaf.records[seat] != 0 {
+                count = count.wrapping_add(1);
             }
         }
-        Ok(())
+        self.push(search, Piece::Leaf(count))?;
+        for seat in 0..4usize {
+            if leaf.records[seat] != 0 {
+                let child = TrickStart {
+                    lengths: leaf.lengths,
+                    record: leaf.records[seat],
+                    leader: seat,
+                };
+                self.push(search, Piece::Child(child))?;
+            }
+        }
+        Some(leaf.cost)
     }
 
     /// The children after a trick. None where what is remembered does not show them for less than the limit.
-    fn leaf(&self, search: &Search, trick: &PatternTrick, goal: Goal) -> Option<Leaf> {
-        let winners = trick.winners();
+    fn leaf(&self, search: &Search, played: &PlayedPattern, goal: Goal) -> Option<Leaf> {
+        let winners = played.winners();
+        let slot = search.records.slot(played.lengths);
+        let remains = played.remains();
         let mut leaf = Leaf {
-            lengths: trick.lengths,
-            entries: [0; 4],
+            lengths: played.lengths,
+            records: [0; 4],
             cost: 0,
         };
-        let mut after = None;
         for seat in 0..4usize {
             let won = if (seat & 1 == 0) == self.ours { 1 } else { 0 };
             let rest = goal.need.wrapping_sub(won);
             if winners.wrapping_shr(seat as u32) & 1 == 0 || rest <= 0 {
                 continue;
             }
-            if after.is_none() {
-                after = Some((search.entries.slot(trick.lengths)?, trick.remains()));
-            }
-            let (slot, remains) = after?;
-            let entry = self.child(search, slot, remains, seat, rest)?;
-            if self.number(entry) == 0 {
-                let owners = search.entries.entry(entry).generality();
-                leaf.cost = leaf.cost.wrapping_add(u32::from(owners) + 1);
-            }
-            leaf.entries[seat] = entry;
+            let record = self.child(search, slot?, remains, seat, rest)?;
+            leaf.cost = leaf.cost.wrapping_add(self.cost_of(search, record));
+            leaf.records[seat] = record;
         }
         if leaf.cost < goal.limit {
             Some(leaf)
@@ -361,7 +373,15 @@ impl Plan {
         }
     }
 
-    /// An entry that goes on after the trick: one that has a node already, else the most general.
+    /// What a child of this record costs: nothing where it has a node already.
+    fn cost_of(&self, search: &Search, record: u32) -> u32 {
+        if self.number(record) != 0 {
+            return 0;
+        }
+        u32::from(search.records.record(record).owners_named()) + 1
+    }
+
+    /// A record that goes on after the trick: one that has a node already, else the one that names the fewest owners.
     fn child(
         &self,
         search: &Search,
@@ -370,10 +390,10 @@ impl Plan {
         winner: usize,
         need: i32,
     ) -> Option<u32> {
-        let mut number = search.entries.first(slot, list_of(winner, self.ours));
+        let mut number = search.records.first(slot, list_of(winner, self.ours));
         let mut first = None;
-        for _ in 0..search.entries.numbers() {
-            let Some(block) = search.entries.block(number) else {
+        for _ in 0..search.records.numbers() {
+            let Some(block) = search.records.block(number) else {
                 break;
             };
             if number == 0 {
@@ -381,16 +401,16 @@ impl Plan {
             }
             for place in 0..PLACES {
                 if i32::from(block.need[place]) < need
-                    || !search.entries.is_known(number, place, remains)
+                    || !search.records.is_known(number, place, remains)
                 {
                     continue;
                 }
-                let entry = number_of(number, place);
-                if self.number(entry) != 0 {
-                    return Some(entry);
+                let record = number_of(number, place);
+                if self.number(record) != 0 {
+                    return Some(record);
                 }
                 if first.is_none() {
-                    first = Some(entry);
+                    first = Some(record);
                 }
             }
             number = block.next as usize;

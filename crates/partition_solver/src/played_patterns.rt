@@ -1,12 +1,12 @@
 //! A trick played on a remembered pattern.
 
-use crate::blocks::Entry;
+use crate::blocks::Record;
 use crate::deals::Owners;
-use crate::words::{SUIT, highest, lowest};
+use crate::words::{MOST_CARDS, SUIT, highest, lowest};
 
 /// A card of a pattern: a top by its place among the owners of its suit, from 0, or with the place `LOW` a low card. The
 /// suit is named by its number in the word.
-#[derive(Clone, Copy, Debug, Default, PartialEq, Eq)]
+#[derive(Clone, Copy, Default)]
 pub(crate) struct PlainCard {
     pub lane: usize,
     pub place: u32,
@@ -29,9 +29,9 @@ impl PlainCard {
     }
 }
 
-/// A trick on a pattern.
-#[derive(Clone, Copy, Debug)]
-pub(crate) struct PatternTrick {
+/// A pattern of which cards are played to a trick.
+#[derive(Clone, Copy)]
+pub(crate) struct PlayedPattern {
     owners: [u32; 4],
     depths: [u32; 4],
     gone: [u32; 4],
@@ -47,13 +47,13 @@ pub(crate) struct PatternTrick {
     /// The seat to play.
     pub seat: usize,
     /// How many cards lie on the table.
-    pub played: u32,
+    pub on_table: u32,
     /// The card that showed it in the search, where the side leads.
-    pub hint: u64,
+    pub first_card: u64,
 }
 
 /// What a trick leaves: the owners, and the bits of those that are known.
-#[derive(Clone, Copy, Debug)]
+#[derive(Clone, Copy)]
 pub(crate) struct Remains {
     pub owners: Owners,
     pub known: Owners,
@@ -74,7 +74,7 @@ fn without(owners: u32, place: u32) -> u32 {
 fn tops_of(owners: [u32; 4], depths: [u32; 4]) -> [u64; 4] {
     let mut tops = [0u64; 4];
     for lane in 0..4usize {
-        for place in 0..13u32 {
+        for place in 0..MOST_CARDS {
             if place < depths[lane] {
                 let owner = (owners[lane].wrapping_shr(place * 2) & 3) as usize;
                 tops[owner] |= 1u64.wrapping_shl(lane as u32 * 16 + place);
@@ -84,16 +84,16 @@ fn tops_of(owners: [u32; 4], depths: [u32; 4]) -> [u64; 4] {
     tops
 }
 
-impl PatternTrick {
-    /// The start of a trick on an entry's pattern.
-    pub(crate) fn start(entry: &Entry, lengths: u64, lead: usize) -> PatternTrick {
+impl PlayedPattern {
+    /// The start of a trick on a record's pattern.
+    pub(crate) fn start(record: &Record, lengths: u64, leader: usize) -> PlayedPattern {
         let mut owners = [0; 4];
         let mut depths = [0; 4];
         for lane in 0..4usize {
-            owners[lane] = lane_of(entry.near, lane) | lane_of(entry.deep, lane).wrapping_shl(16);
-            depths[lane] = u32::from(entry.depths.wrapping_shr((lane & 3) as u32 * 4) & 15);
+            owners[lane] = lane_of(record.near, lane) | lane_of(record.deep, lane).wrapping_shl(16);
+            depths[lane] = u32::from(record.depths.wrapping_shr((lane & 3) as u32 * 4) & 15);
         }
-        PatternTrick {
+        PlayedPattern {
             owners,
             depths,
             gone: [0; 4],
@@ -102,12 +102,12 @@ impl PatternTrick {
             led: None,
             deciding: 0,
             best: LOW,
-            winner: lead,
+            winner: leader,
             lows: 0,
-            seat: lead,
-            played: 0,
-            hint: if entry.lead < 64 {
-                1u64.wrapping_shl(u32::from(entry.lead))
+            seat: leader,
+            on_table: 0,
+            first_card: if record.first_card < 64 {
+                1u64.wrapping_shl(u32::from(record.first_card))
             } else {
                 0
             },
@@ -151,7 +151,7 @@ impl PatternTrick {
     }
 
     /// The trick after the seat to play has played the card.
-    pub(crate) fn after(&self, card: PlainCard, has_trumps: bool) -> PatternTrick {
+    pub(crate) fn after(&self, card: PlainCard, has_trumps: bool) -> PlayedPattern {
         let mut next = *self;
         let lane = card.lane & 3;
         let seat = self.seat & 3;
@@ -173,12 +173,12 @@ impl PatternTrick {
                 next.winner = seat;
             }
         }
-        if card.place < 13 {
+        if card.place < MOST_CARDS {
             next.gone[lane] |= 1u32.wrapping_shl(card.place);
         }
         next.seat = seat + 1 & 3;
-        next.played = self.played.wrapping_add(1);
-        next.hint = 0;
+        next.on_table = self.on_table.wrapping_add(1);
+        next.first_card = 0;
         next
     }
 
@@ -187,20 +187,20 @@ impl PatternTrick {
         if waiting & first != 0 {
             return first;
         }
-        if self.played == 0 {
+        if self.on_table == 0 {
             return lowest(waiting);
         }
         let partner = self.seat.wrapping_add(2) & 3;
-        let stands = self.played > 1 && self.winners() & 1u32.wrapping_shl(partner as u32) != 0;
+        let stands = self.on_table > 1 && self.winners() & 1u32.wrapping_shl(partner as u32) != 0;
         let start = (self.deciding & 3) as u32 * 16;
         let higher = 1u64
             .wrapping_shl(start.wrapping_add(self.best))
             .wrapping_sub(1);
         let winning = waiting & SUIT.wrapping_shl(start) & higher;
-        if self.played == 3 && !stands && winning != 0 {
+        if self.on_table == 3 && !stands && winning != 0 {
             return highest(winning);
         }
-        if self.played == 2 && !stands && winning != 0 {
+        if self.on_table == 2 && !stands && winning != 0 {
             return lowest(winning);
         }
         highest(waiting)
@@ -220,25 +220,31 @@ impl PatternTrick {
         let mut owners = Owners::default();
         let mut known = Owners::default();
         for lane in 0..4usize {
-            let mut suit = self.owners[lane];
-            let gone = self.gone[lane];
-            let mut rest = gone;
-            for _ in 0..4 {
-                if rest == 0 {
-                    break;
-                }
-                let place = 31u32.wrapping_sub(rest.leading_zeros());
-                suit = without(suit, place);
-                rest &= !1u32.wrapping_shl(place);
-            }
-            let depth = self.depths[lane].wrapping_sub(gone.count_ones()) & 15;
-            let bits = 1u32.wrapping_shl(depth.wrapping_mul(2)).wrapping_sub(1);
+            let suit = u64::from(self.suit_left(lane));
+            let gone = self.gone[lane].count_ones();
+            let depth = self.depths[lane].wrapping_sub(gone) & 15;
+            let bits = u64::from(1u32.wrapping_shl(depth.wrapping_mul(2)).wrapping_sub(1));
             let start = lane as u32 * 16;
-            owners.near |= (u64::from(suit) & SUIT).wrapping_shl(start);
-            owners.deep |= u64::from(suit >> 16).wrapping_shl(start);
-            known.near |= (u64::from(bits) & SUIT).wrapping_shl(start);
-            known.deep |= u64::from(bits >> 16).wrapping_shl(start);
+            owners.near |= (suit & SUIT).wrapping_shl(start);
+            owners.deep |= (suit >> 16).wrapping_shl(start);
+            known.near |= (bits & SUIT).wrapping_shl(start);
+            known.deep |= (bits >> 16).wrapping_shl(start);
         }
         Remains { owners, known }
+    }
+
+    /// The owners of a suit without those whose cards are gone.
+    fn suit_left(&self, lane: usize) -> u32 {
+        let mut suit = self.owners[lane & 3];
+        let mut gone = self.gone[lane & 3];
+        for _ in 0..4 {
+            if gone == 0 {
+                break;
+            }
+            let place = 31u32.wrapping_sub(gone.leading_zeros());
+            suit = without(suit, place);
+            gone &= !1u32.wrapping_shl(place);
+        }
+        suit
     }
 }

@@ -68,7 +68,10 @@ impl Solver for Partition {
     ) -> Result<Option<Answer>, AllocError> {
         let mut others = self.memory.take(alloc);
         let mut search = search_of(alloc, &mut others, layout, trump, budget)?;
-        let answer = answer(alloc, &mut search, layout.len() as i32, declarer, trump)?;
+        let answer = answer(&mut search, layout.len() as i32, declarer, trump);
+        if search.memory_ran_out {
+            return Err(AllocError);
+        }
         if others.push(search).is_ok() {
             self.memory.keep(others);
         }
@@ -76,37 +79,25 @@ impl Solver for Partition {
     }
 }
 
-/// An answer for a deal of so many tricks, by a search of it. None where no steps are left, or too little is remembered.
-fn answer(
-    alloc: Global,
-    search: &mut Search,
-    tricks: i32,
-    declarer: Seat,
-    trump: Trump,
-) -> Result<Option<Answer>, AllocError> {
+/// An answer for a deal of so many tricks, by a search of it. None where no steps are left, too little is remembered, or
+/// memory ran out.
+fn answer(search: &mut Search, tricks: i32, declarer: Seat, trump: Trump) -> Option<Answer> {
     let leader = declarer.next().number();
-    let Some(ours) = search.value(leader)? else {
-        return Ok(None);
-    };
+    let ours = search.value(leader)?;
     let theirs = tricks.wrapping_sub(ours);
-    let Some(north) = write_graph(alloc, search, trump, leader, true, ours)? else {
-        return Ok(None);
-    };
-    let Some(east) = write_graph(alloc, search, trump, leader, false, theirs)? else {
-        return Ok(None);
-    };
-    Ok(Some(answer_of(declarer, (ours, north), (theirs, east))))
+    let by_ns = write_graph(search, trump, leader, true, ours)?;
+    let by_ew = write_graph(search, trump, leader, false, theirs)?;
+    Some(match declarer {
+        Seat::North | Seat::South => answer_of(ours, by_ns, by_ew),
+        Seat::East | Seat::West => answer_of(theirs, by_ew, by_ns),
+    })
 }
 
-/// The answer for a declarer, from the tricks and the graph of North and South and those of East and West.
-fn answer_of(declarer: Seat, ours: (i32, Graph), theirs: (i32, Graph)) -> Answer {
-    let (won, declarers, defenders) = match declarer {
-        Seat::North | Seat::South => (ours.0, ours.1, theirs.1),
-        Seat::East | Seat::West => (theirs.0, theirs.1, ours.1),
-    };
+/// The answer that declarer's side takes so many tricks.
+fn answer_of(tricks: i32, declarer: Graph, defenders: Graph) -> Answer {
     Answer {
-        k: (won & 15) as u8,
-        declarer: declarers,
+        k: (tricks & 15) as u8,
+        declarer,
         defenders,
     }
 }

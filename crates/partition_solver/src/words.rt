@@ -4,6 +4,12 @@
 pub(crate) const PACK: u64 = 0x1fff_1fff_1fff_1fff;
 /// The bits of the lowest suit.
 pub(crate) const SUIT: u64 = 0xffff;
+/// The bit above the ace of the lowest suit.
+pub(crate) const ABOVE: u64 = 0x2000;
+/// How many cards a hand has at most: so many tricks there are, and so many cards a seat can choose from.
+pub(crate) const MOST_CARDS: u32 = 13;
+/// 2^64 over the golden ratio: a number times it has its bits mixed, the highest best.
+pub(crate) const MIXER: u64 = 0x9e37_79b9_7f4a_7c15;
 
 /// The lowest card of a set.
 pub(crate) fn lowest(cards: u64) -> u64 {
@@ -46,7 +52,7 @@ pub(crate) fn bottoms(own: u64, left: u64) -> u64 {
 /// The highest card of the run that begins with this one.
 pub(crate) fn top_of_run(bottom: u64, own: u64, left: u64) -> u64 {
     let suit = suit_of(bottom);
-    let end = 0x2000u64.wrapping_shl(start_of(bottom));
+    let end = ABOVE.wrapping_shl(start_of(bottom));
     let stop = lowest((left & !own & suit & !below(bottom)) | end);
     highest(own & suit & below(stop))
 }

@@ -3,8 +3,8 @@
 use crate::words::{start_of, suit_of};
 
 /// A position. Seats are numbers from North's 0; the tricks of North and South are counted.
-#[derive(Clone, Copy, Debug)]
-pub(crate) struct Trick {
+#[derive(Clone, Copy)]
+pub(crate) struct Position {
     /// The cards that each seat holds.
     pub hands: [u64; 4],
     /// The cards in all hands at the trick's start.
@@ -22,7 +22,7 @@ pub(crate) struct Trick {
     /// The seat to play.
     pub seat: usize,
     /// How many cards lie on the table.
-    pub played: u32,
+    pub on_table: u32,
     /// How many tricks North and South want of those left at the trick's start.
     pub want: i32,
     /// How many tricks were left at the trick's start.
@@ -42,10 +42,10 @@ fn lengths_of(hands: [u64; 4]) -> u64 {
     lengths
 }
 
-impl Trick {
+impl Position {
     /// The start of play.
-    pub(crate) fn start(hands: [u64; 4], leader: usize) -> Trick {
-        Trick {
+    pub(crate) fn start(hands: [u64; 4], leader: usize) -> Position {
+        Position {
             hands,
             left: hands[0] | hands[1] | hands[2] | hands[3],
             lengths: lengths_of(hands),
@@ -54,7 +54,7 @@ impl Trick {
             winner: leader,
             contenders: 0,
             seat: leader,
-            played: 0,
+            on_table: 0,
             want: 0,
             tricks: hands[0].count_ones() as i32,
         }
@@ -63,6 +63,15 @@ impl Trick {
     /// Whether North or South is to play.
     pub(crate) fn is_ours(&self) -> bool {
         self.seat & 1 == 0
+    }
+
+    /// How many of the tricks left North and South want, or how many East and West then want to stop them.
+    pub(crate) fn wanted_by(&self, ours: bool) -> i32 {
+        if ours {
+            self.want
+        } else {
+            self.tricks.wrapping_sub(self.want).wrapping_add(1)
+        }
     }
 
     /// The hand of the seat to play.
@@ -89,7 +98,7 @@ impl Trick {
     }
 
     /// The position after the seat to play has played the card.
-    pub(crate) fn after(&self, card: u64, trumps: u64) -> Trick {
+    pub(crate) fn after(&self, card: u64, trumps: u64) -> Position {
         let mut next = *self;
         let seat = self.seat & 3;
         next.hands[seat] &= !card;
@@ -110,12 +119,12 @@ impl Trick {
             next.winner = seat;
         }
         next.seat = seat + 1 & 3;
-        next.played = self.played.wrapping_add(1);
+        next.on_table = self.on_table.wrapping_add(1);
         next
     }
 
-    /// The next trick where the seat has won this one.
-    pub(crate) fn next(&self, winner: usize) -> Trick {
+    /// The start of the next trick where the seat has won this one.
+    pub(crate) fn next(&self, winner: usize) -> Position {
         let mut next = *self;
         next.left = self.hands[0] | self.hands[1] | self.hands[2] | self.hands[3];
         next.led = 0;
@@ -123,7 +132,7 @@ impl Trick {
         next.contenders = 0;
         next.winner = winner;
         next.seat = winner & 3;
-        next.played = 0;
+        next.on_table = 0;
         next.want = self.want.wrapping_sub(if winner & 1 == 0 { 1 } else { 0 });
         next.tricks = self.tricks.wrapping_sub(1);
         next

@@ -1,0 +1,63 @@
+//! Which cards were relevant: those whose rank an answer needed. The lowest of a suit tells how deep it has to be known.
+
+use crate::blocks::NO_CARD;
+use crate::moves::Move;
+use crate::played_patterns::LOW;
+use crate::positions::Position;
+use crate::words::{SUIT, below, lowest, start_of, suit_of};
+
+/// How deep the lowest relevant card of the suit that starts here lies.
+fn depth_of(left: u64, relevant: u64, start: u32) -> u16 {
+    let named = relevant.wrapping_shr(start) & SUIT;
+    if named == 0 {
+        return 0;
+    }
+    let above = (left.wrapping_shr(start) & SUIT).wrapping_shr(named.trailing_zeros());
+    (above.count_ones() & 15) as u16
+}
+
+/// The depths that the relevant cards need, four bits a suit.
+pub(crate) fn depths_of(left: u64, relevant: u64) -> u16 {
+    depth_of(left, relevant, 0)
+        | depth_of(left, relevant, 16).wrapping_shl(4)
+        | depth_of(left, relevant, 32).wrapping_shl(8)
+        | depth_of(left, relevant, 48).wrapping_shl(12)
+}
+
+/// How many owners have to be known for these cards.
+pub(crate) fn owners_named(left: u64, relevant: u64) -> u32 {
+    let depths = u32::from(depths_of(left, relevant));
+    (depths & 15) + (depths >> 4 & 15) + (depths >> 8 & 15) + (depths >> 12)
+}
+
+/// The card as a pattern of these depths names it: its suit times sixteen, and its place, or `LOW` for a low card.
+pub(crate) fn named_card(left: u64, depths: u16, card: u64) -> u8 {
+    if card == 0 {
+        return NO_CARD;
+    }
+    let start = start_of(card);
+    let above = (left & suit_of(card) & !below(card) & !card).count_ones();
+    let depth = u32::from(depths.wrapping_shr(start >> 2) & 15);
+    let place = if above < depth { above } else { LOW };
+    ((start | place) & 63) as u8
+}
+
+/// The cards whose rank matters after a trick: those of the rest, and that of the winner where others played to its suit.
+pub(crate) fn relevant_after(after: &Position, rest: u64) -> u64 {
+    if after.contenders & after.contenders.wrapping_sub(1) == 0 {
+        rest
+    } else {
+        rest | after.best
+    }
+}
+
+/// The cards that were relevant to a card of the other side: those that its answer needs, and its whole run where its
+/// lowest relevant card would cut it.
+pub(crate) fn whole_runs(tried: Move, relevant: u64) -> u64 {
+    let cut = lowest(relevant & suit_of(tried.bottom));
+    if cut > tried.bottom && cut <= tried.top {
+        relevant | tried.bottom
+    } else {
+        relevant
+    }
+}

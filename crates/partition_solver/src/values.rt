@@ -1,0 +1,71 @@
+//! How many tricks a side can win: a first guess, and questions up and down from there.
+
+use crate::deals::Owners;
+use crate::positions::Position;
+use crate::search::{FUEL, Search};
+use crate::words::MOST_CARDS;
+
+/// How many cards a set has.
+fn count_of(cards: u64) -> i32 {
+    cards.count_ones() as i32
+}
+
+/// Four for an ace, three for a king, two for a queen, one for a jack.
+fn points_of(cards: u64) -> i32 {
+    let aces = count_of(cards & 0x1000_1000_1000_1000);
+    let kings = count_of(cards & 0x1800_1800_1800_1800);
+    let queens = count_of(cards & 0x1c00_1c00_1c00_1c00);
+    let jacks = count_of(cards & 0x1e00_1e00_1e00_1e00);
+    aces.wrapping_add(kings)
+        .wrapping_add(queens)
+        .wrapping_add(jacks)
+}
+
+impl Search {
+    /// A first guess: half the tricks, and more by the difference of high cards and that of trumps, in hundredths of a trick.
+    fn guess(&self, tricks: i32) -> i32 {
+        let trumps = self.deal.trumps;
+        let hands = self.deal.hands;
+        let ours = hands[0] | hands[2];
+        let theirs = hands[1] | hands[3];
+        let points = points_of(ours).wrapping_sub(points_of(theirs));
+        let longer = count_of(ours & trumps).wrapping_sub(count_of(theirs & trumps));
+        let factor = if trumps == 0 { 17 } else { 14 };
+        tricks
+            .wrapping_mul(50)
+            .wrapping_add(points.wrapping_mul(factor))
+            .wrapping_add(longer.wrapping_mul(33))
+            .wrapping_add(50)
+            / 100
+    }
+
+    /// How many tricks North and South can win with this seat to lead. Each question brings the bounds nearer by one at
+    /// least. None where no steps are left or memory ran out.
+    pub(crate) fn value(&mut self, leader: usize) -> Option<i32> {
+        let mut position = Position::start(self.deal.hands, leader);
+        let mut least = 0;
+        let mut most = position.tricks;
+        position.want = self.guess(position.tricks);
+        for _ in 0..MOST_CARDS {
+            if least >= most {
+                break;
+            }
+            position.want = position.want.max(least.wrapping_add(1)).min(most);
+            let found = self.search(FUEL, &position)?;
+            if found.ours {
+                least = least.max(found.bound);
+                position.want = least.wrapping_add(1);
+            } else {
+                most = most.min(position.tricks.wrapping_sub(found.bound));
+                position.want = most;
+            }
+        }
+        Some(least)
+    }
+
+    /// The owners of all cards.
+    pub(crate) fn all_owners(&self) -> Owners {
+        let hands = self.deal.hands;
+        self.deal.owners(hands[0] | hands[1] | hands[2] | hands[3])
+    }
+}
