@@ -1,0 +1,78 @@
+#!/usr/bin/env python3
+"""Measures a set of weights for the order of cards: how many steps the solver's search takes an entry, on random boards of a seed.
+
+Usage: bench/solver/weights.py [BOARDS [SEED [FILE]]], by default 20 boards of seed 1 and the weights of the crate. FILE has 704
+whole numbers: those of `MODEST` and then those of `EAGER`, in the order in which `src/weights.rt` has them. Whatever the weights, the
+numbers of tricks are the same; what changes is how many cards are tried. The four declarers of a denomination share what is
+remembered, and the writing of graphs is not counted. It copies the crates into a folder of its own, and proves and builds
+`partition_solver` there as a program, with weights.rt.txt for its main file. Boards that measure should not be boards that a set was
+tuned on.
+"""
+
+import random
+import re
+import shutil
+import subprocess
+import sys
+import tempfile
+from pathlib import Path
+
+ROOT = Path(__file__).resolve().parent.parent.parent
+HERE = Path(__file__).resolve().parent
+CRATES = ("cards", "patterns", "pattern_step", "certificate_graph", "partition_solver")
+COUNT = 704
+
+
+def random_hands(dice):
+    """The four words of a random deal: 13 bits a suit, spades lowest, and in a suit the deuce."""
+    pack = list(range(52))
+    dice.shuffle(pack)
+    return [sum(1 << card for card in pack[start : start + 13]) for start in range(0, 52, 13)]
+
+
+def with_weights(text, numbers):
+    """The file of the weights with these numbers in place of its own."""
+    head, tables = text.split("pub(crate) static", 1)
+    rest = iter(numbers)
+    lists = re.sub(r"(?<=: \[)[-\d,\s]+(?=\])", lambda old: re.sub(r"-?\d+", lambda _: str(next(rest)), old[0]), tables)
+    return head + "pub(crate) static" + lists
+
+
+def build(folder, boards, seed, numbers):
+    """The program of these boards and weights."""
+    crate = folder / "crates" / "partition_solver"
+    for name in CRATES:
+        shutil.copytree(ROOT / "crates" / name, folder / "crates" / name, ignore=shutil.ignore_patterns("must-fail"))
+    library = crate / "src" / "lib.rt"
+    modules = "\n".join(re.findall(r"^mod \w+;$", library.read_text(), re.M))
+    library.unlink()
+    dice = random.Random(seed)
+    hands = "\n".join("    [" + ", ".join(f"0x{word:x}" for word in random_hands(dice)) + "]," for _ in range(boards))
+    text = (HERE / "weights.rt.txt").read_text()
+    (crate / "src" / "main.rt").write_text(
+        text.replace("@MODULES@", modules).replace("@COUNT@", str(boards)).replace("@HANDS@", hands)
+    )
+    weights = crate / "src" / "weights.rt"
+    if numbers:
+        weights.write_text(with_weights(weights.read_text(), numbers))
+    kept = [line for line in (ROOT / "crates.txt").read_text().splitlines() if line.split(":")[0] in CRATES]
+    (folder / "crates.txt").write_text("\n".join(kept) + "\n")
+    subprocess.run(["git", "init", "-q", "."], cwd=folder, check=True)
+    subprocess.run(["rt", "run"], cwd=crate, stdout=subprocess.DEVNULL)
+    return crate / "out" / "partition_solver"
+
+
+def main():
+    boards = int(sys.argv[1]) if len(sys.argv) > 1 else 20
+    seed = int(sys.argv[2]) if len(sys.argv) > 2 else 1
+    numbers = [int(word) for word in Path(sys.argv[3]).read_text().split()] if len(sys.argv) > 3 else []
+    if numbers and len(numbers) != COUNT:
+        sys.exit(f"{sys.argv[3]} has {len(numbers)} numbers, and a set of weights has {COUNT}")
+    with tempfile.TemporaryDirectory() as name:
+        program = build(Path(name), boards, seed, numbers)
+        entries, steps = map(int, subprocess.run([str(program)], check=True, capture_output=True, text=True).stdout.split())
+    print(f"{boards} boards of seed {seed}, {entries} entries: {steps / entries:.0f} steps an entry")
+
+
+if __name__ == "__main__":
+    main()
