@@ -2,7 +2,7 @@
 use Rattle.std.specs.Prelude.{ℕ, List, [], ◌∷◌, ◌++◌, codes, Option, None, Some}
 use Rattle.std.specs.Fmt.{decimal}
 use Rattle.certificate_graph.specs.declared.faults.TextFault.{TextFault}
-use Rattle.certificate_graph.specs.FaultWords.{fault_number, fault_name, fault_line}
+use Rattle.certificate_graph.specs.FaultWords.{numbered, fault_line, fault_text}
 use Rattle.checker.specs.declared.faults.StepFault.{StepFault}
 use Rattle.checker.specs.declared.faults.StepFault.TheVariants.{CardNotLegal, BranchMissing, BranchExtra, LeafWinners}
 use Rattle.checker.specs.declared.faults.StepFault.TheVariants.{ChildLead, ChildNeed, ChildPattern, TreeShape}
@@ -56,10 +56,6 @@ part_fault_name RootPattern = codes "RootPattern"
 part_fault_name (Node fault) = codes "Node"
 
 -- ---- the texts that are printed
--- a number, a blank and a name, as in `2 BranchMissing`
-abbrev pub numbered : ℕ → List ℕ → List ℕ
-numbered number name = decimal number ++ 32 ∷ name
-
 -- `n Name`
 abbrev pub step_fault_text : StepFault → List ℕ
 step_fault_text fault = numbered (step_fault_number fault) (step_fault_name fault)
@@ -90,7 +86,7 @@ after_text (Some line) = codes " line " ++ decimal line
 
 -- `n Name line l`
 abbrev pub text_fault_text : TextFault → List ℕ
-text_fault_text fault = numbered (fault_number fault) (fault_name fault) ++ after_text (fault_line fault)
+text_fault_text fault = fault_text fault ++ after_text (fault_line fault)
 
 abbrev pub hand_fault_text : HandFault → List ℕ
 hand_fault_text (Entry fault) = entry_fault_text fault

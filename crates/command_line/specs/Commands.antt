@@ -4,6 +4,7 @@ use Rattle.clap.specs.declared.error.kind.ErrorKind.{ErrorKind}
 use Rattle.clap.specs.declared.error.kind.ErrorKind.TheVariants as kinds
 use Rattle.cards.specs.Devices.{Device}
 use Rattle.tournaments.specs.Asking.{MayFind}
+use Rattle.tournaments.specs.Moments.{MayTell}
 use Rattle.arguments.specs.CommandLine.{AreLetters}
 use Rattle.arguments.specs.Words.{AskFor, HasNone}
 use Rattle.arguments.specs.declared.command.Letters.{Letters}
@@ -45,11 +46,11 @@ pub data EndsWords (sink sink' errors errors' : Device) (kind : ErrorKind) (stat
       → EndsWords sink sink' errors errors' kind status
 
 -- the words ask for a subcommand, which is done, or there is none
-pub data MeetsWords (may_find : MayFind) (words : List (List ℕ)) (source source' sink sink' errors errors' : Device) (status : Status)
-    : Type 0 where
+pub data MeetsWords (may_find : MayFind) (may_tell : MayTell) (words : List (List ℕ))
+    (source source' sink sink' errors errors' : Device) (status : Status) : Type 0 where
   is_done : (letters : Letters) → AreLetters letters → (asked : Subcommand) → AskFor letters words asked
-      → RunsSubcommand may_find asked source source' sink sink' errors errors' status
-      → MeetsWords may_find words source source' sink sink' errors errors' status
+      → RunsSubcommand may_find may_tell asked source source' sink sink' errors errors' status
+      → MeetsWords may_find may_tell words source source' sink sink' errors errors' status
   is_none : (letters : Letters) → AreLetters letters → (kind : ErrorKind) → HasNone letters words kind → source' ≡ source
       → EndsWords sink sink' errors errors' kind status
-      → MeetsWords may_find words source source' sink sink' errors errors' status
+      → MeetsWords may_find may_tell words source source' sink sink' errors errors' status

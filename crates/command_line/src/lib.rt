@@ -33,8 +33,8 @@ pub fn run_command<'a, S: AsStr, P: Solver, C: Clock, I: Source, O: Sink, E: Sin
     output: &mut O,
     errors: &mut E,
 ) -> Status
-    ensures { MeetsWords (P.may_find solver.now) (map S.text words.entry.now) (I.state input.old) (I.state input.new)
-        (O.state output.old) (O.state output.new) (E.state errors.old) (E.state errors.new) result }
+    ensures { MeetsWords (P.may_find solver.now) (C.may_tell clock.now) (map S.text words.entry.now) (I.state input.old)
+        (I.state input.new) (O.state output.old) (O.state output.new) (E.state errors.old) (E.state errors.new) result }
 {
     match parse_arguments(alloc, words) {
         Ok(asked) => run_subcommand(alloc, asked, solver, clock, input, output, errors),
