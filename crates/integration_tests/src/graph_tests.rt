@@ -1,4 +1,4 @@
-//! Texts with their graphs and their faults, worked out by hand from the form of a text.
+//! Graphs of nodes and their texts. Texts that are refused are among the worked cases (`worked_cases`).
 
 use crate::certificates::{ACE, FINESSE, NOTHING};
 use crate::expect::{expect_bytes, expect_eq};
@@ -10,137 +10,6 @@ use patterns::{Pattern, SuitPart};
 use std::alloc::{AllocError, Global};
 use std::process::Abort;
 use std::test::Fail;
-
-/// A text, and its fault.
-#[derive(Drop)]
-struct Refusal {
-    text: &'static [u8],
-    fault: TextFault,
-}
-
-const REFUSALS: [Refusal; 28] = [
-    // a number with a leading zero
-    Refusal {
-        text: b"DDC 1\ntrump NT\nside NS\nnodes 2\nS 02 2.2.2.2/NWN 0.0.0.0/ 0.0.0.0/ 0.0.0.0/ Sx(SbSa(Sx{N1})SxSc(Sx{N1}))\nN 1 1.1.1.1/N 0.0.0.0/ 0.0.0.0/ 0.0.0.0/ Sa(SxSx(Sx{}))\n",
-        fault: TextFault::NodeForm { line: 5 },
-    },
-    // the number of no node
-    Refusal {
-        text: b"DDC 1\ntrump NT\nside NS\nnodes 2\nS 2 2.2.2.2/NWN 0.0.0.0/ 0.0.0.0/ 0.0.0.0/ Sx(SbSa(Sx{N2})SxSc(Sx{N1}))\nN 1 1.1.1.1/N 0.0.0.0/ 0.0.0.0/ 0.0.0.0/ Sa(SxSx(Sx{}))\n",
-        fault: TextFault::ChildNumber { line: 5 },
-    },
-    // an empty line behind the last one
-    Refusal {
-        text: b"DDC 1\ntrump NT\nside NS\nnodes 2\nS 2 2.2.2.2/NWN 0.0.0.0/ 0.0.0.0/ 0.0.0.0/ Sx(SbSa(Sx{N1})SxSc(Sx{N1}))\nN 1 1.1.1.1/N 0.0.0.0/ 0.0.0.0/ 0.0.0.0/ Sa(SxSx(Sx{}))\n\n",
-        fault: TextFault::Count { line: 7 },
-    },
-    // too few nodes counted, and too many
-    Refusal {
-        text: b"DDC 1\ntrump NT\nside NS\nnodes 1\nS 2 2.2.2.2/NWN 0.0.0.0/ 0.0.0.0/ 0.0.0.0/ Sx(SbSa(Sx{N1})SxSc(Sx{N1}))\nN 1 1.1.1.1/N 0.0.0.0/ 0.0.0.0/ 0.0.0.0/ Sa(SxSx(Sx{}))\n",
-        fault: TextFault::ChildNumber { line: 5 },
-    },
-    Refusal {
-        text: b"DDC 1\ntrump NT\nside NS\nnodes 3\nS 2 2.2.2.2/NWN 0.0.0.0/ 0.0.0.0/ 0.0.0.0/ Sx(SbSa(Sx{N1})SxSc(Sx{N1}))\nN 1 1.1.1.1/N 0.0.0.0/ 0.0.0.0/ 0.0.0.0/ Sa(SxSx(Sx{}))\n",
-        fault: TextFault::Count { line: 7 },
-    },
-    Refusal {
-        text: b"DDC 1\ntrump NT\nside NS\nnodes 1000001\n",
-        fault: TextFault::TooLarge { line: 4 },
-    },
-    Refusal {
-        text: b"DDC 1\ntrump NT\nside NS\nnodes 1000000\n",
-        fault: TextFault::Count { line: 5 },
-    },
-    Refusal {
-        text: b"DDC 1\ntrump NT\nside NS\nnodes 99999999999999999999999999999999999999999999\nx",
-        fault: TextFault::TooLarge { line: 4 },
-    },
-    // the first four lines
-    Refusal {
-        text: b"",
-        fault: TextFault::Head { line: 1 },
-    },
-    Refusal {
-        text: b"DDC 2\n",
-        fault: TextFault::Head { line: 1 },
-    },
-    Refusal {
-        text: b"DDC 1\r\ntrump NT\n",
-        fault: TextFault::Head { line: 1 },
-    },
-    Refusal {
-        text: b"DDC 1\ntrump N\n",
-        fault: TextFault::Head { line: 2 },
-    },
-    Refusal {
-        text: b"DDC 1\ntrump NT\nside N\n",
-        fault: TextFault::Head { line: 3 },
-    },
-    Refusal {
-        text: b"DDC 1\ntrump NT\nside NS\nnodes 1000001",
-        fault: TextFault::Head { line: 4 },
-    },
-    Refusal {
-        text: b"DDC 1\ntrump NT\nside NS\nnodes 01000001\n",
-        fault: TextFault::Head { line: 4 },
-    },
-    Refusal {
-        text: b"DDC 1\ntrump NT\nside NS\nnodes \n",
-        fault: TextFault::Head { line: 4 },
-    },
-    Refusal {
-        text: b"DDC 1\ntrump NT\nside NS\nnodes +1\n",
-        fault: TextFault::Head { line: 4 },
-    },
-    Refusal {
-        text: b"DDC 1\ntrump NT\nside NS\nnodes 00\n",
-        fault: TextFault::Head { line: 4 },
-    },
-    // branches and seats out of their order, or twice
-    Refusal {
-        text: b"DDC 1\ntrump NT\nside NS\nnodes 1\nE 1 1.1.1.1/N 0.0.0.0/ 0.0.0.0/ 0.0.0.0/ (Sx{}Sa{})\n",
-        fault: TextFault::NodeForm { line: 5 },
-    },
-    Refusal {
-        text: b"DDC 1\ntrump NT\nside NS\nnodes 1\nE 1 1.1.1.1/N 0.0.0.0/ 0.0.0.0/ 0.0.0.0/ (Sx{}Sx{})\n",
-        fault: TextFault::NodeForm { line: 5 },
-    },
-    Refusal {
-        text: b"DDC 1\ntrump NT\nside NS\nnodes 1\nE 1 1.1.1.1/N 0.0.0.0/ 0.0.0.0/ 0.0.0.0/ {E0 N0}\n",
-        fault: TextFault::NodeForm { line: 5 },
-    },
-    // five cards one below another, and deep parentheses
-    Refusal {
-        text: b"DDC 1\ntrump NT\nside NS\nnodes 1\nE 1 1.1.1.1/N 0.0.0.0/ 0.0.0.0/ 0.0.0.0/ SxSxSxSxSx{}\n",
-        fault: TextFault::NodeForm { line: 5 },
-    },
-    Refusal {
-        text: b"DDC 1\ntrump NT\nside NS\nnodes 1\nE 1 1.1.1.1/N 0.0.0.0/ 0.0.0.0/ 0.0.0.0/ (Sx(Sx(Sx(Sx(Sx(Sx(\n",
-        fault: TextFault::NodeForm { line: 5 },
-    },
-    // a need of none, a length of 14, a fourteenth owner, a number of eight digits
-    Refusal {
-        text: b"DDC 1\ntrump NT\nside NS\nnodes 1\nE 0 1.1.1.1/N 0.0.0.0/ 0.0.0.0/ 0.0.0.0/ {}\n",
-        fault: TextFault::NodeForm { line: 5 },
-    },
-    Refusal {
-        text: b"DDC 1\ntrump NT\nside NS\nnodes 1\nE 1 14.1.1.1/N 0.0.0.0/ 0.0.0.0/ 0.0.0.0/ {}\n",
-        fault: TextFault::NodeForm { line: 5 },
-    },
-    Refusal {
-        text: b"DDC 1\ntrump NT\nside NS\nnodes 1\nE 1 1.1.1.1/NNNNNNNNNNNNNN 0.0.0.0/ 0.0.0.0/ 0.0.0.0/ {}\n",
-        fault: TextFault::NodeForm { line: 5 },
-    },
-    Refusal {
-        text: b"DDC 1\ntrump NT\nside NS\nnodes 1\nE 1 1.1.1.1/NN 0.0.0.0/ 0.0.0.0/ 0.0.0.0/ {N10000000}\n",
-        fault: TextFault::NodeForm { line: 5 },
-    },
-    // two aces of one suit in a hand of one card; its line is of the form, and its child comes after
-    Refusal {
-        text: b"DDC 1\ntrump NT\nside NS\nnodes 1\nE 1 1.1.1.1/NN 0.0.0.0/ 0.0.0.0/ 0.0.0.0/ {N9999999}\n",
-        fault: TextFault::BadPattern { line: 5 },
-    },
-];
 
 /// The fault of a text, and none where it is read.
 fn fault_of(alloc: Global, text: &[u8]) -> Option<TextFault> {
@@ -221,14 +90,6 @@ fn beginnings(rt: HostRuntime) {
     for count in 0..FINESSE.len() {
         let fault = fault_of(rt.alloc(), &FINESSE[..count]);
         expect_eq(&rt, &fault, &Some(fault_of_beginning(count)));
-    }
-}
-
-#[test]
-fn refusals(rt: HostRuntime) {
-    for refusal in &REFUSALS {
-        let fault = fault_of(rt.alloc(), refusal.text);
-        expect_eq(&rt, &fault, &Some(refusal.fault));
     }
 }
 

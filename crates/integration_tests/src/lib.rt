@@ -41,7 +41,3 @@ mod table_tests;
 mod tournament_tests;
 #[cfg(test)]
 mod trick_tests;
-#[cfg(test)]
-mod value_tests;
-#[cfg(test)]
-mod worked_answers;

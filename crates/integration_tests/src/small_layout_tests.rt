@@ -69,29 +69,45 @@ impl Small {
         }
     }
 
-    fn len(&self, seat: Seat, suit: Suit) -> usize {
-        (0..self.cards)
-            .filter(|card| self.holder(*card) == seat && self.suit(*card) == suit)
-            .count()
+    /// How many cards of the suit the seat holds, of those that are not gone.
+    fn len(&self, seat: Seat, suit: Suit, gone: &[u8]) -> usize {
+        let mut count = 0usize;
+        for card in 0..self.cards {
+            if self.holder(card) == seat && self.suit(card) == suit && !gone.contains(&card) {
+                count = count.saturating_add(1);
+            }
+        }
+        count
     }
 
-    /// Whether each seat has as many cards as North.
+    /// Whether each seat has as many cards as the others.
     fn is_fair(&self) -> bool {
-        let north = (0..self.cards)
-            .filter(|card| self.holder(*card) == Seat::North)
-            .count();
-        Seat::ALL.iter().all(|seat| (0..self.cards)
-            .filter(|card| self.holder(*card) == *seat)
-            .count()
-            == north)
+        for seat in Seat::ALL {
+            let spades = self.len(seat, Suit::Spades, &[]);
+            let hearts = self.len(seat, Suit::Hearts, &[]);
+            if spades.saturating_add(hearts) != usize::from(self.cards / 4) {
+                return false;
+            }
+        }
+        true
     }
 
     fn may_play(&self, seat: Seat, led: Option<Suit>, card: u8) -> bool {
         let follows = match led {
-            Some(suit) => self.suit(card) == suit || self.len(seat, suit) == 0,
+            Some(suit) => self.suit(card) == suit || self.len(seat, suit, &[]) == 0,
             None => true,
         };
         self.holder(card) == seat && follows
+    }
+
+    /// Whether a card of the seat's that it may play is this pattern card.
+    fn may_play_as(&self, depths: [u8; 4], seat: Seat, led: Option<Suit>, wanted: PatCard) -> bool {
+        for card in 0..self.cards {
+            if self.pat_card(card, depths) == wanted && self.may_play(seat, led, card) {
+                return true;
+            }
+        }
+        false
     }
 
     /// The real layout of the cards that are not gone.
@@ -130,9 +146,7 @@ impl Small {
                 } else {
                     PatCard::Low(suit)
                 };
-                let found = (0..self.cards).any(|card| self.pat_card(card, depths) == wanted
-                    && self.may_play(seat, led, card));
-                if found {
+                if self.may_play_as(depths, seat, led, wanted) {
                     let _ = cards.try_push(wanted);
                 }
             }
@@ -153,12 +167,13 @@ impl Small {
 
     /// Whether the other layout's lengths of the suit are these, and its first owners of it begin the holders here.
     fn matches_suit(&self, other: &Small, suit: Suit, depth: u8) -> bool {
-        let lens = Seat::ALL
-            .iter()
-            .all(|seat| other.len(*seat, suit) == self.len(*seat, suit));
+        for seat in Seat::ALL {
+            if other.len(seat, suit, &[]) != self.len(seat, suit, &[]) {
+                return false;
+            }
+        }
         let held = self.owners(suit, 13, &[]);
-        lens && held
-            .as_slice()
+        held.as_slice()
             .starts_with(other.owners(suit, depth, &[]).as_slice())
     }
 
@@ -181,37 +196,54 @@ impl Trick {
         }
     }
 
+    /// The trump suit where a trump was played, and else the suit led.
     fn deciding_suit(&self, small: &Small) -> Suit {
-        match self.trump {
-            Trump::Suit(suit) if self.played.iter().any(|card| small.suit(*card) == suit) => suit,
-            _ => small.suit(self.played[0]),
-        }
+        let [first, second, third, fourth] = self.played;
+        let led = small.suit(first);
+        let Trump::Suit(trump) = self.trump else {
+            return led;
+        };
+        let is_trumped = small.suit(second) == trump
+            || small.suit(third) == trump
+            || small.suit(fourth) == trump;
+        if is_trumped { trump } else { led }
     }
 
     /// Whether no other card of the deciding suit is above the card.
     fn is_highest(&self, small: &Small, card: u8) -> bool {
         let suit = self.deciding_suit(small);
+        for other in self.played {
+            if small.suit(other) == suit && small.place(other) < small.place(card) {
+                return false;
+            }
+        }
         small.suit(card) == suit
-            && self.played.iter().all(|other| small.suit(*other) != suit
-                || small.place(card) <= small.place(*other))
     }
 
     fn winner(&self, small: &Small) -> Seat {
-        let highest = self
-            .played
-            .iter()
-            .find(|card| self.is_highest(small, **card));
-        match highest {
-            Some(card) => small.holder(*card),
-            None => self.leader,
+        for card in self.played {
+            if self.is_highest(small, card) {
+                return small.holder(card);
+            }
         }
+        self.leader
+    }
+
+    /// Whether a card of the deciding suit has a rank.
+    fn is_ranked(&self, small: &Small, depths: [u8; 4]) -> bool {
+        let suit = self.deciding_suit(small);
+        for card in self.played {
+            if small.suit(card) == suit && small.pat_card(card, depths) != PatCard::Low(suit) {
+                return true;
+            }
+        }
+        false
     }
 
     /// The winners by the rule: the highest top alone, or each low card of the suit.
     fn winners(&self, small: &Small, depths: [u8; 4]) -> SeatSet {
         let suit = self.deciding_suit(small);
-        let ranked = self.played.iter().any(|card| small.suit(*card) == suit
-            && small.pat_card(*card, depths) != PatCard::Low(suit));
+        let ranked = self.is_ranked(small, depths);
         let mut set = SeatSet::new();
         for card in self.played {
             let low = small.pat_card(card, depths) == PatCard::Low(suit);
@@ -237,13 +269,8 @@ fn check_left(rt: &impl Abort, small: &Small, suit: Suit, depth: u8, trick: &Tri
     let owners = small.owners(suit, depth, trick.played.as_slice());
     expect(rt, part.owners.as_slice() == owners.as_slice());
     for seat in Seat::ALL {
-        let gone = trick
-            .played
-            .iter()
-            .filter(|card| small.holder(**card) == seat && small.suit(**card) == suit)
-            .count();
         let kept = usize::from(part.lens[seat.number()]);
-        expect_eq(rt, &kept.saturating_add(gone), &small.len(seat, suit));
+        expect_eq(rt, &kept, &small.len(seat, suit, trick.played.as_slice()));
     }
 }
 

@@ -1,0 +1,135 @@
+//! Terms that make no book, and proofs that are not for the entry. Worked lists of requests are in `worked_cases`.
+
+use super::certificates::{EAST_HIGH, NORTH_HIGH, boards};
+use crate::expect::{expect, expect_eq};
+use cards::{Seat, Trump};
+use checker::{Verdict, judge};
+use lease_book::{Book, BookFault, Entry, Reply, replay};
+use pbn_deals::{Board, BoardName, read_layout};
+use std::alloc::Global;
+use std::process::Abort;
+use std::test::Fail;
+
+/// North's ace takes the trick that East leads to.
+const ACE: &str = "DDC 1
+trump NT
+side NS
+nodes 1
+E 1 1.1.1.1/N 0.0.0.0/ 0.0.0.0/ 0.0.0.0/ (SxSx(SxSa{}))
+";
+
+/// A side that needs nothing.
+const NOTHING: &str = "DDC 1
+trump NT
+side EW
+nodes 0
+";
+
+/// North declares the first board in no-trump.
+const NT: Entry = Entry {
+    board: 0,
+    declarer: Seat::North,
+    trump: Trump::Nt,
+};
+
+/// The first lease, which is for that entry.
+const GIVEN: Reply = Reply::Given {
+    lease: 1,
+    entry: NT,
+    deadline: 10,
+};
+
+/// So many boards without a deal.
+fn bare_boards(alloc: Global, count: u16) -> Result<Vec<Board>, Fail> {
+    let mut boards = Vec::new(alloc);
+    for _ in 0..count {
+        boards.push(Board {
+            name: BoardName::new(Vec::new(alloc)),
+            deal: None,
+        })?;
+    }
+    Ok(boards)
+}
+
+#[test]
+fn refused_terms(rt: HostRuntime) -> Result<(), Fail> {
+    let alloc = rt.alloc();
+    let wanted = [
+        (4_097, 0, Some(BookFault::TooManyBoards)),
+        (4_096, 0, Some(BookFault::Tries)),
+        (0, 1_001, Some(BookFault::Tries)),
+        (4_096, 1_000, None),
+        (0, 1, None),
+    ];
+    for (count, tries, fault) in wanted {
+        let book = Book::new(alloc, bare_boards(alloc, count)?, 10, tries);
+        expect_eq(&rt, &book.err(), &fault);
+        let replayed = replay(alloc, bare_boards(alloc, count)?, 10, tries, &[]);
+        expect_eq(&rt, &replayed.err(), &fault);
+    }
+    Ok(())
+}
+
+/// West leads to the trick of North's ace, against South.
+const WEST_LEADS: &str = "DDC 1
+trump NT
+side NS
+nodes 1
+W 1 1.1.1.1/N 0.0.0.0/ 0.0.0.0/ 0.0.0.0/ (SxSa(SxSx{}))
+";
+
+/// The verdict on a text that shows the declarer's trick where North has the ace.
+fn ace_of(alloc: Global, declarer: Seat, text: &str) -> Result<Verdict, Fail> {
+    let layout = read_layout(NORTH_HIGH.as_bytes())?;
+    Ok(judge(
+        alloc,
+        Some(&layout),
+        declarer,
+        Trump::Nt,
+        1,
+        text.as_bytes(),
+        NOTHING.as_bytes(),
+    )?)
+}
+
+/// A book over boards with these layouts, of which North's contract in no-trump on the first is leased.
+fn leased_book(rt: &impl Abort, alloc: Global, layouts: &[Option<&str>]) -> Result<Book, Fail> {
+    let mut book = Book::new(alloc, boards(alloc, layouts)?, 10, 1)?;
+    expect_eq(rt, &book.lease(0)?, &GIVEN);
+    Ok(book)
+}
+
+/// The proof is settled so under that lease.
+fn expect_settled(
+    rt: &impl Abort,
+    book: &mut Book,
+    proof: Verdict,
+    wanted: Reply,
+) -> Result<(), Fail> {
+    expect(rt, proof.is_ok());
+    expect_eq(rt, &book.settle(1, NT, proof)?, &wanted);
+    Ok(())
+}
+
+fn proof_on_another_deal(rt: &impl Abort, alloc: Global) -> Result<(), Fail> {
+    let proof = ace_of(alloc, Seat::North, ACE)?;
+    let mut book = leased_book(rt, alloc, &[Some(EAST_HIGH), Some(NORTH_HIGH)])?;
+    expect_settled(rt, &mut book, proof, Reply::OtherEntry)?;
+    expect_eq(rt, &book.published(NT), &None);
+    Ok(())
+}
+
+fn proof_of_another_declarer(rt: &impl Abort, alloc: Global) -> Result<(), Fail> {
+    let of_south = ace_of(alloc, Seat::South, WEST_LEADS)?;
+    let of_north = ace_of(alloc, Seat::North, ACE)?;
+    let mut book = leased_book(rt, alloc, &[Some(NORTH_HIGH)])?;
+    expect_settled(rt, &mut book, of_south, Reply::OtherEntry)?;
+    expect_settled(rt, &mut book, of_north, Reply::Published(1))
+}
+
+/// A proof on another deal, or of another declarer, isn't one for the entry.
+#[test]
+fn foreign_proofs(rt: HostRuntime) -> Result<(), Fail> {
+    proof_on_another_deal(&rt, rt.alloc())?;
+    proof_of_another_declarer(&rt, rt.alloc())
+}

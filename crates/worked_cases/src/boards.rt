@@ -1,0 +1,106 @@
+//! Cases on PBN texts.
+
+use crate::faults::say_pbn_fault;
+use crate::idle::StandsStill;
+use crate::texts::{bytes_of, field, repeated, say_field, say_number};
+use cards::{Buffer, Bytes};
+use partition_solver::Solver;
+use pbn_deals::{Board, read_boards, read_layout};
+use std::alloc::{AllocError, Global};
+use tables::Report;
+use tournaments::{MakeFault, make_tables_on_one_thread};
+
+/// Room for the tables of a case.
+const ROOM: usize = 4096;
+
+/// Says each board, by its name, and whether it has a deal.
+fn say_boards(boards: &[Board], out: &mut String) -> Result<(), AllocError> {
+    out.push_str("boards")?;
+    for board in boards {
+        out.push_str(" |")?;
+        say_field(board.name.as_bytes(), out)?;
+        out.push_str(if board.deal.is_some() {
+            " deal"
+        } else {
+            " none"
+        })?;
+    }
+    Ok(())
+}
+
+/// The boards of a text, or why it is refused.
+pub fn answer_boards(alloc: Global, case: &str, out: &mut String) -> Result<(), AllocError> {
+    let text = repeated(alloc, case)?;
+    match read_boards(alloc, text.as_slice()) {
+        Ok(boards) => say_boards(boards.as_slice(), out),
+        Err(fault) => {
+            out.push_str("refused")?;
+            say_pbn_fault(fault, out)
+        }
+    }
+}
+
+/// Whether a value of the Deal tag is a layout, or why it is refused.
+pub fn answer_layout(alloc: Global, case: &str, out: &mut String) -> Result<(), AllocError> {
+    let value = bytes_of(alloc, field(case, 1))?;
+    match read_layout(value.as_slice()) {
+        Ok(_) => out.push_str("layout"),
+        Err(fault) => {
+            out.push_str("refused")?;
+            say_pbn_fault(fault, out)
+        }
+    }
+}
+
+/// Says how many tables are complete, how many events their book has, and their text.
+fn say_tables(
+    report: Report,
+    events: usize,
+    text: &[u8],
+    out: &mut String,
+) -> Result<(), AllocError> {
+    say_number("complete ", report.complete as u64, out)?;
+    say_number(" of ", report.boards as u64, out)?;
+    say_number(", events ", events as u64, out)?;
+    out.push_str(" |")?;
+    say_field(text, out)
+}
+
+/// Says why there are no tables.
+fn say_make_fault(fault: MakeFault, out: &mut String) -> Result<(), AllocError> {
+    match fault {
+        MakeFault::OutOfMemory => out.push_str("out of memory"),
+        MakeFault::Read => out.push_str("reading failed"),
+        MakeFault::Write => out.push_str("writing failed"),
+        MakeFault::Pbn(fault) => {
+            out.push_str("refused")?;
+            say_pbn_fault(fault, out)
+        }
+    }
+}
+
+/// The tables of a text by a solver, each entry of which is tried three times, or why there are none.
+pub fn answer_tables<S: Solver>(
+    alloc: Global,
+    solver: &S,
+    case: &str,
+    out: &mut String,
+) -> Result<(), AllocError> {
+    let text = repeated(alloc, case)?;
+    let mut source = Bytes::new(text.as_slice(), 7);
+    let mut sink = Buffer::new(alloc, ROOM, 5)?;
+    let made = make_tables_on_one_thread(
+        alloc,
+        &mut source,
+        &mut sink,
+        600,
+        3,
+        10_000_000,
+        solver,
+        &StandsStill,
+    );
+    match made {
+        Ok((report, book)) => say_tables(report, book.history().len(), sink.bytes(), out),
+        Err(fault) => say_make_fault(fault, out),
+    }
+}

@@ -1,0 +1,32 @@
+//! A solver and a clock that do nothing.
+
+use cards::{Layout, Seat, Trump};
+use certificate_graph::Answer;
+use partition_solver::Solver;
+use std::alloc::{AllocError, Global};
+use tournaments::Clock;
+
+/// A solver that finds nothing.
+pub struct FindsNothing;
+
+impl Solver for FindsNothing {
+    fn solve(
+        &self,
+        _alloc: Global,
+        _layout: &Layout,
+        _declarer: Seat,
+        _trump: Trump,
+        _budget: u64,
+    ) -> Result<Option<Answer>, AllocError> {
+        Ok(None)
+    }
+}
+
+/// A clock that stands still.
+pub struct StandsStill;
+
+impl Clock for StandsStill {
+    fn now(&self) -> u64 {
+        0
+    }
+}

@@ -1,0 +1,36 @@
+//! Prints back the worked cases of its input, each with the answer that the libraries give now.
+//!
+//! The input has the answers too, but a line with an answer is passed over: what is printed below a case comes of that case
+//! alone. So the program prints what it read where every answer is the one that stands there.
+#![tactic(auto)]
+
+mod boards;
+mod cases;
+mod certificates;
+mod faults;
+mod idle;
+mod lists;
+mod replies;
+mod requests;
+mod runs;
+mod texts;
+mod words;
+
+use cases::answer_case;
+use std::io;
+
+fn main(rt: HostRuntime) -> io::Result<()> {
+    for line in rt.lines(rt.alloc()) {
+        let line = line?;
+        let text = line.as_str();
+        if text.starts_with("=") {
+            continue;
+        }
+        println!(rt; "{text}")?;
+        if !text.is_empty() && !text.starts_with("#") {
+            let answer = answer_case(rt.alloc(), text)?;
+            println!(rt; "= {answer}")?;
+        }
+    }
+    Ok(())
+}

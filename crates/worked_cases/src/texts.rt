@@ -1,0 +1,129 @@
+//! How a case is written: words, fields between bars, and bytes by their names.
+
+use cards::{Seat, Trump};
+use std::alloc::{AllocError, Global};
+
+/// A word of a text, counted from 0; empty where there is none.
+pub fn word(text: &str, place: usize) -> &str {
+    text.split_whitespace().nth(place).unwrap_or("")
+}
+
+/// A field of a case, counted from 1; empty where there is none.
+pub fn field(case: &str, place: usize) -> &str {
+    case.split('|').nth(place).unwrap_or("")
+}
+
+/// A number; 0 where the text is none.
+pub fn number(text: &str) -> u64 {
+    text.parse::<u64>().unwrap_or(0)
+}
+
+/// A seat by its letter; North where it is none.
+pub fn seat(letter: &str) -> Seat {
+    Seat::of_letter(letter).unwrap_or(Seat::North)
+}
+
+/// A denomination by its letters; no-trump where they are none.
+pub fn trump(letters: &str) -> Trump {
+    Trump::of_letters(letters).unwrap_or(Trump::Nt)
+}
+
+/// How far a byte in a field has been read.
+#[derive(Clone, Copy)]
+enum Reading {
+    /// A byte stands for itself.
+    Plain,
+    /// A backslash was read.
+    Named,
+    /// A backslash and `x` were read.
+    HighDigit,
+    /// These and a digit were read.
+    LowDigit(u8),
+}
+
+/// The value of a hexadecimal digit.
+fn digit(byte: u8) -> u8 {
+    if byte >= b'A' {
+        byte.wrapping_sub(b'A').wrapping_add(10)
+    } else {
+        byte.wrapping_sub(b'0')
+    }
+}
+
+/// Reads one byte more of a field.
+fn read_on(text: &mut Vec<u8>, reading: Reading, byte: u8) -> Result<Reading, AllocError> {
+    let meant = match (reading, byte) {
+        (Reading::Plain, b'\\') => return Ok(Reading::Named),
+        (Reading::Named, b'x') => return Ok(Reading::HighDigit),
+        (Reading::HighDigit, _) => return Ok(Reading::LowDigit(digit(byte))),
+        (Reading::LowDigit(high), _) => high.wrapping_mul(16).wrapping_add(digit(byte)),
+        (Reading::Named, b'n') => b'\n',
+        (Reading::Named, b'r') => b'\r',
+        (Reading::Named, b't') => b'\t',
+        _ => byte,
+    };
+    text.push(meant)?;
+    Ok(Reading::Plain)
+}
+
+/// Adds the bytes that a field names.
+fn add_bytes(text: &mut Vec<u8>, field: &str) -> Result<(), AllocError> {
+    let mut reading = Reading::Plain;
+    for byte in field.as_bytes() {
+        reading = read_on(text, reading, *byte)?;
+    }
+    Ok(())
+}
+
+/// The bytes that a field names.
+pub fn bytes_of(alloc: Global, field: &str) -> Result<Vec<u8>, AllocError> {
+    let mut text = Vec::new(alloc);
+    add_bytes(&mut text, field)?;
+    Ok(text)
+}
+
+/// The bytes of the third field, as often as the second says, and then those of the first.
+pub fn repeated(alloc: Global, case: &str) -> Result<Vec<u8>, AllocError> {
+    let mut text = Vec::new(alloc);
+    for _time in 0..number(field(case, 2)) {
+        add_bytes(&mut text, field(case, 3))?;
+    }
+    add_bytes(&mut text, field(case, 1))?;
+    Ok(text)
+}
+
+/// The digits of a byte that is written by its number.
+const DIGITS: [&str; 16] = [
+    "0", "1", "2", "3", "4", "5", "6", "7", "8", "9", "A", "B", "C", "D", "E", "F",
+];
+
+/// Names a byte.
+fn say_byte(byte: u8, out: &mut String) -> Result<(), AllocError> {
+    match byte {
+        b'\n' => out.push_str("\\n"),
+        b'\r' => out.push_str("\\r"),
+        b'\t' => out.push_str("\\t"),
+        b'\\' => out.push_str("\\\\"),
+        b'|' => out.push_str("\\x7C"),
+        b' '..=b'~' => out.push(char::from(byte)),
+        _ => {
+            out.push_str("\\x")?;
+            out.push_str(DIGITS[usize::from(byte / 16)])?;
+            out.push_str(DIGITS[usize::from(byte % 16)])
+        }
+    }
+}
+
+/// Names bytes, and ends their field.
+pub fn say_field(bytes: &[u8], out: &mut String) -> Result<(), AllocError> {
+    for byte in bytes {
+        say_byte(*byte, out)?;
+    }
+    out.push_str("|")
+}
+
+/// Says a word and a number.
+pub fn say_number(word: &str, number: u64, out: &mut String) -> Result<(), AllocError> {
+    out.push_str(word)?;
+    write!(out, "{number}")
+}
