@@ -5,7 +5,6 @@ ghost use Rattle.subcommands.specs.Runs.{IsInRange};
 
 use cards::{Buffer, Bytes, Layout, Seat, Trump};
 use certificate_graph::Answer;
-use command_line::run_command;
 use partition_solver::Solver;
 use std::alloc::{AllocError, Global};
 use std::fmt::Debug;
@@ -94,52 +93,4 @@ pub fn expect_run(
         &mut errors,
     );
     expect_end(rt, status, &output, &errors, wanted)
-}
-
-/// What a run has printed and told, and how it has ended.
-#[derive(Drop)]
-pub struct Ran {
-    pub status: Status,
-    pub output: Buffer,
-    pub errors: Buffer,
-}
-
-/// Does what the words ask for, over an input and over outputs with this much room.
-pub fn run_words(
-    alloc: Global,
-    words: &[&str],
-    text: &[u8],
-    room: usize,
-    room_to_tell: usize,
-) -> Result<Ran, AllocError> {
-    let mut input = Bytes::new(text, 7);
-    let mut output = Buffer::new(alloc, room, 3)?;
-    let mut errors = Buffer::new(alloc, room_to_tell, 7)?;
-    let status = run_command(
-        alloc,
-        words,
-        &Nothing,
-        &Stopped,
-        &mut input,
-        &mut output,
-        &mut errors,
-    );
-    Ok(Ran {
-        status,
-        output,
-        errors,
-    })
-}
-
-/// Does what the words ask for, over an input and an output with this much room.
-pub fn expect_words(
-    rt: &impl Abort,
-    alloc: Global,
-    words: &[&str],
-    text: &[u8],
-    room: usize,
-    wanted: End<'_>,
-) -> Result<(), Fail> {
-    let ran = run_words(alloc, words, text, room, ROOM)?;
-    expect_end(rt, ran.status, &ran.output, &ran.errors, wanted)
 }

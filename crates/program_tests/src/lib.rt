@@ -4,8 +4,6 @@
 #![tactic(auto)]
 
 #[cfg(test)]
-mod answer_tests;
-#[cfg(test)]
 mod check_tests;
 #[cfg(test)]
 mod closing_tests;
@@ -17,5 +15,3 @@ mod plain_tests;
 mod solve_tests;
 #[cfg(test)]
 mod table_tests;
-#[cfg(test)]
-mod word_tests;

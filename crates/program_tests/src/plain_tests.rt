@@ -1,48 +1,12 @@
-//! Layouts that are refused, and lines one after the other on one output.
+//! Lines of `plain`, one after the other on one output.
 
-use crate::expect::{ROOM, expect_eq, expect_run};
+use crate::expect::expect_eq;
 use cards::{Buffer, Seat, Suit, Trump};
 use pbn_deals::PbnFault;
 use std::alloc::Global;
 use std::process::Abort;
 use std::test::Fail;
 use subcommands::{RunFault, Status, Subcommand, plain_line};
-
-/// Layouts that are refused, and what is told of them.
-const REFUSED: [(&str, &str); 11] = [
-    (
-        "N:AKQJT... 98765... ..AKQJT. ...AKQJT",
-        "ddfarm: plain takes at most 4 cards a hand\n",
-    ),
-    ("N:A... A... Q... J...", "ddfarm: layout: 5 CardTwice\n"),
-    ("N:AA... K... Q... J...", "ddfarm: layout: 5 CardTwice\n"),
-    ("N:A... K... Q...", "ddfarm: layout: 4 DealForm\n"),
-    ("N:A... K... Q... -", "ddfarm: layout: 4 DealForm\n"),
-    ("N:10... K... Q... J...", "ddfarm: layout: 4 DealForm\n"),
-    ("", "ddfarm: layout: 4 DealForm\n"),
-    ("?", "ddfarm: layout: 4 DealForm\n"),
-    ("#", "ddfarm: layout: 4 DealForm\n"),
-    ("N:A... K... Q... J.2..", "ddfarm: layout: 6 HandSize\n"),
-    ("N:... ... ... ...", "ddfarm: layout: 6 HandSize\n"),
-];
-
-/// Each layout is refused.
-fn expect_refused(rt: &impl Abort, alloc: Global, rows: &[(&str, &str)]) -> Result<(), Fail> {
-    for (layout, told) in rows {
-        let run = Subcommand::Plain {
-            layout,
-            leader: Seat::East,
-            trump: Trump::Nt,
-        };
-        expect_run(rt, alloc, run, b"", ROOM, (Status::Refused, "", *told))?;
-    }
-    Ok(())
-}
-
-#[test]
-fn refused_layouts(rt: HostRuntime) -> Result<(), Fail> {
-    expect_refused(&rt, rt.alloc(), REFUSED.as_slice())
-}
 
 /// Layouts with a leader and a trump, and what comes of each, on one output.
 const LINES: [(&[u8], Seat, Trump, Result<(), RunFault>); 4] = [

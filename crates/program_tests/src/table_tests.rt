@@ -1,4 +1,4 @@
-//! What `table` prints of PBN texts, worked out by hand from the format.
+//! Tables on an output that is full, of an input that fails, and what is reported of them.
 
 use crate::expect::{Nothing, ROOM, Stopped, expect_eq, expect_run};
 use cards::{Buffer, Bytes};
@@ -53,86 +53,6 @@ const OF_CR_LF: &str = "% PBN 2.1
 ";
 
 const UNNAMED: &str = "% PBN 2.1\n[Board \"\"]\n[Deal \"?\"]\n; table incomplete: 0 of 20\n\n";
-
-const NAMED_A: &str = "% PBN 2.1\n[Board \"a\"]\n[Deal \"?\"]\n; table incomplete: 0 of 20\n\n";
-
-const NO_BOARDS: &str = "% PBN 2.1\n";
-
-/// Texts, how a run of each ends, and what is printed.
-const BOARDS: [(&[u8], Status, &str); 6] = [
-    (CR_LF, Status::Incomplete, OF_CR_LF),
-    (b"[Deal \"?\"] ; [Deal \"?\"]", Status::Incomplete, UNNAMED),
-    (b"x [Deal \"?\"]", Status::Done, NO_BOARDS),
-    (b"{\n%}\n[Deal \"?\"]", Status::Incomplete, UNNAMED),
-    (
-        b"[Board \"a\"]\n{\n\n}\n[Deal \"?\"]",
-        Status::Incomplete,
-        NAMED_A,
-    ),
-    (b"", Status::Done, NO_BOARDS),
-];
-
-/// Each text has its boards.
-fn expect_boards(
-    rt: &impl Abort,
-    alloc: Global,
-    rows: &[(&[u8], Status, &str)],
-) -> Result<(), Fail> {
-    for (text, status, printed) in rows {
-        expect_run(rt, alloc, TABLES, text, ROOM, (*status, *printed, ""))?;
-    }
-    Ok(())
-}
-
-#[test]
-fn boards_without_results(rt: HostRuntime) -> Result<(), Fail> {
-    expect_boards(&rt, rt.alloc(), BOARDS.as_slice())?;
-    let written = [(OF_CR_LF.as_bytes(), Status::Incomplete, OF_CR_LF)];
-    expect_boards(&rt, rt.alloc(), written.as_slice())
-}
-
-/// Texts that are refused, and what is told of them.
-const REFUSED: [(&[u8], &str); 7] = [
-    (
-        b"[Board \"1\"]\n[Deal \"N:AKQJT98765432... AKQJT98765432... ..AKQJT98765432. ...AKQJT98765432\"]",
-        "ddfarm: line 2: 5 CardTwice\n",
-    ),
-    (
-        b"[Deal \"N:AKQJT98765432.A.. .KQJT98765432.. ..AKQJT98765432. ...AKQJT98765432\"]",
-        "ddfarm: line 1: 6 HandSize\n",
-    ),
-    (
-        b"[Deal \"?\"]\n[Deal \"?\"]",
-        "ddfarm: line 2: 3 SecondDeal\n",
-    ),
-    (b"[Deal \"#\"]", "ddfarm: line 1: 7 Inherited\n"),
-    (b"[Board \"1\"", "ddfarm: line 1: 1 TagForm\n"),
-    (b"{", "ddfarm: line 1: 2 OpenComment\n"),
-    (b"[Deal \"N:- - -\"]", "ddfarm: line 1: 4 DealForm\n"),
-];
-
-/// Each text is refused.
-fn expect_refused(rt: &impl Abort, alloc: Global, rows: &[(&[u8], &str)]) -> Result<(), Fail> {
-    for (text, told) in rows {
-        expect_run(rt, alloc, TABLES, text, ROOM, (Status::Refused, "", *told))?;
-    }
-    Ok(())
-}
-
-#[test]
-fn refused_texts(rt: HostRuntime) -> Result<(), Fail> {
-    expect_refused(&rt, rt.alloc(), REFUSED.as_slice())
-}
-
-#[test]
-fn too_many_boards(rt: HostRuntime) -> Result<(), Fail> {
-    let mut many = Vec::new(rt.alloc());
-    for _board in 0..4097 {
-        many.extend_from_slice(b"[Deal \"?\"]\n\n")?;
-    }
-    let rows = [(many.as_slice(), "ddfarm: line 8193: 8 TooManyBoards\n")];
-    expect_refused(&rt, rt.alloc(), rows.as_slice())
-}
 
 #[test]
 fn a_full_output_of_tables(rt: HostRuntime) -> Result<(), Fail> {
