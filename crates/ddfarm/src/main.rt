@@ -5,11 +5,11 @@
 
 use command_line::run_command;
 use partition_solver::Partition;
-use subcommands::{RunFault, close_output, tell};
 use std::io::{BufWriter, ErrorKind};
 use std::process::ExitCode;
 use std::time::Instant;
 use streams::{ReaderSource, WriterSink};
+use subcommands::{RunFault, close_output, tell};
 use tournaments::Clock;
 
 /// Whole seconds since the program's start.

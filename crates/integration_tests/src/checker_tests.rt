@@ -20,7 +20,7 @@ const PRINTED: [(HandFault, &str); 5] = [
     ),
     (
         HandFault::DefendersText(TextFault::Head { line: 1 }),
-        "defenders 10 Text 1 Head",
+        "defenders 10 Text 1 Head line 1",
     ),
     (HandFault::Entry(EntryFault::KTooLarge), "9 KTooLarge"),
     (HandFault::NoDeal, "11 NoDeal"),
