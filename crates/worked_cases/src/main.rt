@@ -1,7 +1,6 @@
-//! Prints back the worked cases of its input, each with the answer that the libraries give now.
+//! Prints the worked cases of its input, each with the answer that the libraries give now.
 //!
-//! The input has the answers too, but a line with an answer is passed over: what is printed below a case comes of that case
-//! alone. So the program prints what it read where every answer is the one that stands there.
+//! A line of the input that has an answer is passed over: what is printed below a case comes of that case alone.
 #![tactic(auto)]
 
 mod boards;
