@@ -1,2 +1,1 @@
 mod ReadLemmas
-mod SaysLemmas

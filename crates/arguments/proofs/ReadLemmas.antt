@@ -7,7 +7,8 @@ use Rattle.clap.specs.declared.error.Error.{Error}
 use Rattle.clap.specs.declared.error.kind.ErrorKind.TheVariants.{MissingSubcommand}
 use Rattle.subcommands.specs.declared.running.Subcommand.{Subcommand}
 use Rattle.arguments.specs.CommandLine.{command_line}
-use Rattle.arguments.specs.Words.{AreReadBy, AskFor, HasNone, SaysMatched, reasons}
+use Rattle.arguments.specs.Words.{AreReadBy, AskFor, HasNone, reasons}
+use Rattle.matched_words.specs.Matches.{SaysMatched}
 use Rattle.arguments.specs.declared.command.Letters.{Letters}
 
 pub simple : (letters : Letters) → is_simple (command_line letters) ≡ true

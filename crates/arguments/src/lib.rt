@@ -3,7 +3,6 @@
 
 mod command;
 mod help;
-mod matched;
 mod words;
 
 pub use words::parse_arguments;

@@ -6,9 +6,9 @@ ghost use Rattle.clap.specs.declared.error.kind.ErrorKind.TheVariants.{MissingSu
 ghost use Rattle.arguments.specs.Words.{AreReadAs};
 
 use crate::command::{Letters, command, known_letters};
-use crate::matched::matched_subcommand;
 use clap::Error;
 use clap::error::ErrorKind;
+use matched_words::matched_subcommand;
 use std::alloc::{AllocError, Global};
 use std::convert::AsStr;
 use subcommands::Subcommand;

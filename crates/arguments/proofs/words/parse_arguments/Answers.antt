@@ -1,6 +1,6 @@
 use Rattle.std.proofs.Common.{rules, ◌∙◌, List, Option, map, ap, sym, subst}
 use Rattle.clap.specs.Words.{App, HasKind, Row, Text, fault_of, is_simple, is_simple_and_free, subcommand_of}
-use Rattle.arguments.specs.Words.{SaysMatched}
+use Rattle.matched_words.specs.Matches.{SaysMatched}
 use Rattle.arguments.proofs.ReadLemmas.{simple, simple_and_free, none_from, none_without, refused_by}
 use Rattle.arguments.proofs.words.parse_arguments.Goals as goal
 

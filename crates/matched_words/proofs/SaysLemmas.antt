@@ -5,8 +5,8 @@ use Rattle.std.proofs.lemmas.Slice.Eq.{bytes_eq-Decides}
 use Rattle.clap.specs.Words.{Row, Text}
 use Rattle.subcommands.specs.declared.running.Subcommand.{Subcommand}
 use Rattle.subcommands.specs.declared.running.Subcommand.TheVariants.{Plain, Solve, Table, Check}
-use Rattle.arguments.specs.Words.{IsRead, Says, SaysHand, SaysNumber}
-use Rattle.arguments.specs.declared.matched.Hand.{Hand}
+use Rattle.matched_words.specs.Matches.{IsRead, Says, SaysDeal, SaysNumber}
+use Rattle.matched_words.specs.declared.matched.NamedDeal.{NamedDeal}
 
 pub nothing_read : {T : Type 0} (Said : T → Type 0) (read : Option T) → read ≡ None → ((x : T) → Said x → ⊥) → IsRead Said read
 nothing_read Said read none nothing = rw none nothing
@@ -19,7 +19,7 @@ apart a b differ same =
     let bad : false ≡ true = sym differ ∙ yes in
     cc
 
-pub no_plain : (said : List Row) → ((hand : Hand) → SaysHand said (codes "LEADER") hand → ⊥)
+pub no_plain : (said : List Row) → ((deal : NamedDeal) → SaysDeal said (codes "LEADER") deal → ⊥)
     → (read : Subcommand) → Says (codes "plain") said read → ⊥
 no_plain said none (Plain layout leader trump) h = none (record { layout = layout; seat = leader; trump = trump }) h.1
 no_plain said none (Solve layout declarer trump budget) h = absurd (apart (codes "plain") (codes "solve") refl h.0)
@@ -27,7 +27,7 @@ no_plain said none (Table term tries budget) h = absurd (apart (codes "plain") (
 no_plain said none (Check layout declarer trump) h = absurd (apart (codes "plain") (codes "check") refl h.0)
 
 pub no_solve : (said : List Row)
-    → ((hand : Hand) (budget : ℕ) → SaysHand said (codes "DECLARER") hand → SaysNumber said (codes "budget") 1 1000000000 budget → ⊥)
+    → ((deal : NamedDeal) (budget : ℕ) → SaysDeal said (codes "DECLARER") deal → SaysNumber said (codes "budget") 1 1000000000 budget → ⊥)
     → (read : Subcommand) → Says (codes "solve") said read → ⊥
 no_solve said none (Plain layout leader trump) h = absurd (apart (codes "solve") (codes "plain") refl h.0)
 no_solve said none (Solve layout declarer trump budget) h = none (record { layout = layout; seat = declarer; trump = trump }) budget h.1 h.2
@@ -43,7 +43,7 @@ no_table said none (Solve layout declarer trump budget) h = absurd (apart (codes
 no_table said none (Table term tries budget) h = none term tries budget h.1 h.2 h.3
 no_table said none (Check layout declarer trump) h = absurd (apart (codes "table") (codes "check") refl h.0)
 
-pub no_check : (said : List Row) → ((hand : Hand) → SaysHand said (codes "DECLARER") hand → ⊥)
+pub no_check : (said : List Row) → ((deal : NamedDeal) → SaysDeal said (codes "DECLARER") deal → ⊥)
     → (read : Subcommand) → Says (codes "check") said read → ⊥
 no_check said none (Plain layout leader trump) h = absurd (apart (codes "check") (codes "plain") refl h.0)
 no_check said none (Solve layout declarer trump budget) h = absurd (apart (codes "check") (codes "solve") refl h.0)

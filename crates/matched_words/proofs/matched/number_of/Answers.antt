@@ -1,8 +1,8 @@
 use Rattle.std.proofs.Common.{◌≡◌, ◌∙◌, arith, sym, inl, inr}
 use Rattle.clap.specs.Words.{found_of, one_text}
 use Rattle.clap.proofs.WalkLemmas.{one_text-rows}
-use Rattle.arguments.proofs.SaysLemmas.{nothing_read, has_text}
-use Rattle.arguments.proofs.matched.number_of.Goals as goal
+use Rattle.matched_words.proofs.SaysLemmas.{nothing_read, has_text}
+use Rattle.matched_words.proofs.matched.number_of.Goals as goal
 
 pub returns-in_err-number : goal.returns-in_err-number
 returns-in_err-number c = nothing_read _ _ c.from_residual.ensures (λ number said.

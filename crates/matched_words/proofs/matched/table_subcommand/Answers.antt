@@ -1,6 +1,6 @@
 use Rattle.clap.specs.Words.{found_of, rows_of}
-use Rattle.arguments.proofs.SaysLemmas.{nothing_read, no_table}
-use Rattle.arguments.proofs.matched.table_subcommand.Goals as goal
+use Rattle.matched_words.proofs.SaysLemmas.{nothing_read, no_table}
+use Rattle.matched_words.proofs.matched.table_subcommand.Goals as goal
 
 pub returns-in_err-term : goal.returns-in_err-term
 returns-in_err-term c = nothing_read _ _ c.from_residual.ensures (no_table (rows_of (found_of c.args.said.now)) (λ term tries budget a b d. c.in_err-term.ensures term a))

@@ -4,25 +4,33 @@ ghost use Rattle.std.specs.Prelude.{◌≡◌, ◌↔◌, Some, codes, option_ma
 ghost use Rattle.clap.specs.Words.{first_of, found_of, rows_of, subcommand_rows_of};
 ghost use Rattle.cards.specs.Seats.{seat_letter};
 ghost use Rattle.cards.specs.Pack.{trump_letters};
-ghost use Rattle.arguments.specs.Words.{IsRead, Says, SaysMatched, SaysHand, SaysNumber};
+ghost use Rattle.matched_words.specs.Matches.{IsRead, Says, SaysDeal, SaysMatched, SaysNumber};
 
 use cards::{Seat, Trump};
 use clap::ArgMatches;
 use subcommands::Subcommand;
 
-/// The most steps of a search, and the most seconds of a lease.
-const BILLION: u64 = 1_000_000_000;
+/// The most steps of a search.
+const MOST_STEPS: u64 = 1_000_000_000;
 
-/// The words that stand for a layout, a seat and a denomination.
+/// The most seconds that an entry is lent.
+const LONGEST_TERM: u64 = 1_000_000_000;
+
+/// How often an entry is searched at most.
+const MOST_TRIES: u64 = 1000;
+
+/// What the words of `plain`, `solve` and `check` name.
 #[derive(Clone, Copy)]
-pub struct Hand<'a> {
+pub struct NamedDeal<'a> {
+    /// The value of a PBN Deal tag, as it was typed.
     pub layout: &'a str,
+    /// Who leads, for `plain`; else declarer.
     pub seat: Seat,
     pub trump: Trump,
 }
 
 /// The subcommand that the words name, where the matches have its words.
-pub(crate) fn matched_subcommand<'a>(matches: &ArgMatches<'a>) -> Option<Subcommand<'a>>
+pub fn matched_subcommand<'a>(matches: &ArgMatches<'a>) -> Option<Subcommand<'a>>
     ensures { IsRead (SaysMatched (subcommand_rows_of matches.now)) result }
 {
     let (name, said) = matches.subcommand()?;
@@ -38,23 +46,23 @@ pub(crate) fn matched_subcommand<'a>(matches: &ArgMatches<'a>) -> Option<Subcomm
 fn plain_subcommand<'a>(said: &ArgMatches<'a>) -> Option<Subcommand<'a>>
     ensures { IsRead (Says (codes "plain") (rows_of (found_of said.now))) result }
 {
-    let hand = hand_of(said, "LEADER")?;
+    let deal = deal_of(said, "LEADER")?;
     Some(Subcommand::Plain {
-        layout: hand.layout,
-        leader: hand.seat,
-        trump: hand.trump,
+        layout: deal.layout,
+        leader: deal.seat,
+        trump: deal.trump,
     })
 }
 
 fn solve_subcommand<'a>(said: &ArgMatches<'a>) -> Option<Subcommand<'a>>
     ensures { IsRead (Says (codes "solve") (rows_of (found_of said.now))) result }
 {
-    let hand = hand_of(said, "DECLARER")?;
-    let budget = number_of(said, "budget", 1, BILLION)?;
+    let deal = deal_of(said, "DECLARER")?;
+    let budget = number_of(said, "budget", 1, MOST_STEPS)?;
     Some(Subcommand::Solve {
-        layout: hand.layout,
-        declarer: hand.seat,
-        trump: hand.trump,
+        layout: deal.layout,
+        declarer: deal.seat,
+        trump: deal.trump,
         budget,
     })
 }
@@ -62,9 +70,9 @@ fn solve_subcommand<'a>(said: &ArgMatches<'a>) -> Option<Subcommand<'a>>
 fn table_subcommand<'a>(said: &ArgMatches<'a>) -> Option<Subcommand<'a>>
     ensures { IsRead (Says (codes "table") (rows_of (found_of said.now))) result }
 {
-    let term = number_of(said, "term", 0, BILLION)?;
-    let tries = number_of(said, "tries", 1, 1000)?;
-    let budget = number_of(said, "budget", 1, BILLION)?;
+    let term = number_of(said, "term", 0, LONGEST_TERM)?;
+    let tries = number_of(said, "tries", 1, MOST_TRIES)?;
+    let budget = number_of(said, "budget", 1, MOST_STEPS)?;
     Some(Subcommand::Table {
         term,
         tries: tries as u32,
@@ -75,22 +83,22 @@ fn table_subcommand<'a>(said: &ArgMatches<'a>) -> Option<Subcommand<'a>>
 fn check_subcommand<'a>(said: &ArgMatches<'a>) -> Option<Subcommand<'a>>
     ensures { IsRead (Says (codes "check") (rows_of (found_of said.now))) result }
 {
-    let hand = hand_of(said, "DECLARER")?;
+    let deal = deal_of(said, "DECLARER")?;
     Some(Subcommand::Check {
-        layout: hand.layout,
-        declarer: hand.seat,
-        trump: hand.trump,
+        layout: deal.layout,
+        declarer: deal.seat,
+        trump: deal.trump,
     })
 }
 
 /// The layout, the seat of this name and the denomination.
-fn hand_of<'a>(said: &ArgMatches<'a>, seat: &str) -> Option<Hand<'a>>
-    ensures { IsRead (SaysHand (rows_of (found_of said.now)) seat.now) result }
+fn deal_of<'a>(said: &ArgMatches<'a>, seat: &str) -> Option<NamedDeal<'a>>
+    ensures { IsRead (SaysDeal (rows_of (found_of said.now)) seat.now) result }
 {
     let layout = word_of(said, "LAYOUT")?;
     let seat = seat_of(said, seat)?;
     let trump = trump_of(said)?;
-    Some(Hand {
+    Some(NamedDeal {
         layout,
         seat,
         trump,

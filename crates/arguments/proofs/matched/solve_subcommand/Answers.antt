@@ -1,9 +1,0 @@
-use Rattle.clap.specs.Words.{found_of, rows_of}
-use Rattle.arguments.proofs.SaysLemmas.{nothing_read, no_solve}
-use Rattle.arguments.proofs.matched.solve_subcommand.Goals as goal
-
-pub returns-in_err-hand : goal.returns-in_err-hand
-returns-in_err-hand c = nothing_read _ _ c.from_residual.ensures (no_solve (rows_of (found_of c.args.said.now)) (λ hand budget h b. c.in_err-hand.ensures hand h))
-
-pub returns-in_err-budget : goal.returns-in_err-budget
-returns-in_err-budget c = nothing_read _ _ c.from_residual-in_err-budget.ensures (no_solve (rows_of (found_of c.args.said.now)) (λ hand budget h b. c.in_err-budget.ensures budget b))

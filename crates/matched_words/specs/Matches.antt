@@ -1,0 +1,44 @@
+-- What the words of a subcommand say, and what `clap`'s matches are read as.
+use Rattle.std.specs.Prelude.{◌≡◌, ◌≤◌, ℕ, List, Option, Some, None, codes}
+use Rattle.std.specs.Str.Parse.{IsNumeral, digits_value, without_leading_plus}
+use Rattle.clap.specs.Words.{Row, Text, first_of, one_of}
+use Rattle.cards.specs.Seats.{seat_letter}
+use Rattle.cards.specs.Pack.{trump_letters}
+use Rattle.subcommands.specs.declared.running.Subcommand.{Subcommand}
+use Rattle.subcommands.specs.declared.running.Subcommand.TheVariants.{Plain, Solve, Table, Check}
+use Rattle.matched_words.specs.declared.matched.NamedDeal.{NamedDeal}
+
+-- the digits, which a plus may precede, write the number
+abbrev pub Writes : Text → ℕ → Type 0
+Writes text number = IsNumeral 10 (without_leading_plus text) × (digits_value 10 (without_leading_plus text) ≡ number)
+
+-- the words say the layout, the seat under this name and the denomination
+abbrev pub SaysDeal : List Row → Text → NamedDeal → Type 0
+SaysDeal said name deal = (first_of (codes "LAYOUT") said ≡ Some deal.layout.now)
+    × (first_of name said ≡ Some (seat_letter deal.seat))
+    × (first_of (codes "TRUMP") said ≡ Some (trump_letters deal.trump))
+
+-- the words have an option's number, or it is the default; it is in its range
+abbrev pub SaysNumber : List Row → Text → ℕ → ℕ → ℕ → Type 0
+SaysNumber said name least most number =
+    (text : Text) × (one_of name said ≡ Some text) × Writes text number × (least ≤ number) × (number ≤ most)
+
+-- what was said after a subcommand's name is this
+abbrev pub Says : Text → List Row → Subcommand → Type 0
+Says name said (Plain layout leader trump) = (name ≡ codes "plain")
+    × SaysDeal said (codes "LEADER") (record { layout = layout; seat = leader; trump = trump })
+Says name said (Solve layout declarer trump budget) = (name ≡ codes "solve")
+    × SaysDeal said (codes "DECLARER") (record { layout = layout; seat = declarer; trump = trump }) × SaysNumber said (codes "budget") 1 1000000000 budget
+Says name said (Table term tries budget) = (name ≡ codes "table") × SaysNumber said (codes "term") 0 1000000000 term
+    × SaysNumber said (codes "tries") 1 1000 tries × SaysNumber said (codes "budget") 1 1000000000 budget
+Says name said (Check layout declarer trump) = (name ≡ codes "check")
+    × SaysDeal said (codes "DECLARER") (record { layout = layout; seat = declarer; trump = trump })
+
+abbrev pub SaysMatched : Option (Text × List Row) → Subcommand → Type 0
+SaysMatched (Some matched) asked = Says matched.0 matched.1 asked
+SaysMatched None asked = ⊥
+
+-- what is read is said, and where nothing is read nothing is said
+abbrev pub IsRead : {T : Type 0} → (T → Type 0) → Option T → Type 0
+IsRead Said (Some read) = Said read
+IsRead Said None = (read : _) → Said read → ⊥
