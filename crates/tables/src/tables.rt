@@ -92,7 +92,8 @@ pub(crate) fn write_table<S: Sink, T: Sheet>(
     ensures complete { IfOk result (λ complete. complete ≡ is_complete (T.results_of sheet.now board)) }
 {
     let published = count_results(sheet, board);
-    if published < 20 {
+    let is_short = published < 20;
+    if is_short {
         write_incomplete(sink, published)?;
         return Ok(false);
     }

@@ -9,17 +9,17 @@ pub returns-in_err-write_incomplete-clause-writes : goal.returns-in_err-write_in
 returns-in_err-write_incomplete-clause-writes g c =
     let results = g.T.Sheet.results_of c.args.sheet.now c.args.board in
     Writes-err c.from_residual.result _ c.from_residual.ensures.1
-    (rw (table_text-short results c.count_results-published.result c.count_results-published.ensures.count c.if-published-lt20.true) at c.in_err-write_incomplete.ensures)
+    (rw (table_text-short results c.count_results-published.result c.count_results-published.ensures.count (omega arith)) at c.in_err-write_incomplete.ensures)
 
-pub returns-then-published-lt20-clause-writes : goal.returns-then-published-lt20-clause-writes
-returns-then-published-lt20-clause-writes g c =
+pub returns-then-is_short-clause-writes : goal.returns-then-is_short-clause-writes
+returns-then-is_short-clause-writes g c =
     let results = g.T.Sheet.results_of c.args.sheet.now c.args.board in
-    rw (table_text-short results c.count_results-published.result c.count_results-published.ensures.count c.if-published-lt20.true) at c.in_ok-write_incomplete.ensures
+    rw (table_text-short results c.count_results-published.result c.count_results-published.ensures.count (omega arith)) at c.in_ok-write_incomplete.ensures
 
-pub returns-then-published-lt20-clause-complete : goal.returns-then-published-lt20-clause-complete
-returns-then-published-lt20-clause-complete g c =
+pub returns-then-is_short-clause-complete : goal.returns-then-is_short-clause-complete
+returns-then-is_short-clause-complete g c =
     let results = g.T.Sheet.results_of c.args.sheet.now c.args.board in
-    sym (is_complete-short results c.count_results-published.result c.count_results-published.ensures.count c.if-published-lt20.true)
+    sym (is_complete-short results c.count_results-published.result c.count_results-published.ensures.count (omega arith))
 
 pub returns-in_err-write_all-clause-writes : goal.returns-in_err-write_all-clause-writes
 unfolding table_tag
