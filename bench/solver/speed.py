@@ -25,6 +25,7 @@ CRATES = (
     "pattern_step",
     "certificate_graph",
     "checker",
+    "search_state",
     "partition_solver",
 )
 TRUMPS = ("NT", "S", "H", "D", "C")

@@ -2,7 +2,7 @@
 """Measures a set of weights for the order of cards: how many steps the solver's search takes an entry, on random boards of a seed.
 
 Usage: bench/solver/weights.py [BOARDS [SEED [FILE]]], by default 20 boards of seed 1 and the weights of the crate. FILE has 704
-whole numbers: those of `MODEST` and then those of `EAGER`, in the order in which `src/weights.rt` has them. Whatever the weights, the
+whole numbers: those of `MODEST` and then those of `EAGER`, in the order in which `weights.rt` of `search_state` has them. Whatever the weights, the
 numbers of tricks are the same; what changes is how many cards are tried. The four declarers of a denomination share what is
 remembered, and the writing of graphs is not counted. It copies the crates into a folder of its own, and proves and builds
 `partition_solver` there as a program, with weights.rt.txt for its main file. Boards that measure should not be boards that a set was
@@ -19,7 +19,7 @@ from pathlib import Path
 
 ROOT = Path(__file__).resolve().parent.parent.parent
 HERE = Path(__file__).resolve().parent
-CRATES = ("cards", "patterns", "pattern_step", "certificate_graph", "partition_solver")
+CRATES = ("cards", "patterns", "pattern_step", "certificate_graph", "search_state", "partition_solver")
 COUNT = 704
 
 
@@ -52,7 +52,7 @@ def build(folder, boards, seed, numbers):
     (crate / "src" / "main.rt").write_text(
         text.replace("@MODULES@", modules).replace("@COUNT@", str(boards)).replace("@HANDS@", hands)
     )
-    weights = crate / "src" / "weights.rt"
+    weights = folder / "crates" / "search_state" / "src" / "weights.rt"
     if numbers:
         weights.write_text(with_weights(weights.read_text(), numbers))
     kept = [line for line in (ROOT / "crates.txt").read_text().splitlines() if line.split(":")[0] in CRATES]

@@ -1,16 +1,16 @@
 //! The graph of a side, written from the root on, each node after those that name it first.
 
 use crate::plans::{Goal, PLAN_FUEL, Piece, Plan, TrickStart};
-use crate::played_patterns::{LOW, PlainCard, PlayedPattern};
-use crate::positions::Position;
-use crate::records::list_of;
 use crate::search::Search;
-use crate::words::MOST_CARDS;
 use arrayvec::ArrayVec;
 use cards::{Seat, Side, Suit, Trump};
 use certificate_graph::{Branch, Child, Graph, Node, Tree};
 use pattern_step::PatCard;
 use patterns::{Pattern, SuitPart};
+use search_state::played_patterns::{LOW, PlainCard, PlayedPattern};
+use search_state::positions::Position;
+use search_state::records::list_of;
+use search_state::words::MOST_CARDS;
 use std::alloc::{AllocError, Global};
 
 /// How many nodes a graph has at most.

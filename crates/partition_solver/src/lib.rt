@@ -5,22 +5,12 @@
 //! returns, whatever the layout, the budget and the memory. `docs/SOLVER.md` tells the algorithm.
 #![tactic(auto)]
 
-mod blocks;
-mod deals;
 mod graph_writing;
 mod memory;
-mod moves;
-mod order;
 mod plans;
-mod played_patterns;
-mod positions;
-mod records;
-mod relevant_cards;
 mod remembering;
 mod search;
 mod solving;
 mod values;
-mod weights;
-mod words;
 
 pub use solving::{Partition, Solver};

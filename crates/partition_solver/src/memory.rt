@@ -1,8 +1,8 @@
 //! What is remembered from one call to the next: the searches of one deal, one for each denomination.
 
-use crate::records::MOST_BLOCKS;
 use crate::search::Search;
 use cards::{Layout, Trump};
+use search_state::records::MOST_BLOCKS;
 use std::alloc::{AllocError, Global};
 use std::sync::Mutex;
 

@@ -1,11 +1,11 @@
 //! The proof of a record: one trick on its pattern, worked out anew from what the search remembers.
 
-use crate::blocks::PLACES;
-use crate::played_patterns::{LOWS, PlainCard, PlayedPattern, Remains};
-use crate::records::{Slot, list_of, number_of};
 use crate::search::Search;
-use crate::words::{SUIT, lowest};
 use cards::Suit;
+use search_state::blocks::PLACES;
+use search_state::played_patterns::{LOWS, PlainCard, PlayedPattern, Remains};
+use search_state::records::{Slot, list_of, number_of};
+use search_state::words::{SUIT, lowest};
 use std::alloc::{AllocError, Global};
 
 /// How deep the calls for a tree lie in one another: three a card (`add_tree`, `add_own` or `add_reply`, and `add_card`), and

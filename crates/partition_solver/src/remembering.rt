@@ -1,12 +1,12 @@
 //! What a search knows of the start of a trick, and what it remembers of it.
 
-use crate::blocks::Record;
-use crate::deals::Owners;
-use crate::positions::Position;
-use crate::records::{Slot, list_of};
-use crate::relevant_cards::{depths_of, named_card};
 use crate::search::{Found, Search};
-use crate::words::MIXER;
+use search_state::blocks::Record;
+use search_state::deals::Owners;
+use search_state::positions::Position;
+use search_state::records::{Slot, list_of};
+use search_state::relevant_cards::{depths_of, named_card};
+use search_state::words::MIXER;
 use std::alloc::AllocError;
 
 /// There are 2 to this power of places for remembered leads.

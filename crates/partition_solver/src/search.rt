@@ -1,13 +1,13 @@
 //! The search: whether North and South can win so many of the tricks left.
 
-use crate::deals::Deal;
-use crate::moves::Moves;
-use crate::positions::Position;
-use crate::records::Records;
-use crate::relevant_cards::{owners_named, relevant_after, whole_runs};
 use crate::remembering::HINTS;
-use crate::words::{MOST_CARDS, below, suit_of};
 use cards::{Layout, Trump};
+use search_state::deals::Deal;
+use search_state::moves::Moves;
+use search_state::positions::Position;
+use search_state::records::Records;
+use search_state::relevant_cards::{owners_named, relevant_after, whole_runs};
+use search_state::words::{MOST_CARDS, below, suit_of};
 use std::alloc::{AllocError, Global};
 
 /// How many calls lie between the start of a trick and that of the next, at most: three a card (`search`, `try_cards` and

@@ -1,9 +1,9 @@
 //! How many tricks a side can win: a first guess, and questions up and down from there.
 
-use crate::deals::Owners;
-use crate::positions::Position;
 use crate::search::{FUEL, Search};
-use crate::words::MOST_CARDS;
+use search_state::deals::Owners;
+use search_state::positions::Position;
+use search_state::words::MOST_CARDS;
 
 /// How many cards a set has.
 fn count_of(cards: u64) -> i32 {

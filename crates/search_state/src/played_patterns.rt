@@ -7,20 +7,20 @@ use crate::words::{MOST_CARDS, SUIT, highest, lowest};
 /// A card of a pattern: a top by its place among the owners of its suit, from 0, or with the place `LOW` a low card. The
 /// suit is named by its number in the word.
 #[derive(Clone, Copy, Default)]
-pub(crate) struct PlainCard {
+pub struct PlainCard {
     pub lane: usize,
     pub place: u32,
 }
 
 /// The place of a low card.
-pub(crate) const LOW: u32 = 15;
+pub const LOW: u32 = 15;
 
 /// The places of all low cards.
-pub(crate) const LOWS: u64 = 0x8000_8000_8000_8000;
+pub const LOWS: u64 = 0x8000_8000_8000_8000;
 
 impl PlainCard {
     /// The card of a bit.
-    pub(crate) fn of(bit: u64) -> PlainCard {
+    pub fn of(bit: u64) -> PlainCard {
         let number = bit.trailing_zeros() & 63;
         PlainCard {
             lane: (number >> 4) as usize,
@@ -31,7 +31,7 @@ impl PlainCard {
 
 /// A pattern of which cards are played to a trick.
 #[derive(Clone, Copy)]
-pub(crate) struct PlayedPattern {
+pub struct PlayedPattern {
     owners: [u32; 4],
     depths: [u32; 4],
     gone: [u32; 4],
@@ -54,7 +54,7 @@ pub(crate) struct PlayedPattern {
 
 /// What a trick leaves: the owners, and the bits of those that are known.
 #[derive(Clone, Copy)]
-pub(crate) struct Remains {
+pub struct Remains {
     pub owners: Owners,
     pub known: Owners,
 }
@@ -86,7 +86,7 @@ fn tops_of(owners: [u32; 4], depths: [u32; 4]) -> [u64; 4] {
 
 impl PlayedPattern {
     /// The start of a trick on a record's pattern.
-    pub(crate) fn start(record: &Record, lengths: u64, leader: usize) -> PlayedPattern {
+    pub fn start(record: &Record, lengths: u64, leader: usize) -> PlayedPattern {
         let mut owners = [0; 4];
         let mut depths = [0; 4];
         for lane in 0..4usize {
@@ -115,7 +115,7 @@ impl PlayedPattern {
     }
 
     /// How many cards of a suit the seat has.
-    pub(crate) fn length_of(&self, lane: usize, seat: usize) -> u8 {
+    pub fn length_of(&self, lane: usize, seat: usize) -> u8 {
         let place = (lane & 3) as u32 * 16 + (seat & 3) as u32 * 4;
         (self.lengths.wrapping_shr(place) & 15) as u8
     }
@@ -126,17 +126,17 @@ impl PlayedPattern {
     }
 
     /// Who owns the card in this place of a suit.
-    pub(crate) fn owner(&self, lane: usize, place: u32) -> usize {
+    pub fn owner(&self, lane: usize, place: u32) -> usize {
         (self.owners[lane & 3].wrapping_shr(place.wrapping_mul(2)) & 3) as usize
     }
 
     /// How many owners of a suit are known.
-    pub(crate) fn depth(&self, lane: usize) -> u32 {
+    pub fn depth(&self, lane: usize) -> u32 {
         self.depths[lane & 3]
     }
 
     /// The cards that the seat to play may play, sixteen bits a suit, a bit for each place, the low card's at `LOW`.
-    pub(crate) fn legal_cards(&self) -> u64 {
+    pub fn legal_cards(&self) -> u64 {
         let mut cards = self.tops[self.seat & 3];
         for lane in 0..4usize {
             if lane_of(cards, lane).count_ones() < self.length(lane) {
@@ -151,7 +151,7 @@ impl PlayedPattern {
     }
 
     /// The trick after the seat to play has played the card.
-    pub(crate) fn after(&self, card: PlainCard, has_trumps: bool) -> PlayedPattern {
+    pub fn after(&self, card: PlainCard, has_trumps: bool) -> PlayedPattern {
         let mut next = *self;
         let lane = card.lane & 3;
         let seat = self.seat & 3;
@@ -183,7 +183,7 @@ impl PlayedPattern {
     }
 
     /// Which of the cards is tried next.
-    pub(crate) fn choose(&self, waiting: u64, first: u64) -> u64 {
+    pub fn choose(&self, waiting: u64, first: u64) -> u64 {
         if waiting & first != 0 {
             return first;
         }
@@ -207,7 +207,7 @@ impl PlayedPattern {
     }
 
     /// A bit for each seat that may have won.
-    pub(crate) fn winners(&self) -> u32 {
+    pub fn winners(&self) -> u32 {
         if self.best == LOW {
             self.lows
         } else {
@@ -216,7 +216,7 @@ impl PlayedPattern {
     }
 
     /// What the trick leaves.
-    pub(crate) fn remains(&self) -> Remains {
+    pub fn remains(&self) -> Remains {
         let mut owners = Owners::default();
         let mut known = Owners::default();
         for lane in 0..4usize {

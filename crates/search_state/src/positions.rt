@@ -4,7 +4,7 @@ use crate::words::{start_of, suit_of};
 
 /// A position. Seats are numbers from North's 0; the tricks of North and South are counted.
 #[derive(Clone, Copy)]
-pub(crate) struct Position {
+pub struct Position {
     /// The cards that each seat holds.
     pub hands: [u64; 4],
     /// The cards in all hands at the trick's start.
@@ -44,7 +44,7 @@ fn lengths_of(hands: [u64; 4]) -> u64 {
 
 impl Position {
     /// The start of play.
-    pub(crate) fn start(hands: [u64; 4], leader: usize) -> Position {
+    pub fn start(hands: [u64; 4], leader: usize) -> Position {
         Position {
             hands,
             left: hands[0] | hands[1] | hands[2] | hands[3],
@@ -61,12 +61,12 @@ impl Position {
     }
 
     /// Whether North or South is to play.
-    pub(crate) fn is_ours(&self) -> bool {
+    pub fn is_ours(&self) -> bool {
         self.seat & 1 == 0
     }
 
     /// How many of the tricks left North and South want, or how many East and West then want to stop them.
-    pub(crate) fn wanted_by(&self, ours: bool) -> i32 {
+    pub fn wanted_by(&self, ours: bool) -> i32 {
         if ours {
             self.want
         } else {
@@ -75,12 +75,12 @@ impl Position {
     }
 
     /// The hand of the seat to play.
-    pub(crate) fn hand(&self) -> u64 {
+    pub fn hand(&self) -> u64 {
         self.hands[self.seat & 3]
     }
 
     /// The cards that the seat to play may play.
-    pub(crate) fn legal(&self) -> u64 {
+    pub fn legal(&self) -> u64 {
         let hand = self.hand();
         let follows = hand & self.led;
         if follows != 0 { follows } else { hand }
@@ -98,7 +98,7 @@ impl Position {
     }
 
     /// The position after the seat to play has played the card.
-    pub(crate) fn after(&self, card: u64, trumps: u64) -> Position {
+    pub fn after(&self, card: u64, trumps: u64) -> Position {
         let mut next = *self;
         let seat = self.seat & 3;
         next.hands[seat] &= !card;
@@ -124,7 +124,7 @@ impl Position {
     }
 
     /// The start of the next trick where the seat has won this one.
-    pub(crate) fn next(&self, winner: usize) -> Position {
+    pub fn next(&self, winner: usize) -> Position {
         let mut next = *self;
         next.left = self.hands[0] | self.hands[1] | self.hands[2] | self.hands[3];
         next.led = 0;

@@ -16,7 +16,7 @@ const LAST_RUFF: i32 = 100;
 
 /// What the weights of a turn's cards depend on.
 #[derive(Clone, Copy)]
-pub(crate) struct Order<'a> {
+pub struct Order<'a> {
     deal: &'a Deal,
     pub position: &'a Position,
     weights: &'a Weights,
@@ -65,7 +65,7 @@ fn is_eager(position: &Position) -> bool {
 
 impl<'a> Order<'a> {
     /// The order of a turn.
-    pub(crate) fn of(deal: &'a Deal, position: &'a Position) -> Order<'a> {
+    pub fn of(deal: &'a Deal, position: &'a Position) -> Order<'a> {
         Order {
             deal,
             position,

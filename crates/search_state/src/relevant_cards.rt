@@ -17,7 +17,7 @@ fn depth_of(left: u64, relevant: u64, start: u32) -> u16 {
 }
 
 /// The depths that the relevant cards need, four bits a suit.
-pub(crate) fn depths_of(left: u64, relevant: u64) -> u16 {
+pub fn depths_of(left: u64, relevant: u64) -> u16 {
     depth_of(left, relevant, 0)
         | depth_of(left, relevant, 16).wrapping_shl(4)
         | depth_of(left, relevant, 32).wrapping_shl(8)
@@ -25,13 +25,13 @@ pub(crate) fn depths_of(left: u64, relevant: u64) -> u16 {
 }
 
 /// How many owners have to be known for these cards.
-pub(crate) fn owners_named(left: u64, relevant: u64) -> u32 {
+pub fn owners_named(left: u64, relevant: u64) -> u32 {
     let depths = u32::from(depths_of(left, relevant));
     (depths & 15) + (depths >> 4 & 15) + (depths >> 8 & 15) + (depths >> 12)
 }
 
 /// The card as a pattern of these depths names it: its suit times sixteen, and its place, or `LOW` for a low card.
-pub(crate) fn named_card(left: u64, depths: u16, card: u64) -> u8 {
+pub fn named_card(left: u64, depths: u16, card: u64) -> u8 {
     if card == 0 {
         return NO_CARD;
     }
@@ -43,7 +43,7 @@ pub(crate) fn named_card(left: u64, depths: u16, card: u64) -> u8 {
 }
 
 /// The cards whose rank matters after a trick: those of the rest, and that of the winner where others played to its suit.
-pub(crate) fn relevant_after(after: &Position, rest: u64) -> u64 {
+pub fn relevant_after(after: &Position, rest: u64) -> u64 {
     if after.contenders & after.contenders.wrapping_sub(1) == 0 {
         rest
     } else {
@@ -53,7 +53,7 @@ pub(crate) fn relevant_after(after: &Position, rest: u64) -> u64 {
 
 /// The cards that were relevant to a card of the other side: those that its answer needs, and its whole run where its
 /// lowest relevant card would cut it.
-pub(crate) fn whole_runs(tried: Move, relevant: u64) -> u64 {
+pub fn whole_runs(tried: Move, relevant: u64) -> u64 {
     let cut = lowest(relevant & suit_of(tried.bottom));
     if cut > tried.bottom && cut <= tried.top {
         relevant | tried.bottom

@@ -6,7 +6,7 @@ use crate::played_patterns::Remains;
 use std::alloc::{AllocError, Global};
 
 /// How many blocks are kept at most. A block takes 88 bytes with the owners after the eighth.
-pub(crate) const MOST_BLOCKS: usize = 1 << 20;
+pub const MOST_BLOCKS: usize = 1 << 20;
 
 /// How many shapes are kept at most. A slot takes 40 bytes, and a table has at least twice as many as there are shapes.
 const MOST_SHAPES: usize = 1 << 18;
@@ -19,7 +19,7 @@ const PROBES: usize = 256;
 
 /// All lists of one shape: by the seat that leads and the side that wins. The number 0 ends a list.
 #[derive(Clone, Copy, Default)]
-pub(crate) struct Slot {
+pub struct Slot {
     /// The lengths, 0 in a free slot.
     key: u64,
     /// The first block of each list.
@@ -28,7 +28,7 @@ pub(crate) struct Slot {
 
 /// The records by shape. A record's number is that of its block times four, and its place in it.
 #[derive(Drop)]
-pub(crate) struct Records {
+pub struct Records {
     slots: Vec<Slot>,
     shapes: usize,
     blocks: Vec<Block>,
@@ -52,7 +52,7 @@ struct Waiting {
 }
 
 /// The list of a leader and a side.
-pub(crate) fn list_of(leader: usize, ours: bool) -> usize {
+pub fn list_of(leader: usize, ours: bool) -> usize {
     (leader & 3) * 2 + if ours { 0 } else { 1 }
 }
 
@@ -65,7 +65,7 @@ fn parts_of(number: u32) -> (usize, usize) {
 }
 
 /// The number of a record.
-pub(crate) fn number_of(block: usize, place: usize) -> u32 {
+pub fn number_of(block: usize, place: usize) -> u32 {
     ((block & 0x0fff_ffff) as u32) << 2 | (place & 3) as u32
 }
 
@@ -119,7 +119,7 @@ impl Waiting {
 
 impl Records {
     /// No records.
-    pub(crate) fn new(alloc: Global) -> Result<Records, AllocError> {
+    pub fn new(alloc: Global) -> Result<Records, AllocError> {
         let mut records = Records {
             slots: free_slots(alloc, FIRST_SLOTS)?,
             shapes: 0,
@@ -133,27 +133,27 @@ impl Records {
     }
 
     /// How many blocks there are.
-    pub(crate) fn blocks(&self) -> u64 {
+    pub fn blocks(&self) -> u64 {
         self.blocks.len() as u64
     }
 
     /// How much memory is taken, in blocks. A slot counts as half a block.
-    pub(crate) fn size(&self) -> usize {
+    pub fn size(&self) -> usize {
         self.blocks.len().saturating_add(self.slots.len() / 2)
     }
 
     /// Whether something may not have been remembered since there was no room.
-    pub(crate) fn is_full(&self) -> bool {
+    pub fn is_full(&self) -> bool {
         self.blocks.len() >= self.room || self.shapes >= MOST_SHAPES
     }
 
     /// How many numbers records have.
-    pub(crate) fn numbers(&self) -> usize {
+    pub fn numbers(&self) -> usize {
         self.blocks.len().wrapping_mul(4)
     }
 
     /// The record with this number.
-    pub(crate) fn record(&self, number: u32) -> Record {
+    pub fn record(&self, number: u32) -> Record {
         let (block, place) = parts_of(number);
         match (self.blocks.get(block), self.deep.get(block)) {
             (Some(block), Some(deep)) => block.record(place, deep[place.min(PLACES - 1)]),
@@ -178,13 +178,13 @@ impl Records {
     }
 
     /// The slot of a shape.
-    pub(crate) fn slot(&self, key: u64) -> Option<&Slot> {
+    pub fn slot(&self, key: u64) -> Option<&Slot> {
         let slot = self.slots.get(self.place_of(key)?)?;
         if slot.key == key { Some(slot) } else { None }
     }
 
     /// The number of the first record of a list that serves.
-    pub(crate) fn find(&self, slot: &Slot, list: usize, owners: Owners, need: i32) -> Option<u32> {
+    pub fn find(&self, slot: &Slot, list: usize, owners: Owners, need: i32) -> Option<u32> {
         let mut number = slot.heads[list & 7] as usize;
         for _ in 0..self.blocks.len() {
             if number == 0 {
@@ -218,7 +218,7 @@ impl Records {
     }
 
     /// Whether the record says no more of the owners than what is known of what remains.
-    pub(crate) fn is_known(&self, number: usize, place: usize, remains: Remains) -> bool {
+    pub fn is_known(&self, number: usize, place: usize, remains: Remains) -> bool {
         let Some(block) = self.blocks.get(number) else {
             return false;
         };
@@ -233,12 +233,12 @@ impl Records {
     }
 
     /// The first block of a list, 0 where there is none.
-    pub(crate) fn first(&self, slot: &Slot, list: usize) -> usize {
+    pub fn first(&self, slot: &Slot, list: usize) -> usize {
         slot.heads[list & 7] as usize
     }
 
     /// A block.
-    pub(crate) fn block(&self, number: usize) -> Option<&Block> {
+    pub fn block(&self, number: usize) -> Option<&Block> {
         self.blocks.get(number)
     }
 
@@ -286,7 +286,7 @@ impl Records {
     }
 
     /// Adds a record after those of its list that name fewer owners, or as many; those that it serves are dropped.
-    pub(crate) fn add(
+    pub fn add(
         &mut self,
         alloc: Global,
         key: u64,

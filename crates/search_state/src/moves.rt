@@ -16,7 +16,7 @@ const FIRST: i32 = 1_000_000;
 
 /// A card to be tried, with the lowest and the highest card of its run.
 #[derive(Clone, Copy)]
-pub(crate) struct Move {
+pub struct Move {
     pub card: u64,
     pub bottom: u64,
     pub top: u64,
@@ -24,7 +24,7 @@ pub(crate) struct Move {
 
 /// The runs that are still to be tried, each named by its lowest card, and the order.
 #[derive(Clone, Copy)]
-pub(crate) struct Moves {
+pub struct Moves {
     own: u64,
     left: u64,
     bottoms: u64,
@@ -50,7 +50,7 @@ fn key_of(weight: i32, bottom: u64) -> i32 {
 
 impl Moves {
     /// The cards to be tried, after this hint where it is one of them.
-    pub(crate) fn of(deal: &Deal, position: &Position, hint: u64) -> Moves {
+    pub fn of(deal: &Deal, position: &Position, hint: u64) -> Moves {
         let own = position.legal();
         let all = bottoms(own, position.left);
         let mut moves = Moves {
@@ -92,7 +92,7 @@ impl Moves {
     }
 
     /// The next card.
-    pub(crate) fn next(&mut self, position: &Position, trumps: u64) -> Option<Move> {
+    pub fn next(&mut self, position: &Position, trumps: u64) -> Option<Move> {
         if self.waiting == 0 {
             return None;
         }
@@ -118,7 +118,7 @@ impl Moves {
 
     /// After a card failed for reasons that need these cards: runs of its suit that lie wholly below them would fail
     /// alike, if its own does.
-    pub(crate) fn skip(&mut self, tried: Move, relevant: u64) {
+    pub fn skip(&mut self, tried: Move, relevant: u64) {
         let suit = suit_of(tried.bottom);
         let named = relevant & suit;
         let limit = if named == 0 {

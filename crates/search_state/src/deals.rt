@@ -9,14 +9,14 @@ const SETS: usize = 8192;
 /// The owners of the cards in all hands, two bits each, in every suit the highest card first: `near` has the first
 /// eight of each suit, `deep` the others.
 #[derive(Clone, Copy, Default)]
-pub(crate) struct Owners {
+pub struct Owners {
     pub near: u64,
     pub deep: u64,
 }
 
 /// A deal in one denomination.
 #[derive(Drop)]
-pub(crate) struct Deal {
+pub struct Deal {
     /// The four hands.
     pub hands: [u64; 4],
     /// All bits of the trump suit.
@@ -80,7 +80,7 @@ fn holder(hands: [u64; 4], card: u64) -> u32 {
 
 impl Deal {
     /// The tables of a layout.
-    pub(crate) fn new(alloc: Global, layout: &Layout, trump: Trump) -> Result<Deal, AllocError> {
+    pub fn new(alloc: Global, layout: &Layout, trump: Trump) -> Result<Deal, AllocError> {
         let suits = suits_of(trump);
         let mut deal = Deal {
             hands: hands_of(layout, suits),
@@ -95,12 +95,12 @@ impl Deal {
     }
 
     /// Whether these are the tables of the layout.
-    pub(crate) fn is_of(&self, layout: &Layout) -> bool {
+    pub fn is_of(&self, layout: &Layout) -> bool {
         self.hands == hands_of(layout, self.suits)
     }
 
     /// Whether this is the denomination of the tables.
-    pub(crate) fn has_trump(&self, trump: Trump) -> bool {
+    pub fn has_trump(&self, trump: Trump) -> bool {
         self.suits == suits_of(trump) && self.trumps == trumps_of(trump)
     }
 
@@ -141,7 +141,7 @@ impl Deal {
     }
 
     /// The owners of these cards.
-    pub(crate) fn owners(&self, left: u64) -> Owners {
+    pub fn owners(&self, left: u64) -> Owners {
         let lowest = u64::from(self.owners_in(0, (left & 0x1fff) as usize));
         let second = u64::from(self.owners_in(1, (left >> 16 & 0x1fff) as usize));
         let third = u64::from(self.owners_in(2, (left >> 32 & 0x1fff) as usize));
@@ -171,7 +171,7 @@ impl Deal {
     }
 
     /// The lowest card of each suit that these depths name, four bits a suit.
-    pub(crate) fn cards_at(&self, left: u64, depths: u16) -> u64 {
+    pub fn cards_at(&self, left: u64, depths: u16) -> u64 {
         self.card_in(left, 0, depths & 15)
             | self.card_in(left, 16, depths >> 4 & 15)
             | self.card_in(left, 32, depths >> 8 & 15)

@@ -3,13 +3,13 @@
 use crate::deals::Owners;
 
 /// How many records a block has.
-pub(crate) const PLACES: usize = 3;
+pub const PLACES: usize = 3;
 /// The first card of a record that names none.
 pub(crate) const NO_CARD: u8 = 0xff;
 
 /// What is remembered of a shape, a leader and a side: who owns the highest cards, and what the side then wins.
 #[derive(Clone, Copy, Default)]
-pub(crate) struct Record {
+pub struct Record {
     /// The owners that are named, of the first eight of each suit.
     pub near: u64,
     /// The bits of `near` that are named.
@@ -26,7 +26,7 @@ pub(crate) struct Record {
 
 /// Records of a list, those that name the fewest owners first, and the block that goes on. A need of 0 is a free place.
 #[derive(Clone, Copy, Default)]
-pub(crate) struct Block {
+pub struct Block {
     pub near: [u64; 3],
     pub mask: [u64; 3],
     pub depths: [u16; 3],
@@ -71,7 +71,7 @@ pub(crate) fn is_deep(depths: u16) -> bool {
 
 impl Record {
     /// A record with the owners down to these depths.
-    pub(crate) fn new(owners: Owners, depths: u16, need: u8, first_card: u8) -> Record {
+    pub fn new(owners: Owners, depths: u16, need: u8, first_card: u8) -> Record {
         let mask = near_mask(depths);
         Record {
             near: owners.near & mask,
@@ -84,7 +84,7 @@ impl Record {
     }
 
     /// How many owners it names. The fewer, the more positions it serves.
-    pub(crate) fn owners_named(&self) -> u16 {
+    pub fn owners_named(&self) -> u16 {
         let pairs = (self.depths & 0x0f0f).wrapping_add(self.depths >> 4 & 0x0f0f);
         pairs.wrapping_add(pairs >> 8) & 0xff
     }
@@ -108,7 +108,7 @@ impl Block {
     }
 
     /// The record in a place, with its owners after the eighth.
-    pub(crate) fn record(&self, place: usize, deep: u64) -> Record {
+    pub fn record(&self, place: usize, deep: u64) -> Record {
         let place = place.min(2);
         Record {
             near: self.near[place],
@@ -121,7 +121,7 @@ impl Block {
     }
 
     /// Puts a record into a place.
-    pub(crate) fn set(&mut self, place: usize, record: Record) {
+    pub fn set(&mut self, place: usize, record: Record) {
         let place = place.min(2);
         self.near[place] = record.near;
         self.mask[place] = record.mask;
@@ -131,7 +131,7 @@ impl Block {
     }
 
     /// A block with one record.
-    pub(crate) fn of(record: Record) -> Block {
+    pub fn of(record: Record) -> Block {
         let mut block = Block::default();
         block.set(0, record);
         block

@@ -3,16 +3,16 @@
 /// All cards of the pack.
 pub(crate) const PACK: u64 = 0x1fff_1fff_1fff_1fff;
 /// The bits of the lowest suit.
-pub(crate) const SUIT: u64 = 0xffff;
+pub const SUIT: u64 = 0xffff;
 /// The bit above the ace of the lowest suit.
 pub(crate) const ABOVE: u64 = 0x2000;
 /// How many cards a hand has at most: so many tricks there are, and so many cards a seat can choose from.
-pub(crate) const MOST_CARDS: u32 = 13;
+pub const MOST_CARDS: u32 = 13;
 /// 2^64 over the golden ratio: a number times it has its bits mixed, the highest best.
-pub(crate) const MIXER: u64 = 0x9e37_79b9_7f4a_7c15;
+pub const MIXER: u64 = 0x9e37_79b9_7f4a_7c15;
 
 /// The lowest card of a set.
-pub(crate) fn lowest(cards: u64) -> u64 {
+pub fn lowest(cards: u64) -> u64 {
     cards & 0u64.wrapping_sub(cards)
 }
 
@@ -22,7 +22,7 @@ pub(crate) fn without_lowest(cards: u64) -> u64 {
 }
 
 /// The highest card of a set.
-pub(crate) fn highest(cards: u64) -> u64 {
+pub fn highest(cards: u64) -> u64 {
     if cards == 0 {
         return 0;
     }
@@ -35,12 +35,12 @@ pub(crate) fn start_of(card: u64) -> u32 {
 }
 
 /// All bits of the suit of the card.
-pub(crate) fn suit_of(card: u64) -> u64 {
+pub fn suit_of(card: u64) -> u64 {
     SUIT.wrapping_shl(start_of(card))
 }
 
 /// The cards below this one, in its suit and the suits below.
-pub(crate) fn below(card: u64) -> u64 {
+pub fn below(card: u64) -> u64 {
     card.wrapping_sub(1)
 }
 
