@@ -7,8 +7,8 @@ use Rattle.cards.specs.Devices.{Device, Fails, StaysWhereTold}
 use Rattle.cards.specs.declared.devices.DeviceFault.{DeviceFault}
 
 -- what the buffer's writer has got, where it tells that
-abbrev pub contents_behind : {W A : Type 0} → (W → Option (List ℕ)) → WriterSink (BufWriter W A) → Option (List ℕ)
-contents_behind contents sink = contents (writer_inner sink.writer)
+abbrev pub inner_contents : {W A : Type 0} → (W → Option (List ℕ)) → WriterSink (BufWriter W A) → Option (List ℕ)
+inner_contents contents sink = contents (writer_inner sink.writer)
 
 -- the buffer's writer has got everything that the sink took, where it tells that
 pub record HandsOn (old new : Device) (behind : Option (List ℕ)) : Type 0 where

@@ -2,7 +2,7 @@
 
 ghost use Rattle.std.specs.Prelude.{◌≡◌};
 ghost use Rattle.cards.specs.Devices.{one_more};
-ghost use Rattle.streams.specs.Flushes.{Flushes, contents_behind};
+ghost use Rattle.streams.specs.Flushes.{Flushes, inner_contents};
 
 use cards::{DeviceFault, Sink};
 use std::io::{BufWriter, Write};
@@ -46,7 +46,7 @@ impl<W: Write + Drop> WriterSink<BufWriter<W>> {
     /// fails loses nothing.
     pub fn flush(&mut self) -> Result<(), DeviceFault>
         ensures { Flushes (⟦<WriterSink<BufWriter<W>> as Sink>⟧.state self.old) (⟦<WriterSink<BufWriter<W>> as Sink>⟧.state self.new)
-            (contents_behind W.contents self.new) result }
+            (inner_contents W.contents self.new) result }
     {
         match self.writer.flush() {
             Ok(()) => Ok(()),

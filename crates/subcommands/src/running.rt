@@ -1,7 +1,7 @@
 //! What a run does for what was asked, and how it ends.
 
 ghost use Rattle.std.specs.Prelude.{◌≡◌};
-ghost use Rattle.streams.specs.Flushes.{contents_behind};
+ghost use Rattle.streams.specs.Flushes.{inner_contents};
 ghost use Rattle.subcommands.specs.Runs.{Closes, Does, IsInRange, RunsSubcommand, Shows, report_status};
 
 use crate::checks::check_answer;
@@ -161,7 +161,7 @@ pub fn close_output<W: Write + Drop, E: Sink>(
     errors: &mut E,
 ) -> Status
     ensures { Closes (⟦<WriterSink<BufWriter<W>> as Sink>⟧.state output.old) (⟦<WriterSink<BufWriter<W>> as Sink>⟧.state output.new)
-        (contents_behind W.contents output.new) (E.state errors.old) (E.state errors.new) status result }
+        (inner_contents W.contents output.new) (E.state errors.old) (E.state errors.new) status result }
 {
     match status {
         Status::Failed | Status::Refused => status,
