@@ -1,8 +1,7 @@
 //! Cases on PBN texts.
 
-use crate::faults::say_pbn_fault;
 use crate::idle::StandsStill;
-use crate::texts::{bytes_of, field, repeated, say_field, say_number};
+use crate::texts::{bytes_of, field, repeated, say_field, say_refusal};
 use cards::{Buffer, Bytes};
 use partition_solver::Solver;
 use pbn_deals::{Board, read_boards, read_layout};
@@ -33,10 +32,7 @@ pub fn answer_boards(alloc: Global, case: &str, out: &mut String) -> Result<(), 
     let text = repeated(alloc, case)?;
     match read_boards(alloc, text.as_slice()) {
         Ok(boards) => say_boards(boards.as_slice(), out),
-        Err(fault) => {
-            out.push_str("refused")?;
-            say_pbn_fault(fault, out)
-        }
+        Err(fault) => say_refusal(&fault, fault.line(), out),
     }
 }
 
@@ -45,10 +41,7 @@ pub fn answer_layout(alloc: Global, case: &str, out: &mut String) -> Result<(), 
     let value = bytes_of(alloc, field(case, 1))?;
     match read_layout(value.as_slice()) {
         Ok(_) => out.push_str("layout"),
-        Err(fault) => {
-            out.push_str("refused")?;
-            say_pbn_fault(fault, out)
-        }
+        Err(fault) => say_refusal(&fault, fault.line(), out),
     }
 }
 
@@ -59,24 +52,9 @@ fn say_tables(
     text: &[u8],
     out: &mut String,
 ) -> Result<(), AllocError> {
-    say_number("complete ", report.complete as u64, out)?;
-    say_number(" of ", report.boards as u64, out)?;
-    say_number(", events ", events as u64, out)?;
-    out.push_str(" |")?;
+    let Report { complete, boards } = report;
+    write!(out, "complete {complete} of {boards}, events {events} |")?;
     say_field(text, out)
-}
-
-/// Says why there are no tables.
-fn say_make_fault(fault: MakeFault, out: &mut String) -> Result<(), AllocError> {
-    match fault {
-        MakeFault::OutOfMemory => out.push_str("out of memory"),
-        MakeFault::Read => out.push_str("reading failed"),
-        MakeFault::Write => out.push_str("writing failed"),
-        MakeFault::Pbn(fault) => {
-            out.push_str("refused")?;
-            say_pbn_fault(fault, out)
-        }
-    }
 }
 
 /// The tables of a text by a solver, each entry of which is tried three times, or why there are none.
@@ -101,6 +79,7 @@ pub fn answer_tables<S: Solver>(
     );
     match made {
         Ok((report, book)) => say_tables(report, book.history().len(), sink.bytes(), out),
-        Err(fault) => say_make_fault(fault, out),
+        Err(MakeFault::Pbn(fault)) => say_refusal(&fault, fault.line(), out),
+        Err(_) => out.push_str("out of memory, or out of room"),
     }
 }

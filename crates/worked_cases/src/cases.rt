@@ -1,34 +1,30 @@
 //! What is asked in a case.
 
 use crate::boards::{answer_boards, answer_layout, answer_tables};
-use crate::certificates::{answer_certificate, answer_judge};
+use crate::certificates::{answer_certificate, answer_cut, answer_judge};
 use crate::idle::FindsNothing;
-use crate::lists::answer_requests;
-use crate::runs::{answer_check, answer_cut, answer_plain, answer_table};
+use crate::requests::answer_requests;
 use crate::texts::word;
-use crate::words::{answer_told, answer_words};
+use crate::words::{answer_check, answer_plain, answer_table, answer_told, answer_words};
 use partition_solver::Partition;
 use std::alloc::{AllocError, Global};
 
-/// What the libraries answer now. The first word of a case is its kind.
-pub fn answer_case(alloc: Global, case: &str) -> Result<String, AllocError> {
-    let mut answer = String::new(alloc);
-    let out = &mut answer;
+/// Says what the libraries answer now. The first word of a case is its kind.
+pub fn answer_case(alloc: Global, case: &str, out: &mut String) -> Result<(), AllocError> {
     match word(case, 0) {
-        "boards" => answer_boards(alloc, case, out)?,
-        "tables" => answer_tables(alloc, &FindsNothing, case, out)?,
-        "solved" => answer_tables(alloc, &Partition::new(), case, out)?,
-        "layout" => answer_layout(alloc, case, out)?,
-        "certificate" => answer_certificate(alloc, case, out)?,
-        "judge" => answer_judge(alloc, case, out)?,
-        "answer" => answer_cut(alloc, case, out)?,
-        "check" => answer_check(alloc, case, out)?,
-        "table" => answer_table(alloc, case, out)?,
-        "plain" => answer_plain(alloc, case, out)?,
-        "words" => answer_words(alloc, case, out)?,
-        "told" => answer_told(alloc, case, out)?,
-        "requests" => answer_requests(alloc, case, out)?,
-        _ => out.push_str("no such kind")?,
+        "boards" => answer_boards(alloc, case, out),
+        "tables" => answer_tables(alloc, &FindsNothing, case, out),
+        "solved" => answer_tables(alloc, &Partition::new(), case, out),
+        "layout" => answer_layout(alloc, case, out),
+        "certificate" => answer_certificate(alloc, case, out),
+        "judge" => answer_judge(alloc, case, out),
+        "answer" => answer_cut(alloc, case, out),
+        "check" => answer_check(alloc, case, out),
+        "table" => answer_table(alloc, case, out),
+        "plain" => answer_plain(alloc, case, out),
+        "words" => answer_words(alloc, case, out),
+        "told" => answer_told(alloc, case, out),
+        "requests" => answer_requests(alloc, case, out),
+        _ => out.push_str("no such kind"),
     }
-    Ok(answer)
 }

@@ -1,62 +1,33 @@
-//! Cases on the texts of certificates.
+//! Cases on the texts of certificates and answers.
 
-use crate::faults::{say_hand_fault, say_node_fault, say_text_fault};
-use crate::texts::{bytes_of, field, number, say_number, seat, trump};
-use cards::{Layout, Seat, Trump};
+use crate::texts::{bytes_of, field, number, say_field, say_refusal, seat, trump};
+use cards::Layout;
 use certificate_graph::Graph;
-use checker::{Proven, Verdict, check_graph, judge};
+use checker::{Proven, check_graph, judge};
 use pbn_deals::read_layout;
 use std::alloc::{AllocError, Global};
+use subcommands::read_answer;
 
-/// Says whether the steps of a graph hold, or the first fault.
-fn say_steps(graph: &Graph, out: &mut String) -> Result<(), AllocError> {
-    match check_graph(graph) {
-        Ok(()) => out.push_str("steps hold"),
-        Err(fault) => {
-            out.push_str("node")?;
-            say_node_fault(fault, out)
-        }
-    }
-}
-
-/// Why a text is refused, or whether the steps of its graph hold.
+/// Why a text is refused, or whether the steps of its graph hold, or the first fault of a step.
 pub fn answer_certificate(alloc: Global, case: &str, out: &mut String) -> Result<(), AllocError> {
     let text = bytes_of(alloc, field(case, 1))?;
     match Graph::read(alloc, text.as_slice()) {
-        Ok(graph) => say_steps(&graph, out),
-        Err(fault) => {
-            out.push_str("refused")?;
-            say_text_fault(fault, out)
-        }
+        Ok(graph) => match check_graph(&graph) {
+            Ok(()) => out.push_str("steps hold"),
+            Err(fault) => write!(out, "node {fault}"),
+        },
+        Err(fault) => say_refusal(&fault, fault.line(), out),
     }
 }
 
 /// Says what was shown, and whether it was on this layout.
 fn say_proven(proven: &Proven, layout: Option<Layout>, out: &mut String) -> Result<(), AllocError> {
     let shown = proven.shown();
-    out.push_str("shown ")?;
-    out.push_str(shown.declarer.letter())?;
-    out.push_str(" ")?;
-    out.push_str(shown.trump.letters())?;
-    say_number(" ", u64::from(shown.k), out)?;
-    if layout != Some(shown.layout) {
-        out.push_str(" on another layout")?;
-    }
-    Ok(())
-}
-
-/// Says a verdict on a layout.
-fn say_verdict(
-    verdict: Verdict,
-    layout: Option<Layout>,
-    out: &mut String,
-) -> Result<(), AllocError> {
-    match verdict {
-        Ok(proven) => say_proven(&proven, layout, out),
-        Err(fault) => {
-            out.push_str("refused")?;
-            say_hand_fault(fault, out)
-        }
+    write!(out, "shown {} {} {}", shown.declarer, shown.trump, shown.k)?;
+    if layout == Some(shown.layout) {
+        Ok(())
+    } else {
+        out.push_str(" on another layout")
     }
 }
 
@@ -68,16 +39,23 @@ pub fn answer_judge(alloc: Global, case: &str, out: &mut String) -> Result<(), A
     let k = (number(field(case, 4)) % 256) as u8;
     let ours = bytes_of(alloc, field(case, 5))?;
     let theirs = bytes_of(alloc, field(case, 6))?;
-    match judge(
-        alloc,
-        layout.as_ref(),
-        declarer,
-        trump,
-        k,
-        ours.as_slice(),
-        theirs.as_slice(),
-    ) {
-        Ok(verdict) => say_verdict(verdict, layout, out),
+    let deal = layout.as_ref();
+    match judge(alloc, deal, declarer, trump, k, &ours, &theirs) {
+        Ok(Ok(proven)) => say_proven(&proven, layout, out),
+        Ok(Err(fault)) => write!(out, "refused {fault}"),
         Err(_) => out.push_str("out of memory"),
+    }
+}
+
+/// Where the text of an answer is cut.
+pub fn answer_cut(alloc: Global, case: &str, out: &mut String) -> Result<(), AllocError> {
+    let text = bytes_of(alloc, field(case, 1))?;
+    match read_answer(text.as_slice()) {
+        Some((tricks, declarers, defenders)) => {
+            write!(out, "cut {tricks} |")?;
+            say_field(declarers, out)?;
+            say_field(defenders, out)
+        }
+        None => out.push_str("no answer"),
     }
 }

@@ -6,12 +6,9 @@
 mod boards;
 mod cases;
 mod certificates;
-mod faults;
 mod idle;
-mod lists;
 mod replies;
 mod requests;
-mod runs;
 mod texts;
 mod words;
 
@@ -27,7 +24,8 @@ fn main(rt: HostRuntime) -> io::Result<()> {
         }
         println!(rt; "{text}")?;
         if !text.is_empty() && !text.starts_with("#") {
-            let answer = answer_case(rt.alloc(), text)?;
+            let mut answer = String::new(rt.alloc());
+            answer_case(rt.alloc(), text, &mut answer)?;
             println!(rt; "= {answer}")?;
         }
     }

@@ -2,10 +2,11 @@
 
 use cards::{Seat, Trump};
 use std::alloc::{AllocError, Global};
+use std::fmt::Display;
 
-/// A word of a text, counted from 0; empty where there is none.
+/// A word of a text, counted from 0; empty where there is none. A space stands between two words.
 pub fn word(text: &str, place: usize) -> &str {
-    text.split_whitespace().nth(place).unwrap_or("")
+    text.split(' ').nth(place).unwrap_or("")
 }
 
 /// A field of a case, counted from 1; empty where there is none.
@@ -26,6 +27,11 @@ pub fn seat(letter: &str) -> Seat {
 /// A denomination by its letters; no-trump where they are none.
 pub fn trump(letters: &str) -> Trump {
     Trump::of_letters(letters).unwrap_or(Trump::Nt)
+}
+
+/// The text of bytes; empty where they are none in UTF-8.
+pub fn text_of(bytes: &[u8]) -> &str {
+    str::from_utf8(bytes).unwrap_or("")
 }
 
 /// How far a byte in a field has been read.
@@ -92,11 +98,6 @@ pub fn repeated(alloc: Global, case: &str) -> Result<Vec<u8>, AllocError> {
     Ok(text)
 }
 
-/// The digits of a byte that is written by its number.
-const DIGITS: [&str; 16] = [
-    "0", "1", "2", "3", "4", "5", "6", "7", "8", "9", "A", "B", "C", "D", "E", "F",
-];
-
 /// Names a byte.
 fn say_byte(byte: u8, out: &mut String) -> Result<(), AllocError> {
     match byte {
@@ -106,11 +107,7 @@ fn say_byte(byte: u8, out: &mut String) -> Result<(), AllocError> {
         b'\\' => out.push_str("\\\\"),
         b'|' => out.push_str("\\x7C"),
         b' '..=b'~' => out.push(char::from(byte)),
-        _ => {
-            out.push_str("\\x")?;
-            out.push_str(DIGITS[usize::from(byte / 16)])?;
-            out.push_str(DIGITS[usize::from(byte % 16)])
-        }
+        _ => write!(out, "\\x{byte:02X}"),
     }
 }
 
@@ -122,8 +119,15 @@ pub fn say_field(bytes: &[u8], out: &mut String) -> Result<(), AllocError> {
     out.push_str("|")
 }
 
-/// Says a word and a number.
-pub fn say_number(word: &str, number: u64, out: &mut String) -> Result<(), AllocError> {
-    out.push_str(word)?;
-    write!(out, "{number}")
+/// Says why a text is refused, and the line that the fault names.
+pub fn say_refusal(
+    fault: &impl Display,
+    line: Option<usize>,
+    out: &mut String,
+) -> Result<(), AllocError> {
+    write!(out, "refused {fault}")?;
+    match line {
+        Some(line) => write!(out, " line {line}"),
+        None => Ok(()),
+    }
 }

@@ -1,7 +1,7 @@
-//! Cases on the words of a command line.
+//! Cases on runs of the program, by the words of a command line.
 
 use crate::idle::{FindsNothing, StandsStill};
-use crate::texts::{bytes_of, field, number, say_field, say_number};
+use crate::texts::{bytes_of, field, number, repeated, say_field, text_of};
 use cards::{Buffer, Bytes, Source};
 use command_line::run_command;
 use std::alloc::{AllocError, Global};
@@ -9,6 +9,74 @@ use subcommands::Status;
 
 /// Room for what a run prints.
 const ROOM: usize = 8192;
+
+/// Does what words ask for, with a solver that finds nothing.
+fn run_words(
+    alloc: Global,
+    words: &[&str],
+    input: &mut Bytes<'_>,
+    output: &mut Buffer,
+    errors: &mut Buffer,
+) -> Status {
+    run_command(
+        alloc,
+        words,
+        &FindsNothing,
+        &StandsStill,
+        input,
+        output,
+        errors,
+    )
+}
+
+/// Says what comes of words, where both outputs have so much room: the exit status, and what is on them.
+fn say_run(
+    alloc: Global,
+    words: &[&str],
+    input: &mut Bytes<'_>,
+    rooms: [usize; 2],
+    out: &mut String,
+) -> Result<(), AllocError> {
+    let mut output = Buffer::new(alloc, rooms[0], 3)?;
+    let mut errors = Buffer::new(alloc, rooms[1], 3)?;
+    let status = run_words(alloc, words, input, &mut output, &mut errors);
+    write!(out, "status {} |", status.code())?;
+    say_field(output.bytes(), out)?;
+    say_field(errors.bytes(), out)
+}
+
+/// What `plain` prints of a layout.
+pub fn answer_plain(alloc: Global, case: &str, out: &mut String) -> Result<(), AllocError> {
+    let words = [
+        "ddfarm",
+        "plain",
+        field(case, 1),
+        field(case, 2),
+        field(case, 3),
+    ];
+    say_run(alloc, &words, &mut Bytes::new(b"", 100), [ROOM, ROOM], out)
+}
+
+/// What `check` prints of an answer.
+pub fn answer_check(alloc: Global, case: &str, out: &mut String) -> Result<(), AllocError> {
+    let text = bytes_of(alloc, field(case, 4))?;
+    let words = [
+        "ddfarm",
+        "check",
+        field(case, 1),
+        field(case, 2),
+        field(case, 3),
+    ];
+    let mut input = Bytes::new(text.as_slice(), 100);
+    say_run(alloc, &words, &mut input, [ROOM, ROOM], out)
+}
+
+/// What `table` prints of a PBN text.
+pub fn answer_table(alloc: Global, case: &str, out: &mut String) -> Result<(), AllocError> {
+    let text = repeated(alloc, case)?;
+    let mut input = Bytes::new(text.as_slice(), 100);
+    say_run(alloc, &["ddfarm", "table"], &mut input, [ROOM, ROOM], out)
+}
 
 /// The words of a line.
 fn words_of(alloc: Global, line: &str) -> Result<Vec<&str>, AllocError> {
@@ -19,39 +87,24 @@ fn words_of(alloc: Global, line: &str) -> Result<Vec<&str>, AllocError> {
     Ok(words)
 }
 
-/// An output with the room that a field tells, or with enough.
-fn output_of(alloc: Global, room: &str) -> Result<Buffer, AllocError> {
-    let room = if room.is_empty() {
+/// The room that a field tells, or enough.
+fn room_of(field: &str) -> usize {
+    if field.is_empty() {
         ROOM
     } else {
-        number(room) as usize
-    };
-    Buffer::new(alloc, room, 3)
+        number(field) as usize
+    }
 }
 
-/// Does what the words of a case ask for.
-fn run_words(
-    alloc: Global,
-    case: &str,
-    input: &mut Bytes<'_>,
-    output: &mut Buffer,
-    errors: &mut Buffer,
-) -> Result<Status, AllocError> {
+/// What comes of the words of a case: the exit status, what is on the output and on the error output, and what is left of
+/// an input of at most 64 bytes.
+pub fn answer_words(alloc: Global, case: &str, out: &mut String) -> Result<(), AllocError> {
     let line = bytes_of(alloc, field(case, 1))?;
     let words = words_of(alloc, text_of(line.as_slice()))?;
-    Ok(run_command(
-        alloc,
-        words.as_slice(),
-        &FindsNothing,
-        &StandsStill,
-        input,
-        output,
-        errors,
-    ))
-}
-
-/// Says what is left of an input of at most 64 bytes.
-fn say_left(input: &mut Bytes<'_>, out: &mut String) -> Result<(), AllocError> {
+    let text = bytes_of(alloc, field(case, 2))?;
+    let mut input = Bytes::new(text.as_slice(), 64);
+    let rooms = [room_of(field(case, 3)), room_of(field(case, 4))];
+    say_run(alloc, words.as_slice(), &mut input, rooms, out)?;
     let mut left = [0; 64];
     match input.read(&mut left) {
         Ok(count) => say_field(&left[..count], out),
@@ -59,50 +112,35 @@ fn say_left(input: &mut Bytes<'_>, out: &mut String) -> Result<(), AllocError> {
     }
 }
 
-/// What comes of the words of a case: the exit status, what is on the output and on the error output, and what is left of
-/// the input.
-pub fn answer_words(alloc: Global, case: &str, out: &mut String) -> Result<(), AllocError> {
-    let text = bytes_of(alloc, field(case, 2))?;
-    let mut input = Bytes::new(text.as_slice(), 64);
-    let mut output = output_of(alloc, field(case, 3))?;
-    let mut errors = output_of(alloc, field(case, 4))?;
-    let status = run_words(alloc, case, &mut input, &mut output, &mut errors)?;
-    say_number("status ", u64::from(status.code()), out)?;
-    out.push_str(" |")?;
-    say_field(output.bytes(), out)?;
-    say_field(errors.bytes(), out)?;
-    say_left(&mut input, out)
-}
-
 /// Says whether a text begins with that of a case, or has it.
 fn say_told(printed: &str, told: &str, out: &mut String) -> Result<(), AllocError> {
-    if printed.is_empty() {
-        return out.push_str("empty");
-    }
-    let begins = printed.starts_with(told);
-    let has = printed.contains(told);
-    out.push_str(match (begins, has) {
-        (true, _) => "begins so",
-        (_, true) => "has it",
-        _ => "is another",
+    out.push_str(if printed.is_empty() {
+        "empty"
+    } else if printed.starts_with(told) {
+        "begins so"
+    } else if printed.contains(told) {
+        "has it"
+    } else {
+        "is another"
     })
-}
-
-/// The text of bytes; empty where they are none in UTF-8.
-fn text_of(bytes: &[u8]) -> &str {
-    str::from_utf8(bytes).unwrap_or("")
 }
 
 /// Whether what comes of the words of a case is what it tells.
 pub fn answer_told(alloc: Global, case: &str, out: &mut String) -> Result<(), AllocError> {
+    let words = words_of(alloc, field(case, 1))?;
     let text = bytes_of(alloc, field(case, 2))?;
     let told = text_of(text.as_slice());
     let mut input = Bytes::new(b"", 1);
-    let mut output = output_of(alloc, "")?;
-    let mut errors = output_of(alloc, "")?;
-    let status = run_words(alloc, case, &mut input, &mut output, &mut errors)?;
-    say_number("status ", u64::from(status.code()), out)?;
-    out.push_str(", output ")?;
+    let mut output = Buffer::new(alloc, ROOM, 3)?;
+    let mut errors = Buffer::new(alloc, ROOM, 3)?;
+    let status = run_words(
+        alloc,
+        words.as_slice(),
+        &mut input,
+        &mut output,
+        &mut errors,
+    );
+    write!(out, "status {}, output ", status.code())?;
     say_told(text_of(output.bytes()), told, out)?;
     out.push_str(", error output ")?;
     say_told(text_of(errors.bytes()), told, out)
