@@ -49,31 +49,12 @@ pub fn expect_eq<T: PartialEq + Debug>(rt: &impl Abort, got: &T, wanted: &T) {
     assert_eq!(rt; *got, *wanted);
 }
 
-/// The bytes spell this text.
-fn expect_text(rt: &impl Abort, bytes: &[u8], wanted: &str) -> Result<(), Fail> {
-    assert_eq!(rt; str::from_utf8(bytes)?, wanted);
-    Ok(())
-}
-
-/// The run has ended so, with these texts on its outputs.
-pub fn expect_end(
-    rt: &impl Abort,
-    status: Status,
-    output: &Buffer,
-    errors: &Buffer,
-    wanted: End<'_>,
-) -> Result<(), Fail> {
-    expect_text(rt, output.bytes(), wanted.1)?;
-    expect_text(rt, errors.bytes(), wanted.2)?;
-    expect_eq(rt, &status, &wanted.0);
-    Ok(())
-}
-
 /// Does the run over an input and an output with this much room.
 pub fn expect_run(
     rt: &impl Abort,
     alloc: Global,
     run: Subcommand<'_>,
+    solver: &impl Solver,
     text: &[u8],
     room: usize,
     wanted: End<'_>,
@@ -86,11 +67,14 @@ pub fn expect_run(
     let status = run_subcommand(
         alloc,
         run,
-        &Nothing,
+        solver,
         &Stopped,
         &mut input,
         &mut output,
         &mut errors,
     );
-    expect_end(rt, status, &output, &errors, wanted)
+    let printed = str::from_utf8(output.bytes())?;
+    let told = str::from_utf8(errors.bytes())?;
+    expect_eq(rt, &(status, printed, told), &wanted);
+    Ok(())
 }

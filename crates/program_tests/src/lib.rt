@@ -4,11 +4,11 @@
 #![tactic(auto)]
 
 #[cfg(test)]
-mod check_tests;
-#[cfg(test)]
 mod closing_tests;
 #[cfg(test)]
 mod expect;
+#[cfg(test)]
+mod full_tests;
 #[cfg(test)]
 mod plain_tests;
 #[cfg(test)]

@@ -2,7 +2,7 @@
 
 ghost use Rattle.subcommands.specs.Runs.{IsInRange};
 
-use crate::expect::{End, ROOM, Stopped, expect_end, expect_eq, expect_run};
+use crate::expect::{End, Nothing, ROOM, Stopped, expect_eq, expect_run};
 use cards::{Buffer, Bytes, Layout, Seat, Side, Suit, Trump};
 use certificate_graph::{Answer, Graph};
 use partition_solver::{Partition, Solver};
@@ -17,9 +17,9 @@ use subcommands::{Status, Subcommand, run_subcommand};
 const ANSWER_ROOM: usize = 65536;
 
 /// Steps that are enough for such an answer.
-const STEPS: u64 = 10_000_000;
+pub const STEPS: u64 = 10_000_000;
 
-const ACE: &str = "N:A... K... Q... J...";
+pub const ACE: &str = "N:A... K... Q... J...";
 
 const FINESSE: &str = "N:AQ... 65... 32... K4...";
 
@@ -49,32 +49,6 @@ fn tricks_of(text: &str, declarer: Seat, trump: Trump) -> Result<u8, Fail> {
         Side::NorthSouth => Ok(tricks),
         Side::EastWest => Ok((layout.len() as u8).wrapping_sub(tricks)),
     }
-}
-
-/// Has the solver look for an answer, over an output with this much room.
-fn expect_solved(
-    rt: &impl Abort,
-    alloc: Global,
-    run: Subcommand<'_>,
-    solver: &impl Solver,
-    room: usize,
-    wanted: End<'_>,
-) -> Result<(), Fail>
-    requires { IsInRange run }
-{
-    let mut input = Bytes::new(b"", 7);
-    let mut output = Buffer::new(alloc, room, 3)?;
-    let mut errors = Buffer::new(alloc, ROOM, 7)?;
-    let status = run_subcommand(
-        alloc,
-        run,
-        solver,
-        &Stopped,
-        &mut input,
-        &mut output,
-        &mut errors,
-    );
-    expect_end(rt, status, &output, &errors, wanted)
 }
 
 /// An answer is found, and `check` accepts it with this number.
@@ -115,6 +89,7 @@ fn expect_accepted(
         rt,
         alloc,
         check,
+        &Nothing,
         answer.bytes(),
         ROOM,
         (Status::Done, line.as_str(), ""),
@@ -134,7 +109,7 @@ fn answers_are_accepted(rt: HostRuntime) -> Result<(), Fail> {
 }
 
 /// East's contract on the layout without trumps.
-fn east(layout: &str, budget: u64) -> Subcommand<'_>
+pub fn east(layout: &str, budget: u64) -> Subcommand<'_>
     ensures { IsInRange result }
 {
     Subcommand::Solve {
@@ -145,23 +120,11 @@ fn east(layout: &str, budget: u64) -> Subcommand<'_>
     }
 }
 
-#[test]
-fn three_steps_are_too_few(rt: HostRuntime) -> Result<(), Fail> {
-    let wanted = (Status::Incomplete, "", "ddfarm: no answer\n");
-    expect_solved(
-        &rt,
-        rt.alloc(),
-        east(FINESSE, 3),
-        &Partition::new(),
-        ROOM,
-        wanted,
-    )
-}
-
 /// Gives so many tricks for every layout, and certificates without nodes; or finds no memory.
 #[derive(Drop)]
-struct Claims {
-    tricks: Option<u8>,
+pub struct Claims {
+    /// The tricks.
+    pub tricks: Option<u8>,
 }
 
 impl Solver for Claims {
@@ -189,8 +152,11 @@ impl Solver for Claims {
     }
 }
 
+/// How a run ends that has no answer.
+const NO_ANSWER: End<'static> = (Status::Incomplete, "", "ddfarm: no answer\n");
+
 /// What is written of thirteen tricks that nothing shows.
-const THIRTEEN: &str = "result 13
+pub const THIRTEEN: &str = "result 13
 DDC 1
 trump NT
 side EW
@@ -202,42 +168,42 @@ side NS
 nodes 0
 ";
 
-/// A solver is trusted for nothing, but that a hand has no fourteenth trick.
+/// A solver is trusted for nothing, but that a hand has no fourteenth trick; and it may find nothing in its steps.
 #[test]
 fn unfounded_claims(rt: HostRuntime) -> Result<(), Fail> {
-    for (tricks, wanted) in [
-        (Some(13), (Status::Done, THIRTEEN, "")),
-        (Some(14), (Status::Incomplete, "", "ddfarm: no answer\n")),
-        (Some(255), (Status::Incomplete, "", "ddfarm: no answer\n")),
-        (None, (Status::Failed, "", "ddfarm: out of memory\n")),
+    let alloc = rt.alloc();
+    for (layout, tricks, wanted) in [
+        (ACE, Some(13), (Status::Done, THIRTEEN, "")),
+        (ACE, Some(14), NO_ANSWER),
+        (ACE, Some(255), NO_ANSWER),
+        (ACE, None, (Status::Failed, "", "ddfarm: out of memory\n")),
+        (
+            "N:A... A... Q... J...",
+            None,
+            (Status::Refused, "", "ddfarm: layout: 5 CardTwice\n"),
+        ),
+        (
+            "N:... ... ... ...",
+            None,
+            (Status::Refused, "", "ddfarm: layout: 6 HandSize\n"),
+        ),
+        (
+            "",
+            None,
+            (Status::Refused, "", "ddfarm: layout: 4 DealForm\n"),
+        ),
     ] {
         let solver = Claims { tricks };
-        expect_solved(&rt, rt.alloc(), east(ACE, STEPS), &solver, ROOM, wanted)?;
+        expect_run(&rt, alloc, east(layout, STEPS), &solver, b"", ROOM, wanted)?;
     }
-    Ok(())
-}
-
-#[test]
-fn refused_layouts(rt: HostRuntime) -> Result<(), Fail> {
-    for (layout, told) in [
-        ("N:A... A... Q... J...", "ddfarm: layout: 5 CardTwice\n"),
-        ("N:... ... ... ...", "ddfarm: layout: 6 HandSize\n"),
-        ("", "ddfarm: layout: 4 DealForm\n"),
-    ] {
-        let solver = Claims { tricks: None };
-        let wanted = (Status::Refused, "", told);
-        expect_solved(&rt, rt.alloc(), east(layout, STEPS), &solver, ROOM, wanted)?;
-    }
-    Ok(())
-}
-
-#[test]
-fn a_full_output_of_an_answer(rt: HostRuntime) -> Result<(), Fail> {
-    for room in 0..THIRTEEN.len() {
-        let printed = THIRTEEN.get(..room).unwrap_or("");
-        let wanted = (Status::Failed, printed, "ddfarm: writing failed\n");
-        let solver = Claims { tricks: Some(13) };
-        expect_solved(&rt, rt.alloc(), east(ACE, STEPS), &solver, room, wanted)?;
-    }
-    Ok(())
+    let three_steps = east(FINESSE, 3);
+    expect_run(
+        &rt,
+        alloc,
+        three_steps,
+        &Partition::new(),
+        b"",
+        ROOM,
+        NO_ANSWER,
+    )
 }

@@ -1,0 +1,66 @@
+//! Runs on outputs that are full, after each number of bytes.
+
+ghost use Rattle.subcommands.specs.Runs.{IsInRange};
+
+use crate::expect::{Nothing, expect_run};
+use crate::solve_tests::{ACE, Claims, STEPS, THIRTEEN, east};
+use crate::table_tests::TABLES;
+use cards::{Seat, Trump};
+use partition_solver::Solver;
+use std::alloc::Global;
+use std::process::Abort;
+use std::test::Fail;
+use subcommands::{Status, Subcommand};
+
+/// A finesse: South leads, North covers West's card, and wins two tricks. East's side needs none.
+const FINESSE: &[u8] = b"result 0
+DDC 1
+trump NT
+side EW
+nodes 0
+
+DDC 1
+trump NT
+side NS
+nodes 2
+S 2 2.2.2.2/NWN 0.0.0.0/ 0.0.0.0/ 0.0.0.0/ Sx(SbSa(Sx{N1})SxSc(Sx{N1}))
+N 1 1.1.1.1/N 0.0.0.0/ 0.0.0.0/ 0.0.0.0/ Sa(SxSx(Sx{}))
+";
+
+/// East's contract where the finesse wins.
+const CHECK: Subcommand<'static> = Subcommand::Check {
+    layout: "N:AQ... 65... 32... K4...",
+    declarer: Seat::East,
+    trump: Trump::Nt,
+};
+
+const UNNAMED: &str = "% PBN 2.1\n[Board \"\"]\n[Deal \"?\"]\n; table incomplete: 0 of 20\n\n";
+
+/// A run that would print this has failed on each output that has not the room for it, and is told so.
+fn expect_cut(
+    rt: &impl Abort,
+    alloc: Global,
+    run: Subcommand<'_>,
+    solver: &impl Solver,
+    text: &[u8],
+    whole: &str,
+) -> Result<(), Fail>
+    requires { IsInRange run }
+{
+    for room in 0..whole.len() {
+        let printed = whole.get(..room).unwrap_or("");
+        let wanted = (Status::Failed, printed, "ddfarm: writing failed\n");
+        expect_run(rt, alloc, run, solver, text, room, wanted)?;
+    }
+    Ok(())
+}
+
+/// A verdict, an answer and tables.
+#[test]
+fn full_outputs(rt: HostRuntime) -> Result<(), Fail> {
+    let alloc = rt.alloc();
+    expect_cut(&rt, alloc, CHECK, &Nothing, FINESSE, "accepted 0\n")?;
+    expect_cut(&rt, alloc, TABLES, &Nothing, b"[Deal \"?\"]", UNNAMED)?;
+    let solver = Claims { tricks: Some(13) };
+    expect_cut(&rt, alloc, east(ACE, STEPS), &solver, b"", THIRTEEN)
+}
