@@ -100,15 +100,16 @@ pub fn repeated(alloc: Global, case: &str) -> Result<Vec<u8>, AllocError> {
 
 /// Names a byte.
 fn say_byte(byte: u8, out: &mut String) -> Result<(), AllocError> {
-    match byte {
-        b'\n' => out.push_str("\\n"),
-        b'\r' => out.push_str("\\r"),
-        b'\t' => out.push_str("\\t"),
-        b'\\' => out.push_str("\\\\"),
-        b'|' => out.push_str("\\x7C"),
-        b' '..=b'~' => out.push(char::from(byte)),
-        _ => write!(out, "\\x{byte:02X}"),
-    }
+    let name = match byte {
+        b'\n' => "\\n",
+        b'\r' => "\\r",
+        b'\t' => "\\t",
+        b'\\' => "\\\\",
+        b'|' => "\\x7C",
+        b' '..=b'~' => return out.push(char::from(byte)),
+        _ => return write!(out, "\\x{byte:02X}"),
+    };
+    out.push_str(name)
 }
 
 /// Names bytes, and ends their field.
