@@ -4,9 +4,6 @@ use cards::{
     Buffer, Bytes, Card, DeviceFault, Layout, LayoutFault, Rank, Seat, Side, Sink, Source, Suit,
     Trump, write_all, write_number,
 };
-use std::alloc::Global;
-use std::fmt::Display;
-use std::process::Abort;
 use std::test::Fail;
 
 const SPADES: u64 = 0x1fff;
@@ -14,36 +11,31 @@ const SPADES: u64 = 0x1fff;
 /// A board on which each seat holds a whole suit.
 const WHOLE_SUITS: [u64; 4] = [SPADES, SPADES << 13, SPADES << 26, SPADES << 39];
 
-/// The items are printed so, each by one letter.
-fn expect_letters<T: Display>(
-    rt: &impl Abort,
-    alloc: Global,
-    items: &[T],
-    letters: &[&str],
-) -> Result<(), Fail> {
-    expect_eq(rt, &items.len(), &letters.len());
-    for (item, letter) in items.iter().zip(letters) {
-        expect_printed(rt, alloc, item, letter)?;
-    }
-    Ok(())
-}
+/// Numbers with their digits.
+const NUMBERS: [(u64, &[u8]); 5] = [
+    (0, b"0"),
+    (9, b"9"),
+    (10, b"10"),
+    (1009, b"1009"),
+    (u64::MAX, b"18446744073709551615"),
+];
 
 #[test]
-fn letters(rt: HostRuntime) -> Result<(), Fail> {
+fn letters_and_digits(rt: HostRuntime) -> Result<(), Fail> {
     let alloc = rt.alloc();
-    expect_letters(&rt, alloc, &Seat::ALL, &["N", "E", "S", "W"])?;
-    expect_letters(
+    expect_printed(&rt, alloc, &Seat::ALL, &["N", "E", "S", "W"])?;
+    expect_printed(
         &rt,
         alloc,
         &[Side::NorthSouth, Side::EastWest],
         &["NS", "EW"],
     )?;
-    expect_letters(&rt, alloc, &Trump::ALL, &["NT", "S", "H", "D", "C"])?;
-    expect_letters(&rt, alloc, &Suit::ALL, &["S", "H", "D", "C"])?;
+    expect_printed(&rt, alloc, &Trump::ALL, &["NT", "S", "H", "D", "C"])?;
+    expect_printed(&rt, alloc, &Suit::ALL, &["S", "H", "D", "C"])?;
     let falling = [
         "A", "K", "Q", "J", "T", "9", "8", "7", "6", "5", "4", "3", "2",
     ];
-    expect_letters(&rt, alloc, &Rank::FALLING, &falling)?;
+    expect_printed(&rt, alloc, &Rank::FALLING, &falling)?;
     let cards = [
         Card::at(0),
         Card::at(8),
@@ -51,21 +43,13 @@ fn letters(rt: HostRuntime) -> Result<(), Fail> {
         Card::at(13),
         Card::at(51),
     ];
-    expect_letters(&rt, alloc, &cards, &["S2", "ST", "SA", "H2", "CA"])
-}
-
-#[test]
-fn seats_and_numbers(rt: HostRuntime) {
-    expect_eq(&rt, &Seat::West.next(), &Seat::North);
-    expect_eq(&rt, &Seat::South.next(), &Seat::West);
-    expect_eq(&rt, &Seat::South.number(), &2);
-    expect_eq(&rt, &Seat::South.side(), &Side::NorthSouth);
-    expect_eq(&rt, &Seat::West.side().other(), &Side::NorthSouth);
-    expect_eq(&rt, &Suit::at(3), &Suit::Clubs);
-    expect_eq(&rt, &Suit::Diamonds.number(), &2);
-    expect_eq(&rt, &Rank::at(12), &Rank::Ace);
-    expect_eq(&rt, &Rank::Ten.number(), &8);
-    expect_eq(&rt, &QUEEN.number(), &23);
+    expect_printed(&rt, alloc, &cards, &["S2", "ST", "SA", "H2", "CA"])?;
+    for (number, digits) in NUMBERS {
+        let mut sink = Buffer::new(alloc, 20, 20)?;
+        expect_eq(&rt, &write_number(&mut sink, number), &Ok(()));
+        expect_bytes(&rt, sink.bytes(), digits);
+    }
+    Ok(())
 }
 
 const QUEEN: Card = Card {
@@ -74,7 +58,36 @@ const QUEEN: Card = Card {
 };
 
 #[test]
-fn layouts(rt: HostRuntime) -> Result<(), Fail> {
+fn seats_and_numbers(rt: HostRuntime) {
+    let seats = [Seat::West.next(), Seat::South.next()];
+    expect_eq(&rt, &seats, &[Seat::North, Seat::West]);
+    let sides = [Seat::South.side(), Seat::West.side().other()];
+    expect_eq(&rt, &sides, &[Side::NorthSouth, Side::NorthSouth]);
+    expect_eq(&rt, &Suit::at(3), &Suit::Clubs);
+    expect_eq(&rt, &Rank::at(12), &Rank::Ace);
+    let numbers = [
+        Seat::South.number(),
+        Suit::Diamonds.number(),
+        Rank::Ten.number(),
+        QUEEN.number(),
+    ];
+    expect_eq(&rt, &numbers, &[2, 2, 8, 23]);
+}
+
+/// Hands that make no layout.
+const REFUSED: [([u64; 4], LayoutFault); 8] = [
+    ([1, 2, 4, 1 << 52], LayoutFault::StrayBit),
+    ([1 << 63, 3, 3, 0], LayoutFault::StrayBit),
+    ([1, 2, 1, 4], LayoutFault::CardTwice),
+    ([0, 1 << 51, 0, 3 << 50], LayoutFault::CardTwice),
+    ([1, 2, 4, 24], LayoutFault::HandSize),
+    ([1, 2, 4, 0], LayoutFault::HandSize),
+    ([0, 0, 0, 0], LayoutFault::HandSize),
+    ([0x3fff, 0x3fff << 14, 0, 0], LayoutFault::HandSize),
+];
+
+#[test]
+fn layouts_and_refused_hands(rt: HostRuntime) -> Result<(), Fail> {
     let layout = Layout::from_hands(WHOLE_SUITS)?;
     expect_eq(&rt, &layout.len(), &13);
     expect_eq(&rt, &layout.owner(QUEEN), &Some(Seat::East));
@@ -88,23 +101,10 @@ fn layouts(rt: HostRuntime) -> Result<(), Fail> {
     expect_eq(&rt, &ending.owner(QUEEN), &None);
     expect_eq(&rt, &ending, &Layout::from_hands([1, 2, 4, 8])?);
     expect_eq(&rt, &(ending == layout), &false);
-    Ok(())
-}
-
-#[test]
-fn refused_hands(rt: HostRuntime) {
-    for (hands, want) in [
-        ([1, 2, 4, 1 << 52], LayoutFault::StrayBit),
-        ([1 << 63, 3, 3, 0], LayoutFault::StrayBit),
-        ([1, 2, 1, 4], LayoutFault::CardTwice),
-        ([0, 1 << 51, 0, 3 << 50], LayoutFault::CardTwice),
-        ([1, 2, 4, 24], LayoutFault::HandSize),
-        ([1, 2, 4, 0], LayoutFault::HandSize),
-        ([0, 0, 0, 0], LayoutFault::HandSize),
-        ([0x3fff, 0x3fff << 14, 0, 0], LayoutFault::HandSize),
-    ] {
-        expect_eq(&rt, &Layout::from_hands(hands), &Err(want));
+    for (hands, fault) in REFUSED {
+        expect_eq(&rt, &Layout::from_hands(hands), &Err(fault));
     }
+    Ok(())
 }
 
 #[test]
@@ -117,19 +117,15 @@ fn reads_in_pieces(rt: HostRuntime) {
     expect_eq(&rt, &source.read(&mut buffer[4..]), &Ok(1));
     expect_bytes(&rt, &buffer, b"hello\0\0\0");
     expect_eq(&rt, &source.read(&mut buffer), &Ok(0));
-    reads_around_a_fault(&rt, &mut buffer);
+
+    let mut failing = Bytes::failing_after(b"hello", 3, 1);
+    for wanted in [Ok(3), Err(DeviceFault), Ok(2)] {
+        expect_eq(&rt, &failing.read(&mut buffer), &wanted);
+    }
+    expect_bytes(&rt, &buffer, b"lollo\0\0\0");
 
     let mut single = Bytes::new(b"hello", 0);
     expect_eq(&rt, &single.read(&mut buffer), &Ok(1));
-}
-
-/// The buffer has "hello" before.
-fn reads_around_a_fault(rt: &impl Abort, buffer: &mut [u8]) {
-    let mut failing = Bytes::failing_after(b"hello", 3, 1);
-    expect_eq(rt, &failing.read(buffer), &Ok(3));
-    expect_eq(rt, &failing.read(buffer), &Err(DeviceFault));
-    expect_eq(rt, &failing.read(buffer), &Ok(2));
-    expect_bytes(rt, buffer, b"lollo\0\0\0");
 }
 
 #[test]
@@ -140,38 +136,14 @@ fn writes_in_pieces(rt: HostRuntime) -> Result<(), Fail> {
     expect_eq(&rt, &sink.write(b"ef"), &Err(DeviceFault));
     expect_eq(&rt, &sink.write(b""), &Ok(0));
     expect_bytes(&rt, sink.bytes(), b"abcd");
-    Ok(())
-}
 
-#[test]
-fn whole_texts(rt: HostRuntime) -> Result<(), Fail> {
     let mut whole = Buffer::new(rt.alloc(), 10, 3)?;
     expect_eq(&rt, &write_all(&mut whole, b"0123456789"), &Ok(()));
     expect_bytes(&rt, whole.bytes(), b"0123456789");
 
     let mut beginning = Buffer::new(rt.alloc(), 7, 0)?;
-    expect_eq(
-        &rt,
-        &write_all(&mut beginning, b"0123456789"),
-        &Err(DeviceFault),
-    );
+    let written = write_all(&mut beginning, b"0123456789");
+    expect_eq(&rt, &written, &Err(DeviceFault));
     expect_bytes(&rt, beginning.bytes(), b"0123456");
     Ok(())
-}
-
-/// The digits of a number.
-fn expect_digits(rt: &impl Abort, alloc: Global, number: u64, digits: &[u8]) -> Result<(), Fail> {
-    let mut sink = Buffer::new(alloc, 20, 20)?;
-    expect_eq(rt, &write_number(&mut sink, number), &Ok(()));
-    expect_bytes(rt, sink.bytes(), digits);
-    Ok(())
-}
-
-#[test]
-fn numbers(rt: HostRuntime) -> Result<(), Fail> {
-    expect_digits(&rt, rt.alloc(), 0, b"0")?;
-    expect_digits(&rt, rt.alloc(), 9, b"9")?;
-    expect_digits(&rt, rt.alloc(), 10, b"10")?;
-    expect_digits(&rt, rt.alloc(), 1009, b"1009")?;
-    expect_digits(&rt, rt.alloc(), u64::MAX, b"18446744073709551615")
 }

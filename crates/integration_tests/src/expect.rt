@@ -25,15 +25,18 @@ pub fn expect_bytes(rt: &impl Abort, got: &[u8], wanted: &[u8]) {
     assert_eq!(rt; got, wanted);
 }
 
-/// The item is printed so.
+/// The items are printed so, in their order.
 pub fn expect_printed<T: Display>(
     rt: &impl Abort,
     alloc: Global,
-    item: &T,
-    wanted: &str,
+    items: &[T],
+    wanted: &[&str],
 ) -> Result<(), Fail> {
-    let text = format!(in alloc; "{item}")?;
-    expect_bytes(rt, text.as_bytes(), wanted.as_bytes());
+    expect_eq(rt, &items.len(), &wanted.len());
+    for (item, wanted) in items.iter().zip(wanted) {
+        let text = format!(in alloc; "{item}")?;
+        expect_bytes(rt, text.as_bytes(), wanted.as_bytes());
+    }
     Ok(())
 }
 

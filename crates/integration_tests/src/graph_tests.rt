@@ -2,22 +2,13 @@
 
 use crate::certificates::{ACE, FINESSE, NOTHING};
 use crate::expect::{expect_bytes, expect_eq};
-use arrayvec::ArrayVec;
 use cards::{Buffer, DeviceFault, Seat, Side, Suit, Trump};
 use certificate_graph::{Branch, Child, Graph, GraphFault, Node, TextFault, Tree};
 use pattern_step::PatCard;
-use patterns::{Pattern, SuitPart};
+use patterns::Pattern;
 use std::alloc::{AllocError, Global};
 use std::process::Abort;
 use std::test::Fail;
-
-/// The fault of a text, and none where it is read.
-fn fault_of(alloc: Global, text: &[u8]) -> Option<TextFault> {
-    match Graph::read(alloc, text) {
-        Ok(_) => None,
-        Err(fault) => Some(fault),
-    }
-}
 
 /// Checks that a graph is written so, in pieces of so many bytes.
 fn expect_written(
@@ -33,39 +24,24 @@ fn expect_written(
     Ok(())
 }
 
-/// What is read is written as it was, in pieces of any size.
-fn expect_written_as_read(rt: &impl Abort, alloc: Global, text: &[u8]) -> Result<(), Fail> {
-    let graph = Graph::read(alloc, text)?;
-    expect_written(rt, alloc, &graph, 1, text)?;
-    expect_written(rt, alloc, &graph, 7, text)?;
-    expect_written(rt, alloc, &graph, 200, text)
-}
-
+/// What is read is written as it was, in pieces of any size, and what is built as what is read. A sink with so much room
+/// gets the beginning of the text, and a fault.
 #[test]
 fn written_as_read(rt: HostRuntime) -> Result<(), Fail> {
-    expect_written_as_read(&rt, rt.alloc(), FINESSE)?;
-    expect_written_as_read(&rt, rt.alloc(), ACE)?;
-    expect_written_as_read(&rt, rt.alloc(), NOTHING)
-}
-
-/// A sink with so much room gets the beginning of the text, and a fault.
-fn expect_beginning(
-    rt: &impl Abort,
-    alloc: Global,
-    graph: &Graph,
-    beginning: &[u8],
-) -> Result<(), Fail> {
-    let mut sink = Buffer::new(alloc, beginning.len(), 3)?;
-    expect_eq(rt, &graph.write(&mut sink), &Err(DeviceFault));
-    expect_bytes(rt, sink.bytes(), beginning);
-    Ok(())
-}
-
-#[test]
-fn a_sink_that_is_full(rt: HostRuntime) -> Result<(), Fail> {
+    for text in [FINESSE, ACE, NOTHING] {
+        let graph = Graph::read(rt.alloc(), text)?;
+        for piece in [1, 7, 200] {
+            expect_written(&rt, rt.alloc(), &graph, piece, text)?;
+        }
+    }
+    let nodes = ace(rt.alloc(), PatCard::Top(Suit::Spades, 0), 1, &[])?;
+    let built = Graph::new(Trump::Nt, Side::NorthSouth, nodes)?;
+    expect_written(&rt, rt.alloc(), &built, 200, ACE)?;
     let graph = Graph::read(rt.alloc(), FINESSE)?;
     for room in 0..FINESSE.len() {
-        expect_beginning(&rt, rt.alloc(), &graph, &FINESSE[..room])?;
+        let mut sink = Buffer::new(rt.alloc(), room, 3)?;
+        expect_eq(&rt, &graph.write(&mut sink), &Err(DeviceFault));
+        expect_bytes(&rt, sink.bytes(), &FINESSE[..room]);
     }
     Ok(())
 }
@@ -88,33 +64,13 @@ fn fault_of_beginning(count: usize) -> TextFault {
 fn beginnings(rt: HostRuntime) {
     expect_eq(&rt, &FINESSE.len(), &159);
     for count in 0..FINESSE.len() {
-        let fault = fault_of(rt.alloc(), &FINESSE[..count]);
+        let fault = Graph::read(rt.alloc(), &FINESSE[..count]).err();
         expect_eq(&rt, &fault, &Some(fault_of_beginning(count)));
     }
 }
 
-/// One card of spades each, North's the ace.
-fn one_each() -> Option<Pattern> {
-    let mut owners = ArrayVec::new();
-    owners.push(Seat::North);
-    let spades = SuitPart {
-        lens: [1; 4],
-        owners,
-    };
-    let hearts = SuitPart {
-        lens: [0; 4],
-        owners: ArrayVec::new(),
-    };
-    let diamonds = SuitPart {
-        lens: [0; 4],
-        owners: ArrayVec::new(),
-    };
-    let clubs = SuitPart {
-        lens: [0; 4],
-        owners: ArrayVec::new(),
-    };
-    Pattern::from_parts([spades, hearts, diamonds, clubs]).ok()
-}
+/// The word of a suit: one card of spades each, North's the ace.
+const ONE_EACH: u64 = 0x11111;
 
 const LOW: PatCard = PatCard::Low(Suit::Spades);
 
@@ -134,7 +90,7 @@ fn ace(alloc: Global, card: PatCard, need: u8, children: &[Child]) -> Result<Vec
         LOW,
         Tree::own(alloc, LOW, reply(alloc, LOW, fourth)?)?,
     )?;
-    let pattern = one_each().ok_or("no pattern")?;
+    let pattern = Pattern::from_words([ONE_EACH, 0, 0, 0])?;
     let mut nodes = Vec::new(alloc);
     nodes.push(Node {
         pattern,
@@ -145,64 +101,41 @@ fn ace(alloc: Global, card: PatCard, need: u8, children: &[Child]) -> Result<Vec
     Ok(nodes)
 }
 
-/// The fault of nodes, and none where they make a graph.
-fn fault_of_nodes(nodes: Vec<Node>) -> Option<GraphFault> {
-    match Graph::new(Trump::Nt, Side::NorthSouth, nodes) {
-        Ok(_) => None,
-        Err(fault) => Some(fault),
-    }
-}
+const TOP: PatCard = PatCard::Top(Suit::Spades, 12);
 
-#[test]
-fn built_and_written(rt: HostRuntime) -> Result<(), Fail> {
-    let top = PatCard::Top(Suit::Spades, 0);
-    let nodes = ace(rt.alloc(), top, 1, &[])?;
-    let graph = Graph::new(Trump::Nt, Side::NorthSouth, nodes)?;
-    expect_written(&rt, rt.alloc(), &graph, 200, ACE)
-}
+const PAST: PatCard = PatCard::Top(Suit::Spades, 13);
 
-/// Checks the fault of the nodes of the ace.
-fn expect_fault(
-    rt: &impl Abort,
-    alloc: Global,
-    card: PatCard,
-    need: u8,
-    children: &[Child],
-    wanted: Option<GraphFault>,
-) -> Result<(), Fail> {
-    let fault = fault_of_nodes(ace(alloc, card, need, children)?);
-    expect_eq(rt, &fault, &wanted);
-    Ok(())
-}
+const OF_NORTH: Child = Child {
+    winner: Seat::North,
+    number: 0,
+};
+
+const OF_EAST: Child = Child {
+    winner: Seat::East,
+    number: 0,
+};
+
+const ABSENT: Child = Child {
+    winner: Seat::South,
+    number: 1,
+};
+
+/// The card, the need and the children of the ace, with the fault; none where they make a graph.
+const NODES: [(PatCard, u8, &[Child], Option<GraphFault>); 6] = [
+    (TOP, 13, &[OF_NORTH, OF_EAST], None),
+    (PAST, 0, &[ABSENT], Some(GraphFault::Need)),
+    (TOP, 14, &[], Some(GraphFault::Need)),
+    (PAST, 1, &[ABSENT], Some(GraphFault::TreeForm)),
+    (TOP, 1, &[OF_EAST, OF_NORTH], Some(GraphFault::TreeForm)),
+    (TOP, 1, &[ABSENT], Some(GraphFault::ChildNumber)),
+];
 
 #[test]
 fn nodes_of_no_graph(rt: HostRuntime) -> Result<(), Fail> {
-    let alloc = rt.alloc();
-    let top = PatCard::Top(Suit::Spades, 12);
-    let past = PatCard::Top(Suit::Spades, 13);
-    let north = Child {
-        winner: Seat::North,
-        number: 0,
-    };
-    let east = Child {
-        winner: Seat::East,
-        number: 0,
-    };
-    let absent = Child {
-        winner: Seat::South,
-        number: 1,
-    };
-    expect_fault(&rt, alloc, top, 13, &[north, east], None)?;
-    expect_fault(&rt, alloc, past, 0, &[absent], Some(GraphFault::Need))?;
-    expect_fault(&rt, alloc, top, 14, &[], Some(GraphFault::Need))?;
-    expect_fault(&rt, alloc, past, 1, &[absent], Some(GraphFault::TreeForm))?;
-    expect_fault(
-        &rt,
-        alloc,
-        top,
-        1,
-        &[east, north],
-        Some(GraphFault::TreeForm),
-    )?;
-    expect_fault(&rt, alloc, top, 1, &[absent], Some(GraphFault::ChildNumber))
+    for (card, need, children, fault) in NODES {
+        let nodes = ace(rt.alloc(), card, need, children)?;
+        let built = Graph::new(Trump::Nt, Side::NorthSouth, nodes);
+        expect_eq(&rt, &built.err(), &fault);
+    }
+    Ok(())
 }

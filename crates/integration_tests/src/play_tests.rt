@@ -1,63 +1,44 @@
 //! Play by hand: who wins tricks, which cards may be played, and the three refusals.
 
-use crate::expect::expect_eq;
-use cards::{Card, Layout, LayoutFault, Rank, Seat, Side, Suit, Trump};
+use crate::expect::{expect, expect_eq};
+use cards::{Card, Rank, Seat, Side, Suit, Trump};
+use pbn_deals::read_layout;
 use play_rules::{PlayFault, Table, winner};
-use std::process::Abort;
 use std::test::Fail;
 
 fn card(suit: Suit, rank: Rank) -> Card {
     Card { suit, rank }
 }
 
-/// The bit of a card in a hand's word.
-fn bit(suit: Suit, rank: Rank) -> u64 {
-    1 << card(suit, rank).number()
-}
-
-/// A three-card ending in which West is squeezed: North AJ.K, East D432, South S2 H2 CA, West KQ.A.
-fn squeeze() -> Result<Layout, LayoutFault> {
-    Layout::from_hands([
-        bit(Suit::Spades, Rank::Ace)
-            | bit(Suit::Spades, Rank::Jack)
-            | bit(Suit::Hearts, Rank::King),
-        bit(Suit::Diamonds, Rank::Four)
-            | bit(Suit::Diamonds, Rank::Three)
-            | bit(Suit::Diamonds, Rank::Two),
-        bit(Suit::Spades, Rank::Two) | bit(Suit::Hearts, Rank::Two) | bit(Suit::Clubs, Rank::Ace),
-        bit(Suit::Spades, Rank::King)
-            | bit(Suit::Spades, Rank::Queen)
-            | bit(Suit::Hearts, Rank::Ace),
-    ])
-}
-
-/// These cards may be played.
-fn expect_legal(rt: &impl Abort, table: &Table, wanted: &[Card]) {
-    assert_eq!(rt; table.legal().as_slice(), wanted);
-}
+/// A three-card ending in which West is squeezed.
+const SQUEEZE: &[u8] = b"N:AJ.K.. ..432. 2.2..A KQ.A..";
 
 #[test]
-fn refuses_in_turn(rt: HostRuntime) -> Result<(), Fail> {
-    let mut table = Table::new(squeeze()?, Seat::South, Trump::Nt);
-    expect_eq(
-        &rt,
-        &table.play(card(Suit::Clubs, Rank::King)),
-        &Err(PlayFault::NotHeld),
-    );
+fn legal_cards_and_refusals(rt: HostRuntime) -> Result<(), Fail> {
+    let mut table = Table::new(read_layout(SQUEEZE)?, Seat::South, Trump::Nt);
+    let club = table.play(card(Suit::Clubs, Rank::King));
+    expect_eq(&rt, &club, &Err(PlayFault::NotHeld));
     expect_eq(&rt, &table.play(card(Suit::Hearts, Rank::Two)), &Ok(()));
-    expect_legal(&rt, &table, &[card(Suit::Hearts, Rank::Ace)]);
-    expect_eq(
-        &rt,
-        &table.play(card(Suit::Spades, Rank::King)),
-        &Err(PlayFault::MustFollow),
-    );
+    let ace = [card(Suit::Hearts, Rank::Ace)];
+    expect(&rt, table.legal().as_slice() == ace.as_slice());
+    let spade = table.play(card(Suit::Spades, Rank::King));
+    expect_eq(&rt, &spade, &Err(PlayFault::MustFollow));
     expect_eq(&rt, &table.turn(), &Some(Seat::West));
+
+    // by suit and falling
+    let table = Table::new(read_layout(SQUEEZE)?, Seat::West, Trump::Nt);
+    let wanted = [
+        card(Suit::Spades, Rank::King),
+        card(Suit::Spades, Rank::Queen),
+        card(Suit::Hearts, Rank::Ace),
+    ];
+    expect(&rt, table.clone()?.legal().as_slice() == wanted.as_slice());
     Ok(())
 }
 
 #[test]
 fn plays_to_the_end(rt: HostRuntime) -> Result<(), Fail> {
-    let mut table = Table::new(squeeze()?, Seat::South, Trump::Nt);
+    let mut table = Table::new(read_layout(SQUEEZE)?, Seat::South, Trump::Nt);
     let played = [
         card(Suit::Clubs, Rank::Ace),
         card(Suit::Spades, Rank::Queen),
@@ -88,19 +69,6 @@ fn plays_to_the_end(rt: HostRuntime) -> Result<(), Fail> {
 }
 
 #[test]
-fn lists_by_suit_and_falling(rt: HostRuntime) -> Result<(), Fail> {
-    let table = Table::new(squeeze()?, Seat::West, Trump::Nt);
-    let copy = table.clone()?;
-    let wanted = [
-        card(Suit::Spades, Rank::King),
-        card(Suit::Spades, Rank::Queen),
-        card(Suit::Hearts, Rank::Ace),
-    ];
-    expect_legal(&rt, &copy, &wanted);
-    Ok(())
-}
-
-#[test]
 fn trumps_win(rt: HostRuntime) {
     let ace = card(Suit::Hearts, Rank::Ace);
     let two = card(Suit::Spades, Rank::Two);
@@ -109,24 +77,12 @@ fn trumps_win(rt: HostRuntime) {
     let spades = Trump::Suit(Suit::Spades);
     let hearts = Trump::Suit(Suit::Hearts);
     let clubs = Trump::Suit(Suit::Clubs);
-    expect_eq(
-        &rt,
-        &winner(spades, Seat::East, ace, two, king, three),
-        &Seat::South,
-    );
-    expect_eq(
-        &rt,
-        &winner(Trump::Nt, Seat::East, ace, two, king, three),
-        &Seat::East,
-    );
-    expect_eq(
-        &rt,
-        &winner(clubs, Seat::West, three, two, ace, king),
-        &Seat::West,
-    );
-    expect_eq(
-        &rt,
-        &winner(hearts, Seat::North, two, king, three, ace),
-        &Seat::West,
-    );
+    let winners = [
+        winner(spades, Seat::East, ace, two, king, three),
+        winner(Trump::Nt, Seat::East, ace, two, king, three),
+        winner(clubs, Seat::West, three, two, ace, king),
+        winner(hearts, Seat::North, two, king, three, ace),
+    ];
+    let wanted = [Seat::South, Seat::East, Seat::West, Seat::West];
+    expect_eq(&rt, &winners, &wanted);
 }

@@ -41,10 +41,10 @@ const SMALL: [Row; 6] = [
 ];
 
 /// One of nine cards a hand.
-const NINE: [Row; 1] = [(
+const NINE: Row = (
     "N:43..K93.AQJT 95.T6.862.32 AJ762.J8..86 .K95.AQJT4.5",
     "59238 00550 79339 00550",
-)];
+);
 
 /// A board on which East takes five tricks in no-trump.
 const BOARD: &str = "N:T97.643.A73.AQJ8 832.KJT7.QJ942.4 AQ54.Q52.K6.K932 KJ6.A98.T85.T765";
@@ -129,16 +129,18 @@ fn endings(rt: HostRuntime) -> Result<(), Fail> {
     Ok(())
 }
 
-/// One solver for all declarers of a layout, and for the next layouts.
+/// One solver for all declarers of a layout, and for the next layouts; then nine cards a hand, and a board, each with a new one.
 #[test]
-fn small_layouts(rt: HostRuntime) -> Result<(), Fail> {
+fn small_and_large_layouts(rt: HostRuntime) -> Result<(), Fail> {
     let solver = Partition::new();
     for row in SMALL {
         for declarer in Seat::ALL {
             solves(&rt, rt.alloc(), &solver, row, declarer)?;
         }
     }
-    Ok(())
+    solves(&rt, rt.alloc(), &Partition::new(), NINE, Seat::East)?;
+    let (east, nt) = (Seat::East, Trump::Nt);
+    solves_entry(&rt, rt.alloc(), &Partition::new(), BOARD, east, nt, 5)
 }
 
 /// One solver that is asked of another layout each time.
@@ -153,46 +155,19 @@ fn layouts_by_turns(rt: HostRuntime) -> Result<(), Fail> {
     Ok(())
 }
 
+/// What a call has found before its steps ended is there for the next one. A tree has four cards, each of which is a step, so
+/// three steps are never enough.
 #[test]
-fn nine_cards(rt: HostRuntime) -> Result<(), Fail> {
-    for row in NINE {
-        solves(&rt, rt.alloc(), &Partition::new(), row, Seat::East)?;
-    }
-    Ok(())
-}
-
-#[test]
-fn board(rt: HostRuntime) -> Result<(), Fail> {
-    solves_entry(
-        &rt,
-        rt.alloc(),
-        &Partition::new(),
-        BOARD,
-        Seat::East,
-        Trump::Nt,
-        5,
-    )
-}
-
-/// What a call has found before its steps ended is there for the next one.
-#[test]
-fn asked_again(rt: HostRuntime) -> Result<(), Fail> {
+fn too_few_steps(rt: HostRuntime) -> Result<(), Fail> {
     let solver = Partition::new();
-    let trump = Trump::Suit(Suit::Diamonds);
-    for (text, _) in NINE {
-        let layout = read_layout(text.as_bytes())?;
-        let first = solver.solve(rt.alloc(), &layout, Seat::North, trump, 10_000)?;
-        expect_for(&rt, text, Seat::North, trump, first.is_none());
-        let again = solver.solve(rt.alloc(), &layout, Seat::North, trump, 10_000)?;
-        let again = again.ok_or("no answer")?;
-        expect_for(&rt, text, Seat::North, trump, again.k == 3);
-    }
-    Ok(())
-}
-
-/// A tree has four cards, each of which is a step, so three steps are never enough.
-#[test]
-fn three_steps(rt: HostRuntime) -> Result<(), Fail> {
+    let (text, _) = NINE;
+    let (north, trump) = (Seat::North, Trump::Suit(Suit::Diamonds));
+    let layout = read_layout(text.as_bytes())?;
+    let first = solver.solve(rt.alloc(), &layout, north, trump, 10_000)?;
+    expect_for(&rt, text, north, trump, first.is_none());
+    let again = solver.solve(rt.alloc(), &layout, north, trump, 10_000)?;
+    let again = again.ok_or("no answer")?;
+    expect_for(&rt, text, north, trump, again.k == 3);
     let solver = Partition::new();
     for (text, _) in ENDINGS {
         let layout = read_layout(text.as_bytes())?;

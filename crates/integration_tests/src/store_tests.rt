@@ -4,7 +4,6 @@ use crate::expect::expect_eq;
 use cards::{Layout, Seat, Side};
 use pattern_store::Store;
 use patterns::Pattern;
-use std::process::Abort;
 use std::test::Fail;
 
 /// Each seat holds one spade, North's the highest: the ace, the king, the queen and the jack.
@@ -39,36 +38,19 @@ const ASKED: [([u64; 4], Seat, Side, u8, Option<u32>); 9] = [
     (HEART, Seat::East, Side::NorthSouth, 1, None),
 ];
 
-/// Adds them all.
-fn fill(store: &mut Store) -> Result<(), Fail> {
+#[test]
+fn first_add_that_serves(rt: HostRuntime) -> Result<(), Fail> {
+    let mut store = Store::new(rt.alloc());
     let layout = Layout::from_hands(HIGH)?;
+    let found = store.find(&layout, Seat::East, Side::NorthSouth, 1);
+    expect_eq(&rt, &found, &None);
     for (spades, lead, side, need, number) in ADDED {
         let pattern = Pattern::of_layout(&layout, [spades, 0, 0, 0]);
         store.add(pattern, lead, side, need, number)?;
     }
-    Ok(())
-}
-
-/// Checks what is found for a layout.
-fn expect_found(
-    rt: &impl Abort,
-    store: &Store,
-    hands: [u64; 4],
-    (lead, side, need): (Seat, Side, u8),
-    number: Option<u32>,
-) -> Result<(), Fail> {
-    let layout = Layout::from_hands(hands)?;
-    expect_eq(rt, &store.find(&layout, lead, side, need), &number);
-    Ok(())
-}
-
-#[test]
-fn first_add_that_serves(rt: HostRuntime) -> Result<(), Fail> {
-    let mut store = Store::new(rt.alloc());
-    expect_found(&rt, &store, HIGH, (Seat::East, Side::NorthSouth, 1), None)?;
-    fill(&mut store)?;
     for (hands, lead, side, need, number) in ASKED {
-        expect_found(&rt, &store, hands, (lead, side, need), number)?;
+        let layout = Layout::from_hands(hands)?;
+        expect_eq(&rt, &store.find(&layout, lead, side, need), &number);
     }
     Ok(())
 }

@@ -32,8 +32,9 @@ impl io::Read for Broken {
     }
 }
 
+/// A text in pieces, and a reader that fails; then whole inputs: one of over two pieces, and one that fails in its second call.
 #[test]
-fn readers(rt: HostRuntime) {
+fn readers(rt: HostRuntime) -> Result<(), Fail> {
     let mut buffer = [0; 4];
     let mut source = ReaderSource::new(b"abcdef".as_slice());
     expect_eq(&rt, &source.read(&mut buffer), &Ok(4));
@@ -44,48 +45,33 @@ fn readers(rt: HostRuntime) {
     let mut broken = ReaderSource::new(Broken { takes_none: false });
     expect_eq(&rt, &broken.read(&mut buffer), &Err(DeviceFault));
     expect_bytes(&rt, &buffer, b"efcd");
+
+    let text = [b'x'; 40000];
+    let mut source = ReaderSource::new(text.as_slice());
+    expect_eq(&rt, &read_all(rt.alloc(), &mut source)?.len(), &text.len());
+    let mut failing = Bytes::failing_after(&text, 100, 1);
+    let fault = read_all(rt.alloc(), &mut failing).err();
+    expect_eq(&rt, &fault, &Some(InputFault::Read));
+    Ok(())
 }
 
+/// A writer at once, and one that holds back what goes out by the flush; each with writers that fail.
 #[test]
-fn writers(rt: HostRuntime) {
+fn writers(rt: HostRuntime) -> Result<(), Fail> {
     let mut sink = WriterSink::new(Vec::new(rt.alloc()));
     expect_eq(&rt, &sink.write(b"abc"), &Ok(3));
     expect_eq(&rt, &sink.write(b""), &Ok(0));
+    let mut held = WriterSink::new(BufWriter::new(rt.alloc(), Vec::new(rt.alloc()))?);
+    expect_eq(&rt, &held.write(b"NS 1\n"), &Ok(5));
+    expect_bytes(&rt, held.get_ref().get_ref().as_slice(), b"");
+    expect_eq(&rt, &held.flush(), &Ok(()));
+    expect_bytes(&rt, held.get_ref().get_ref().as_slice(), b"NS 1\n");
     for takes_none in [false, true] {
         let mut broken = WriterSink::new(Broken { takes_none });
         expect_eq(&rt, &broken.write(b"abc"), &Err(DeviceFault));
-    }
-}
-
-/// What the buffer holds back goes out by the flush.
-#[test]
-fn flushes(rt: HostRuntime) -> Result<(), Fail> {
-    let mut sink = WriterSink::new(BufWriter::new(rt.alloc(), Vec::new(rt.alloc()))?);
-    expect_eq(&rt, &sink.write(b"NS 1\n"), &Ok(5));
-    expect_bytes(&rt, sink.get_ref().get_ref().as_slice(), b"");
-    expect_eq(&rt, &sink.flush(), &Ok(()));
-    expect_bytes(&rt, sink.get_ref().get_ref().as_slice(), b"NS 1\n");
-    Ok(())
-}
-
-#[test]
-fn flushes_that_fail(rt: HostRuntime) -> Result<(), Fail> {
-    for takes_none in [false, true] {
-        let mut broken = WriterSink::new(BufWriter::new(rt.alloc(), Broken { takes_none })?);
-        expect_eq(&rt, &broken.write(b"NS 1\n"), &Ok(5));
-        expect_eq(&rt, &broken.flush(), &Err(DeviceFault));
+        let mut held = WriterSink::new(BufWriter::new(rt.alloc(), Broken { takes_none })?);
+        expect_eq(&rt, &held.write(b"NS 1\n"), &Ok(5));
+        expect_eq(&rt, &held.flush(), &Err(DeviceFault));
     }
     Ok(())
-}
-
-/// A text longer than two pieces, and a source that fails in its second call.
-#[test]
-fn whole_inputs(rt: HostRuntime) {
-    let text = [b'x'; 40000];
-    let mut source = ReaderSource::new(text.as_slice());
-    let all = read_all(rt.alloc(), &mut source).map(|all| all.len());
-    expect_eq(&rt, &all, &Ok(text.len()));
-    let mut failing = Bytes::failing_after(&text, 100, 1);
-    let none = read_all(rt.alloc(), &mut failing).map(|all| all.len());
-    expect_eq(&rt, &none, &Err(InputFault::Read));
 }

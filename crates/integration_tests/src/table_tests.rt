@@ -124,6 +124,7 @@ fn expect_written(
     Ok(())
 }
 
+/// The whole table, and its beginnings where the sink is full.
 #[test]
 fn a_complete_table(rt: HostRuntime) -> Result<(), Fail> {
     let alloc = rt.alloc();
@@ -136,68 +137,22 @@ fn a_complete_table(rt: HostRuntime) -> Result<(), Fail> {
     for greatest_piece in [1, 7, 1000] {
         expect_written(&rt, alloc, &sheet, greatest_piece, complete, TABLE)?;
     }
-    Ok(())
-}
-
-/// A sink with so much room gets the beginning of the table, and a fault.
-fn expect_beginning(
-    rt: &impl Abort,
-    alloc: Global,
-    sheet: &TestSheet,
-    beginning: &[u8],
-) -> Result<(), Fail> {
-    let mut sink = Buffer::new(alloc, beginning.len(), 7)?;
-    expect_eq(rt, &write_sheet(sheet, &mut sink), &Err(DeviceFault));
-    expect_bytes(rt, sink.bytes(), beginning);
-    Ok(())
-}
-
-#[test]
-fn a_sink_that_is_full(rt: HostRuntime) -> Result<(), Fail> {
-    let alloc = rt.alloc();
-    let sheet = sheet_of(alloc, b"1", Some(read_layout(ONE_SUIT_EACH)?), RESULTS)?;
     for room in 0..TABLE.len() {
-        expect_beginning(&rt, alloc, &sheet, &TABLE[..room])?;
+        let mut sink = Buffer::new(alloc, room, 7)?;
+        expect_eq(&rt, &write_sheet(&sheet, &mut sink), &Err(DeviceFault));
+        expect_bytes(&rt, sink.bytes(), &TABLE[..room]);
     }
     Ok(())
 }
 
-/// The line of a table with these results alone.
-fn expect_incomplete(
-    rt: &impl Abort,
-    alloc: Global,
-    results: &'static [u8],
-    line: &[u8],
-) -> Result<(), Fail> {
-    let sheet = sheet_of(alloc, b"N\xE9 \\ ;", None, results)?;
-    let head = b"% PBN 2.1\n[Board \"N\xE9 \\ ;\"]\n[Deal \"?\"]\n";
-    let text = joined(alloc, &[head, line, b"\n"])?;
-    let incomplete = Report {
-        boards: 1,
-        complete: 0,
-    };
-    expect_written(rt, alloc, &sheet, 50, incomplete, text.as_slice())
-}
-
-#[test]
-fn incomplete_tables(rt: HostRuntime) -> Result<(), Fail> {
-    let alloc = rt.alloc();
-    expect_incomplete(&rt, alloc, &RESULTS[..0], b"; table incomplete: 0 of 20\n")?;
-    expect_incomplete(&rt, alloc, &RESULTS[..1], b"; table incomplete: 1 of 20\n")?;
-    expect_incomplete(&rt, alloc, &RESULTS[..9], b"; table incomplete: 9 of 20\n")?;
-    expect_incomplete(
-        &rt,
-        alloc,
-        &RESULTS[..10],
-        b"; table incomplete: 10 of 20\n",
-    )?;
-    expect_incomplete(
-        &rt,
-        alloc,
-        &RESULTS[..19],
-        b"; table incomplete: 19 of 20\n",
-    )
-}
+/// How many results there are, and the line that says so.
+const INCOMPLETE: [(usize, &[u8]); 5] = [
+    (0, b"; table incomplete: 0 of 20\n"),
+    (1, b"; table incomplete: 1 of 20\n"),
+    (9, b"; table incomplete: 9 of 20\n"),
+    (10, b"; table incomplete: 10 of 20\n"),
+    (19, b"; table incomplete: 19 of 20\n"),
+];
 
 /// Two boards with a deal and without one.
 const TWO_BOARDS: &[u8] = b"% PBN 2.1
@@ -211,31 +166,35 @@ const TWO_BOARDS: &[u8] = b"% PBN 2.1
 
 ";
 
+/// The report of so many boards of which none is complete.
+fn none_of(boards: usize) -> Report {
+    Report {
+        boards,
+        complete: 0,
+    }
+}
+
+/// One board, two in their order, and none.
 #[test]
-fn boards_in_their_order(rt: HostRuntime) -> Result<(), Fail> {
+fn incomplete_tables(rt: HostRuntime) -> Result<(), Fail> {
     let alloc = rt.alloc();
+    let head = b"% PBN 2.1\n[Board \"N\xE9 \\ ;\"]\n[Deal \"?\"]\n";
+    for (count, line) in INCOMPLETE {
+        let results = RESULTS.get(..count).ok_or("fewer results")?;
+        let sheet = sheet_of(alloc, b"N\xE9 \\ ;", None, results)?;
+        let text = joined(alloc, &[head, line, b"\n"])?;
+        expect_written(&rt, alloc, &sheet, 50, none_of(1), text.as_slice())?;
+    }
     let ending = read_layout(b"w:K.Q.. A.2.. .43.. ..J.9")?;
     let mut sheet = sheet_of(alloc, b"b", Some(ending), &RESULTS[..2])?;
     sheet.boards.push(Board {
         name: BoardName::new(Vec::new(alloc)),
         deal: None,
     })?;
-    let incomplete = Report {
-        boards: 2,
-        complete: 0,
-    };
-    expect_written(&rt, alloc, &sheet, 300, incomplete, TWO_BOARDS)
-}
-
-#[test]
-fn no_boards(rt: HostRuntime) -> Result<(), Fail> {
+    expect_written(&rt, alloc, &sheet, 300, none_of(2), TWO_BOARDS)?;
     let empty = TestSheet {
-        boards: Vec::new(rt.alloc()),
+        boards: Vec::new(alloc),
         results: RESULTS,
     };
-    let nothing = Report {
-        boards: 0,
-        complete: 0,
-    };
-    expect_written(&rt, rt.alloc(), &empty, 1, nothing, b"% PBN 2.1\n")
+    expect_written(&rt, alloc, &empty, 1, none_of(0), b"% PBN 2.1\n")
 }

@@ -46,13 +46,20 @@ fn finesse() -> Result<Pattern, PatternFault> {
     )
 }
 
-fn low(suit: Suit) -> PatCard {
-    PatCard::Low(suit)
-}
+const LOW: PatCard = PatCard::Low(Suit::Spades);
 
-fn top(suit: Suit, place: u8) -> PatCard {
-    PatCard::Top(suit, place)
-}
+const LOW_HEART: PatCard = PatCard::Low(Suit::Hearts);
+
+/// The highest card of the spades whose owner is listed.
+const FIRST: PatCard = PatCard::Top(Suit::Spades, 0);
+
+const SECOND: PatCard = PatCard::Top(Suit::Spades, 1);
+
+const THIRD: PatCard = PatCard::Top(Suit::Spades, 2);
+
+const FIRST_HEART: PatCard = PatCard::Top(Suit::Hearts, 0);
+
+const SECOND_HEART: PatCard = PatCard::Top(Suit::Hearts, 1);
 
 fn set(seats: &[Seat]) -> SeatSet {
     let mut set = SeatSet::new();
@@ -62,49 +69,43 @@ fn set(seats: &[Seat]) -> SeatSet {
     set
 }
 
-/// These are the cards.
-fn expect_cards(rt: &impl Abort, got: &[PatCard], wanted: &[PatCard]) {
-    assert_eq!(rt; got, wanted);
-}
+/// The legal cards of a seat in the finesse, by the suit led. A seat without the suit led, and one that leads, may play any card.
+const LEGAL: [(Seat, Option<Suit>, &[PatCard]); 4] = [
+    (WEST, Some(Suit::Spades), &[SECOND, LOW]),
+    (NORTH, Some(Suit::Spades), &[FIRST, THIRD]),
+    (WEST, Some(Suit::Clubs), &[SECOND, LOW]),
+    (WEST, None, &[SECOND, LOW]),
+];
+
+/// The same with spades and hearts.
+const LEGAL_OF_BOTH: [(Seat, Option<Suit>, &[PatCard]); 3] = [
+    (NORTH, None, &[FIRST, SECOND_HEART]),
+    (NORTH, Some(Suit::Hearts), &[SECOND_HEART]),
+    (SOUTH, None, &[LOW, LOW_HEART]),
+];
 
 #[test]
 fn tells_the_legal_cards(rt: HostRuntime) -> Result<(), Fail> {
     let finesse = finesse()?;
-    let west = legal(&finesse, WEST, Some(Suit::Spades));
-    expect_cards(
-        &rt,
-        west.as_slice(),
-        [top(Suit::Spades, 1), low(Suit::Spades)].as_slice(),
-    );
-    let north = legal(&finesse, NORTH, Some(Suit::Spades));
-    expect_cards(
-        &rt,
-        north.as_slice(),
-        [top(Suit::Spades, 0), top(Suit::Spades, 2)].as_slice(),
-    );
-    // a seat without the suit led, and one that leads, may play any card
-    expect_cards(
-        &rt,
-        legal(&finesse, WEST, Some(Suit::Clubs)).as_slice(),
-        west.as_slice(),
-    );
-    expect_cards(&rt, legal(&finesse, WEST, None).as_slice(), west.as_slice());
+    for (seat, led, cards) in LEGAL {
+        expect(&rt, legal(&finesse, seat, led).as_slice() == cards);
+    }
+    expect(&rt, !are_legal(&finesse, SOUTH, &[LOW, LOW, LOW, LOW]));
+    expect(&rt, is_legal(&finesse, WEST, Some(Suit::Hearts), SECOND));
+    expect(&rt, !is_legal(&finesse, WEST, None, FIRST));
+    let fourth = PatCard::Top(Suit::Spades, 3);
+    expect(&rt, !is_legal(&finesse, WEST, None, fourth));
+
     let both = pattern(
         part([1, 0, 1, 1], &[NORTH]),
         part([1, 2, 1, 1], &[EAST, NORTH]),
     )?;
-    let any = [top(Suit::Spades, 0), top(Suit::Hearts, 1)];
-    expect_cards(&rt, legal(&both, NORTH, None).as_slice(), any.as_slice());
-    expect_cards(
-        &rt,
-        legal(&both, NORTH, Some(Suit::Hearts)).as_slice(),
-        [top(Suit::Hearts, 1)].as_slice(),
-    );
-    expect_cards(
-        &rt,
-        legal(&both, SOUTH, None).as_slice(),
-        [low(Suit::Spades), low(Suit::Hearts)].as_slice(),
-    );
+    for (seat, led, cards) in LEGAL_OF_BOTH {
+        expect(&rt, legal(&both, seat, led).as_slice() == cards);
+    }
+    let spades = Some(Suit::Spades);
+    expect(&rt, !is_legal(&both, NORTH, spades, SECOND_HEART));
+    expect(&rt, is_legal(&both, EAST, spades, LOW_HEART));
     Ok(())
 }
 
@@ -128,161 +129,69 @@ fn expect_trick(
     expect_eq(rt, &child.covers(&left), &covers);
 }
 
-/// North has the highest of one card each.
-fn north_is_high() -> Result<Pattern, PatternFault> {
-    pattern(part([1, 1, 1, 1], &[NORTH]), part([0, 0, 0, 0], &[]))
-}
+/// Tricks of the finesse that South leads and North wins: the cards, the lengths and owners that are left, and whether North's
+/// high card covers them.
+const FINESSES: [([PatCard; 4], [u8; 4], &[Seat], bool); 3] = [
+    // West plays the king, and North the ace
+    ([LOW, SECOND, FIRST, LOW], [1, 1, 1, 1], &[NORTH], true),
+    // West ducks, and North finesses
+    ([LOW, LOW, THIRD, LOW], [1, 1, 1, 1], &[NORTH, WEST], true),
+    // West ducks, and North plays the ace: West's king is high
+    ([LOW, LOW, FIRST, LOW], [1, 1, 1, 1], &[WEST, NORTH], false),
+];
 
 #[test]
 fn moves_the_owners_up(rt: HostRuntime) -> Result<(), Fail> {
     let finesse = finesse()?;
-    let child = north_is_high()?;
-    // West plays the king, and North the ace
-    let beaten = [
-        low(Suit::Spades),
-        top(Suit::Spades, 1),
-        top(Suit::Spades, 0),
-        low(Suit::Spades),
-    ];
-    let left = part([1, 1, 1, 1], &[NORTH]);
-    expect_trick(&rt, &finesse, SOUTH, beaten, NORTH, left, (&child, true));
-    // West ducks, and North finesses
-    let ducked = [
-        low(Suit::Spades),
-        low(Suit::Spades),
-        top(Suit::Spades, 2),
-        low(Suit::Spades),
-    ];
-    let left = part([1, 1, 1, 1], &[NORTH, WEST]);
-    expect_trick(&rt, &finesse, SOUTH, ducked, NORTH, left, (&child, true));
-    Ok(())
-}
-
-#[test]
-fn leaves_what_a_pattern_does_not_cover(rt: HostRuntime) -> Result<(), Fail> {
-    let finesse = finesse()?;
-    let child = north_is_high()?;
-    // West ducks, and North plays the ace: West's king is high
-    let wasted = [
-        low(Suit::Spades),
-        low(Suit::Spades),
-        top(Suit::Spades, 0),
-        low(Suit::Spades),
-    ];
-    let left = part([1, 1, 1, 1], &[WEST, NORTH]);
-    expect_trick(&rt, &finesse, SOUTH, wasted, NORTH, left, (&child, false));
+    // North has the highest of one card each
+    let child = pattern(part([1, 1, 1, 1], &[NORTH]), part([0, 0, 0, 0], &[]))?;
+    for (cards, lens, owners, covers) in FINESSES {
+        let left = part(lens, owners);
+        expect_trick(&rt, &finesse, SOUTH, cards, NORTH, left, (&child, covers));
+    }
     // after the last trick nothing is left, and no pattern covers nothing
-    let last = [
-        top(Suit::Spades, 0),
-        low(Suit::Spades),
-        low(Suit::Spades),
-        low(Suit::Spades),
-    ];
+    let last = [FIRST, LOW, LOW, LOW];
     let nothing = part([0, 0, 0, 0], &[]);
     expect_trick(&rt, &child, NORTH, last, NORTH, nothing, (&child, false));
     Ok(())
 }
 
+/// Who may win where two hearts are led and two spades played, by the denomination.
+const TRUMP_WINNERS: [(Trump, &[Seat]); 3] = [
+    (Trump::Suit(Suit::Spades), &[NORTH, SOUTH]),
+    (Trump::Nt, &[EAST]),
+    (Trump::Suit(Suit::Clubs), &[EAST]),
+];
+
+/// Low cards of the suit are any of their players' to win with; a top wins, and a trump.
 #[test]
-fn leaves_low_cards_to_any_of_their_players(rt: HostRuntime) -> Result<(), Fail> {
+fn tells_the_winners(rt: HostRuntime) -> Result<(), Fail> {
     let without_ranks = pattern(part([2, 2, 2, 2], &[]), part([0, 0, 0, 0], &[]))?;
-    let lows = [
-        low(Suit::Spades),
-        low(Suit::Spades),
-        low(Suit::Spades),
-        low(Suit::Spades),
-    ];
-    expect_eq(
-        &rt,
-        &winners(&without_ranks, Trump::Nt, NORTH, &lows),
-        &set(&[NORTH, EAST, SOUTH, WEST]),
-    );
+    let all = winners(&without_ranks, Trump::Nt, NORTH, &[LOW, LOW, LOW, LOW]);
+    expect_eq(&rt, &all, &set(&[NORTH, EAST, SOUTH, WEST]));
     let one_top = pattern(part([1, 1, 1, 1], &[EAST]), part([0, 0, 0, 0], &[]))?;
-    let high = [
-        top(Suit::Spades, 0),
-        low(Suit::Spades),
-        low(Suit::Spades),
-        low(Suit::Spades),
-    ];
-    expect_eq(
-        &rt,
-        &winners(&one_top, Trump::Nt, EAST, &high),
-        &set(&[EAST]),
-    );
-    Ok(())
-}
-
-#[test]
-fn knows_illegal_cards(rt: HostRuntime) -> Result<(), Fail> {
-    let finesse = finesse()?;
-    let not_north = [
-        low(Suit::Spades),
-        low(Suit::Spades),
-        low(Suit::Spades),
-        low(Suit::Spades),
-    ];
-    expect(&rt, !are_legal(&finesse, SOUTH, &not_north));
-    expect(
-        &rt,
-        is_legal(&finesse, WEST, Some(Suit::Hearts), top(Suit::Spades, 1)),
-    );
-    expect(&rt, !is_legal(&finesse, WEST, None, top(Suit::Spades, 0)));
-    expect(&rt, !is_legal(&finesse, WEST, None, top(Suit::Spades, 3)));
-    let both = pattern(
-        part([1, 0, 1, 1], &[NORTH]),
-        part([1, 2, 1, 1], &[EAST, NORTH]),
-    )?;
-    expect(
-        &rt,
-        !is_legal(&both, NORTH, Some(Suit::Spades), top(Suit::Hearts, 1)),
-    );
-    expect(
-        &rt,
-        is_legal(&both, EAST, Some(Suit::Spades), low(Suit::Hearts)),
-    );
-    expect(
-        &rt,
-        set(&[NORTH]).contains(NORTH) && !set(&[NORTH]).contains(EAST),
-    );
-    Ok(())
-}
-
-#[test]
-fn decides_by_trump(rt: HostRuntime) -> Result<(), Fail> {
+    let east = winners(&one_top, Trump::Nt, EAST, &[FIRST, LOW, LOW, LOW]);
+    expect_eq(&rt, &east, &set(&[EAST]));
     let ending = pattern(part([1, 0, 1, 0], &[]), part([0, 1, 0, 1], &[EAST, WEST]))?;
-    let cards = [
-        top(Suit::Hearts, 0),
-        low(Suit::Spades),
-        top(Suit::Hearts, 1),
-        low(Suit::Spades),
-    ];
-    expect_eq(
-        &rt,
-        &winners(&ending, Trump::Suit(Suit::Spades), EAST, &cards),
-        &set(&[NORTH, SOUTH]),
-    );
-    expect_eq(
-        &rt,
-        &winners(&ending, Trump::Nt, EAST, &cards),
-        &set(&[EAST]),
-    );
-    expect_eq(
-        &rt,
-        &winners(&ending, Trump::Suit(Suit::Clubs), EAST, &cards),
-        &set(&[EAST]),
-    );
+    let cards = [FIRST_HEART, LOW, SECOND_HEART, LOW];
+    for (trump, seats) in TRUMP_WINNERS {
+        expect_eq(&rt, &winners(&ending, trump, EAST, &cards), &set(seats));
+    }
     Ok(())
 }
 
 #[test]
 fn tells_unequal_cards_and_sets_apart(rt: HostRuntime) {
-    expect_ne(&rt, &top(Suit::Spades, 0), &top(Suit::Hearts, 0));
-    expect_ne(&rt, &top(Suit::Spades, 0), &top(Suit::Spades, 1));
-    expect_ne(&rt, &top(Suit::Spades, 0), &low(Suit::Spades));
-    expect_ne(&rt, &low(Suit::Spades), &low(Suit::Clubs));
-    expect_eq(&rt, &top(Suit::Clubs, 12), &top(Suit::Clubs, 12));
+    expect_ne(&rt, &FIRST, &FIRST_HEART);
+    expect_ne(&rt, &FIRST, &SECOND);
+    expect_ne(&rt, &FIRST, &LOW);
+    expect_ne(&rt, &LOW, &PatCard::Low(Suit::Clubs));
+    let last = PatCard::Top(Suit::Clubs, 12);
+    expect_eq(&rt, &last, &PatCard::Top(Suit::Clubs, 12));
     for seat in [NORTH, EAST, SOUTH, WEST] {
         expect_ne(&rt, &set(&[seat]), &SeatSet::new());
         expect_eq(&rt, &set(&[seat, seat]), &set(&[seat]));
     }
+    let north = set(&[NORTH]);
+    expect(&rt, north.contains(NORTH) && !north.contains(EAST));
 }

@@ -3,7 +3,7 @@
 use super::certificates::{EAST_HIGH, NORTH_HIGH, boards};
 use crate::expect::{expect, expect_eq};
 use cards::{Seat, Trump};
-use checker::{Verdict, judge};
+use checker::judge;
 use lease_book::{Book, BookFault, Entry, Reply, replay};
 use pbn_deals::{Board, BoardName, read_layout};
 use std::alloc::Global;
@@ -78,58 +78,58 @@ nodes 1
 W 1 1.1.1.1/N 0.0.0.0/ 0.0.0.0/ 0.0.0.0/ (SxSa(SxSx{}))
 ";
 
-/// The verdict on a text that shows the declarer's trick where North has the ace.
-fn ace_of(alloc: Global, declarer: Seat, text: &str) -> Result<Verdict, Fail> {
+/// A declarer, a text that shows the trick where North has the ace, and the reply to its proof.
+type Shown = (Seat, &'static str, Reply);
+
+/// The layouts of boards, what is shown under the lease of North's no-trump on the first, and what is published of it.
+const FOREIGN: [(&[Option<&str>], &[Shown], Option<u8>); 2] = [
+    (
+        &[Some(EAST_HIGH), Some(NORTH_HIGH)],
+        &[(Seat::North, ACE, Reply::OtherEntry)],
+        None,
+    ),
+    (
+        &[Some(NORTH_HIGH)],
+        &[
+            (Seat::South, WEST_LEADS, Reply::OtherEntry),
+            (Seat::North, ACE, Reply::Published(1)),
+        ],
+        Some(1),
+    ),
+];
+
+/// What is shown is settled so under the lease.
+fn expect_settled(
+    rt: &impl Abort,
+    alloc: Global,
+    book: &mut Book,
+    (declarer, text, reply): &Shown,
+) -> Result<(), Fail> {
     let layout = read_layout(NORTH_HIGH.as_bytes())?;
-    Ok(judge(
+    let proof = judge(
         alloc,
         Some(&layout),
-        declarer,
+        *declarer,
         Trump::Nt,
         1,
         text.as_bytes(),
         NOTHING.as_bytes(),
-    )?)
-}
-
-/// A book over boards with these layouts, of which North's contract in no-trump on the first is leased.
-fn leased_book(rt: &impl Abort, alloc: Global, layouts: &[Option<&str>]) -> Result<Book, Fail> {
-    let mut book = Book::new(alloc, boards(alloc, layouts)?, 10, 1)?;
-    expect_eq(rt, &book.lease(0)?, &GIVEN);
-    Ok(book)
-}
-
-/// The proof is settled so under that lease.
-fn expect_settled(
-    rt: &impl Abort,
-    book: &mut Book,
-    proof: Verdict,
-    wanted: Reply,
-) -> Result<(), Fail> {
+    )?;
     expect(rt, proof.is_ok());
-    expect_eq(rt, &book.settle(1, NT, proof)?, &wanted);
+    expect_eq(rt, &book.settle(1, NT, proof)?, reply);
     Ok(())
-}
-
-fn proof_on_another_deal(rt: &impl Abort, alloc: Global) -> Result<(), Fail> {
-    let proof = ace_of(alloc, Seat::North, ACE)?;
-    let mut book = leased_book(rt, alloc, &[Some(EAST_HIGH), Some(NORTH_HIGH)])?;
-    expect_settled(rt, &mut book, proof, Reply::OtherEntry)?;
-    expect_eq(rt, &book.published(NT), &None);
-    Ok(())
-}
-
-fn proof_of_another_declarer(rt: &impl Abort, alloc: Global) -> Result<(), Fail> {
-    let of_south = ace_of(alloc, Seat::South, WEST_LEADS)?;
-    let of_north = ace_of(alloc, Seat::North, ACE)?;
-    let mut book = leased_book(rt, alloc, &[Some(NORTH_HIGH)])?;
-    expect_settled(rt, &mut book, of_south, Reply::OtherEntry)?;
-    expect_settled(rt, &mut book, of_north, Reply::Published(1))
 }
 
 /// A proof on another deal, or of another declarer, isn't one for the entry.
 #[test]
 fn foreign_proofs(rt: HostRuntime) -> Result<(), Fail> {
-    proof_on_another_deal(&rt, rt.alloc())?;
-    proof_of_another_declarer(&rt, rt.alloc())
+    for (layouts, shown, published) in FOREIGN {
+        let mut book = Book::new(rt.alloc(), boards(rt.alloc(), layouts)?, 10, 1)?;
+        expect_eq(&rt, &book.lease(0)?, &GIVEN);
+        for shown in shown {
+            expect_settled(&rt, rt.alloc(), &mut book, shown)?;
+        }
+        expect_eq(&rt, &book.published(NT), &published);
+    }
+    Ok(())
 }

@@ -5,7 +5,7 @@ use checker::HandFault;
 use lease_book::{Entry, Reply};
 
 /// A request, with the verdict on it where it hands something in.
-#[derive(Clone, Copy, Debug)]
+#[derive(Clone, Copy)]
 pub enum Ask {
     Lease(u64),
     Expire(u64),
@@ -17,7 +17,7 @@ pub enum Ask {
 }
 
 /// A request that was replied to.
-#[derive(Clone, Copy, Debug)]
+#[derive(Clone, Copy)]
 pub struct Past {
     pub ask: Ask,
     pub reply: Reply,
