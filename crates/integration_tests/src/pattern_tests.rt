@@ -2,9 +2,9 @@
 
 use crate::expect::{expect, expect_eq, expect_ne};
 use arrayvec::ArrayVec;
-use cards::{Card, Layout, Rank, Seat, Suit};
+use cards::{Seat, Suit};
 use patterns::{PackedLayout, Pattern, PatternFault, Rest, SuitPart};
-use std::process::Abort;
+use pbn_deals::read_layout;
 use std::test::Fail;
 
 const NORTH: Seat = Seat::North;
@@ -40,59 +40,17 @@ fn rest_of_spades(lens: [u8; 4], owners: &[Seat]) -> Result<Rest, PatternFault> 
     Rest::from_parts([part(lens, owners), empty(), empty(), empty()])
 }
 
-/// The bits of these ranks of spades.
-fn hand(ranks: &[Rank]) -> u64 {
-    let mut word = 0;
-    for rank in ranks {
-        let number = Card {
-            suit: Suit::Spades,
-            rank: *rank,
-        }
-        .number();
-        word |= 1u64 << number;
-    }
-    word
-}
-
 /// North has the ace and the queen of spades, East 6 and 5, South 3 and 2, West the king and the 4.
-fn finesse() -> Result<Layout, cards::LayoutFault> {
-    Layout::from_hands([
-        hand(&[Rank::Ace, Rank::Queen]),
-        hand(&[Rank::Six, Rank::Five]),
-        hand(&[Rank::Three, Rank::Two]),
-        hand(&[Rank::King, Rank::Four]),
-    ])
-}
+const FINESSE: &[u8] = b"N:AQ... 65... 32... K4...";
 
-#[test]
-fn makes_the_pattern_of_a_layout(rt: HostRuntime) -> Result<(), Fail> {
-    let layout = finesse()?;
-    let short = Pattern::of_layout(&layout, [3, 0, 0, 0]);
-    expect_eq(&rt, &short, &spades([2, 2, 2, 2], &[NORTH, WEST, NORTH])?);
-    let whole = Pattern::of_layout(&layout, [13, 0, 0, 0]);
-    let owners = [NORTH, WEST, NORTH, EAST, EAST, WEST, SOUTH, SOUTH];
-    expect_eq(&rt, &whole.part(Suit::Spades), &part([2, 2, 2, 2], &owners));
-    expect_eq(&rt, &whole.part(Suit::Hearts), &empty());
-    Ok(())
-}
-
-#[test]
-fn matches_by_the_highest_cards_of_all_hands(rt: HostRuntime) -> Result<(), Fail> {
-    let layout = finesse()?;
-    let packed = PackedLayout::of(&layout);
-    for (pattern, matches) in [
-        (spades([2, 2, 2, 2], &[])?, true),
-        (spades([2, 2, 2, 2], &[NORTH, WEST, NORTH])?, true),
-        (spades([2, 2, 2, 2], &[NORTH, NORTH])?, false),
-        (spades([2, 2, 2, 2], &[NORTH, WEST, WEST])?, false),
-        (spades([1, 1, 1, 1], &[NORTH])?, false),
-        (Pattern::of_layout(&layout, [8, 0, 0, 0]), true),
-    ] {
-        expect_eq(&rt, &pattern.matches(&layout), &matches);
-        expect_eq(&rt, &packed.matches(&pattern), &matches);
-    }
-    Ok(())
-}
+/// Whether a pattern of spades matches the finesse, by its lengths and owners.
+const MATCHES: [([u8; 4], &[Seat], bool); 5] = [
+    ([2, 2, 2, 2], &[], true),
+    ([2, 2, 2, 2], &[NORTH, WEST, NORTH], true),
+    ([2, 2, 2, 2], &[NORTH, NORTH], false),
+    ([2, 2, 2, 2], &[NORTH, WEST, WEST], false),
+    ([1, 1, 1, 1], &[NORTH], false),
+];
 
 /// Whether the pattern of spades covers the rest of one spade a hand with these owners.
 const COVERS: [([u8; 4], &[Seat], &[Seat], bool); 5] = [
@@ -103,8 +61,26 @@ const COVERS: [([u8; 4], &[Seat], &[Seat], bool); 5] = [
     ([1, 1, 1, 1], &[WEST], &[NORTH, WEST], false),
 ];
 
+/// The pattern of a layout lists its highest cards; a pattern matches by them, and covers a rest that says no less.
 #[test]
-fn covers_a_rest_that_says_no_less(rt: HostRuntime) -> Result<(), Fail> {
+fn made_matched_and_covered(rt: HostRuntime) -> Result<(), Fail> {
+    let layout = read_layout(FINESSE)?;
+    let short = Pattern::of_layout(&layout, [3, 0, 0, 0]);
+    expect_eq(&rt, &short, &spades([2, 2, 2, 2], &[NORTH, WEST, NORTH])?);
+    let whole = Pattern::of_layout(&layout, [13, 0, 0, 0]);
+    let owners = [NORTH, WEST, NORTH, EAST, EAST, WEST, SOUTH, SOUTH];
+    expect_eq(&rt, &whole.part(Suit::Spades), &part([2, 2, 2, 2], &owners));
+    expect_eq(&rt, &whole.part(Suit::Hearts), &empty());
+
+    let packed = PackedLayout::of(&layout);
+    let all_spades = Pattern::of_layout(&layout, [8, 0, 0, 0]);
+    expect(&rt, all_spades.matches(&layout));
+    expect(&rt, packed.matches(&all_spades));
+    for (lens, owners, matches) in MATCHES {
+        let pattern = spades(lens, owners)?;
+        expect_eq(&rt, &pattern.matches(&layout), &matches);
+        expect_eq(&rt, &packed.matches(&pattern), &matches);
+    }
     for (lens, owners, left, covers) in COVERS {
         let rest = rest_of_spades([1, 1, 1, 1], left)?;
         expect_eq(&rt, &spades(lens, owners)?.covers(&rest), &covers);
@@ -121,81 +97,122 @@ const REFUSED: [([u8; 4], &[Seat], PatternFault); 5] = [
     ([14, 0, 0, 0], &[], PatternFault::Lengths),
 ];
 
+/// Words of the four suits, and the fault that is told of them.
+const REFUSED_WORDS: [([u64; 4], PatternFault); 5] = [
+    ([1 << 63, 0, 0, 0], PatternFault::Words),
+    ([0x3344, 0, 0, 0xE0000], PatternFault::Words),
+    ([0x3344, 0, 0, 0], PatternFault::Lengths),
+    ([0x0111, 0, 0, 0], PatternFault::Cards),
+    ([0, 0, 0, 0], PatternFault::Cards),
+];
+
+/// Each hand is of one suit.
+const SUIT_EACH: [u64; 4] = [0x000D, 0x00D0, 0x0D00, 0xD000];
+
 #[test]
-fn refuses_what_is_no_pattern(rt: HostRuntime) {
+fn refuses_what_is_no_pattern(rt: HostRuntime) -> Result<(), Fail> {
     for (lens, owners, fault) in REFUSED {
         expect_eq(&rt, &spades(lens, owners), &Err(fault));
     }
-    refuses_what_is_no_rest(&rt);
-}
+    for (words, fault) in REFUSED_WORDS {
+        expect_eq(&rt, &Pattern::from_words(words), &Err(fault));
+    }
+    expect_eq(&rt, Pattern::from_words(SUIT_EACH)?.words(), &SUIT_EACH);
 
-fn refuses_what_is_no_rest(rt: &impl Abort) {
+    // rests are refused likewise, but one of nothing is not
     let twice = rest_of_spades([1, 1, 1, 1], &[SOUTH, SOUTH]);
-    expect_eq(rt, &twice, &Err(PatternFault::Owners));
+    expect_eq(&rt, &twice, &Err(PatternFault::Owners));
     let suit_each = [
         part([13, 0, 0, 0], &[]),
         part([0, 13, 0, 0], &[]),
         part([0, 0, 13, 0], &[]),
         part([0, 0, 0, 13], &[]),
     ];
-    expect_eq(rt, &Rest::from_parts(suit_each), &Err(PatternFault::Cards));
-    expect(rt, rest_of_spades([0, 0, 0, 0], &[]).is_ok());
+    expect_eq(&rt, &Rest::from_parts(suit_each), &Err(PatternFault::Cards));
+    expect(&rt, rest_of_spades([0, 0, 0, 0], &[]).is_ok());
+    expect(&rt, Rest::from_words([0; 4]).is_ok());
+    expect_eq(&rt, &Rest::from_words(SUIT_EACH), &Err(PatternFault::Cards));
+    Ok(())
 }
 
+/// Places of owners taken out of North, West, North, and how many owners stay.
+const WITHOUT: [(u64, usize); 4] = [(0b101, 1), (0b010, 2), (1 << 5, 3), (u64::MAX, 0)];
+
+/// Lengths taken from a suit of which each seat has two cards, and how many a seat keeps; a seat that has fewer keeps none,
+/// and no other seat pays for it.
+const LESS: [(Suit, u64, Seat, u8); 9] = [
+    (Suit::Spades, 0x1000, WEST, 1),
+    (Suit::Spades, 0x1000, SOUTH, 2),
+    (Suit::Spades, 0x2121, NORTH, 1),
+    (Suit::Spades, 0x2121, WEST, 0),
+    (Suit::Spades, 0x0013, NORTH, 0),
+    (Suit::Spades, 0x0013, EAST, 1),
+    (Suit::Spades, u64::MAX, WEST, 0),
+    (Suit::Hearts, 0, NORTH, 0),
+    (Suit::Hearts, 1, NORTH, 0),
+];
+
+/// What a pattern says of its suits, and what stays where cards and owners are taken out of a suit's word.
 #[test]
 fn tells_its_parts(rt: HostRuntime) -> Result<(), Fail> {
     let pattern = spades([2, 2, 2, 2], &[NORTH, WEST, NORTH])?;
-    expect_eq(&rt, &pattern.len(Suit::Spades, WEST), &2);
-    expect_eq(&rt, &pattern.len(Suit::Clubs, WEST), &0);
-    expect_eq(&rt, &pattern.tops(Suit::Spades, NORTH), &2);
+    let counts = [
+        pattern.len(Suit::Spades, WEST),
+        pattern.len(Suit::Clubs, WEST),
+        pattern.tops(Suit::Spades, NORTH),
+    ];
+    expect_eq(&rt, &counts, &[2, 0, 2]);
     expect_eq(&rt, &pattern.owner_count(Suit::Spades), &3);
-    expect_eq(&rt, &pattern.owner(Suit::Spades, 1), &Some(WEST));
-    expect_eq(&rt, &pattern.owner(Suit::Spades, 3), &None);
-    expect_eq(
-        &rt,
-        &rest_of_spades([1, 1, 1, 1], &[EAST])?.part(Suit::Spades),
-        &part([1, 1, 1, 1], &[EAST]),
-    );
+    let owners = [
+        pattern.owner(Suit::Spades, 1),
+        pattern.owner(Suit::Spades, 3),
+    ];
+    expect_eq(&rt, &owners, &[Some(WEST), None]);
+    let rest = rest_of_spades([1, 1, 1, 1], &[EAST])?;
+    expect_eq(&rt, &rest.part(Suit::Spades), &part([1, 1, 1, 1], &[EAST]));
+
+    let held = pattern.suit(Suit::Spades);
+    for (places, count) in WITHOUT {
+        expect_eq(&rt, &held.without(places).owner_count(), &count);
+    }
+    let west_alone = held.without(0b101);
+    let left = [west_alone.owner(0), held.without(0b010).owner(1)];
+    expect_eq(&rt, &left, &[Some(WEST), Some(NORTH)]);
+    for (suit, lens, seat, kept) in LESS {
+        expect_eq(&rt, &pattern.suit(suit).less(lens).len(seat), &kept);
+    }
+    expect_eq(&rt, &west_alone.len(NORTH), &2);
+    expect_eq(&rt, &held.less(0x1000).tops(NORTH), &2);
     Ok(())
 }
+
+const ONES: [u8; 4] = [1, 1, 1, 1];
 
 /// Four suits of a card a seat, one of which lists these owners.
 fn suits_with_owners(suit: usize, owners: &[Seat]) -> [SuitPart; 4] {
     [
-        part_with_owners(suit == 0, owners),
-        part_with_owners(suit == 1, owners),
-        part_with_owners(suit == 2, owners),
-        part_with_owners(suit == 3, owners),
+        part(ONES, if suit == 0 { owners } else { &[] }),
+        part(ONES, if suit == 1 { owners } else { &[] }),
+        part(ONES, if suit == 2 { owners } else { &[] }),
+        part(ONES, if suit == 3 { owners } else { &[] }),
     ]
-}
-
-fn part_with_owners(listed: bool, owners: &[Seat]) -> SuitPart {
-    if listed {
-        part([1, 1, 1, 1], owners)
-    } else {
-        part([1, 1, 1, 1], &[])
-    }
-}
-
-fn pattern_with_owners(suit: usize, owners: &[Seat]) -> Result<Pattern, PatternFault> {
-    Pattern::from_parts(suits_with_owners(suit, owners))
-}
-
-fn rest_with_owners(suit: usize, owners: &[Seat]) -> Result<Rest, PatternFault> {
-    Rest::from_parts(suits_with_owners(suit, owners))
 }
 
 #[test]
 fn tells_unequal_suits_apart(rt: HostRuntime) -> Result<(), Fail> {
-    let pattern = pattern_with_owners(0, &[])?;
-    let rest = rest_with_owners(0, &[])?;
+    let pattern = Pattern::from_parts(suits_with_owners(0, &[]))?;
+    let rest = Rest::from_parts(suits_with_owners(0, &[]))?;
     for suit in 0..4 {
-        expect_eq(&rt, &pattern_with_owners(suit, &[])?, &pattern);
-        expect_eq(&rt, &rest_with_owners(suit, &[])?, &rest);
-        let north = pattern_with_owners(suit, &[NORTH])?;
+        let none = suits_with_owners(suit, &[]);
+        expect_eq(&rt, &Pattern::from_parts(none)?, &pattern);
+        let none = suits_with_owners(suit, &[]);
+        expect_eq(&rt, &Rest::from_parts(none)?, &rest);
+        let north = Pattern::from_parts(suits_with_owners(suit, &[NORTH]))?;
         expect_ne(&rt, &north, &pattern);
-        expect_ne(&rt, &north, &pattern_with_owners(suit, &[WEST])?);
-        expect_ne(&rt, &rest_with_owners(suit, &[NORTH])?, &rest);
+        let west = suits_with_owners(suit, &[WEST]);
+        expect_ne(&rt, &north, &Pattern::from_parts(west)?);
+        let of_north = suits_with_owners(suit, &[NORTH]);
+        expect_ne(&rt, &Rest::from_parts(of_north)?, &rest);
     }
     Ok(())
 }
@@ -211,11 +228,6 @@ const PARTS: [([u8; 4], &[Seat]); 7] = [
     ([1, 1, 1, 1], &[EAST]),
 ];
 
-/// Spades and hearts of these lengths.
-fn rest_of_two_suits(spades: [u8; 4], hearts: [u8; 4]) -> Result<Rest, PatternFault> {
-    Rest::from_parts([part(spades, &[]), part(hearts, &[]), empty(), empty()])
-}
-
 #[test]
 fn tells_unequal_lengths_apart(rt: HostRuntime) -> Result<(), Fail> {
     for (place, (lens, owners)) in PARTS.iter().enumerate() {
@@ -224,13 +236,11 @@ fn tells_unequal_lengths_apart(rt: HostRuntime) -> Result<(), Fail> {
             expect_eq(&rt, &equal, &(place == other));
         }
     }
-    let long = rest_of_two_suits([2, 0, 1, 1], [0, 2, 1, 1])?;
-    expect_ne(&rt, &long, &rest_of_two_suits([0, 2, 1, 1], [2, 0, 1, 1])?);
-    expect_ne(
-        &rt,
-        &spades([1, 1, 1, 1], &[])?,
-        &spades([2, 2, 2, 2], &[])?,
-    );
+    let (long, short) = ([2, 0, 1, 1], [0, 2, 1, 1]);
+    let one = [part(long, &[]), part(short, &[]), empty(), empty()];
+    let other = [part(short, &[]), part(long, &[]), empty(), empty()];
+    expect_ne(&rt, &Rest::from_parts(one)?, &Rest::from_parts(other)?);
+    expect_ne(&rt, &spades(ONES, &[])?, &spades([2, 2, 2, 2], &[])?);
     Ok(())
 }
 
@@ -241,91 +251,28 @@ fn spade_word(word: u64) -> Result<Pattern, PatternFault> {
 
 #[test]
 fn tells_a_suit_in_a_word(rt: HostRuntime) -> Result<(), Fail> {
+    let finesse = spades([2, 2, 2, 2], &[NORTH, WEST, NORTH])?;
     let short = spade_word(0x11111)?;
-    expect_eq(
-        &rt,
-        &spade_word(0xC32222)?,
-        &spades([2, 2, 2, 2], &[NORTH, WEST, NORTH])?,
-    );
+    let long = spade_word(0xC21111)?;
+    expect_eq(&rt, &spade_word(0xC32222)?, &finesse);
     expect_eq(&rt, &short, &spades([1, 1, 1, 1], &[NORTH])?);
     expect(&rt, short.covers(&Rest::from_words([0xC21111, 0, 0, 0])?));
-    expect(
-        &rt,
-        !spade_word(0xC21111)?.covers(&Rest::from_words([0x11111, 0, 0, 0])?),
-    );
+    expect(&rt, !long.covers(&Rest::from_words([0x11111, 0, 0, 0])?));
     expect_eq(&rt, &spade_word(0x411111), &Err(PatternFault::Words));
     expect_eq(&rt, &spade_word(0xE1111), &Err(PatternFault::Words));
     expect_eq(&rt, &spade_word(0x51111), &Err(PatternFault::Owners));
-    Ok(())
-}
 
-#[test]
-fn gives_the_words_that_it_was_made_of(rt: HostRuntime) -> Result<(), Fail> {
-    let rest_words = [0x121111, 0, 0xE441111, 0];
+    // the words that it was made of
     expect_eq(&rt, spade_word(0xC32222)?.words(), &[0xC32222, 0, 0, 0]);
-    expect_eq(&rt, Rest::from_words(rest_words)?.words(), &rest_words);
-    expect_eq(
-        &rt,
-        &Rest::from_words(rest_words)?.part(Suit::Diamonds),
-        &part([1, 1, 1, 1], &[NORTH, EAST, SOUTH, WEST]),
-    );
-    expect_eq(
-        &rt,
-        spades([1, 1, 1, 1], &[EAST, SOUTH])?.words(),
-        &[0x921111, 0, 0, 0],
-    );
-    // North in the second place leaves no bit but in the number of owners.
+    let rest_words = [0x121111, 0, 0xE441111, 0];
+    let rest = Rest::from_words(rest_words)?;
+    expect_eq(&rt, rest.words(), &rest_words);
+    let all = part([1, 1, 1, 1], &[NORTH, EAST, SOUTH, WEST]);
+    expect_eq(&rt, &rest.part(Suit::Diamonds), &all);
+    let two = spades([1, 1, 1, 1], &[EAST, SOUTH])?;
+    expect_eq(&rt, two.words(), &[0x921111, 0, 0, 0]);
+    // North in the second place leaves no bit but in the number of owners
     expect_ne(&rt, &spade_word(0x22222)?, &spade_word(0x12222)?);
-    expect_ne(&rt, &spade_word(0x111111)?, &spade_word(0x11111)?);
-    Ok(())
-}
-
-/// Words of the four suits, and the fault that is told of them.
-const REFUSED_WORDS: [([u64; 4], PatternFault); 5] = [
-    ([1 << 63, 0, 0, 0], PatternFault::Words),
-    ([0x3344, 0, 0, 0xE0000], PatternFault::Words),
-    ([0x3344, 0, 0, 0], PatternFault::Lengths),
-    ([0x0111, 0, 0, 0], PatternFault::Cards),
-    ([0, 0, 0, 0], PatternFault::Cards),
-];
-
-/// Each hand is of one suit.
-const SUIT_EACH: [u64; 4] = [0x000D, 0x00D0, 0x0D00, 0xD000];
-
-#[test]
-fn refuses_words_in_order(rt: HostRuntime) -> Result<(), Fail> {
-    for (words, fault) in REFUSED_WORDS {
-        expect_eq(&rt, &Pattern::from_words(words), &Err(fault));
-    }
-    expect(&rt, Rest::from_words([0; 4]).is_ok());
-    expect_eq(&rt, &Rest::from_words(SUIT_EACH), &Err(PatternFault::Cards));
-    expect_eq(&rt, Pattern::from_words(SUIT_EACH)?.words(), &SUIT_EACH);
-    Ok(())
-}
-
-#[test]
-fn takes_cards_and_owners_out_of_a_word(rt: HostRuntime) -> Result<(), Fail> {
-    let pattern = spades([2, 2, 2, 2], &[NORTH, WEST, NORTH])?;
-    let held = pattern.suit(Suit::Spades);
-    let west_alone = held.without(0b101);
-    expect_eq(&rt, &west_alone.owner_count(), &1);
-    expect_eq(&rt, &west_alone.owner(0), &Some(WEST));
-    expect_eq(&rt, &west_alone.len(NORTH), &2);
-    let norths = held.without(0b010);
-    expect_eq(&rt, &norths.owner_count(), &2);
-    expect_eq(&rt, &norths.owner(1), &Some(NORTH));
-    expect_eq(&rt, &held.without(1 << 5).owner_count(), &3);
-    expect_eq(&rt, &held.without(u64::MAX).owner_count(), &0);
-    expect_eq(&rt, &held.less(0x1000).len(WEST), &1);
-    expect_eq(&rt, &held.less(0x1000).len(SOUTH), &2);
-    expect_eq(&rt, &held.less(0x1000).tops(NORTH), &2);
-    expect_eq(&rt, &held.less(0x2121).len(NORTH), &1);
-    expect_eq(&rt, &held.less(0x2121).len(WEST), &0);
-    expect_eq(&rt, &pattern.suit(Suit::Hearts).less(0).len(NORTH), &0);
-    // a seat that has fewer keeps none, and no other seat pays for it
-    expect_eq(&rt, &pattern.suit(Suit::Hearts).less(1).len(NORTH), &0);
-    expect_eq(&rt, &held.less(0x0013).len(NORTH), &0);
-    expect_eq(&rt, &held.less(0x0013).len(EAST), &1);
-    expect_eq(&rt, &held.less(u64::MAX).len(WEST), &0);
+    expect_ne(&rt, &spade_word(0x111111)?, &short);
     Ok(())
 }

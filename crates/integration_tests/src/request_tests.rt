@@ -2,7 +2,7 @@
 
 use crate::expect::{expect_bytes, expect_eq};
 use crate::table_tests::TABLE;
-use crate::tournament_tests::{BUDGET, ONE_SUIT_EACH, incomplete, report};
+use crate::tournament_tests::{BUDGET, NOT_COMPLETE, ONE_SUIT_EACH, incomplete};
 use cards::{Buffer, Seat, Suit, Trump};
 use certificate_graph::Graph;
 use lease_book::{Entry, GraphText, Request};
@@ -120,24 +120,30 @@ fn all_answers(rt: HostRuntime) -> Result<(), Fail> {
             requests.push(answered(rt.alloc(), lease, declarer, *trump)?)?;
         }
     }
-    expect_replayed(&rt, rt.alloc(), requests.as_slice(), report(1, 1), TABLE)
+    let complete = Report {
+        boards: 1,
+        complete: 1,
+    };
+    expect_replayed(&rt, rt.alloc(), requests.as_slice(), complete, TABLE)
 }
 
-/// A lease, and a hand-in that is good for another deal.
+/// A lease, and a hand-in that is good for another deal. Then a good hand-in, which counts though its lease ran out; the
+/// same again does not, and one without a lease never does.
 #[test]
-fn certificates_of_another_deal(rt: HostRuntime) -> Result<(), Fail> {
+fn foreign_late_and_repeated_answers(rt: HostRuntime) -> Result<(), Fail> {
     let mut requests = Vec::new(rt.alloc());
     requests.push(Request::Lease { now: 0 })?;
     let entry = (Seat::North, Trump::Nt);
     requests.push(hand_in(rt.alloc(), 1, entry, 1, (OF_NORTH, OF_NOTHING))?)?;
-    let written = incomplete(rt.alloc(), b"; table incomplete: 0 of 20\n")?;
-    let requests = requests.as_slice();
-    expect_replayed(&rt, rt.alloc(), requests, report(1, 0), written.as_slice())
-}
+    let none = incomplete(rt.alloc(), b"; table incomplete: 0 of 20\n")?;
+    expect_replayed(
+        &rt,
+        rt.alloc(),
+        requests.as_slice(),
+        NOT_COMPLETE,
+        none.as_slice(),
+    )?;
 
-/// A good hand-in counts though its lease ran out, the same again does not, and one without a lease never does.
-#[test]
-fn late_and_repeated_answers(rt: HostRuntime) -> Result<(), Fail> {
     let mut requests = Vec::new(rt.alloc());
     requests.push(answered(rt.alloc(), 1, Seat::North, Trump::Nt)?)?;
     requests.push(Request::Lease { now: 0 })?;
@@ -145,36 +151,33 @@ fn late_and_repeated_answers(rt: HostRuntime) -> Result<(), Fail> {
     requests.push(answered(rt.alloc(), 1, Seat::North, Trump::Nt)?)?;
     requests.push(answered(rt.alloc(), 1, Seat::North, Trump::Nt)?)?;
     requests.push(answered(rt.alloc(), 2, Seat::South, Trump::Nt)?)?;
-    let written = incomplete(rt.alloc(), b"; table incomplete: 1 of 20\n")?;
-    let requests = requests.as_slice();
-    expect_replayed(&rt, rt.alloc(), requests, report(1, 0), written.as_slice())
+    let one = incomplete(rt.alloc(), b"; table incomplete: 1 of 20\n")?;
+    expect_replayed(
+        &rt,
+        rt.alloc(),
+        requests.as_slice(),
+        NOT_COMPLETE,
+        one.as_slice(),
+    )
 }
 
-/// What comes of this text without requests, over a sink with so much room.
-fn expect_fault(
-    rt: &impl Abort,
-    alloc: Global,
-    text: &[u8],
-    room: usize,
-    wanted: MakeFault,
-) -> Result<(), Fail> {
-    let mut sink = Buffer::new(alloc, room, 7)?;
-    let replayed = replay_tables(alloc, text, 10, 1, &[], &mut sink);
-    expect_eq(rt, &replayed, &Err(wanted));
-    expect_eq(rt, &sink.bytes().len(), &room);
-    Ok(())
-}
+/// A text, how much room the sink has, and what comes of them without requests: the sink is full, or the text is refused.
+const REFUSED: [(&[u8], usize, MakeFault); 6] = [
+    (ONE_SUIT_EACH, 0, MakeFault::Write),
+    (ONE_SUIT_EACH, 1, MakeFault::Write),
+    (ONE_SUIT_EACH, 10, MakeFault::Write),
+    (ONE_SUIT_EACH, 33, MakeFault::Write),
+    (ONE_SUIT_EACH, 129, MakeFault::Write),
+    (b"{", 0, MakeFault::Pbn(PbnFault::OpenComment { line: 1 })),
+];
 
 #[test]
-fn a_full_sink(rt: HostRuntime) -> Result<(), Fail> {
-    for room in [0, 1, 10, 33, 129] {
-        expect_fault(&rt, rt.alloc(), ONE_SUIT_EACH, room, MakeFault::Write)?;
+fn no_tables(rt: HostRuntime) -> Result<(), Fail> {
+    for (text, room, wanted) in REFUSED {
+        let mut sink = Buffer::new(rt.alloc(), room, 7)?;
+        let replayed = replay_tables(rt.alloc(), text, 10, 1, &[], &mut sink);
+        expect_eq(&rt, &replayed, &Err(wanted));
+        expect_eq(&rt, &sink.bytes().len(), &room);
     }
     Ok(())
-}
-
-#[test]
-fn a_refused_text(rt: HostRuntime) -> Result<(), Fail> {
-    let fault = MakeFault::Pbn(PbnFault::OpenComment { line: 1 });
-    expect_fault(&rt, rt.alloc(), b"{", 0, fault)
 }

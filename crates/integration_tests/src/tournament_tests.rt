@@ -57,37 +57,11 @@ impl Solver for OneAnswer {
 /// How many steps the solver has for an entry.
 pub(crate) const BUDGET: u64 = 10_000_000;
 
-/// What is made of a text with this solver: the report, the number of the book's events, and what is written.
-fn expect_tables<S: Solver>(
-    rt: &impl Abort,
-    alloc: Global,
-    solver: &S,
-    text: &[u8],
-    wanted: (Report, usize),
-    written: &[u8],
-) -> Result<(), Fail> {
-    let mut source = Bytes::new(text, 7);
-    let mut sink = Buffer::new(alloc, 2000, 5)?;
-    let made = make_tables_on_one_thread(
-        alloc,
-        &mut source,
-        &mut sink,
-        600,
-        3,
-        BUDGET,
-        solver,
-        &StillClock,
-    );
-    let (report, book) = made?;
-    expect_bytes(rt, sink.bytes(), written);
-    expect_eq(rt, &(report, book.history().len()), &wanted);
-    Ok(())
-}
-
-/// A report.
-pub(crate) fn report(boards: usize, complete: usize) -> Report {
-    Report { boards, complete }
-}
+/// What is reported of a board that is not complete.
+pub(crate) const NOT_COMPLETE: Report = Report {
+    boards: 1,
+    complete: 0,
+};
 
 /// The board of four hands of one suit each.
 pub(crate) const ONE_SUIT_EACH: &[u8] = b"[Board \"1\"]
@@ -102,16 +76,24 @@ pub(crate) fn incomplete(alloc: Global, line: &[u8]) -> Result<Vec<u8>, AllocErr
 /// The answer counts for its own entry alone; the others are leased three times, and handed in as often.
 #[test]
 fn answers_for_another_entry(rt: HostRuntime) -> Result<(), Fail> {
-    let written = incomplete(rt.alloc(), b"; table incomplete: 1 of 20\n")?;
-    let wanted = (report(1, 0), 118);
-    expect_tables(
-        &rt,
-        rt.alloc(),
+    let alloc = rt.alloc();
+    let written = incomplete(alloc, b"; table incomplete: 1 of 20\n")?;
+    let mut source = Bytes::new(ONE_SUIT_EACH, 7);
+    let mut sink = Buffer::new(alloc, 2000, 5)?;
+    let made = make_tables_on_one_thread(
+        alloc,
+        &mut source,
+        &mut sink,
+        600,
+        3,
+        BUDGET,
         &OneAnswer,
-        ONE_SUIT_EACH,
-        wanted,
-        written.as_slice(),
-    )
+        &StillClock,
+    );
+    let (report, book) = made?;
+    expect_bytes(&rt, sink.bytes(), written.as_slice());
+    expect_eq(&rt, &(report, book.history().len()), &(NOT_COMPLETE, 118));
+    Ok(())
 }
 
 /// Nothing is made of the source, by this fault, and the sink has this beginning.
@@ -139,29 +121,19 @@ fn expect_fault(
     Ok(())
 }
 
+/// Sources that fail after so many calls, and sinks with so much room.
 #[test]
-fn a_torn_source(rt: HostRuntime) -> Result<(), Fail> {
+fn torn_sources_and_full_sinks(rt: HostRuntime) -> Result<(), Fail> {
+    let alloc = rt.alloc();
     for calls in [0, 1, 8, 12] {
         let mut source = Bytes::failing_after(ONE_SUIT_EACH, 7, calls);
-        expect_fault(&rt, rt.alloc(), &mut source, 400, MakeFault::Read, b"")?;
+        expect_fault(&rt, alloc, &mut source, 400, MakeFault::Read, b"")?;
     }
-    Ok(())
-}
-
-#[test]
-fn a_full_sink(rt: HostRuntime) -> Result<(), Fail> {
-    let whole = incomplete(rt.alloc(), b"; table incomplete: 0 of 20\n")?;
+    let whole = incomplete(alloc, b"; table incomplete: 0 of 20\n")?;
     for room in [0, 1, 9, 10, 33, 129] {
         let mut source = Bytes::new(ONE_SUIT_EACH, 100);
         let written = whole.as_slice().get(..room).ok_or("a shorter text")?;
-        expect_fault(
-            &rt,
-            rt.alloc(),
-            &mut source,
-            room,
-            MakeFault::Write,
-            written,
-        )?;
+        expect_fault(&rt, alloc, &mut source, room, MakeFault::Write, written)?;
     }
     Ok(())
 }
