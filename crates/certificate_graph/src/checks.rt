@@ -36,7 +36,8 @@ fn check_node(node: &Node, count: u32) -> Result<(), GraphFault>
 pub(crate) fn check_nodes(nodes: &[Node]) -> Result<(), GraphFault>
     ensures { MatchResult result (λ _. AreNodes nodes.now) (IsGraphFault nodes.now) }
 {
-    if nodes.len() > GREATEST_COUNT {
+    let are_too_many = nodes.len() > GREATEST_COUNT;
+    if are_too_many {
         return Err(GraphFault::TooLarge);
     }
     let count = nodes.len() as u32;

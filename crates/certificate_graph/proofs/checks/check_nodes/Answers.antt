@@ -6,6 +6,9 @@ use Rattle.certificate_graph.specs.GraphFaults.{IsGraphFault}
 use Rattle.certificate_graph.proofs.NodeLemmas.{graph_fault, fault_out}
 use Rattle.certificate_graph.proofs.checks.check_nodes.Goals as goal
 
+pub returns-then-are_too_many : goal.returns-then-are_too_many
+returns-then-are_too_many c = omega arith
+
 pub returns-in_err-check_node : goal.returns-in_err-check_node
 returns-in_err-check_node c =
     let nodes = c.args.nodes.now in

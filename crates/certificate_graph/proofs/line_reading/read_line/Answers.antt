@@ -1,3 +1,4 @@
+use Rattle.std.proofs.Common.{rules}
 use Rattle.certificate_graph.proofs.LineLemmas.{node_by_suits, node_by_tree, node_by_end}
 use Rattle.certificate_graph.proofs.line_reading.read_line.Goals as goal
 
@@ -11,3 +12,6 @@ returns-in_default-2 c =
 pub returns-in_default-after_byte : goal.returns-in_default-after_byte
 returns-in_default-after_byte c =
     node_by_end c.args.text.now _ _ _ _ _ _ _ c.in-Some.ensures c.in-Some-read_suits.ensures (rw c.in-Some-2.is at c.in_ok-tree.ensures) c.in_default-after_byte.ensures
+
+pub returns : goal.returns
+returns c = search rules
