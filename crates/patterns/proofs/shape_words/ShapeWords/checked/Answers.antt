@@ -1,6 +1,9 @@
-use Rattle.std.proofs.Common.{refl}
+use Rattle.std.proofs.Common.{refl, rules}
 use Rattle.patterns.proofs.SeatLaws.{when_true, on_true}
 use Rattle.patterns.proofs.shape_words.ShapeWords.checked.Goals as goal
+
+pub returns-then-not-hands_fit : goal.returns-then-not-hands_fit
+returns-then-not-hands_fit c = search rules
 
 pub returns : goal.returns
 returns c =
