@@ -67,9 +67,9 @@ const ENDS: [(Status, u8, Status, &str); 5] = [
 /// A run whose last bytes can't go out has failed, and is told so, once.
 #[test]
 fn failed_flush(rt: HostRuntime) -> Result<(), Fail> {
-    for (status, code, ended, told) in ENDS {
+    for &(status, code, ended, told) in &ENDS {
         expect_eq(&rt, &status.code(), &code);
-        for takes_none in [false, true] {
+        for &takes_none in &[false, true] {
             expect_closed(
                 &rt,
                 rt.alloc(),

@@ -59,6 +59,8 @@ fn expect_accepted(
     declarer: Seat,
     trump: Trump,
 ) -> Result<(), Fail> {
+    let tricks = tricks_of(layout, declarer, trump)?;
+    let line = format!(in alloc; "accepted {tricks}\n")?;
     let run = Subcommand::Solve {
         layout,
         declarer,
@@ -78,8 +80,6 @@ fn expect_accepted(
         &mut errors,
     );
     expect_eq(rt, &status, &Status::Done);
-    let tricks = tricks_of(layout, declarer, trump)?;
-    let line = format!(in alloc; "accepted {tricks}\n")?;
     let check = Subcommand::Check {
         layout,
         declarer,
@@ -98,9 +98,9 @@ fn expect_accepted(
 
 #[test]
 fn answers_are_accepted(rt: HostRuntime) -> Result<(), Fail> {
-    for layout in ENDINGS {
-        for declarer in Seat::ALL {
-            for trump in TRUMPS {
+    for &layout in &ENDINGS {
+        for &declarer in &Seat::ALL {
+            for &trump in &TRUMPS {
                 expect_accepted(&rt, rt.alloc(), layout, declarer, trump)?;
             }
         }
@@ -168,31 +168,34 @@ side NS
 nodes 0
 ";
 
+/// A layout, how many tricks a solver claims for it, and how the run ends.
+const CLAIMS: [(&str, Option<u8>, End<'static>); 7] = [
+    (ACE, Some(13), (Status::Done, THIRTEEN, "")),
+    (ACE, Some(14), NO_ANSWER),
+    (ACE, Some(255), NO_ANSWER),
+    (ACE, None, (Status::Failed, "", "ddfarm: out of memory\n")),
+    (
+        "N:A... A... Q... J...",
+        None,
+        (Status::Refused, "", "ddfarm: layout: 5 CardTwice\n"),
+    ),
+    (
+        "N:... ... ... ...",
+        None,
+        (Status::Refused, "", "ddfarm: layout: 6 HandSize\n"),
+    ),
+    (
+        "",
+        None,
+        (Status::Refused, "", "ddfarm: layout: 4 DealForm\n"),
+    ),
+];
+
 /// A solver is trusted for nothing, but that a hand has no fourteenth trick; and it may find nothing in its steps.
 #[test]
 fn unfounded_claims(rt: HostRuntime) -> Result<(), Fail> {
     let alloc = rt.alloc();
-    for (layout, tricks, wanted) in [
-        (ACE, Some(13), (Status::Done, THIRTEEN, "")),
-        (ACE, Some(14), NO_ANSWER),
-        (ACE, Some(255), NO_ANSWER),
-        (ACE, None, (Status::Failed, "", "ddfarm: out of memory\n")),
-        (
-            "N:A... A... Q... J...",
-            None,
-            (Status::Refused, "", "ddfarm: layout: 5 CardTwice\n"),
-        ),
-        (
-            "N:... ... ... ...",
-            None,
-            (Status::Refused, "", "ddfarm: layout: 6 HandSize\n"),
-        ),
-        (
-            "",
-            None,
-            (Status::Refused, "", "ddfarm: layout: 4 DealForm\n"),
-        ),
-    ] {
+    for &(layout, tricks, wanted) in &CLAIMS {
         let solver = Claims { tricks };
         expect_run(&rt, alloc, east(layout, STEPS), &solver, b"", ROOM, wanted)?;
     }
