@@ -1,11 +1,11 @@
 -- What the words of a subcommand say, from what its matches hold.
-use Rattle.std.proofs.Common.{◌≡◌, ◌∙◌, ℕ, List, Option, Some, None, sym, refl, false, true, codes}
+use Rattle.std.proofs.Common.{◌≡◌, ◌∙◌, ℕ, List, Option, Some, None, sym, refl, false, true, codes, option_map}
 use Rattle.std.specs.Str.{bytes_eq}
 use Rattle.std.proofs.lemmas.Slice.Eq.{bytes_eq-Decides}
 use Rattle.clap.specs.Words.{Row, Text}
 use Rattle.subcommands.specs.declared.running.Subcommand.{Subcommand}
 use Rattle.subcommands.specs.declared.running.Subcommand.TheVariants.{Plain, Solve, Table, Check}
-use Rattle.matched_words.specs.Matches.{IsRead, Says, SaysDeal, SaysNumber}
+use Rattle.matched_words.specs.Matches.{IsRead, Says, SaysDeal, SaysMatched, SaysNumber}
 use Rattle.matched_words.specs.declared.matched.NamedDeal.{NamedDeal}
 
 pub nothing_read : {T : Type 0} (Said : T → Type 0) (read : Option T) → read ≡ None → ((x : T) → Said x → ⊥) → IsRead Said read
@@ -49,6 +49,19 @@ no_check said none (Plain layout leader trump) h = absurd (apart (codes "check")
 no_check said none (Solve layout declarer trump budget) h = absurd (apart (codes "check") (codes "solve") refl h.0)
 no_check said none (Table term tries budget) h = absurd (apart (codes "check") (codes "table") refl h.0)
 no_check said none (Check layout declarer trump) h = none (record { layout = layout; seat = declarer; trump = trump }) h.1
+
+-- ---- the words of the subcommand
+
+named_rows : {B : Type 0} (f : B → Text) (g : B → List Row) (o : Option B) (name : Text) (rows : List Row)
+    → Some name ≡ option_map f o → Some rows ≡ option_map (λ (p : Text × List Row). p.1) (option_map {U = Text × List Row} (λ b. (f b, g b)) o)
+    → option_map {U = Text × List Row} (λ b. (f b, g b)) o ≡ Some (name, rows)
+named_rows f g None name rows n r = cc
+named_rows f g (Some b) name rows n r = cc
+
+pub says_matched : {B : Type 0} (f : B → Text) (g : B → List Row) (o : Option B) (name word : Text) (rows : List Row) (read : Option Subcommand)
+    → Some name ≡ option_map f o → Some rows ≡ option_map (λ (p : Text × List Row). p.1) (option_map {U = Text × List Row} (λ b. (f b, g b)) o)
+    → name ≡ word → IsRead (Says word rows) read → IsRead (SaysMatched (option_map {U = Text × List Row} (λ b. (f b, g b)) o)) read
+says_matched f g o name word rows read n r is said = rw (named_rows f g o name rows n r, is) said
 
 -- ---- texts
 

@@ -1,8 +1,9 @@
 use Rattle.std.proofs.Common.{rules}
+use Rattle.matched_words.proofs.SaysLemmas.{says_matched}
 use Rattle.matched_words.proofs.matched.matched_subcommand.Goals as goal
 
 pub returns-in-solve : goal.returns-in-solve
-returns-in-solve c = search rules
+returns-in-solve c = says_matched _ _ _ _ _ _ _ c.in_ok-name.ensures.name c.in_ok-name.ensures.rows c.in-solve.is (search rules)
 
 pub returns-in-check : goal.returns-in-check
-returns-in-check c = search rules
+returns-in-check c = says_matched _ _ _ _ _ _ _ c.in_ok-name.ensures.name c.in_ok-name.ensures.rows c.in-check.is (search rules)
