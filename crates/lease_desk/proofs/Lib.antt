@@ -1,0 +1,10 @@
+pub mod Lists
+pub mod Hands
+pub mod ReceiptLaws
+pub mod Moves
+pub mod TurnLaws
+pub mod Loops
+pub mod Numbers
+pub mod CollectLaws
+pub mod ClosingLaws
+pub mod CallLaws

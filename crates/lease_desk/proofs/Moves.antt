@@ -1,0 +1,399 @@
+-- Each step at the channel keeps its rule.
+use Rattle.std.proofs.Common.{◌≡◌, ◌≢◌, ◌⊎◌, ℕ, zero, suc, ◌+◌, ◌<◌, ◌≤◌, Bool, true, false, cond, eqb, List, [], ◌∷◌, ◌++◌, length, set, Option, None, Some, refl, sym, ap, ◌∙◌, subst, inl, inr, arith, length-append}
+use Rattle.std.proofs.Math.ListN.{length-set}
+use Rattle.std.proofs.lemmas.Bool.{eq-eqb, ne_eqb}
+use mathlib.Core.Option.{some, some-injective, some-ne-none}
+use lib.ListN.{get_elem?}
+use Rattle.crossbeam_channel.specs.Fifo.{Pushes, Pops, Forks, Merges, Learns}
+use Rattle.lease_book.specs.declared.events.Event.{Event}
+use Rattle.lease_desk.specs.declared.messages.Message.{Message}
+use Rattle.lease_desk.specs.declared.views.Page.{Page}
+use Rattle.lease_desk.specs.declared.views.Hand.TheVariants.{Before, Empty, Holds}
+use Rattle.lease_desk.specs.declared.views.View.{View}
+use Rattle.lease_desk.specs.Views.{page_of, page_with, receipts_on, unopened, usher, blank, holding}
+use Rattle.lease_desk.specs.Rule.{Where, within, out, AreBelow, Lies, hand_at, IsAmong, IsFinal, IsOf, Fits, IsOpen, IsKept}
+use Rattle.lease_desk.specs.Seats.{Opens, Learned, Took, MayGive, HasChairs, receipts_told, gave, Gave, ushering, seated, spared, told_of, page_in, heard, Compared, Silent}
+use Rattle.lease_desk.proofs.Lists.{set_else, below, each_set, each_added}
+use Rattle.lease_desk.proofs.Hands.{not_before, holder_has, others_have, new_has, IsHolder, holds}
+use Rattle.lease_desk.proofs.ReceiptLaws.{below_more, below_wide, below_push, none_from, from_other}
+
+only_view : (pass : ℕ) (v : View) → get_elem? (unopened ∷ []) pass ≡ some v → (pass ≡ 0) × (unopened ≡ v)
+only_view zero v e = (refl, some-injective unopened v e)
+only_view (suc pass) v e = absurd (some-ne-none v (sym e))
+
+-- a pass that knows of a message shows that the desk is open
+is_open : (items : List Message) (views : List View) (pass : ℕ) (v : View) → (v.hand ≡ Before → ⊥) → get_elem? views pass ≡ some v → IsKept items views → IsOpen items views
+is_open items views pass v knows at (inl before) =
+    let only = only_view pass v (subst (λ (l : List View). get_elem? l pass ≡ some v) before.1 at) in
+    absurd (knows (ap (λ (u : View). u.hand) (sym only.1)))
+is_open items views pass v knows at (inr open') = open'
+
+pub begins : IsKept [] (unopened ∷ [])
+begins = inl (refl, refl)
+
+-- the rule asks nothing of who is silent
+pub silent : (pass : ℕ) (v : View) → Learns IsKept pass v (Silent v)
+silent pass v items views kept at = tt
+
+opened_fits : (page : Page) (made : ℕ) → made ≡ 0 → Fits page within (λ _. 0) 0 made 0 (usher (Some page) 0)
+opened_fits page made is = record {
+  in_hand = refl;
+  opened = λ opening e. let same : page ≡ opening = cc in record { terms = ap (λ (p : Page). p.book.terms) (sym same); chairs = ap (λ (p : Page). p.chairs) (sym same) };
+  chair = λ k e. cc;
+  ushers = λ n e. (refl, (let zero_is : 0 ≡ n = cc in sym zero_is ∙ sym is));
+  told = λ last e. cc;
+}
+
+pub opens : (n pass : ℕ) (message : Message) → message.book.events ≡ [] → message.makers.items ≡ [] → Pushes IsKept n pass unopened message (Opens unopened message)
+opens n pass message no_events nobody items views room (inl before) at =
+    let page : Page = page_of message in
+    let only = only_view pass unopened (subst (λ (l : List View). get_elem? l pass ≡ some unopened) before.1 at) in
+    let after : set views pass (usher (Some page) 0) ≡ usher (Some page) 0 ∷ [] = λ i. set (before.1 i) (only.0 i) (usher (Some page) 0) in (
+      usher (Some page) 0,
+      inr (record {
+        page = page;
+        at = within;
+        seats = λ _. 0;
+        usher = 0;
+        made = 0;
+        lies = (message, ap (λ l. l ++ message ∷ []) before.0, refl);
+        among = tt;
+        even = ap (λ (l : List ℕ). length l) nobody ∙ sym (ap (λ (l : List Event). length l) no_events);
+        listed = subst (AreBelow 0) (sym nobody) tt;
+        bound = omega arith;
+        fits = λ p v e. let last = first_view page p v (subst (λ (l : List View). get_elem? l p ≡ some v) after e) in subst (λ (y : ℕ × View). Fits page within (λ _. 0) 0 0 y.0 y.1) (λ i. (sym last.0 i, last.1 i)) (opened_fits page 0 refl);
+      }),
+      refl,
+    )
+  where
+    first_view : (page : Page) (p : ℕ) (v : View) → get_elem? (usher (Some page) 0 ∷ []) p ≡ some v → (p ≡ 0) × (usher (Some page) 0 ≡ v)
+    first_view page zero v e = (refl, some-injective (usher (Some page) 0) v e)
+    first_view page (suc p) v e = absurd (some-ne-none v (sym e))
+opens n pass message no_events nobody items views room (inr open') at =
+    absurd (not_before open'.at pass open'.page Before (open'.fits pass unopened at).in_hand refl)
+
+nothing_in : (message : Message) (items : List Message) → message ∷ items ≡ [] → ⊥
+nothing_in message items e = cc
+
+-- one pass changes, and the rest stays
+module _ (page : Page) (at : Where) (seats : ℕ → ℕ) (ushers made : ℕ) (views : List View) (pass : ℕ) (v : View) (fits : (p : ℕ) (u : View) → get_elem? views p ≡ some u → Fits page at seats ushers made p u) (there : get_elem? views pass ≡ some v) where
+  -- what a taken message leaves of what another knows
+  still_fits : (final : Bool) → at ≡ within → (p : ℕ) (u : View) → p ≢ pass → get_elem? views p ≡ some u → Fits page (out final pass) seats ushers made p u
+  still_fits final inside p u apart e =
+      let f = fits p u e in
+      record {
+        in_hand = f.in_hand ∙ ap (λ (w : Where). hand_at w p page) inside ∙ others_have final pass p page apart;
+        opened = f.opened;
+        chair = f.chair;
+        ushers = f.ushers;
+        told = λ last e'. absurd (subst IsFinal inside (f.told last e').1);
+      }
+
+  taker_fits : (final : Bool) (taken : Page) → at ≡ within → taken ≡ page → Fits page (out final pass) seats ushers made pass (holding final taken v)
+  taker_fits final taken inside same =
+      let f = fits pass v there in
+      record {
+        in_hand = ap (Holds final) same ∙ holder_has final pass page;
+        opened = f.opened;
+        chair = f.chair;
+        ushers = f.ushers;
+        told = λ last e'. absurd (subst IsFinal inside (f.told last e').1);
+      }
+
+  learned : (taken : Page) → taken ≡ page → length page.makers ≡ length page.book.events → AreBelow made page.makers → made ≤ page.chairs → Learned v taken
+  learned taken same even listed bound =
+      let f = fits pass v there in
+      subst (Learned v) (sym same) (record {
+        even = even;
+        opened = f.opened;
+        chair = λ k e. (f.chair k e).2;
+        listed = below_wide made page.chairs page.makers bound listed;
+      })
+
+takes_from : (final : Bool) (pass : ℕ) (v : View) (x : Message) (items : List Message) (views : List View) (at : Where) (open' : IsOpen (x ∷ items) views) → open'.at ≡ at → Lies at (x ∷ items) open'.page → get_elem? views pass ≡ some v
+    → (w : View) × IsKept items (set views pass w) × Took final v x w
+takes_from final pass v x items views (out f holder) open' at_is lies there = absurd (nothing_in x items lies)
+takes_from final pass v x items views within open' at_is lies there =
+    let page : Page = open'.page in
+    let is_x : x ≡ lies.0 = let e : x ∷ items ≡ lies.0 ∷ [] = lies.1 in cc in
+    let none : items ≡ [] = let e : x ∷ items ≡ lies.0 ∷ [] = lies.1 in cc in
+    let same : page_of x ≡ page = ap page_of is_x ∙ lies.2 in
+    let w : View = holding final (page_of x) v in (
+      w,
+      inr (record {
+        page = page;
+        at = out final pass;
+        seats = open'.seats;
+        usher = open'.usher;
+        made = open'.made;
+        lies = none;
+        among = (let k = below views pass v there in omega (arith, length-set views pass w));
+        even = open'.even;
+        listed = open'.listed;
+        bound = open'.bound;
+        fits = each_set (Fits page (out final pass) open'.seats open'.usher open'.made) views pass w
+            (still_fits page open'.at open'.seats open'.usher open'.made views pass v open'.fits there final at_is)
+            (taker_fits page open'.at open'.seats open'.usher open'.made views pass v open'.fits there final (page_of x) at_is same);
+      }),
+      record { holds = refl; learned = learned page open'.at open'.seats open'.usher open'.made views pass v open'.fits there (page_of x) same open'.even open'.listed open'.bound },
+    )
+
+pub takes : (final : Bool) (pass : ℕ) (v : View) → (v.hand ≡ Before → ⊥) → Pops IsKept pass v (Took final v)
+takes final pass v knows x items views kept there =
+    let open' = is_open (x ∷ items) views pass v knows there kept in
+    takes_from final pass v x items views open'.at open' refl open'.lies there
+
+-- what is given back follows what was taken: the same, or one event more, which is listed under the giver's number
+pub record Follows (held page : Page) (number : ℕ) : Type 0 where
+  pub of : IsOf held page
+  pub even : length held.makers ≡ length held.book.events → length page.makers ≡ length page.book.events
+  pub listed : (bound : ℕ) → number < bound → AreBelow bound held.makers → AreBelow bound page.makers
+  pub others : (k : ℕ) → k ≢ number → length held.makers ≡ length held.book.events → receipts_on held k ≡ receipts_on page k
+
+pub follows_same : (held page : Page) (number : ℕ) → page ≡ held → Follows held page number
+follows_same held page number same =
+    subst (λ (p : Page). Follows held p number) (sym same) (record { of = record { terms = refl; chairs = refl }; even = λ e. e; listed = λ bound below' b. b; others = λ k apart even. refl })
+
+pub follows_event : (held page : Page) (number : ℕ) (event : Event) → page ≡ page_with held number event → Follows held page number
+follows_event held page number event same =
+    subst (λ (p : Page). Follows held p number) (sym same) (record {
+      of = record { terms = refl; chairs = refl };
+      even = λ e. omega (arith, length-append held.makers (number ∷ []), length-append held.book.events (event ∷ []));
+      listed = λ bound below' b. below_push bound number held.makers below' b;
+      others = λ k apart even. sym (from_other k number 0 held.makers held.book.events event even apart);
+    })
+
+other_chair : (seats : ℕ → ℕ) (k number p pass : ℕ) → seats k ≡ p → seats number ≡ pass → p ≢ pass → k ≢ number
+other_chair seats k number p pass mine his apart e = apart (sym mine ∙ ap seats e ∙ his)
+
+gives_from : (n pass : ℕ) (v : View) (held : Page) (number : ℕ) (x : Message) (items : List Message) (views : List View) (open' : IsOpen items views) → IsHolder false held open'.at pass open'.page → v.number ≡ Some number → v.made ≡ None → Follows held (page_of x) number → get_elem? views pass ≡ some v
+    → (w : View) × IsKept (items ++ x ∷ []) (set views pass w) × Gave v x w
+gives_from n pass v held number x items views open' holder is_number is_none follows there =
+    let page : Page = page_of x in
+    let mine = open'.fits pass v there in
+    let my_chair = mine.chair number is_number in
+    let none : items ≡ [] = subst (λ (at : Where). Lies at items open'.page) holder.at_is open'.lies in
+    let even : length held.makers ≡ length held.book.events = subst (λ (p : Page). length p.makers ≡ length p.book.events) (sym holder.page_is) open'.even in
+    let listed : AreBelow open'.made held.makers = subst (λ (p : Page). AreBelow open'.made p.makers) (sym holder.page_is) open'.listed in
+    let of : IsOf open'.page page = subst (λ (p : Page). IsOf p page) holder.page_is follows.of in
+    let not_final : IsFinal open'.at → ⊥ = λ f. subst IsFinal holder.at_is f in
+    let w : View = gave v page in (
+      w,
+      inr (record {
+        page = page;
+        at = within;
+        seats = open'.seats;
+        usher = open'.usher;
+        made = open'.made;
+        lies = (x, ap (λ l. l ++ x ∷ []) none, refl);
+        among = tt;
+        even = follows.even even;
+        listed = follows.listed open'.made my_chair.1 listed;
+        bound = (let c = of.chairs in let b = open'.bound in omega arith);
+        fits = each_set (Fits page within open'.seats open'.usher open'.made) views pass w
+            (λ p u apart e.
+            let f = open'.fits p u e in
+            record {
+              in_hand = f.in_hand ∙ ap (λ (at : Where). hand_at at p open'.page) holder.at_is ∙ sym (others_have false pass p open'.page apart);
+              opened = λ opening e'. let o = f.opened opening e' in record { terms = o.terms ∙ of.terms; chairs = o.chairs ∙ of.chairs };
+              chair = λ k e'.
+                  let c = f.chair k e' in
+                  (c.0, c.1, c.2 ∙ ap (λ (p' : Page). receipts_on p' k) (sym holder.page_is) ∙ follows.others k (other_chair open'.seats k number p pass c.0 my_chair.0 apart) even);
+              ushers = f.ushers;
+              told = λ last e'. absurd (not_final (f.told last e').1);
+            })
+            (record {
+              in_hand = refl;
+              opened = λ opening e'. let o = mine.opened opening e' in record { terms = o.terms ∙ of.terms; chairs = o.chairs ∙ of.chairs };
+              chair = λ k e'.
+                  let c = mine.chair k e' in
+                  (c.0, c.1, ap (λ (o : Option ℕ). receipts_told o page v.receipts) e');
+              ushers = mine.ushers;
+              told = λ last e'. absurd (not_final (mine.told last e').1);
+            });
+      }),
+      refl,
+    )
+
+pub gives : (n pass : ℕ) (v : View) (held : Page) (number : ℕ) (x : Message) → v.hand ≡ Holds false held → v.number ≡ Some number → v.made ≡ None → Follows held (page_of x) number → Pushes IsKept n pass v x (Gave v x)
+gives n pass v held number x has is_number is_none follows items views room kept there =
+    let open' = is_open items views pass v (λ e. let both : Before ≡ Holds false held = sym e ∙ has in cc) there kept in
+    let mine = open'.fits pass v there in
+    gives_from n pass v held number x items views open' (holds false held open'.at pass open'.page (sym has ∙ mine.in_hand)) is_number is_none follows there
+
+may_give : (n pass : ℕ) (v : View) (x : Message) → MayGive v (page_of x) → Pushes IsKept n pass v x (Gave v x)
+may_give n pass v x may = gives n pass v may.held may.number x may.has may.number_is may.no_usher (next may.next)
+  where
+    next : (page_of x ≡ may.held) ⊎ ((event : Event) × (page_of x ≡ page_with may.held may.number event)) → Follows may.held (page_of x) may.number
+    next (inl same) = follows_same may.held (page_of x) may.number same
+    next (inr added) = follows_event may.held (page_of x) may.number added.0 added.1
+
+-- a pass is cut off from one that stays as it is
+forked : (pass : ℕ) (v right : View) (items : List Message) (views : List View) (open' : IsOpen items views) → get_elem? views pass ≡ some v → Fits open'.page open'.at open'.seats open'.usher open'.made (length views) right → IsOpen items (set views pass v ++ right ∷ [])
+forked pass v right items views open' there new =
+    let long : length (set views pass v) ≡ length views = length-set views pass v in
+    let F : ℕ → View → Type 0 = Fits open'.page open'.at open'.seats open'.usher open'.made in
+    record {
+      page = open'.page;
+      at = open'.at;
+      seats = open'.seats;
+      usher = open'.usher;
+      made = open'.made;
+      lies = open'.lies;
+      among = among_more open'.at (length views) (length (set views pass v ++ right ∷ [])) (omega (arith, length-append (set views pass v) (right ∷ []))) open'.among;
+      even = open'.even;
+      listed = open'.listed;
+      bound = open'.bound;
+      fits = each_added F (set views pass v) right (each_set F views pass v (λ p u apart e. open'.fits p u e) (open'.fits pass v there)) (subst (λ k. F k right) (sym long) new);
+    }
+  where
+    among_more : (at : Where) (few many : ℕ) → few ≤ many → IsAmong at few → IsAmong at many
+    among_more within few many le among = tt
+    among_more (out final holder) few many le among = omega arith
+
+pub spares : (pass : ℕ) (v : View) → (v.hand ≡ Before → ⊥) → Forks IsKept pass v v (spared v)
+spares pass v knows items views kept there =
+    let open' = is_open items views pass v knows there kept in
+    let mine = open'.fits pass v there in
+    inr (forked pass v (spared v) items views open' there (record {
+      in_hand = new_has open'.at (length views) open'.page open'.among;
+      opened = mine.opened;
+      chair = λ k e. cc;
+      ushers = λ k e. cc;
+      told = λ last e. cc;
+    }))
+
+pub tells : (pass : ℕ) (v : View) (held : Page) → v.hand ≡ Holds true held → Forks IsKept pass v v (told_of v)
+tells pass v held has items views kept there =
+    let open' = is_open items views pass v (λ e. let both : Before ≡ Holds true held = sym e ∙ has in cc) there kept in
+    let mine = open'.fits pass v there in
+    let holder = holds true held open'.at pass open'.page (sym has ∙ mine.in_hand) in
+    inr (forked pass v (told_of v) items views open' there (record {
+      in_hand = new_has open'.at (length views) open'.page open'.among;
+      opened = λ opening e. cc;
+      chair = λ k e. cc;
+      ushers = λ k e. cc;
+      told = λ last e.
+          let page_is : Some held ≡ Some last = ap page_in (sym has) ∙ e in
+          ((let same : held ≡ last = cc in sym same ∙ holder.page_is), subst IsFinal (sym holder.at_is) tt);
+    }))
+
+-- where the chairs sit, once one more is made
+seats_with : (ℕ → ℕ) → ℕ → ℕ → ℕ → ℕ
+seats_with seats made pass k = cond (eqb k made) pass (seats k)
+
+seats_old : (seats : ℕ → ℕ) (made pass k : ℕ) → k ≢ made → seats_with seats made pass k ≡ seats k
+unfolding seats_with
+seats_old seats made pass k apart = ap (λ b. cond b pass (seats k)) (ne_eqb k made apart)
+
+seats_new : (seats : ℕ → ℕ) (made pass : ℕ) → seats_with seats made pass made ≡ pass
+unfolding seats_with
+seats_new seats made pass = ap (λ b. cond b pass (seats made)) (eq-eqb made made refl)
+
+pub seats : (pass : ℕ) (opening : Page) (made : ℕ) → made < opening.chairs → Forks IsKept pass (usher (Some opening) made) (ushering (usher (Some opening) made)) (seated (usher (Some opening) made))
+seats pass opening made room items views kept there =
+    let v : View = usher (Some opening) made in
+    let left : View = ushering v in
+    let open' = is_open items views pass v (λ e. cc) there kept in
+    let mine = open'.fits pass v there in
+    let ushers = mine.ushers made refl in
+    let of = mine.opened opening refl in
+    let new : ℕ = length views in
+    let long : length (set views pass left) ≡ new = length-set views pass left in
+    let at_seats : ℕ → ℕ = seats_with open'.seats open'.made new in
+    let F : ℕ → View → Type 0 = Fits open'.page open'.at at_seats open'.usher (open'.made + 1) in
+    let made_is : made ≡ open'.made = ushers.1 in
+    inr (record {
+      page = open'.page;
+      at = open'.at;
+      seats = at_seats;
+      usher = open'.usher;
+      made = open'.made + 1;
+      lies = open'.lies;
+      among = among_more open'.at (length views) (length (set views pass left ++ seated v ∷ [])) (omega (arith, length-append (set views pass left) (seated v ∷ []))) open'.among;
+      even = open'.even;
+      listed = below_more open'.made open'.page.makers open'.listed;
+      bound = (let c = of.chairs in omega arith);
+      fits = each_added F (set views pass left) (seated v)
+          (each_set F views pass left
+          (λ p u apart e.
+          let f = open'.fits p u e in
+          record {
+            in_hand = f.in_hand;
+            opened = f.opened;
+            chair = λ k e'.
+                let c = f.chair k e' in
+                let k_below : k < open'.made = c.1 in
+                (seats_old open'.seats open'.made new k (λ same. omega arith) ∙ c.0, omega arith, c.2);
+            ushers = λ n e'. absurd (apart ((f.ushers n e').0 ∙ sym ushers.0));
+            told = f.told;
+          })
+          (record {
+            in_hand = mine.in_hand;
+            opened = mine.opened;
+            chair = λ k e'. cc;
+            ushers = λ n e'. (ushers.0, (let next : made + 1 ≡ n = cc in omega arith));
+            told = mine.told;
+          }))
+          (subst (λ (p : ℕ). F p (seated v)) (sym long) (record {
+            in_hand = new_has open'.at (length views) open'.page open'.among;
+            opened = mine.opened;
+            chair = λ k e'.
+                let k_is : k ≡ open'.made = (let is : made ≡ k = cc in sym is ∙ made_is) in
+                (ap at_seats k_is ∙ seats_new open'.seats open'.made new, omega arith, sym (none_from k open'.made 0 open'.page.makers open'.page.book.events open'.listed (omega arith)));
+            ushers = λ n e'. cc;
+            told = λ last e'. cc;
+          }));
+    })
+  where
+    among_more : (at : Where) (few many : ℕ) → few ≤ many → IsAmong at few → IsAmong at many
+    among_more within few many le among = tt
+    among_more (out final holder) few many le among = omega arith
+
+pub seats_as : (pass : ℕ) (v : View) (opening : Option Page) (made chairs : ℕ) → v ≡ usher opening made → HasChairs opening chairs → made < chairs → Forks IsKept pass v (ushering v) (seated v)
+seats_as pass v None made chairs is has room = absurd has
+seats_as pass v (Some opening) made chairs is has room = subst (λ (u : View). Forks IsKept pass u (ushering u) (seated u)) (sym is) (seats pass opening made (omega (arith, has)))
+
+pub hears : (pass : ℕ) (v : View) (other : ℕ) (w : View) → (v.hand ≡ Before → ⊥) → w.hand ≡ Empty → Merges IsKept pass v other w (heard v w) blank
+hears pass v other w knows empty items views kept there apart told_there =
+    let both : View = heard v w in
+    let open' = is_open items views pass v knows there kept in
+    let F : ℕ → View → Type 0 = Fits open'.page open'.at open'.seats open'.usher open'.made in
+    let mine = open'.fits pass v there in
+    let his = open'.fits other w (sym (set_else views pass other both apart) ∙ told_there) in
+    inr (record {
+      page = open'.page;
+      at = open'.at;
+      seats = open'.seats;
+      usher = open'.usher;
+      made = open'.made;
+      lies = open'.lies;
+      among = subst (λ n. IsAmong open'.at n) (sym (length-set (set views pass both) other blank ∙ length-set views pass both)) open'.among;
+      even = open'.even;
+      listed = open'.listed;
+      bound = open'.bound;
+      fits = each_set F (set views pass both) other blank
+          (λ p u _ e. each_set F views pass both (λ p' u' _ e'. open'.fits p' u' e')
+          (record { in_hand = mine.in_hand; opened = mine.opened; chair = mine.chair; ushers = mine.ushers; told = his.told }) p u e)
+          (record {
+            in_hand = sym empty ∙ his.in_hand;
+            opened = λ opening e. cc;
+            chair = λ k e. cc;
+            ushers = λ n e. cc;
+            told = λ last e. cc;
+          });
+    })
+
+pub compares : (pass : ℕ) (v : View) → (v.hand ≡ Before → ⊥) → Learns IsKept pass v (Compared v)
+compares pass v knows items views kept there k last is_number told =
+    let open' = is_open items views pass v knows there kept in
+    let mine = open'.fits pass v there in
+    (mine.chair k is_number).2 ∙ ap (λ (p : Page). receipts_on p k) (sym (mine.told last told).0)
+
+pub opens_as : (n pass : ℕ) (v : View) (message first : Message) → v ≡ unopened → message ≡ first → first.book.events ≡ [] → first.makers.items ≡ [] → Pushes IsKept n pass v message (Opens v message)
+opens_as n pass v message first is same no_events nobody =
+    subst (λ (y : View × Message). Pushes IsKept n pass y.0 y.1 (Opens y.0 y.1)) (λ k. (sym is k, sym same k)) (opens n pass first no_events nobody)
+
+pub may_give_as : (n pass : ℕ) (v was : View) (message first : Message) → v ≡ was → message ≡ first → MayGive was (page_of first) → Pushes IsKept n pass v message (Gave v message)
+may_give_as n pass v was message first is same may =
+    subst (λ (y : View × Message). Pushes IsKept n pass y.0 y.1 (Gave y.0 y.1)) (λ k. (sym is k, sym same k)) (may_give n pass was first may)

@@ -1,0 +1,38 @@
+-- What is known of chairs while the desk is closed.
+use Rattle.std.specs.Prelude.{◌≡◌, List, All, Option, Some, length, map}
+use Rattle.crossbeam_channel.specs.Claims.{view, IsSeatAt}
+use Rattle.crossbeam_channel.specs.Ends.{sends_on}
+use Rattle.lease_book.specs.Books.{Ledger}
+use Rattle.lease_desk.specs.declared.views.Page.{Page}
+use Rattle.lease_desk.specs.declared.views.Hand.TheVariants.{Empty}
+use Rattle.lease_desk.specs.declared.ends.Ends.{Ends}
+use Rattle.lease_desk.specs.declared.chairs.Chair.{Chair}
+use Rattle.lease_desk.specs.Views.{receipts_on}
+use Rattle.lease_desk.specs.Rule.{AreBelow, IsOf}
+use Rattle.lease_desk.specs.Desks.{IsChairAt, number_of, receipts_in, shown_of}
+
+-- the chairs are of one channel and one opening
+pub record AreSeatedAt (ends : Ends) (chairs : List Chair) : Type 0 where
+  pub opening : Option Page
+  pub each : All (IsChairAt ends opening) chairs
+
+-- the chair's pass is one of this channel, has nothing in hand, and knows what the chair keeps
+pub record IsSitting (ends : Ends) (chair : Chair) : Type 0 where
+  pub seat : IsSeatAt (sends_on ends.sender) chair.pass
+  pub hand : (view chair.pass).hand ≡ Empty
+  pub number : (view chair.pass).number ≡ Some chair.number
+  pub receipts : (view chair.pass).receipts ≡ chair.receipts.items
+
+-- the chair's receipts are those on the last page
+abbrev pub IsCompared : Page → Chair → Type 0
+IsCompared last chair = receipts_in chair ≡ receipts_on last (number_of chair)
+
+-- the last page, with which all receipts were compared
+pub record IsCollected (opening : Option Page) (chairs closed : List Chair) (book : Ledger) : Type 0 where
+  pub page : Page
+  pub book_is : book ≡ page.book
+  pub of : (first : Page) → opening ≡ Some first → IsOf first page
+  pub even : length page.makers ≡ length page.book.events
+  pub listed : AreBelow page.chairs page.makers
+  pub same : map shown_of closed ≡ map shown_of chairs
+  pub compared : All (IsCompared page) closed

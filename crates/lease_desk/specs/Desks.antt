@@ -1,0 +1,96 @@
+-- What the desk promises.
+use Rattle.std.specs.Prelude.{◌≡◌, ℕ, ◌<◌, List, [], ◌∷◌, ◌++◌, All, Option, Some, length, map, count_by, sum_by, nat_eq}
+use Rattle.crossbeam_channel.specs.Claims.{view, IsSeatAt}
+use Rattle.crossbeam_channel.specs.Ends.{sends_on}
+use Rattle.lease_book.specs.declared.events.Asked.{Asked}
+use Rattle.lease_book.specs.declared.events.Event.{Event}
+use Rattle.lease_book.specs.Histories.{Terms}
+use Rattle.lease_book.specs.Books.{Ledger}
+use Rattle.lease_book.specs.Replies.{IsReply, IsLegal}
+use Rattle.lease_desk.specs.declared.receipts.Receipt.{Receipt}
+use Rattle.lease_desk.specs.declared.views.Page.{Page}
+use Rattle.lease_desk.specs.declared.ends.Ends.{Ends}
+use Rattle.lease_desk.specs.declared.chairs.Chair.{Chair}
+use Rattle.lease_desk.specs.declared.desk.Desk.{Desk}
+use Rattle.lease_desk.specs.Receipts.{Stands, IsBefore, is_for}
+use Rattle.lease_desk.specs.Views.{sitter}
+
+abbrev pub terms_of : Desk → Terms
+terms_of desk = record { boards = desk.boards.items; term = desk.term; tries = desk.tries }
+
+-- how many chairs the desk has
+abbrev pub chairs_of : Desk → ℕ
+chairs_of desk = desk.chairs
+
+abbrev pub number_of : Chair → ℕ
+number_of chair = chair.number
+
+abbrev pub receipts_in : Chair → List Receipt
+receipts_in chair = chair.receipts.items
+
+-- the page with which the desk was opened
+abbrev pub opening_of : Desk → Page
+opening_of desk = record { book = record { terms = terms_of desk; events = [] }; makers = []; chairs = desk.chairs }
+
+-- the chair's pass is one of this channel, and knows the opening and what the chair keeps
+pub record IsChairAt (ends : Ends) (opening : Option Page) (chair : Chair) : Type 0 where
+  pub seat : IsSeatAt (sends_on ends.sender) chair.pass
+  pub knows : view chair.pass ≡ sitter opening chair.number chair.receipts.items
+
+-- the chair came with the desk
+abbrev pub IsChairOf : Desk → Chair → Type 0
+IsChairOf desk chair = IsChairAt desk.ends (Some (opening_of desk)) chair
+
+-- each number below one is there once, and there is no other
+pub record AreAll (count : ℕ) (numbers : List ℕ) : Type 0 where
+  pub count_is : length numbers ≡ count
+  pub once : (number : ℕ) → number < count → count_by (nat_eq number) numbers ≡ 1
+
+-- these are all the desk's chairs, and no others
+pub record AreChairsOf (desk : Desk) (chairs : List Chair) : Type 0 where
+  pub each : All (IsChairOf desk) chairs
+  pub all : AreAll (chairs_of desk) (map number_of chairs)
+
+-- a desk over these terms, with all its chairs, which have no receipts
+pub record IsOpened (terms : Terms) (count : ℕ) (desk : Desk) (chairs : List Chair) : Type 0 where
+  pub terms_are : terms_of desk ≡ terms
+  pub count_is : chairs_of desk ≡ count
+  pub chairs_are : AreChairsOf desk chairs
+  pub none_yet : All (λ chair. receipts_in chair ≡ []) chairs
+
+-- The reply is the one that is named by a legal history of so many events, in which all that the chair was told before stands.
+pub record IsNamed (terms : Terms) (before : List Receipt) (asked : Asked) (told : Receipt) : Type 0 where
+  pub earlier : List Event
+  pub legal : IsLegal terms earlier
+  pub stand : All (Stands earlier) before
+  pub place_is : told.place ≡ length earlier
+  pub reply_is : IsReply terms earlier asked told.event.reply
+
+-- What a call tells its chair: its own request with the reply, in a place after all that the chair was told before.
+pub record IsTold (terms : Terms) (before after : List Receipt) (asked : Asked) (told : Receipt) : Type 0 where
+  pub asked_is : told.event.asked ≡ asked
+  pub named : IsNamed terms before asked told
+  pub receipts : after ≡ before ++ told ∷ []
+  pub later : All (IsBefore told.place) before
+
+-- how many receipts the chairs have
+abbrev pub receipts_count : List Chair → ℕ
+receipts_count chairs = sum_by (λ chair. length (receipts_in chair)) chairs
+
+-- how many of them are for a place
+abbrev pub receipts_for : ℕ → List Chair → ℕ
+receipts_for place chairs = sum_by (λ chair. count_by (is_for place) (receipts_in chair)) chairs
+
+-- what is kept of a chair when the desk is closed
+abbrev pub shown_of : Chair → ℕ × List Receipt
+shown_of chair = (number_of chair, receipts_in chair)
+
+-- The closed book: its history is legal over the terms of the opening, each receipt stands in it at its place, each place is
+-- in one chair, once, and there are as many events as receipts. The chairs have the receipts that they had.
+pub record IsClosed (terms : Terms) (chairs : List Chair) (book : Ledger) (closed : List Chair) : Type 0 where
+  pub terms_are : book.terms ≡ terms
+  pub legal : IsLegal terms book.events
+  pub same : map shown_of closed ≡ map shown_of chairs
+  pub stand : All (λ chair. All (Stands book.events) (receipts_in chair)) closed
+  pub once : (place : ℕ) → place < length book.events → receipts_for place closed ≡ 1
+  pub counted : receipts_count closed ≡ length book.events

@@ -1,0 +1,9 @@
+pub mod Receipts
+pub mod Views
+pub mod Rule
+pub mod Seats
+pub mod Askings
+pub mod Desks
+pub mod Entries
+pub mod Closing
+pub mod HandIns

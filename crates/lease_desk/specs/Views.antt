@@ -1,0 +1,47 @@
+-- What the rule sees of a message, and what passes of the channel know.
+use Rattle.std.specs.Prelude.{ℕ, Bool, List, [], ◌∷◌, ◌++◌, Option, None, Some}
+use Rattle.lease_book.specs.declared.events.Event.{Event}
+use Rattle.lease_desk.specs.declared.messages.Message.{Message}
+use Rattle.lease_desk.specs.declared.receipts.Receipt.{Receipt}
+use Rattle.lease_desk.specs.declared.views.Page.{Page}
+use Rattle.lease_desk.specs.declared.views.View.{View}
+use Rattle.lease_desk.specs.declared.views.Hand.TheVariants.{Before, Empty, Holds}
+use Rattle.lease_desk.specs.Receipts.{receipts_of}
+
+abbrev pub page_of : Message → Page
+page_of message = record { book = message.book; makers = message.makers.items; chairs = message.chairs }
+
+-- the page after a chair made an event
+abbrev pub page_with : Page → ℕ → Event → Page
+page_with page chair event =
+    record {
+      book = record { terms = page.book.terms; events = page.book.events ++ event ∷ [] };
+      makers = page.makers ++ chair ∷ [];
+      chairs = page.chairs;
+    }
+
+-- the receipts of a chair on a page
+abbrev pub receipts_on : Page → ℕ → List Receipt
+receipts_on page chair = receipts_of chair page.makers page.book.events
+
+-- the pass that opens the channel, before it sends
+abbrev pub unopened : View
+unopened = record { number = None; receipts = []; made = None; opening = None; hand = Before; told = None }
+
+-- a pass that knows nothing
+abbrev pub blank : View
+blank = record { number = None; receipts = []; made = None; opening = None; hand = Empty; told = None }
+
+-- the pass that makes chairs, after it made so many
+abbrev pub usher : Option Page → ℕ → View
+usher opening made = record { number = None; receipts = []; made = Some made; opening = opening; hand = Empty; told = None }
+
+-- the pass of a chair, between its calls
+abbrev pub sitter : Option Page → ℕ → List Receipt → View
+sitter opening number receipts =
+    record { number = Some number; receipts = receipts; made = None; opening = opening; hand = Empty; told = None }
+
+-- the same view with a page in hand, for good or not
+abbrev pub holding : Bool → Page → View → View
+holding final page v =
+    record { number = v.number; receipts = v.receipts; made = v.made; opening = v.opening; hand = Holds final page; told = v.told }

@@ -1,0 +1,47 @@
+//! The verdict on an answer that is handed in.
+
+ghost use Rattle.std.specs.Prelude.{◌≡◌, IfOk};
+ghost use Rattle.std.specs.Option.{option_copied};
+ghost use Rattle.lease_book.specs.Histories.{deal_of};
+ghost use Rattle.lease_book.specs.Proofs.{IsProven};
+ghost use Rattle.lease_desk.specs.Askings.{IsVerdictOn};
+
+use cards::Layout;
+use certificate_graph::Answer;
+use checker::{HandFault, Verdict, check_entry};
+use lease_book::Entry;
+use pbn_deals::Board;
+
+/// The deal of a board, where there is one.
+fn deal_on(boards: &[Board], board: usize) -> Option<&Layout>
+    ensures { option_copied result ≡ deal_of boards.now board }
+{
+    match boards.get(board) {
+        Some(board) => board.deal.as_ref(),
+        None => None,
+    }
+}
+
+/// The verdict on an answer for an entry, on the deal of its board.
+pub(crate) fn verdict_on(boards: &[Board], entry: Entry, answer: &Answer) -> Verdict
+    ensures verdict { IsVerdictOn (deal_of boards.now entry.board) entry answer.now result }
+    ensures proven { IfOk result IsProven }
+{
+    let Some(layout) = deal_on(boards, entry.board) else {
+        return Err(HandFault::NoDeal);
+    };
+    match check_entry(
+        layout,
+        entry.declarer,
+        entry.trump,
+        answer.k,
+        &answer.declarer,
+        &answer.defenders,
+    ) {
+        Ok(proven) => {
+            proven.invariant();
+            Ok(proven)
+        }
+        Err(fault) => Err(HandFault::Entry(fault)),
+    }
+}
