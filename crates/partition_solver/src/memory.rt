@@ -1,88 +1,152 @@
-//! What is remembered from one call to the next: the searches of one deal, one for each denomination.
+//! What is remembered from one call to the next: the searches of calls that have ended, each of one deal in one denomination.
 
 use crate::search::Search;
 use cards::{Layout, Trump};
 use search_state::records::MOST_BLOCKS;
 use std::alloc::{AllocError, Global};
-use std::sync::Mutex;
+use std::sync::{Mutex, MutexGuard};
+use std::thread;
 
-/// How many blocks the searches of the other denominations may have. All together have the room of one.
-const MOST_OTHERS: usize = MOST_BLOCKS / 2;
+/// How many searches are kept for each thread: as many as a deal has denominations.
+const MOST_KEPT: usize = 5;
+
+/// How often the lock is tried. Who has it looks through the list, and moves one search.
+const TRIES: u32 = 1_000;
 
 /// The searches that no call has in use.
 #[derive(Drop)]
 pub(crate) struct Memory {
+    /// In the order in which they were kept, the oldest first.
     kept: Mutex<Option<Vec<Search>>>,
+    /// How many threads call at once, 1 at least.
+    threads: usize,
 }
 
-impl Memory {
-    /// Nothing is remembered.
-    pub(crate) const fn new() -> Memory {
-        Memory {
-            kept: Mutex::new(None),
+/// Where the search of this deal in this denomination lies. Where there are several, the one that remembers most.
+fn place_of(searches: &Vec<Search>, layout: &Layout, trump: Trump) -> Option<usize> {
+    let mut best = None;
+    let mut most = 0;
+    for (place, search) in searches.iter().enumerate() {
+        let size = search.records.size();
+        if size > most && search.deal.has_trump(trump) && search.deal.is_of(layout) {
+            most = size;
+            best = Some(place);
         }
     }
-
-    /// Takes the searches out. There are none where another call has them.
-    pub(crate) fn take(&self, alloc: Global) -> Vec<Search> {
-        let kept = match self.kept.try_lock() {
-            Some(mut kept) => kept.take(),
-            None => None,
-        };
-        kept.unwrap_or(Vec::new(alloc))
-    }
-
-    /// Keeps the searches for the next call, in place of those that another call has kept.
-    pub(crate) fn keep(&self, searches: Vec<Search>) {
-        if let Some(mut kept) = self.kept.try_lock() {
-            *kept = Some(searches);
-        }
-    }
+    best
 }
 
-/// The search of this deal in this denomination, with so many steps: taken out of the others, else a new one. Those of
-/// another deal are dropped. So are the others where they have more than half of the room, or where this one could not
-/// remember all that it found.
-pub(crate) fn search_of(
-    alloc: Global,
-    others: &mut Vec<Search>,
-    layout: &Layout,
-    trump: Trump,
-    steps: u64,
-) -> Result<Search, AllocError> {
-    let mut search = match taken(others, layout, trump) {
-        Some(search) => search,
-        None => Search::new(alloc, layout, trump)?,
-    };
-    search.records.room = MOST_BLOCKS.saturating_sub(room_of(others));
-    search.steps = steps;
-    Ok(search)
-}
-
-/// The search of this deal in this denomination, taken out of the others, where it can go on. Others that are of no use are
-/// dropped.
-fn taken(others: &mut Vec<Search>, layout: &Layout, trump: Trump) -> Option<Search> {
-    if !others.iter().all(|other| other.deal.is_of(layout)) {
-        others.truncate(0);
-    }
-    let place = others.iter().position(|other| other.deal.has_trump(trump))?;
-    let search = others.swap_remove(place);
-    if search.records.is_full() {
-        others.truncate(0);
-        return None;
-    }
-    Some(search)
-}
-
-/// How much room the searches take, in blocks. Where it is too much they are dropped.
-fn room_of(searches: &mut Vec<Search>) -> usize {
+/// How much room the searches take, in blocks.
+fn room_of(searches: &Vec<Search>) -> usize {
     let mut held = 0usize;
     for search in searches.iter() {
         held = held.saturating_add(search.records.size());
     }
-    if held > MOST_OTHERS {
-        searches.truncate(0);
-        return 0;
-    }
     held
+}
+
+/// Takes out the search in this place, if there is one.
+fn taken_at(searches: &mut Vec<Search>, place: usize) -> Option<Search> {
+    if place < searches.len() {
+        Some(searches.remove(place))
+    } else {
+        None
+    }
+}
+
+impl Memory {
+    /// Nothing is remembered.
+    pub(crate) const fn new(threads: usize) -> Memory {
+        Memory {
+            kept: Mutex::new(None),
+            threads: if threads == 0 { 1 } else { threads },
+        }
+    }
+
+    /// The room for what is kept and what runs, in blocks: for one thread what the records of a search may take, and half as
+    /// much for each where there are more.
+    fn room(&self) -> usize {
+        self.threads.max(2).saturating_mul(MOST_BLOCKS / 2)
+    }
+
+    /// The kept searches. None where others have them at each try.
+    fn locked(&self) -> Option<MutexGuard<'_, Option<Vec<Search>>>> {
+        for _ in 0..TRIES {
+            if let Some(kept) = self.kept.try_lock() {
+                return Some(kept);
+            }
+            thread::yield_now();
+        }
+        None
+    }
+
+    /// The search of this deal in this denomination, with so many steps: one that is kept, else a new one. It has its
+    /// part of the room that the kept ones leave. They are dropped where this one could not remember all that it found.
+    pub(crate) fn search_of(
+        &self,
+        alloc: Global,
+        layout: &Layout,
+        trump: Trump,
+        steps: u64,
+    ) -> Result<Search, AllocError> {
+        let mut search = match self.taken(layout, trump) {
+            Some(search) => search,
+            None => Search::new(alloc, layout, trump)?,
+        };
+        let mut most = self.room() / 2;
+        if search.records.is_full() {
+            search = Search::new(alloc, layout, trump)?;
+            most = 0;
+        }
+        let held = self.shrink(most);
+        search.records.room = self.room().saturating_sub(held) / self.threads.max(1);
+        search.steps = steps;
+        Ok(search)
+    }
+
+    /// Takes out the search of this deal in this denomination, if it is kept.
+    fn taken(&self, layout: &Layout, trump: Trump) -> Option<Search> {
+        let mut kept = self.locked()?;
+        let searches = kept.as_mut()?;
+        let place = place_of(searches, layout, trump)?;
+        taken_at(searches, place)
+    }
+
+    /// Drops the oldest until they are no more than may be kept beside another and take at most so many blocks, and
+    /// answers how many those are. Nothing is dropped under the lock, since that may take long.
+    pub(crate) fn shrink(&self, most: usize) -> usize {
+        let mut held = most;
+        for _ in 0..self.threads.saturating_mul(2 * MOST_KEPT) {
+            let (now, oldest) = self.surplus(most);
+            held = now;
+            if oldest.is_none() {
+                break;
+            }
+        }
+        held
+    }
+
+    /// How many blocks the kept searches take, and the oldest of them, taken out, where they are too many or take more
+    /// than this. Where the lock can't be had, they are taken for as many as may be.
+    fn surplus(&self, most: usize) -> (usize, Option<Search>) {
+        let Some(mut kept) = self.locked() else {
+            return (most, None);
+        };
+        let Some(searches) = kept.as_mut() else {
+            return (0, None);
+        };
+        let held = room_of(searches);
+        if held <= most && searches.len() < self.threads.saturating_mul(MOST_KEPT) {
+            return (held, None);
+        }
+        (held, taken_at(searches, 0))
+    }
+
+    /// Keeps a search for a later call. It is dropped where the lock can't be had.
+    pub(crate) fn keep(&self, search: Search) {
+        let alloc = search.alloc;
+        if let Some(mut kept) = self.locked() {
+            let _ = kept.get_or_insert(Vec::new(alloc)).push(search);
+        }
+    }
 }

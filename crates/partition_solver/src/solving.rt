@@ -1,7 +1,7 @@
 //! What a solver is, and the partition search as one.
 
 use crate::graph_writing::write_graph;
-use crate::memory::{Memory, search_of};
+use crate::memory::Memory;
 use crate::search::Search;
 use cards::{Layout, Seat, Trump};
 use certificate_graph::{Answer, Graph};
@@ -35,7 +35,7 @@ pub trait Solver {
 }
 
 /// A partition search. A step of its budget is one card tried, in the search or for a tree of a graph; the last card of a
-/// trick is free where it is only looked up. What it finds is remembered until another deal comes: the other declarers of a
+/// trick is free where it is only looked up. What it finds is remembered for later calls: the other declarers of a
 /// denomination have use for it, and a call that ran out of steps can be made again.
 #[derive(Drop)]
 pub struct Partition {
@@ -43,11 +43,36 @@ pub struct Partition {
 }
 
 impl Partition {
-    /// A solver that remembers nothing yet. It takes no memory.
+    /// A solver for one thread, that remembers nothing yet. It takes no memory.
     pub const fn new() -> Partition {
+        Partition::for_threads(1)
+    }
+
+    /// A solver that so many threads call at once, and that remembers nothing yet. 0 stands for 1. It takes no memory. What it
+    /// remembers later takes 120 MB at most for one thread, 170 for two and 100 for each further one, and more where more
+    /// threads call it.
+    pub const fn for_threads(threads: usize) -> Partition {
         Partition {
-            memory: Memory::new(),
+            memory: Memory::new(threads),
         }
+    }
+
+    /// An answer, as `solve` gives it.
+    fn found(
+        &self,
+        alloc: Global,
+        layout: &Layout,
+        declarer: Seat,
+        trump: Trump,
+        budget: u64,
+    ) -> Result<Option<Answer>, AllocError> {
+        let mut search = self.memory.search_of(alloc, layout, trump, budget)?;
+        let answer = answer(&mut search, layout.len() as i32, declarer, trump);
+        if search.memory_ran_out {
+            return Err(AllocError);
+        }
+        self.memory.keep(search);
+        Ok(answer)
     }
 }
 
@@ -66,16 +91,11 @@ impl Solver for Partition {
         trump: Trump,
         budget: u64,
     ) -> Result<Option<Answer>, AllocError> {
-        let mut others = self.memory.take(alloc);
-        let mut search = search_of(alloc, &mut others, layout, trump, budget)?;
-        let answer = answer(&mut search, layout.len() as i32, declarer, trump);
-        if search.memory_ran_out {
-            return Err(AllocError);
+        let found = self.found(alloc, layout, declarer, trump, budget);
+        if found.is_err() {
+            self.memory.shrink(0);
         }
-        if others.push(search).is_ok() {
-            self.memory.keep(others);
-        }
-        Ok(answer)
+        found
     }
 }
 
