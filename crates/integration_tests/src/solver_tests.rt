@@ -1,12 +1,15 @@
 //! Answers with DDS's numbers, which the checker has to accept.
 
-use cards::{Layout, Seat, Suit, Trump};
+use crate::expect::expect;
+use cards::{Seat, Suit, Trump};
+use certificate_graph::Answer;
 use checker::check_entry;
 use partition_solver::{Partition, Solver};
 use pbn_deals::read_layout;
 use std::alloc::Global;
 use std::process::Abort;
 use std::test::Fail;
+use std::thread;
 
 /// A layout, and by declarer (N E S W) the tricks in no-trump, spades, hearts, diamonds and clubs that DDS 2.9 gives.
 type Row = (&'static str, &'static str);
@@ -46,6 +49,9 @@ const NINE: Row = (
     "59238 00550 79339 00550",
 );
 
+/// The same cards, each hand at the seat across.
+const NINE_TURNED: &str = "S:43..K93.AQJT 95.T6.862.32 AJ762.J8..86 .K95.AQJT4.5";
+
 /// A board on which East takes five tricks in no-trump.
 const BOARD: &str = "N:T97.643.A73.AQJ8 832.KJT7.QJ942.4 AQ54.Q52.K6.K932 KJ6.A98.T85.T765";
 
@@ -72,50 +78,40 @@ fn expect_for(rt: &impl Abort, text: &str, declarer: Seat, trump: Trump, holds: 
     assert!(rt; holds, "{text} {declarer} {trump}");
 }
 
-/// Solves the layout for a declarer and a denomination, where DDS has this number.
-fn solves_entry(
-    rt: &impl Abort,
+/// The number of a row for a declarer and the denomination in this place. 99 where there is none.
+fn number_in(numbers: &str, declarer: Seat, place: usize) -> u8 {
+    let place = declarer.number() * 6 + place % 6;
+    let digit = numbers.as_bytes().get(place).copied();
+    digit.map_or(99, number_of)
+}
+
+/// The tricks of an answer that the checker accepts.
+fn tricks_of(
     alloc: Global,
     solver: &Partition,
     text: &str,
     declarer: Seat,
     trump: Trump,
-    number: u8,
-) -> Result<(), Fail> {
-    let layout = read_layout(text.as_bytes())?;
-    let answer = solver.solve(alloc, &layout, declarer, trump, 10_000_000)?;
-    let answer = answer.ok_or("no answer")?;
-    expect_for(rt, text, declarer, trump, answer.k == number);
-    let proven = check_entry(
-        &layout,
-        declarer,
-        trump,
-        answer.k,
-        &answer.declarer,
-        &answer.defenders,
-    );
-    expect_for(rt, text, declarer, trump, proven.is_ok());
-    Ok(())
+) -> Option<u8> {
+    let layout = read_layout(text.as_bytes()).ok()?;
+    let answer = solver.solve(alloc, &layout, declarer, trump, 10_000_000);
+    let Answer {
+        k,
+        declarer: by_declarer,
+        defenders,
+    } = answer.ok()??;
+    check_entry(&layout, declarer, trump, k, &by_declarer, &defenders).ok()?;
+    Some(k)
 }
 
 /// Solves the layout for a declarer and all denominations.
-fn solves(
-    rt: &impl Abort,
-    alloc: Global,
-    solver: &Partition,
-    row: Row,
-    declarer: Seat,
-) -> Result<(), Fail> {
+fn solves(rt: &impl Abort, alloc: Global, solver: &Partition, row: Row, declarer: Seat) {
     let (text, numbers) = row;
     for (place, trump) in TRUMPS.as_slice().iter().enumerate() {
-        let digit = numbers
-            .as_bytes()
-            .get(declarer.number() * 6 + place)
-            .copied();
-        let number = number_of(digit.ok_or("no digit")?);
-        solves_entry(rt, alloc, solver, text, declarer, *trump, number)?;
+        let number = number_in(numbers, declarer, place);
+        let tricks = tricks_of(alloc, solver, text, declarer, *trump);
+        expect_for(rt, text, declarer, *trump, tricks == Some(number));
     }
-    Ok(())
 }
 
 /// The entries of each declarer by a solver of their own.
@@ -123,7 +119,7 @@ fn solves(
 fn endings(rt: HostRuntime) -> Result<(), Fail> {
     for row in ENDINGS {
         for declarer in Seat::ALL {
-            solves(&rt, rt.alloc(), &Partition::new(), row, declarer)?;
+            solves(&rt, rt.alloc(), &Partition::new(), row, declarer);
         }
     }
     Ok(())
@@ -135,21 +131,61 @@ fn small_and_large_layouts(rt: HostRuntime) -> Result<(), Fail> {
     let solver = Partition::new();
     for row in SMALL {
         for declarer in Seat::ALL {
-            solves(&rt, rt.alloc(), &solver, row, declarer)?;
+            solves(&rt, rt.alloc(), &solver, row, declarer);
         }
     }
-    solves(&rt, rt.alloc(), &Partition::new(), NINE, Seat::East)?;
-    let (east, nt) = (Seat::East, Trump::Nt);
-    solves_entry(&rt, rt.alloc(), &Partition::new(), BOARD, east, nt, 5)
+    solves(&rt, rt.alloc(), &Partition::new(), NINE, Seat::East);
+    let tricks = tricks_of(rt.alloc(), &Partition::new(), BOARD, Seat::East, Trump::Nt);
+    expect(&rt, tricks == Some(5));
+    Ok(())
 }
 
-/// One solver that is asked of another layout each time.
+/// One solver that is asked of another layout each time. No threads stand for one.
 #[test]
 fn layouts_by_turns(rt: HostRuntime) -> Result<(), Fail> {
-    let solver = Partition::new();
+    let solver = Partition::for_threads(0);
     for declarer in Seat::ALL {
         for row in SMALL {
-            solves(&rt, rt.alloc(), &solver, row, declarer)?;
+            solves(&rt, rt.alloc(), &solver, row, declarer);
+        }
+    }
+    Ok(())
+}
+
+/// Four threads ask one solver at once, each for another declarer and denomination of one layout, until all are asked for.
+#[test]
+fn four_threads(rt: HostRuntime) -> Result<(), Fail> {
+    let (alloc, solver) = (rt.alloc(), Partition::for_threads(4));
+    let (text, numbers) = NINE;
+    for round in 0..5usize {
+        let solved = thread::map_indices(
+            &rt,
+            alloc,
+            4,
+            &|place: usize| {
+                let declarer = Seat::ALL[place & 3];
+                let place = (place & 3).wrapping_add(round) % 5;
+                let tricks = tricks_of(alloc, &solver, text, declarer, TRUMPS[place]);
+                tricks == Some(number_in(numbers, declarer, place))
+            },
+        )?;
+        expect(&rt, solved.iter().all(|is_right| *is_right));
+    }
+    Ok(())
+}
+
+/// One solver is asked of two deals by turns, with too few steps for a new search of either: the second call on a deal goes
+/// on where its first one stopped, though the other deal came between.
+#[test]
+fn two_deals_by_turns(rt: HostRuntime) -> Result<(), Fail> {
+    let solver = Partition::for_threads(2);
+    let trump = Trump::Suit(Suit::Diamonds);
+    for wanted in [None, Some(3)] {
+        for (text, declarer) in [(NINE.0, Seat::North), (NINE_TURNED, Seat::South)] {
+            let layout = read_layout(text.as_bytes())?;
+            let answer = solver.solve(rt.alloc(), &layout, declarer, trump, 10_000)?;
+            let number = answer.map(|answer| answer.k);
+            expect_for(&rt, text, declarer, trump, number == wanted);
         }
     }
     Ok(())
