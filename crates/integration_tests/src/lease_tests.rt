@@ -1,6 +1,6 @@
 //! The lease book, by its calls and by whole lists of requests.
 
-mod books;
-mod certificates;
-mod long_list;
-mod slow_book;
+pub mod books;
+pub mod certificates;
+pub mod long_list;
+pub mod slow_book;

@@ -10,6 +10,8 @@ mod certificates;
 #[cfg(test)]
 mod checker_tests;
 #[cfg(test)]
+mod desk_tests;
+#[cfg(test)]
 mod due_row_tests;
 #[cfg(test)]
 mod expect;

@@ -40,7 +40,7 @@ const GIVEN: Reply = Reply::Given {
 };
 
 /// So many boards without a deal.
-fn bare_boards(alloc: Global, count: u16) -> Result<Vec<Board>, Fail> {
+pub fn bare_boards(alloc: Global, count: u16) -> Result<Vec<Board>, Fail> {
     let mut boards = Vec::new(alloc);
     for _ in 0..count {
         boards.push(Board {
@@ -51,17 +51,19 @@ fn bare_boards(alloc: Global, count: u16) -> Result<Vec<Board>, Fail> {
     Ok(boards)
 }
 
+/// How many boards, how many tries, and whether that makes no book.
+pub const REFUSED: [(u16, u32, Option<BookFault>); 5] = [
+    (4_097, 0, Some(BookFault::TooManyBoards)),
+    (4_096, 0, Some(BookFault::Tries)),
+    (0, 1_001, Some(BookFault::Tries)),
+    (4_096, 1_000, None),
+    (0, 1, None),
+];
+
 #[test]
 fn refused_terms(rt: HostRuntime) -> Result<(), Fail> {
     let alloc = rt.alloc();
-    let wanted = [
-        (4_097, 0, Some(BookFault::TooManyBoards)),
-        (4_096, 0, Some(BookFault::Tries)),
-        (0, 1_001, Some(BookFault::Tries)),
-        (4_096, 1_000, None),
-        (0, 1, None),
-    ];
-    for (count, tries, fault) in wanted {
+    for (count, tries, fault) in REFUSED {
         let book = Book::new(alloc, bare_boards(alloc, count)?, 10, tries);
         expect_eq(&rt, &book.err(), &fault);
         let replayed = replay(alloc, bare_boards(alloc, count)?, 10, tries, &[]);

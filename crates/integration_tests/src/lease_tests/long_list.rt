@@ -14,13 +14,13 @@ use std::process::Abort;
 use std::test::Fail;
 
 /// The layouts of the boards; the second has no deal.
-const LAYOUTS: [Option<&str>; 3] = [Some(NORTH_HIGH), None, Some(EAST_HIGH)];
+pub const LAYOUTS: [Option<&str>; 3] = [Some(NORTH_HIGH), None, Some(EAST_HIGH)];
 
 /// Whether each of them has a deal.
-const DEALS: [bool; 3] = [true, false, true];
+pub const DEALS: [bool; 3] = [true, false, true];
 
 /// One of a few, by a number.
-fn pick<T: Copy>(some: &[T], number: u64, other: T) -> T {
+pub fn pick<T: Copy>(some: &[T], number: u64, other: T) -> T {
     let place = (number % 64) as usize;
     match some.get(place % some.len().max(1)) {
         Some(one) => *one,
@@ -29,7 +29,7 @@ fn pick<T: Copy>(some: &[T], number: u64, other: T) -> T {
 }
 
 /// Some entry of one of four boards, of which the last isn't there.
-fn some_entry(number: u64) -> Entry {
+pub fn some_entry(number: u64) -> Entry {
     Entry {
         board: (number / 8 % 4) as usize,
         declarer: pick(&DECLARERS, number / 32, Seat::North),
@@ -38,7 +38,7 @@ fn some_entry(number: u64) -> Entry {
 }
 
 /// What is handed in for an entry: in one of nine cases what is right, and else something damaged.
-fn some_answer(alloc: Global, entry: Entry, number: u64) -> Result<Answer, AllocError> {
+pub fn some_answer(alloc: Global, entry: Entry, number: u64) -> Result<Answer, AllocError> {
     let holder = if entry.board == 0 {
         Seat::North
     } else {
@@ -132,7 +132,7 @@ fn asked(alloc: Global, boards: &[Board], request: &Request) -> Result<Ask, Fail
 }
 
 /// Which of ten kinds of replies it is.
-fn kind_of(reply: Reply) -> usize {
+pub fn kind_of(reply: Reply) -> usize {
     match reply {
         Reply::Given { .. } => 0,
         Reply::Nothing => 1,

@@ -1,0 +1,84 @@
+//! Eight threads at one desk, each with a chair: the receipts are one history, and its replies are those that a plain search
+//! finds.
+
+ghost use Rattle.std.specs.Prelude.{◌≡◌};
+ghost use Rattle.lease_desk.specs.Desks.{IsChairOf, number_of};
+
+use super::asking::{Open, ask, asked_by};
+use super::drawn_requests::Worker;
+use super::plain_book::PlainBook;
+use super::shifts::{Shift, closed_after};
+use crate::expect::expect_eq;
+use crate::lease_tests::certificates::boards;
+use crate::lease_tests::long_list::{DEALS, LAYOUTS, kind_of};
+use lease_book::Event;
+use lease_desk::{Chair, Desk};
+use pbn_deals::Board;
+use std::alloc::{AllocError, Global};
+use std::process::Abort;
+use std::sync::Wait;
+use std::test::Fail;
+
+/// How many chairs there are.
+const CHAIRS: usize = 8;
+
+/// How many calls are made from each.
+const CALLS: u64 = 2_000;
+
+/// How long a lease lasts.
+const TERM: u64 = 30;
+
+/// How often an entry may be leased.
+const TRIES: u32 = 60;
+
+/// Calls that each chair draws, over these boards.
+#[derive(Drop)]
+struct Drawn<'a> {
+    boards: &'a [Board],
+}
+
+impl Shift for Drawn<'_> {
+    fn work<R: Abort + Wait>(&self, rt: &R, alloc: Global, desk: &Desk, chair: &mut Chair) {
+        let mut worker = Worker::new(alloc, chair.number() as u64 % 64 * 1_001);
+        for step in 0..CALLS {
+            let request = worker.draw(alloc, step).expect(rt, "memory to draw");
+            let told = ask(rt, alloc, desk, chair, &request, &Open);
+            let asked = asked_by(alloc, self.boards, &request).expect(rt, "memory to judge");
+            expect_eq(rt, &told.event.asked, &asked);
+            worker.note(told.event.reply).expect(rt, "memory to note");
+        }
+    }
+}
+
+/// The replies are those of a plain book. Counts them by their kinds.
+fn expect_plain_replies<R: Abort>(
+    rt: &R,
+    alloc: Global,
+    history: &[Event],
+) -> Result<[u64; 10], AllocError> {
+    let mut book = PlainBook::new(alloc, &DEALS, TERM, TRIES as u64);
+    let mut kinds = [0u64; 10];
+    for event in history {
+        expect_eq(rt, &event.reply, &book.reply(event.asked)?);
+        if let Some(count) = kinds.get_mut(kind_of(event.reply)) {
+            *count = count.saturating_add(1);
+        }
+    }
+    Ok(kinds)
+}
+
+#[test]
+fn eight_threads_make_one_history(rt: HostRuntime) -> Result<(), Fail> {
+    let alloc = rt.alloc();
+    let boards = boards(alloc, &LAYOUTS)?;
+    let shift = Drawn {
+        boards: boards.as_slice(),
+    };
+    let closed = closed_after(&rt, alloc, (&LAYOUTS, TERM, TRIES), CHAIRS, &shift)?;
+    expect_eq(&rt, &closed.book.history().len(), &16_000);
+    let kinds = expect_plain_replies(&rt, alloc, closed.book.history())?;
+    for count in kinds {
+        assert!(rt; count >= 10, "{kinds:?}");
+    }
+    Ok(())
+}
