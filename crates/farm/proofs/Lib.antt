@@ -1,0 +1,4 @@
+pub mod Loops
+pub mod PublicationLaws
+pub mod Chairs
+pub mod Runs

@@ -1,0 +1,9 @@
+pub mod Counts
+pub mod SettingsFaults
+pub mod MakingSettings
+pub mod Faults
+pub mod Moments
+pub mod Publications
+pub mod Runs
+pub mod Working
+pub mod Promises

@@ -1,0 +1,18 @@
+-- A run of a farm.
+use Rattle.std.specs.Prelude.{◌≡◌, List}
+use Rattle.lease_book.specs.declared.events.Event.{Event}
+use Rattle.lease_book.specs.Histories.{Terms}
+use Rattle.lease_book.specs.Books.{Ledger}
+use Rattle.farm.specs.Moments.{MayTell, AreTimed}
+use Rattle.farm.specs.Publications.{IsTrueHistory, IsGivenOut}
+
+-- A run over these terms: the history is true, all entries were given out, and the moments are those that the clock told.
+pub record IsRun (may_tell : MayTell) (terms : Terms) (events : List Event) : Type 0 where
+  pub history : IsTrueHistory terms events
+  pub given_out : IsGivenOut events
+  pub timed : AreTimed may_tell events
+
+-- a book over these terms, after such a run
+pub record IsBookOf (may_tell : MayTell) (terms : Terms) (book : Ledger) : Type 0 where
+  pub terms_are : book.terms ≡ terms
+  pub run : IsRun may_tell terms book.events

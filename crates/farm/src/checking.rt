@@ -1,0 +1,64 @@
+//! The work of a checker.
+
+ghost use Rattle.std.specs.Prelude.{◌≡◌};
+ghost use Rattle.lease_desk.specs.Desks.{number_of};
+ghost use Rattle.farm.specs.Working.{IsWorker, never};
+
+use crate::tasks::Found;
+use crossbeam_channel::Receiver;
+use lease_book::OutOfMemory;
+use lease_desk::{Chair, Desk, Gate};
+use std::sync::Wait;
+
+/// Hands an answer in.
+fn hand_in<G: Gate, R: Wait>(
+    rt: &R,
+    desk: &Desk,
+    gate: &G,
+    chair: &mut Chair,
+    found: &Found,
+) -> Result<(), OutOfMemory>
+    requires worker { IsWorker never desk.now chair.old }
+    ensures worker { IsWorker never desk.now chair.new }
+    ensures number { number_of chair.new ≡ number_of chair.old }
+{
+    let task = found.task;
+    let _told = desk.hand_in(rt, chair, task.lease, task.entry, &found.answer, gate)?;
+    Ok(())
+}
+
+/// Takes answers and hands each in, until the channel is closed and empty or memory has run out.
+fn hand_in_all<G: Gate, R: Wait>(
+    rt: &R,
+    desk: &Desk,
+    gate: &G,
+    chair: &mut Chair,
+    found: &Receiver<Found>,
+) -> Result<(), OutOfMemory>
+    requires worker { IsWorker never desk.now chair.old }
+    ensures worker { IsWorker never desk.now chair.new }
+    ensures number { number_of chair.new ≡ number_of chair.old }
+{
+    for answer in found.iter(rt) {
+        hand_in(rt, desk, gate, chair, &answer)?;
+    }
+    Ok(())
+}
+
+/// Takes answers until the channel is closed and empty, and hands each in. Once memory has run out it only goes on taking, so
+/// that no solver waits for room.
+pub(crate) fn check_all<G: Gate, R: Wait>(
+    rt: &R,
+    desk: &Desk,
+    gate: &G,
+    chair: &mut Chair,
+    found: &Receiver<Found>,
+) -> Result<(), OutOfMemory>
+    requires worker { IsWorker never desk.now chair.old }
+    ensures worker { IsWorker never desk.now chair.new }
+    ensures number { number_of chair.new ≡ number_of chair.old }
+{
+    let outcome = hand_in_all(rt, desk, gate, chair, found);
+    for _unread in found.iter(rt) {}
+    outcome
+}

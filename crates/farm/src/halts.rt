@@ -1,0 +1,31 @@
+//! Why a run ends before its time.
+
+use lease_book::OutOfMemory;
+use std::alloc::{AllocError, AllocFailed};
+
+/// Why a run ends before its time.
+#[derive(Clone, Copy)]
+pub(crate) enum Halt {
+    /// Memory ran out.
+    OutOfMemory,
+    /// A thread could not be started.
+    NoThread,
+}
+
+impl From<OutOfMemory> for Halt {
+    fn from(_fault: OutOfMemory) -> Halt {
+        Halt::OutOfMemory
+    }
+}
+
+impl From<AllocError> for Halt {
+    fn from(_fault: AllocError) -> Halt {
+        Halt::OutOfMemory
+    }
+}
+
+impl<T: Drop> From<AllocFailed<T>> for Halt {
+    fn from(_fault: AllocFailed<T>) -> Halt {
+        Halt::OutOfMemory
+    }
+}

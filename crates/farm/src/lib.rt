@@ -1,0 +1,30 @@
+//! A lease book that threads work through.
+//!
+//! [`run_farm`] opens a desk over a list of boards. Solvers lease one entry after another from it and look for an answer;
+//! checkers hand the answers in. Each has a thread of its own. When no entry is open any more and all have ended, the desk is
+//! closed and its book handed out. Nothing is asked of the solver, of the gate or of the clock.
+#![tactic(auto)]
+
+mod checking;
+mod clocks;
+mod crews;
+mod faults;
+mod halts;
+mod histories;
+mod joining;
+mod opening;
+mod requests;
+mod running;
+mod settings;
+mod settings_faults;
+mod solving;
+mod starting;
+mod tasks;
+mod workers;
+
+pub use clocks::Clock;
+pub use faults::FarmFault;
+pub use histories::is_true_history;
+pub use running::run_farm;
+pub use settings::Settings;
+pub use settings_faults::SettingsFault;

@@ -1,0 +1,38 @@
+//! The opening of the desk.
+
+ghost use Rattle.std.specs.Prelude.{◌≡◌, ◌+◌, IfOk, IfErr};
+ghost use Rattle.lease_desk.specs.Desks.{IsOpened};
+ghost use Rattle.farm.specs.Faults.{IsFaultOf};
+
+use crate::faults::FarmFault;
+use crate::settings::Settings;
+use cards::Layout;
+use lease_book::BookFault;
+use lease_desk::{Chair, Desk};
+use pbn_deals::Board;
+use std::alloc::{AllocError, Global};
+use std::sync::Wait;
+
+/// The deals of boards, by their numbers.
+pub(crate) fn deals_of(alloc: Global, boards: &[Board]) -> Result<Vec<Option<Layout>>, AllocError> {
+    boards.iter().map(|board| board.deal).collect(alloc)
+}
+
+/// A desk over the boards, with a chair for each solver and each checker.
+pub(crate) fn open_desk<R: Wait>(
+    rt: &R,
+    alloc: Global,
+    boards: Vec<Board>,
+    settings: Settings,
+) -> Result<(Desk, Vec<Chair>), FarmFault>
+    ensures desk { IfOk result (λ made. IsOpened (record { boards = boards.items; term = settings.term; tries = settings.tries }) (settings.solvers + settings.checkers) made.0 made.1.items) }
+    ensures fault { IfErr result (IsFaultOf boards.items) }
+{
+    let chairs = settings.solvers + settings.checkers;
+    match Desk::open(rt, alloc, boards, settings.term, settings.tries, chairs) {
+        Ok(opened) => Ok(opened),
+        Err(BookFault::OutOfMemory) => Err(FarmFault::OutOfMemory),
+        Err(BookFault::TooManyBoards) => Err(FarmFault::Book(BookFault::TooManyBoards)),
+        Err(BookFault::Tries) => unreachable!(),
+    }
+}

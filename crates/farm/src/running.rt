@@ -1,0 +1,133 @@
+//! The run of a farm.
+
+ghost use Rattle.std.specs.Prelude.{◌≡◌, All, IfOk, IfErr, map};
+ghost use Rattle.lease_desk.specs.Desks.{number_of};
+ghost use Rattle.farm.specs.Working.{IsWorker, HasWorked, never};
+ghost use Rattle.farm.specs.Faults.{IsFaultOf};
+ghost use Rattle.farm.specs.Runs.{IsBookOf};
+
+use crate::clocks::Clock;
+use crate::crews::Crew;
+use crate::faults::FarmFault;
+use crate::halts::Halt;
+use crate::histories::is_true_history;
+use crate::joining::join_all;
+use crate::opening::{deals_of, open_desk};
+use crate::settings::Settings;
+use crate::starting::start_all;
+use cards::Layout;
+use lease_book::Book;
+use lease_desk::{Chair, Closed, Desk, Gate};
+use partition_solver::Solver;
+use pbn_deals::Board;
+use std::alloc::Global;
+use std::sync::Wait;
+use std::sync::atomic::AtomicBool;
+use std::sync::atomic::Ordering::SeqCst;
+use std::thread;
+use std::thread::{Scope, Threads};
+
+/// Starts a thread for each chair in a scope, and waits for them. Where one can't be started, the others lease no more.
+fn work_in<'s, E, S: Solver + Sync, G: Gate + Sync, C: Clock + Sync, R: Threads + Wait + Sync>(
+    rt: &'s R,
+    scope: &Scope<'s, E>,
+    alloc: Global,
+    desk: &'s Desk,
+    deals: &'s [Option<Layout>],
+    settings: Settings,
+    solver: &'s S,
+    gate: &'s G,
+    clock: &'s C,
+    stop: &'s AtomicBool,
+    chairs: Vec<Chair>,
+) -> Result<Vec<Chair>, Halt>
+    requires { All (IsWorker never desk.now) chairs.items }
+    ensures worked { IfOk result (λ worked. All (HasWorked (C.may_tell clock.now) desk.now settings.solvers) worked.items) }
+    ensures numbers { IfOk result (λ worked. map number_of worked.items ≡ map number_of chairs.items) }
+{
+    let crew = Crew {
+        alloc,
+        desk,
+        deals,
+        solver,
+        budget: settings.budget,
+        gate,
+        clock,
+        stop,
+    };
+    let started = start_all(rt, scope, &crew, settings.solvers, chairs);
+    if started.is_err() {
+        stop.store(true, SeqCst);
+    }
+    join_all(rt, &crew, settings.solvers, started?)
+}
+
+/// Works at all chairs, each in a thread of its own.
+fn work_all<S: Solver + Sync, G: Gate + Sync, C: Clock + Sync, R: Threads + Wait + Sync>(
+    rt: &R,
+    alloc: Global,
+    desk: &Desk,
+    deals: &[Option<Layout>],
+    settings: Settings,
+    solver: &S,
+    gate: &G,
+    clock: &C,
+    chairs: Vec<Chair>,
+) -> Result<Vec<Chair>, Halt>
+    requires { All (IsWorker never desk.now) chairs.items }
+    ensures worked { IfOk result (λ worked. All (HasWorked (C.may_tell clock.now) desk.now settings.solvers) worked.items) }
+    ensures numbers { IfOk result (λ worked. map number_of worked.items ≡ map number_of chairs.items) }
+{
+    let stop = AtomicBool::new(false);
+    let stop = &stop;
+    thread::scope(
+        thread::scope_env(),
+        rt,
+        |scope| -> Result<Vec<Chair>, Halt>
+            requires { All (IsWorker never desk.now) chairs.items }
+            ensures worked { IfOk result (λ worked. All (HasWorked (C.may_tell clock.entry.now) desk.entry.now settings.solvers) worked.items) }
+            ensures numbers { IfOk result (λ worked. map number_of worked.items ≡ map number_of chairs.items) }
+        {
+            work_in(
+                rt, scope, alloc, desk, deals, settings, solver, gate, clock, stop, chairs,
+            )
+        },
+    )
+}
+
+/// Opens a desk over the boards, has as many solvers and checkers work at it as the settings say, each in a thread of its own,
+/// and hands out the book when all have ended.
+///
+/// A solver leases one entry after another at the clock's moment, tells the gate, has `solver` look for an answer on the
+/// board's deal, and sends it to the checkers, or gives the lease up. Where no entry is open it has the leases freed that have
+/// run out, and ends where there is none. A checker hands in one answer after another, of which the desk tells the gate. The
+/// book is handed out only where a solver was told that no entry is open.
+pub fn run_farm<S: Solver + Sync, G: Gate + Sync, C: Clock + Sync, R: Threads + Wait + Sync>(
+    rt: &R,
+    alloc: Global,
+    boards: Vec<Board>,
+    settings: Settings,
+    solver: &S,
+    gate: &G,
+    clock: &C,
+) -> Result<Book, FarmFault>
+    ensures book { IfOk result (IsBookOf (C.may_tell clock.now) (record { boards = boards.items; term = settings.term; tries = settings.tries })) }
+    ensures fault { IfErr result (IsFaultOf boards.items) }
+{
+    let deals = deals_of(alloc, boards.as_slice())?;
+    let (desk, chairs) = open_desk(rt, alloc, boards, settings)?;
+    let chairs = work_all(
+        rt,
+        alloc,
+        &desk,
+        deals.as_slice(),
+        settings,
+        solver,
+        gate,
+        clock,
+        chairs,
+    )?;
+    let Closed { book, chairs: _ } = desk.close(rt, chairs);
+    is_true_history(&book);
+    Ok(book)
+}

@@ -1,0 +1,18 @@
+//! Tests of runs of a farm: whole ones, what comes of solvers that find nothing or the wrong thing, and that threads really work
+//! side by side.
+#![tactic(auto)]
+
+#[cfg(test)]
+mod expect;
+#[cfg(test)]
+mod gates;
+#[cfg(test)]
+mod run_tests;
+#[cfg(test)]
+mod settings_tests;
+#[cfg(test)]
+mod solvers;
+#[cfg(test)]
+mod tables;
+#[cfg(test)]
+mod thread_tests;

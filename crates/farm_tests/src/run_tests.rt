@@ -1,0 +1,104 @@
+//! Whole runs.
+
+use crate::expect::expect_eq;
+use crate::gates::Open;
+use crate::solvers::{FindsNothing, FindsTheAce, HasNoMemory, StandsStill};
+use crate::tables::{ONE_SUIT_EACH, Tally, empty_boards, one_board, tally_of};
+use farm::{FarmFault, Settings, run_farm};
+use lease_book::BookFault;
+use partition_solver::{Partition, Solver};
+use std::alloc::Global;
+use std::process::Abort;
+use std::sync::Wait;
+use std::test::Fail;
+use std::thread::Threads;
+
+/// How many steps a solver has for an entry.
+const BUDGET: u64 = 10_000_000;
+
+/// A run over the four hands of one suit each, with one try an entry.
+fn run_on_one_suit_each<S: Solver + Sync, R: Threads + Wait + Abort + Sync>(
+    rt: &R,
+    alloc: Global,
+    threads: usize,
+    solver: &S,
+) -> Result<Tally, Fail> {
+    let settings = Settings::new(threads, threads, 600, 1, BUDGET)?;
+    let boards = one_board(alloc, ONE_SUIT_EACH)?;
+    let book = run_farm(rt, alloc, boards, settings, solver, &Open, &StandsStill)?;
+    expect_eq(rt, &book.boards().len(), &1);
+    Ok(tally_of(&book))
+}
+
+/// Where one solver and one checker are done with 20 entries: the leases, one that was not given, and an expiry.
+const LEASED: Tally = Tally {
+    given: 20,
+    published: 0,
+    gave_up: 0,
+    bad: 0,
+    nothing: 1,
+    freed_none: 1,
+    others: 0,
+};
+
+#[test]
+fn each_entry_is_leased_and_published_once(rt: HostRuntime) -> Result<(), Fail> {
+    let tally = run_on_one_suit_each(&rt, rt.alloc(), 1, &Partition::new())?;
+    expect_eq(
+        &rt,
+        &tally,
+        &Tally {
+            published: 20,
+            ..LEASED
+        },
+    );
+    Ok(())
+}
+
+#[test]
+fn what_is_not_found_is_given_up(rt: HostRuntime) -> Result<(), Fail> {
+    let wanted = Tally {
+        gave_up: 20,
+        ..LEASED
+    };
+    let nothing = run_on_one_suit_each(&rt, rt.alloc(), 1, &FindsNothing)?;
+    expect_eq(&rt, &nothing, &wanted);
+    let no_memory = run_on_one_suit_each(&rt, rt.alloc(), 1, &HasNoMemory)?;
+    expect_eq(&rt, &no_memory, &wanted);
+    Ok(())
+}
+
+#[test]
+fn what_is_not_shown_is_not_published(rt: HostRuntime) -> Result<(), Fail> {
+    let tally = run_on_one_suit_each(&rt, rt.alloc(), 1, &FindsTheAce)?;
+    expect_eq(&rt, &tally, &Tally { bad: 20, ..LEASED });
+    Ok(())
+}
+
+#[test]
+fn many_threads_publish_as_much(rt: HostRuntime) -> Result<(), Fail> {
+    for threads in [2, 64] {
+        let tally = run_on_one_suit_each(&rt, rt.alloc(), threads, &Partition::new())?;
+        expect_eq(&rt, &(tally.given, tally.published), &(20, 20));
+    }
+    Ok(())
+}
+
+#[test]
+fn too_many_boards(rt: HostRuntime) -> Result<(), Fail> {
+    let alloc = rt.alloc();
+    let settings = Settings::new(1, 1, 0, 1, 1)?;
+    let boards = empty_boards(alloc, 4097)?;
+    let made = run_farm(
+        &rt,
+        alloc,
+        boards,
+        settings,
+        &FindsNothing,
+        &Open,
+        &StandsStill,
+    );
+    let wanted = FarmFault::Book(BookFault::TooManyBoards);
+    expect_eq(&rt, &made.err(), &Some(wanted));
+    Ok(())
+}

@@ -1,0 +1,81 @@
+//! Boards for tests, and what is in a book.
+
+use lease_book::{Book, Reply};
+use pbn_deals::{Board, BoardName, read_layout};
+use std::alloc::{AllocError, Global};
+use std::test::Fail;
+
+/// The deal of four hands of one suit each.
+pub const ONE_SUIT_EACH: &[u8] =
+    b"N:AKQJT98765432... .AKQJT98765432.. ..AKQJT98765432. ...AKQJT98765432";
+
+/// One board with this deal.
+pub fn one_board(alloc: Global, deal: &[u8]) -> Result<Vec<Board>, Fail> {
+    let layout = read_layout(deal)?;
+    let mut boards = Vec::new(alloc);
+    boards.push(Board {
+        name: BoardName::new(Vec::new(alloc)),
+        deal: Some(layout),
+    })?;
+    Ok(boards)
+}
+
+/// So many boards without a deal.
+pub fn empty_boards(alloc: Global, count: usize) -> Result<Vec<Board>, AllocError> {
+    let mut boards = Vec::new(alloc);
+    for _ in 0..count {
+        boards.push(Board {
+            name: BoardName::new(Vec::new(alloc)),
+            deal: None,
+        })?;
+    }
+    Ok(boards)
+}
+
+/// How often each reply stands in a history.
+#[derive(Clone, Copy, Debug, PartialEq)]
+pub struct Tally {
+    pub given: u64,
+    pub published: u64,
+    pub gave_up: u64,
+    pub bad: u64,
+    pub nothing: u64,
+    pub freed_none: u64,
+    pub others: u64,
+}
+
+impl Tally {
+    fn none() -> Tally {
+        Tally {
+            given: 0,
+            published: 0,
+            gave_up: 0,
+            bad: 0,
+            nothing: 0,
+            freed_none: 0,
+            others: 0,
+        }
+    }
+
+    fn place(&mut self, reply: &Reply) -> &mut u64 {
+        match reply {
+            Reply::Given { .. } => &mut self.given,
+            Reply::Published(_) => &mut self.published,
+            Reply::GaveUp => &mut self.gave_up,
+            Reply::BadCertificate(_) => &mut self.bad,
+            Reply::Nothing => &mut self.nothing,
+            Reply::Freed(0) => &mut self.freed_none,
+            _ => &mut self.others,
+        }
+    }
+}
+
+/// How often each reply stands in the history of a book.
+pub fn tally_of(book: &Book) -> Tally {
+    let mut tally = Tally::none();
+    for event in book.history() {
+        let count = tally.place(&event.reply);
+        *count = count.saturating_add(1);
+    }
+    tally
+}
