@@ -140,10 +140,10 @@ fn small_and_large_layouts(rt: HostRuntime) -> Result<(), Fail> {
     Ok(())
 }
 
-/// One solver that is asked of another layout each time. No threads stand for one.
+/// One solver that is asked of another layout each time.
 #[test]
 fn layouts_by_turns(rt: HostRuntime) -> Result<(), Fail> {
-    let solver = Partition::for_threads(0);
+    let solver = Partition::new();
     for declarer in Seat::ALL {
         for row in SMALL {
             solves(&rt, rt.alloc(), &solver, row, declarer);
@@ -155,7 +155,7 @@ fn layouts_by_turns(rt: HostRuntime) -> Result<(), Fail> {
 /// Four threads ask one solver at once, each for another declarer and denomination of one layout, until all are asked for.
 #[test]
 fn four_threads(rt: HostRuntime) -> Result<(), Fail> {
-    let (alloc, solver) = (rt.alloc(), Partition::for_threads(4));
+    let (alloc, solver) = (rt.alloc(), Partition::new());
     let (text, numbers) = NINE;
     for round in 0..5usize {
         let solved = thread::map_indices(
@@ -178,7 +178,7 @@ fn four_threads(rt: HostRuntime) -> Result<(), Fail> {
 /// on where its first one stopped, though the other deal came between.
 #[test]
 fn two_deals_by_turns(rt: HostRuntime) -> Result<(), Fail> {
-    let solver = Partition::for_threads(2);
+    let solver = Partition::new();
     let trump = Trump::Suit(Suit::Diamonds);
     for wanted in [None, Some(3)] {
         for (text, declarer) in [(NINE.0, Seat::North), (NINE_TURNED, Seat::South)] {

@@ -4,6 +4,8 @@ use crate::search::Search;
 use cards::{Layout, Trump};
 use search_state::records::MOST_BLOCKS;
 use std::alloc::{AllocError, Global};
+use std::sync::atomic::AtomicU32;
+use std::sync::atomic::Ordering::SeqCst;
 use std::sync::{Mutex, MutexGuard};
 use std::thread;
 
@@ -18,8 +20,10 @@ const TRIES: u32 = 1_000;
 pub(crate) struct Memory {
     /// In the order in which they were kept, the oldest first.
     kept: Mutex<Option<Vec<Search>>>,
-    /// How many threads call at once, 1 at least.
-    threads: usize,
+    /// How many calls are under way.
+    calls: AtomicU32,
+    /// How many there were at once, at most.
+    most_calls: AtomicU32,
 }
 
 /// Where the search of this deal in this denomination lies. Where there are several, the one that remembers most.
@@ -56,17 +60,34 @@ fn taken_at(searches: &mut Vec<Search>, place: usize) -> Option<Search> {
 
 impl Memory {
     /// Nothing is remembered.
-    pub(crate) const fn new(threads: usize) -> Memory {
+    pub(crate) const fn new() -> Memory {
         Memory {
             kept: Mutex::new(None),
-            threads: if threads == 0 { 1 } else { threads },
+            calls: AtomicU32::new(0),
+            most_calls: AtomicU32::new(0),
         }
+    }
+
+    /// Counts a call that begins.
+    pub(crate) fn enter(&self) {
+        let others = self.calls.fetch_add(1, SeqCst);
+        self.most_calls.fetch_max(others.saturating_add(1), SeqCst);
+    }
+
+    /// Counts a call that ends.
+    pub(crate) fn leave(&self) {
+        self.calls.fetch_sub(1, SeqCst);
+    }
+
+    /// For how many threads there is room: as many as called at once.
+    fn threads(&self) -> usize {
+        self.most_calls.load(SeqCst) as usize
     }
 
     /// The room for what is kept and what runs, in blocks: for one thread what the records of a search may take, and half as
     /// much for each where there are more.
     fn room(&self) -> usize {
-        self.threads.max(2).saturating_mul(MOST_BLOCKS / 2)
+        self.threads().max(2).saturating_mul(MOST_BLOCKS / 2)
     }
 
     /// The kept searches. None where others have them at each try.
@@ -99,7 +120,7 @@ impl Memory {
             most = 0;
         }
         let held = self.shrink(most);
-        search.records.room = self.room().saturating_sub(held) / self.threads.max(1);
+        search.records.room = self.room().saturating_sub(held) / self.threads().max(1);
         search.steps = steps;
         Ok(search)
     }
@@ -116,7 +137,7 @@ impl Memory {
     /// answers how many those are. Nothing is dropped under the lock, since that may take long.
     pub(crate) fn shrink(&self, most: usize) -> usize {
         let mut held = most;
-        for _ in 0..self.threads.saturating_mul(2 * MOST_KEPT) {
+        for _ in 0..self.threads().saturating_mul(2 * MOST_KEPT) {
             let (now, oldest) = self.surplus(most);
             held = now;
             if oldest.is_none() {
@@ -136,7 +157,7 @@ impl Memory {
             return (0, None);
         };
         let held = room_of(searches);
-        if held <= most && searches.len() < self.threads.saturating_mul(MOST_KEPT) {
+        if held <= most && searches.len() < self.threads().saturating_mul(MOST_KEPT) {
             return (held, None);
         }
         (held, taken_at(searches, 0))

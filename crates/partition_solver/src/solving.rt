@@ -36,24 +36,19 @@ pub trait Solver {
 
 /// A partition search. A step of its budget is one card tried, in the search or for a tree of a graph; the last card of a
 /// trick is free where it is only looked up. What it finds is remembered for later calls: the other declarers of a
-/// denomination have use for it, and a call that ran out of steps can be made again.
+/// denomination have use for it, and a call that ran out of steps can be made again. Threads may call it at once: none waits.
 #[derive(Drop)]
 pub struct Partition {
     memory: Memory,
 }
 
 impl Partition {
-    /// A solver for one thread, that remembers nothing yet. It takes no memory.
+    /// A solver that remembers nothing yet. It takes no memory. What it remembers later takes 120 MB at most where one thread
+    /// calls it, 170 where two call at once, and 100 more for each further one; 56 more while a call goes on that began when
+    /// it was the only one.
     pub const fn new() -> Partition {
-        Partition::for_threads(1)
-    }
-
-    /// A solver that so many threads call at once, and that remembers nothing yet. 0 stands for 1. It takes no memory. What it
-    /// remembers later takes 120 MB at most for one thread, 170 for two and 100 for each further one, and more where more
-    /// threads call it.
-    pub const fn for_threads(threads: usize) -> Partition {
         Partition {
-            memory: Memory::new(threads),
+            memory: Memory::new(),
         }
     }
 
@@ -91,7 +86,9 @@ impl Solver for Partition {
         trump: Trump,
         budget: u64,
     ) -> Result<Option<Answer>, AllocError> {
+        self.memory.enter();
         let found = self.found(alloc, layout, declarer, trump, budget);
+        self.memory.leave();
         if found.is_err() {
             self.memory.shrink(0);
         }
