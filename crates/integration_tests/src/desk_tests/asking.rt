@@ -4,8 +4,9 @@ ghost use Rattle.std.specs.Prelude.{◌≡◌};
 ghost use Rattle.lease_desk.specs.Desks.{IsChairOf, number_of};
 
 use crate::expect::expect_eq;
+use crate::lease_tests::long_list::verdict_on;
 use certificate_graph::{Answer, Graph};
-use checker::{OutOfMemory, judge};
+use checker::OutOfMemory;
 use lease_book::{Asked, Event, Evidence, GraphText, Reply, Request};
 use lease_desk::{Chair, Closed, Desk, Gate, Receipt};
 use pbn_deals::Board;
@@ -82,12 +83,7 @@ pub fn asked_by(alloc: Global, boards: &[Board], request: &Request) -> Result<As
             declarer,
             defenders,
         } => {
-            let deal = match boards.get(entry.board) {
-                Some(board) => board.deal.as_ref(),
-                None => None,
-            };
-            let (ours, theirs) = (declarer.as_bytes(), defenders.as_bytes());
-            let verdict = judge(alloc, deal, entry.declarer, entry.trump, *k, ours, theirs)?;
+            let verdict = verdict_on(alloc, boards, *entry, *k, declarer, defenders)?;
             Asked::HandIn {
                 lease: *lease,
                 entry: *entry,

@@ -6,9 +6,9 @@ ghost use Rattle.lease_desk.specs.Desks.{IsChairOf, number_of};
 use super::asking::{Open, ask, expect_replies};
 use super::shifts::{Shift, closed_after};
 use crate::expect::expect;
-use crate::lease_tests::certificates::{Answer, NORTH_HIGH};
-use cards::{Seat, Suit, Trump};
-use lease_book::{Entry, Reply, Request};
+use crate::lease_tests::certificates::{Answer, NORTH_HIGH, NT, SPADES};
+use cards::{Seat, Trump};
+use lease_book::{Reply, Request};
 use lease_desk::{Chair, Desk, Gate};
 use std::alloc::Global;
 use std::process::Abort;
@@ -74,20 +74,6 @@ impl Gate for Overtaking {
         }
     }
 }
-
-/// The first entry.
-const NT: Entry = Entry {
-    board: 0,
-    declarer: Seat::North,
-    trump: Trump::Nt,
-};
-
-/// The second entry.
-const SPADES: Entry = Entry {
-    board: 0,
-    declarer: Seat::North,
-    trump: Trump::Suit(Suit::Spades),
-};
 
 /// The replies to the first chair's lease, the second chair's lease, and the first chair's answer.
 const REPLIES: [Reply; 3] = [

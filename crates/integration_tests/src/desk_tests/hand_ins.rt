@@ -6,7 +6,7 @@ ghost use Rattle.lease_desk.specs.Desks.{IsChairOf, number_of};
 use super::asking::{Open, ask};
 use super::shifts::{Shift, closed_after};
 use crate::expect::expect_eq;
-use crate::lease_tests::certificates::{Answer, EAST_HIGH, NORTH_HIGH};
+use crate::lease_tests::certificates::{Answer, EAST_HIGH, NORTH_HIGH, NT};
 use cards::{Seat, Trump};
 use checker::{EntryFault, HandFault, PartFault};
 use lease_book::{Asked, Entry, Event, Evidence, Reply, Request};
@@ -43,51 +43,29 @@ impl Gate for Digits {
 }
 
 /// North declares no-trump on a board.
-const fn entry_on(board: usize) -> Entry {
-    Entry {
-        board,
-        declarer: Seat::North,
-        trump: Trump::Nt,
-    }
+fn entry_on(board: usize) -> Entry {
+    Entry { board, ..NT }
 }
-
-/// The answer is one for another deal.
-const OTHER_DEAL: HandFault = HandFault::Entry(EntryFault::Defenders(PartFault::RootPattern));
 
 /// A lease, a board, who has the ace by the answer, what is wrong with the answer, and the reply.
 type HandIn = (u64, usize, Seat, Option<HandFault>, Reply);
 
+/// The board has no deal.
+const NO_DEAL: Option<HandFault> = Some(HandFault::NoDeal);
+
+/// The answer is one for another deal.
+const OTHER_DEAL: HandFault = HandFault::Entry(EntryFault::Defenders(PartFault::RootPattern));
+
+/// The reply to that.
+const BAD: Reply = Reply::BadCertificate(OTHER_DEAL);
+
 /// What is handed in. North has the ace on board 1, East on board 2; boards 0 and 3 have no deal.
 const HAND_INS: [HandIn; 7] = [
-    (
-        1,
-        0,
-        Seat::North,
-        Some(HandFault::NoDeal),
-        Reply::OtherEntry,
-    ),
-    (
-        1,
-        3,
-        Seat::North,
-        Some(HandFault::NoDeal),
-        Reply::OtherEntry,
-    ),
-    (
-        7,
-        0,
-        Seat::North,
-        Some(HandFault::NoDeal),
-        Reply::UnknownLease,
-    ),
+    (1, 0, Seat::North, NO_DEAL, Reply::OtherEntry),
+    (1, 3, Seat::North, NO_DEAL, Reply::OtherEntry),
+    (7, 0, Seat::North, NO_DEAL, Reply::UnknownLease),
     (1, 2, Seat::East, None, Reply::OtherEntry),
-    (
-        1,
-        1,
-        Seat::East,
-        Some(OTHER_DEAL),
-        Reply::BadCertificate(OTHER_DEAL),
-    ),
+    (1, 1, Seat::East, Some(OTHER_DEAL), BAD),
     (1, 1, Seat::North, None, Reply::Published(1)),
     (1, 1, Seat::East, Some(OTHER_DEAL), Reply::AlreadyPublished),
 ];

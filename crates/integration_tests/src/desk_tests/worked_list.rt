@@ -5,28 +5,14 @@ ghost use Rattle.std.specs.Prelude.{◌<◌, length};
 
 use super::asking::{Open, ask, expect_replies, expect_told_once};
 use crate::expect::expect_eq;
-use crate::lease_tests::certificates::{Answer, NORTH_HIGH, boards};
-use cards::{Seat, Suit, Trump};
-use lease_book::{Entry, Reply, Request, replay};
+use crate::lease_tests::certificates::{Answer, NORTH_HIGH, NT, SPADES, boards};
+use cards::{Seat, Trump};
+use lease_book::{Reply, Request, replay};
 use lease_desk::{Chair, Desk, Receipt};
 use std::alloc::{AllocError, Global};
 use std::process::Abort;
 use std::sync::Wait;
 use std::test::Fail;
-
-/// The first entry.
-const NT: Entry = Entry {
-    board: 0,
-    declarer: Seat::North,
-    trump: Trump::Nt,
-};
-
-/// The second entry.
-const SPADES: Entry = Entry {
-    board: 0,
-    declarer: Seat::North,
-    trump: Trump::Suit(Suit::Spades),
-};
 
 /// The replies, where a lease has ten moments and an entry two tries.
 const REPLIES: [Reply; 7] = [

@@ -1,10 +1,10 @@
 //! Terms that make no book, and proofs that are not for the entry. Worked lists of requests are in `worked_cases`.
 
-use super::certificates::{EAST_HIGH, NORTH_HIGH, boards};
+use super::certificates::{EAST_HIGH, NORTH_HIGH, NT, boards};
 use crate::expect::{expect, expect_eq};
 use cards::{Seat, Trump};
 use checker::judge;
-use lease_book::{Book, BookFault, Entry, Reply, replay};
+use lease_book::{Book, BookFault, Reply, replay};
 use pbn_deals::{Board, BoardName, read_layout};
 use std::alloc::Global;
 use std::process::Abort;
@@ -25,14 +25,7 @@ side EW
 nodes 0
 ";
 
-/// North declares the first board in no-trump.
-const NT: Entry = Entry {
-    board: 0,
-    declarer: Seat::North,
-    trump: Trump::Nt,
-};
-
-/// The first lease, which is for that entry.
+/// The first lease, which is for the first entry.
 const GIVEN: Reply = Reply::Given {
     lease: 1,
     entry: NT,

@@ -1,7 +1,7 @@
 //! Boards of one card a hand, all of a suit, and the certificates of their entries.
 
 use crate::expect::joined;
-use cards::{Seat, Side, Trump};
+use cards::{Seat, Side, Suit, Trump};
 use lease_book::{Entry, GraphText, Request};
 use pbn_deals::{Board, BoardName, read_layout};
 use std::alloc::{AllocError, Global};
@@ -12,6 +12,19 @@ pub const NORTH_HIGH: &str = "N:A... K... Q... J...";
 
 /// East has the ace.
 pub const EAST_HIGH: &str = "N:K... A... Q... J...";
+
+/// North declares no-trump on the first board: the first entry.
+pub const NT: Entry = Entry {
+    board: 0,
+    declarer: Seat::North,
+    trump: Trump::Nt,
+};
+
+/// The second entry.
+pub const SPADES: Entry = Entry {
+    trump: Trump::Suit(Suit::Spades),
+    ..NT
+};
 
 /// The boards of these layouts, in order; one without a layout has no deal.
 pub fn boards(alloc: Global, layouts: &[Option<&str>]) -> Result<Vec<Board>, Fail> {

@@ -6,8 +6,8 @@ use super::slow_book::{Ask, DECLARERS, Past, Rules, TRUMPS, entry_of, leased, pu
 use crate::expect::expect_eq;
 use crate::fixed_numbers::next;
 use cards::{Seat, Trump};
-use checker::judge;
-use lease_book::{Book, Entry, Reply, Request, replay};
+use checker::{OutOfMemory, Verdict, judge};
+use lease_book::{Book, Entry, GraphText, Reply, Request, replay};
 use pbn_deals::Board;
 use std::alloc::{AllocError, Global};
 use std::process::Abort;
@@ -97,6 +97,30 @@ fn some_request(alloc: Global, past: &[Past], number: u64) -> Result<Request, Al
     })
 }
 
+/// The verdict on what is handed in for an entry, on the deal of its board.
+pub fn verdict_on(
+    alloc: Global,
+    boards: &[Board],
+    entry: Entry,
+    k: u8,
+    declarer: &GraphText,
+    defenders: &GraphText,
+) -> Result<Verdict, OutOfMemory> {
+    let deal = match boards.get(entry.board) {
+        Some(board) => board.deal.as_ref(),
+        None => None,
+    };
+    judge(
+        alloc,
+        deal,
+        entry.declarer,
+        entry.trump,
+        k,
+        declarer.as_bytes(),
+        defenders.as_bytes(),
+    )
+}
+
 /// What the request asks, by the verdict on what it hands in.
 fn asked(alloc: Global, boards: &[Board], request: &Request) -> Result<Ask, Fail> {
     Ok(match request {
@@ -110,20 +134,7 @@ fn asked(alloc: Global, boards: &[Board], request: &Request) -> Result<Ask, Fail
             declarer,
             defenders,
         } => {
-            let deal = match boards.get(entry.board) {
-                Some(board) => board.deal.as_ref(),
-                None => None,
-            };
-            let verdict = judge(
-                alloc,
-                deal,
-                entry.declarer,
-                entry.trump,
-                *k,
-                declarer.as_bytes(),
-                defenders.as_bytes(),
-            )?;
-            match verdict {
+            match verdict_on(alloc, boards, *entry, *k, declarer, defenders)? {
                 Ok(proven) => Ask::Good(*lease, *entry, proven.shown().k),
                 Err(fault) => Ask::Bad(*lease, *entry, fault),
             }
