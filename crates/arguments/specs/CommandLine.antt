@@ -43,6 +43,13 @@ option name numbers default = record (new_rule name) {
   value_names = 1;
 }
 
+-- how many threads look for answers, and how many check them
+abbrev pub solvers : Rule
+solvers = option (codes "solvers") (Unsigned 1 64) (codes "2")
+
+abbrev pub checkers : Rule
+checkers = option (codes "checkers") (Unsigned 1 64) (codes "2")
+
 -- how many steps a search may take
 abbrev pub budget : Rule
 budget = option (codes "budget") (Unsigned 1 1000000000) (codes "10000000")
@@ -55,6 +62,10 @@ term = option (codes "term") (Unsigned 0 1000000000) (codes "600")
 abbrev pub tries : Rule
 tries = option (codes "tries") (Signed (pos 1) (pos 1000)) (codes "3")
 
+-- how tables are made
+abbrev pub settings : List Rule
+settings = solvers ∷ checkers ∷ term ∷ tries ∷ budget ∷ []
+
 abbrev pub subcommand : Text → List Rule → Shape
 subcommand name rules = record (new_shape name) { rules = rules }
 
@@ -66,7 +77,7 @@ solve letters = subcommand (codes "solve")
     (hand_words letters (codes "DECLARER") ++ budget ∷ [])
 
 abbrev pub table : Shape
-table = subcommand (codes "table") (term ∷ tries ∷ budget ∷ [])
+table = subcommand (codes "table") settings
 
 abbrev pub check : Letters → Shape
 check letters = subcommand (codes "check") (hand_words letters (codes "DECLARER"))

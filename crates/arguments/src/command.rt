@@ -2,8 +2,8 @@
 
 ghost use Rattle.std.specs.Prelude.{◌≡◌, IfOk, codes};
 ghost use Rattle.clap.specs.Words.{app_of};
-ghost use Rattle.arguments.specs.CommandLine.{AddsRules, AreLetters, IsArg, IsLeaf, budget, check, choice, command_line};
-ghost use Rattle.arguments.specs.CommandLine.{hand_words, plain, solve, table, term, tries, word};
+ghost use Rattle.arguments.specs.CommandLine.{AddsRules, AreLetters, IsArg, IsLeaf, budget, check, checkers, choice, command_line};
+ghost use Rattle.arguments.specs.CommandLine.{hand_words, plain, settings, solve, solvers, table, term, tries, word};
 
 use crate::help;
 use clap::{Arg, Command, value_parser};
@@ -79,13 +79,11 @@ fn check_command<'a>(alloc: Global, letters: Letters<'a>) -> Result<Command<'a>,
 fn table_command<'a>(alloc: Global) -> Result<Command<'a>, AllocError>
     ensures { IfOk result (IsLeaf table) }
 {
-    Command::new(alloc, "table")
+    let command = Command::new(alloc, "table")
         .about(help::TABLE_ABOUT)
         .override_usage(help::TABLE_USAGE)
-        .after_help(help::TABLE_EXAMPLE)
-        .arg(term_arg(alloc))?
-        .arg(tries_arg(alloc))?
-        .arg(budget_arg(alloc))
+        .after_help(help::TABLE_EXAMPLE);
+    with_settings(alloc, command)
 }
 
 /// The command with the words of a layout, of a seat that has this name, and of the denomination.
@@ -104,6 +102,18 @@ fn with_hand<'a>(
         .arg(choice_arg(alloc, "TRUMP", letters.trumps, help::TRUMP))
 }
 
+/// The command with the options that say how tables are made.
+fn with_settings<'a>(alloc: Global, command: Command<'a>) -> Result<Command<'a>, AllocError>
+    ensures { IfOk result (AddsRules command.entry settings) }
+{
+    command
+        .arg(solvers_arg(alloc))?
+        .arg(checkers_arg(alloc))?
+        .arg(term_arg(alloc))?
+        .arg(tries_arg(alloc))?
+        .arg(budget_arg(alloc))
+}
+
 fn layout_arg<'a>(alloc: Global) -> Arg<'a>
     ensures { IsArg (word (codes "LAYOUT")) result }
 {
@@ -118,6 +128,28 @@ fn choice_arg<'a>(alloc: Global, name: &'a str, texts: &'a [&'a str], help: &'a 
         .required(true)
         .value_parser(texts)
         .help(help)
+}
+
+fn solvers_arg<'a>(alloc: Global) -> Arg<'a>
+    ensures { IsArg solvers result }
+{
+    Arg::new(alloc, "solvers")
+        .long("solvers")
+        .value_name("THREADS")
+        .value_parser(value_parser!(u64).range(1..=64))
+        .default_value("2")
+        .help(help::SOLVERS)
+}
+
+fn checkers_arg<'a>(alloc: Global) -> Arg<'a>
+    ensures { IsArg checkers result }
+{
+    Arg::new(alloc, "checkers")
+        .long("checkers")
+        .value_name("THREADS")
+        .value_parser(value_parser!(u64).range(1..=64))
+        .default_value("2")
+        .help(help::CHECKERS)
 }
 
 fn budget_arg<'a>(alloc: Global) -> Arg<'a>

@@ -65,9 +65,16 @@ What is refused, each with its line:
 
 Exit status:
   0  every table is complete
-  1  the input or the output failed, or memory ran out outside a search
+  1  the input or the output failed, memory ran out outside a search, or a thread
+     could not be started
   2  the command line or the text is refused
   3  a table is incomplete: steps or memory ran out in a search";
+
+pub const SOLVERS: &str = "\
+How many entries are searched at a time: 1 to 64";
+
+pub const CHECKERS: &str = "\
+How many answers are checked at a time: 1 to 64";
 
 pub const TERM: &str = "\
 How many seconds an entry is lent to a search before it is free again: 0 to 1000000000";

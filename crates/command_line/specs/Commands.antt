@@ -4,7 +4,7 @@ use Rattle.clap.specs.declared.error.kind.ErrorKind.{ErrorKind}
 use Rattle.clap.specs.declared.error.kind.ErrorKind.TheVariants as kinds
 use Rattle.cards.specs.Devices.{Device}
 use Rattle.tournaments.specs.Asking.{MayFind}
-use Rattle.tournaments.specs.Moments.{MayTell}
+use Rattle.farm.specs.Moments.{MayTell}
 use Rattle.arguments.specs.CommandLine.{AreLetters}
 use Rattle.arguments.specs.Words.{AskFor, HasNone}
 use Rattle.arguments.specs.declared.command.Letters.{Letters}

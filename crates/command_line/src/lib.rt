@@ -11,11 +11,14 @@ use arguments::parse_arguments;
 use cards::{Sink, Source, write_all};
 use clap::Error;
 use clap::error::ErrorKind;
+use farm::Clock;
+use lease_desk::Gate;
 use partition_solver::Solver;
 use std::alloc::Global;
 use std::convert::AsStr;
+use std::sync::Wait;
+use std::thread::Threads;
 use subcommands::{RunFault, Status, run_subcommand, show, tell};
-use tournaments::Clock;
 
 /// What is told of refused words where there is no memory for more.
 const REFUSED: &str = "ddfarm: the command line is refused\n";
@@ -24,10 +27,22 @@ const REFUSED: &str = "ddfarm: the command line is refused\n";
 ///
 /// What can't be done is told on the error output, with nothing on the output but the beginning that a failed output has
 /// taken; else the error output is as it was. Where the error output fails, nobody is left to be told.
-pub fn run_command<'a, S: AsStr, P: Solver, C: Clock, I: Source, O: Sink, E: Sink>(
+pub fn run_command<
+    'a,
+    S: AsStr,
+    P: Solver + Sync,
+    G: Gate + Sync,
+    C: Clock + Sync,
+    I: Source,
+    O: Sink,
+    E: Sink,
+    R: Threads + Wait + Sync,
+>(
+    rt: &R,
     alloc: Global,
     words: &'a [S],
     solver: &P,
+    gate: &G,
     clock: &C,
     input: &mut I,
     output: &mut O,
@@ -37,7 +52,7 @@ pub fn run_command<'a, S: AsStr, P: Solver, C: Clock, I: Source, O: Sink, E: Sin
         (I.state input.new) (O.state output.old) (O.state output.new) (E.state errors.old) (E.state errors.new) result }
 {
     match parse_arguments(alloc, words) {
-        Ok(asked) => run_subcommand(alloc, asked, solver, clock, input, output, errors),
+        Ok(asked) => run_subcommand(rt, alloc, asked, solver, gate, clock, input, output, errors),
         Err(error) => tell_words(alloc, error, output, errors),
     }
 }

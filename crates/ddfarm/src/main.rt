@@ -4,13 +4,14 @@
 #![tactic(auto)]
 
 use command_line::run_command;
+use farm::Clock;
+use lease_desk::Gate;
 use partition_solver::Partition;
 use std::io::{BufWriter, ErrorKind};
 use std::process::ExitCode;
 use std::time::Instant;
 use streams::{ReaderSource, WriterSink};
 use subcommands::{RunFault, close_output, tell};
-use tournaments::Clock;
 
 /// Whole seconds since the program's start.
 #[derive(Drop)]
@@ -30,6 +31,16 @@ impl Clock for Seconds<'_> {
             Err(_) => 0,
         }
     }
+}
+
+/// Nobody is told of leases.
+#[derive(Drop)]
+struct Unwatched;
+
+impl Gate for Unwatched {
+    fn before_solve(&self, _lease: u64) {}
+
+    fn before_check(&self, _lease: u64) {}
 }
 
 /// The words that the process was started with.
@@ -54,9 +65,11 @@ fn main(rt: HostRuntime) -> ExitCode {
     let mut output = WriterSink::new(buffered);
     let status = match words_of_process(&rt) {
         Ok(words) => run_command(
+            &rt,
             rt.alloc(),
             words.as_slice(),
             &Partition::new(),
+            &Unwatched,
             &clock,
             &mut input,
             &mut output,

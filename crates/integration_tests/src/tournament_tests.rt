@@ -3,12 +3,13 @@
 use crate::expect::{expect_bytes, expect_eq, joined};
 use cards::{Buffer, Bytes, Layout, Seat, Trump};
 use certificate_graph::Answer;
+use farm::Clock;
 use partition_solver::{Partition, Solver};
 use std::alloc::{AllocError, Global};
 use std::process::Abort;
 use std::test::Fail;
 use tables::Report;
-use tournaments::{Clock, MakeFault, make_tables_on_one_thread};
+use tournaments::{MakeFault, make_tables_on_one_thread};
 
 /// A clock that stands still.
 #[derive(Drop)]

@@ -4,6 +4,7 @@ use Rattle.std.specs.Str.Parse.{IsNumeral, digits_value, without_leading_plus}
 use Rattle.clap.specs.Words.{Row, Text, first_of, one_of}
 use Rattle.cards.specs.Seats.{seat_letter}
 use Rattle.cards.specs.Pack.{trump_letters}
+use Rattle.farm.specs.declared.settings.Settings.{Settings}
 use Rattle.subcommands.specs.declared.running.Subcommand.{Subcommand}
 use Rattle.subcommands.specs.declared.running.Subcommand.TheVariants.{Plain, Solve, Table, Check}
 use Rattle.matched_words.specs.declared.matched.NamedDeal.{NamedDeal}
@@ -23,14 +24,21 @@ abbrev pub SaysNumber : List Row → Text → ℕ → ℕ → ℕ → Type 0
 SaysNumber said name least most number =
     (text : Text) × (one_of name said ≡ Some text) × Writes text number × (least ≤ number) × (number ≤ most)
 
+-- the words say the numbers of the settings
+pub record SaysSettings (said : List Row) (settings : Settings) : Type 0 where
+  pub solvers : SaysNumber said (codes "solvers") 1 64 settings.solvers
+  pub checkers : SaysNumber said (codes "checkers") 1 64 settings.checkers
+  pub term : SaysNumber said (codes "term") 0 1000000000 settings.term
+  pub tries : SaysNumber said (codes "tries") 1 1000 settings.tries
+  pub budget : SaysNumber said (codes "budget") 1 1000000000 settings.budget
+
 -- what was said after a subcommand's name is this
 abbrev pub Says : Text → List Row → Subcommand → Type 0
 Says name said (Plain layout leader trump) = (name ≡ codes "plain")
     × SaysDeal said (codes "LEADER") (record { layout = layout; seat = leader; trump = trump })
 Says name said (Solve layout declarer trump budget) = (name ≡ codes "solve")
     × SaysDeal said (codes "DECLARER") (record { layout = layout; seat = declarer; trump = trump }) × SaysNumber said (codes "budget") 1 1000000000 budget
-Says name said (Table term tries budget) = (name ≡ codes "table") × SaysNumber said (codes "term") 0 1000000000 term
-    × SaysNumber said (codes "tries") 1 1000 tries × SaysNumber said (codes "budget") 1 1000000000 budget
+Says name said (Table settings) = (name ≡ codes "table") × SaysSettings said settings
 Says name said (Check layout declarer trump) = (name ≡ codes "check")
     × SaysDeal said (codes "DECLARER") (record { layout = layout; seat = declarer; trump = trump })
 

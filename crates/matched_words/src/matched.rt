@@ -4,11 +4,15 @@ ghost use Rattle.std.specs.Prelude.{◌≡◌, ◌↔◌, Some, codes, option_ma
 ghost use Rattle.clap.specs.Words.{first_of, found_of, rows_of, subcommand_rows_of};
 ghost use Rattle.cards.specs.Seats.{seat_letter};
 ghost use Rattle.cards.specs.Pack.{trump_letters};
-ghost use Rattle.matched_words.specs.Matches.{IsRead, Says, SaysDeal, SaysMatched, SaysNumber};
+ghost use Rattle.matched_words.specs.Matches.{IsRead, Says, SaysDeal, SaysMatched, SaysNumber, SaysSettings};
 
 use cards::{Seat, Trump};
 use clap::ArgMatches;
+use farm::Settings;
 use subcommands::Subcommand;
+
+/// The most threads of a kind.
+const MOST_THREADS: u64 = 64;
 
 /// The most steps of a search.
 const MOST_STEPS: u64 = 1_000_000_000;
@@ -70,14 +74,27 @@ fn solve_subcommand<'a>(said: &ArgMatches<'a>) -> Option<Subcommand<'a>>
 fn table_subcommand<'a>(said: &ArgMatches<'a>) -> Option<Subcommand<'a>>
     ensures { IsRead (Says (codes "table") (rows_of (found_of said.now))) result }
 {
+    let settings = settings_of(said)?;
+    Some(Subcommand::Table { settings })
+}
+
+/// The settings that the options say.
+fn settings_of(said: &ArgMatches<'_>) -> Option<Settings>
+    ensures { IsRead (SaysSettings (rows_of (found_of said.now))) result }
+{
+    let solvers = number_of(said, "solvers", 1, MOST_THREADS)?;
+    let checkers = number_of(said, "checkers", 1, MOST_THREADS)?;
     let term = number_of(said, "term", 0, LONGEST_TERM)?;
     let tries = number_of(said, "tries", 1, MOST_TRIES)?;
     let budget = number_of(said, "budget", 1, MOST_STEPS)?;
-    Some(Subcommand::Table {
+    Settings::new(
+        solvers as usize,
+        checkers as usize,
         term,
-        tries: tries as u32,
+        tries as u32,
         budget,
-    })
+    )
+    .ok()
 }
 
 fn check_subcommand<'a>(said: &ArgMatches<'a>) -> Option<Subcommand<'a>>

@@ -1,17 +1,18 @@
 //! What runs are expected to print, to tell and to end with. A call of these costs the prover next to nothing, an
 //! `assert_eq!` a second or more.
 
-ghost use Rattle.subcommands.specs.Runs.{IsInRange};
-
 use cards::{Buffer, Bytes, Layout, Seat, Trump};
 use certificate_graph::Answer;
+use farm::Clock;
+use lease_desk::Gate;
 use partition_solver::Solver;
 use std::alloc::{AllocError, Global};
 use std::fmt::Debug;
 use std::process::Abort;
+use std::sync::Wait;
 use std::test::Fail;
+use std::thread::Threads;
 use subcommands::{Status, Subcommand, run_subcommand};
-use tournaments::Clock;
 
 /// Room for all that a run prints.
 pub const ROOM: usize = 8192;
@@ -44,30 +45,39 @@ impl Clock for Stopped {
     }
 }
 
+/// A gate that lets all pass.
+pub struct Open;
+
+impl Gate for Open {
+    fn before_solve(&self, _lease: u64) {}
+
+    fn before_check(&self, _lease: u64) {}
+}
+
 /// The value is the one that is wanted.
 pub fn expect_eq<T: PartialEq + Debug>(rt: &impl Abort, got: &T, wanted: &T) {
     assert_eq!(rt; *got, *wanted);
 }
 
 /// Does the run over an input and an output with this much room.
-pub fn expect_run(
-    rt: &impl Abort,
+pub fn expect_run<R: Abort + Threads + Wait + Sync, S: Solver + Sync>(
+    rt: &R,
     alloc: Global,
     run: Subcommand<'_>,
-    solver: &impl Solver,
+    solver: &S,
     text: &[u8],
     room: usize,
     wanted: End<'_>,
-) -> Result<(), Fail>
-    requires { IsInRange run }
-{
+) -> Result<(), Fail> {
     let mut input = Bytes::new(text, 7);
     let mut output = Buffer::new(alloc, room, 3)?;
     let mut errors = Buffer::new(alloc, ROOM, 7)?;
     let status = run_subcommand(
+        rt,
         alloc,
         run,
         solver,
+        &Open,
         &Stopped,
         &mut input,
         &mut output,

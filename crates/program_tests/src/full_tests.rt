@@ -1,15 +1,15 @@
 //! Runs on outputs that are full, after each number of bytes.
 
-ghost use Rattle.subcommands.specs.Runs.{IsInRange};
-
 use crate::expect::{Nothing, expect_run};
 use crate::solve_tests::{ACE, Claims, STEPS, THIRTEEN, east};
-use crate::table_tests::TABLES;
+use crate::table_tests::tables;
 use cards::{Seat, Trump};
 use partition_solver::Solver;
 use std::alloc::Global;
 use std::process::Abort;
+use std::sync::Wait;
 use std::test::Fail;
+use std::thread::Threads;
 use subcommands::{Status, Subcommand};
 
 /// A finesse: South leads, North covers West's card, and wins two tricks. East's side needs none.
@@ -37,16 +37,14 @@ const CHECK: Subcommand<'static> = Subcommand::Check {
 const UNNAMED: &str = "% PBN 2.1\n[Board \"\"]\n[Deal \"?\"]\n; table incomplete: 0 of 20\n\n";
 
 /// A run that would print this has failed on each output that has not the room for it, and is told so.
-fn expect_cut(
-    rt: &impl Abort,
+fn expect_cut<R: Abort + Threads + Wait + Sync, S: Solver + Sync>(
+    rt: &R,
     alloc: Global,
     run: Subcommand<'_>,
-    solver: &impl Solver,
+    solver: &S,
     text: &[u8],
     whole: &str,
-) -> Result<(), Fail>
-    requires { IsInRange run }
-{
+) -> Result<(), Fail> {
     for room in 0..whole.len() {
         let printed = whole.get(..room).unwrap_or("");
         let wanted = (Status::Failed, printed, "ddfarm: writing failed\n");
@@ -60,7 +58,7 @@ fn expect_cut(
 fn full_outputs(rt: HostRuntime) -> Result<(), Fail> {
     let alloc = rt.alloc();
     expect_cut(&rt, alloc, CHECK, &Nothing, FINESSE, "accepted 0\n")?;
-    expect_cut(&rt, alloc, TABLES, &Nothing, b"[Deal \"?\"]", UNNAMED)?;
+    expect_cut(&rt, alloc, tables()?, &Nothing, b"[Deal \"?\"]", UNNAMED)?;
     let solver = Claims { tricks: Some(13) };
     expect_cut(&rt, alloc, east(ACE, STEPS), &solver, b"", THIRTEEN)
 }

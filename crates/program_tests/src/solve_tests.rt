@@ -1,15 +1,15 @@
 //! Answers that are found, written and then checked.
 
-ghost use Rattle.subcommands.specs.Runs.{IsInRange};
-
-use crate::expect::{End, Nothing, ROOM, Stopped, expect_eq, expect_run};
+use crate::expect::{End, Nothing, Open, ROOM, Stopped, expect_eq, expect_run};
 use cards::{Buffer, Bytes, Layout, Seat, Side, Suit, Trump};
 use certificate_graph::{Answer, Graph};
 use partition_solver::{Partition, Solver};
 use pbn_deals::read_layout;
 use std::alloc::{AllocError, Global};
 use std::process::Abort;
+use std::sync::Wait;
 use std::test::Fail;
+use std::thread::Threads;
 use strategies::plain_value;
 use subcommands::{Status, Subcommand, run_subcommand};
 
@@ -52,8 +52,8 @@ fn tricks_of(text: &str, declarer: Seat, trump: Trump) -> Result<u8, Fail> {
 }
 
 /// An answer is found, and `check` accepts it with this number.
-fn expect_accepted(
-    rt: &impl Abort,
+fn expect_accepted<R: Abort + Threads + Wait + Sync>(
+    rt: &R,
     alloc: Global,
     layout: &str,
     declarer: Seat,
@@ -71,9 +71,11 @@ fn expect_accepted(
     let mut answer = Buffer::new(alloc, ANSWER_ROOM, 300)?;
     let mut errors = Buffer::new(alloc, ROOM, 7)?;
     let status = run_subcommand(
+        rt,
         alloc,
         run,
         &Partition::new(),
+        &Open,
         &Stopped,
         &mut input,
         &mut answer,
@@ -109,9 +111,7 @@ fn answers_are_accepted(rt: HostRuntime) -> Result<(), Fail> {
 }
 
 /// East's contract on the layout without trumps.
-pub fn east(layout: &str, budget: u64) -> Subcommand<'_>
-    ensures { IsInRange result }
-{
+pub fn east(layout: &str, budget: u64) -> Subcommand<'_> {
     Subcommand::Solve {
         layout,
         declarer: Seat::East,

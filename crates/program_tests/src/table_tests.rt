@@ -2,6 +2,7 @@
 
 use crate::expect::{Nothing, ROOM, Stopped, expect_eq};
 use cards::{Buffer, Bytes};
+use farm::{Settings, SettingsFault};
 use pbn_deals::PbnFault;
 use std::alloc::Global;
 use std::process::Abort;
@@ -16,12 +17,11 @@ const TRIES: u32 = 3;
 
 const STEPS: u64 = 10_000_000;
 
-/// The tables of the input, with a solver that finds nothing.
-pub const TABLES: Subcommand<'static> = Subcommand::Table {
-    term: TERM,
-    tries: TRIES,
-    budget: STEPS,
-};
+/// The tables of the input, with a solver and a checker.
+pub fn tables() -> Result<Subcommand<'static>, SettingsFault> {
+    let settings = Settings::new(1, 1, TERM, TRIES, STEPS)?;
+    Ok(Subcommand::Table { settings })
+}
 
 /// A file as a tournament writes it: CR LF, a comment over a blank line, words in small letters, section data with
 /// brackets and quotes, a game without a Deal tag.

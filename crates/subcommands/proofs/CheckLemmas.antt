@@ -6,7 +6,7 @@ use Rattle.cards.specs.Devices.{Device}
 use Rattle.checker.specs.declared.entries.Shown.{Shown}
 use Rattle.checker.specs.declared.hand_faults.HandFault.{HandFault}
 use Rattle.subcommands.specs.declared.faults.RunFault.{RunFault}
-use Rattle.subcommands.specs.declared.faults.RunFault.TheVariants.{OutOfMemory, Read, Write, NotText, Layout, TooLarge, Pbn, NoResult, NoAnswer}
+use Rattle.subcommands.specs.declared.faults.RunFault.TheVariants.{OutOfMemory, Read, NoThread, Write, NotText, Layout, TooLarge, Pbn, NoResult, NoAnswer}
 use Rattle.subcommands.specs.declared.statuses.Status.{Status}
 use Rattle.subcommands.specs.Checks.{ReadsFor, PrintsVerdict, ChecksAnswer}
 
@@ -17,6 +17,7 @@ module _ (value : List ℕ) (declarer : Seat) (trump : Trump) (source source' si
   ChecksAnswer-printed (Err Write) prints = (verdict, reads, prints)
   ChecksAnswer-printed (Err OutOfMemory) prints = absurd prints
   ChecksAnswer-printed (Err Read) prints = absurd prints
+  ChecksAnswer-printed (Err NoThread) prints = absurd prints
   ChecksAnswer-printed (Err NotText) prints = absurd prints
   ChecksAnswer-printed (Err (Layout fault)) prints = absurd prints
   ChecksAnswer-printed (Err TooLarge) prints = absurd prints

@@ -7,7 +7,7 @@ use Rattle.cards.specs.Devices.{Device, Adds, AddsBeginning}
 use Rattle.pbn_deals.specs.LayoutValue.{SaysLayout}
 use Rattle.strategies.specs.Values.{IsPlainValue}
 use Rattle.subcommands.specs.declared.faults.RunFault.{RunFault}
-use Rattle.subcommands.specs.declared.faults.RunFault.TheVariants.{OutOfMemory, Read, Write, NotText, Layout, TooLarge}
+use Rattle.subcommands.specs.declared.faults.RunFault.TheVariants.{OutOfMemory, Read, NoThread, Write, NotText, Layout, TooLarge}
 use Rattle.subcommands.specs.declared.faults.RunFault.TheVariants.{Pbn, NoResult, NoAnswer}
 
 -- the line: `NS `, the digit of the number, LF
@@ -38,6 +38,7 @@ MeetsPlainLine value leader trump old new (Err (Layout fault)) = SaysLayout valu
 MeetsPlainLine value leader trump old new (Err TooLarge) = IsTooLarge value × (new ≡ old)
 MeetsPlainLine value leader trump old new (Err OutOfMemory) = ⊥
 MeetsPlainLine value leader trump old new (Err Read) = ⊥
+MeetsPlainLine value leader trump old new (Err NoThread) = ⊥
 MeetsPlainLine value leader trump old new (Err NotText) = ⊥
 MeetsPlainLine value leader trump old new (Err (Pbn fault)) = ⊥
 MeetsPlainLine value leader trump old new (Err NoResult) = ⊥

@@ -1,11 +1,12 @@
 -- What a run does for what was asked, and how it ends.
-use Rattle.std.specs.Prelude.{◌≡◌, ◌<◌, ⊤, Result, Ok, Err, nat_lt, if◌then◌else◌, ◌⊎◌, Option, List, ℕ}
-use Rattle.lease_book.specs.Books.{AreTries, Ledger}
+use Rattle.std.specs.Prelude.{◌≡◌, Result, Ok, Err, nat_lt, if◌then◌else◌, ◌⊎◌, Option, List, ℕ}
+use Rattle.lease_book.specs.Books.{Ledger}
+use Rattle.farm.specs.Moments.{MayTell}
+use Rattle.farm.specs.Runs.{IsRun}
 use Rattle.tables.specs.declared.sheets.Report.{Report}
 use Rattle.tournaments.specs.declared.faults.MakeFault.{MakeFault}
 use Rattle.tournaments.specs.Making.{MakesTables}
 use Rattle.tournaments.specs.Asking.{MayFind}
-use Rattle.tournaments.specs.Moments.{MayTell}
 use Rattle.streams.specs.Flushes.{HandsOn}
 use Rattle.cards.specs.Devices.{Device, Fails, Adds, AddsBeginning}
 use Rattle.subcommands.specs.declared.faults.RunFault.{RunFault}
@@ -23,13 +24,6 @@ use Rattle.subcommands.specs.Solves.{SolvesLayout}
 abbrev pub report_status : Report → Status
 report_status report = if nat_lt report.complete report.boards then Incomplete else Done
 
--- an entry has 1 to 1,000 tries, of at least one step each
-abbrev pub IsInRange : Subcommand → Type 0
-IsInRange (Plain layout leader trump) = ⊤
-IsInRange (Solve layout declarer trump budget) = ⊤
-IsInRange (Table term tries budget) = AreTries tries × (0 < budget)
-IsInRange (Check layout declarer trump) = ⊤
-
 -- What came of a run, by what the solver may find and the clock may tell, and what its devices have given and got. A single
 -- layout leaves the input as it was.
 abbrev pub Does : MayFind → MayTell → Subcommand → Device → Device → Device → Device → Result Status RunFault → Type 0
@@ -41,12 +35,12 @@ Does may_find may_tell (Solve layout declarer trump budget) source source' sink 
     (status ≡ Done) × (source' ≡ source) × SolvesLayout may_find layout.now declarer trump budget sink sink' (Ok tt)
 Does may_find may_tell (Solve layout declarer trump budget) source source' sink sink' (Err fault) =
     (source' ≡ source) × SolvesLayout may_find layout.now declarer trump budget sink sink' (Err fault)
-Does may_find may_tell (Table term tries budget) source source' sink sink' (Ok status) =
+Does may_find may_tell (Table settings) source source' sink sink' (Ok status) =
     (report : Report) × (book : Ledger) × (status ≡ report_status report)
-    × MakesTables may_find may_tell term tries budget source source' sink sink' (Ok (report, book))
-Does may_find may_tell (Table term tries budget) source source' sink sink' (Err fault) =
+    × MakesTables (IsRun may_tell) settings.term settings.tries source source' sink sink' (Ok (report, book))
+Does may_find may_tell (Table settings) source source' sink sink' (Err fault) =
     (made : MakeFault) × (fault ≡ make_fault made)
-    × MakesTables may_find may_tell term tries budget source source' sink sink' (Err made)
+    × MakesTables (IsRun may_tell) settings.term settings.tries source source' sink sink' (Err made)
 Does may_find may_tell (Check layout declarer trump) source source' sink sink' answer =
     ChecksAnswer layout.now declarer trump source source' sink sink' answer
 

@@ -11,7 +11,7 @@ use Rattle.certificate_graph.specs.Graphs.{GraphShape, IsGraph}
 use Rattle.certificate_graph.specs.Texts.{graph_text}
 use Rattle.tournaments.specs.Asking.{MayFind}
 use Rattle.subcommands.specs.declared.faults.RunFault.{RunFault}
-use Rattle.subcommands.specs.declared.faults.RunFault.TheVariants.{OutOfMemory, Read, Write, NotText, Layout, TooLarge}
+use Rattle.subcommands.specs.declared.faults.RunFault.TheVariants.{OutOfMemory, Read, NoThread, Write, NotText, Layout, TooLarge}
 use Rattle.subcommands.specs.declared.faults.RunFault.TheVariants.{Pbn, NoResult, NoAnswer}
 use Rattle.subcommands.specs.Answers.{IsAnswer}
 
@@ -67,6 +67,7 @@ SolvesLayout may_find value declarer trump budget sink sink' (Err NoAnswer) =
 SolvesLayout may_find value declarer trump budget sink sink' (Err OutOfMemory) =
     LacksAnswer may_find value declarer trump budget OutOfMemory × (sink' ≡ sink)
 SolvesLayout may_find value declarer trump budget sink sink' (Err Read) = ⊥
+SolvesLayout may_find value declarer trump budget sink sink' (Err NoThread) = ⊥
 SolvesLayout may_find value declarer trump budget sink sink' (Err NotText) = ⊥
 SolvesLayout may_find value declarer trump budget sink sink' (Err TooLarge) = ⊥
 SolvesLayout may_find value declarer trump budget sink sink' (Err (Pbn fault)) = ⊥

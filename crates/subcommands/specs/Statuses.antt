@@ -24,6 +24,7 @@ status_code Rejected = 4
 abbrev pub fault_status : RunFault → Status
 fault_status fault.OutOfMemory = Failed
 fault_status fault.Read = Failed
+fault_status fault.NoThread = Failed
 fault_status fault.Write = Failed
 fault_status fault.NotText = Refused
 fault_status (fault.Layout refusal) = Refused
@@ -42,6 +43,7 @@ abbrev pub make_fault : MakeFault → RunFault
 make_fault make.OutOfMemory = fault.OutOfMemory
 make_fault make.Read = fault.Read
 make_fault (make.Pbn refusal) = fault.Pbn refusal
+make_fault make.NoThread = fault.NoThread
 make_fault make.Write = fault.Write
 
 -- a place of the input before a text
@@ -53,6 +55,7 @@ after_line (Some line) text = codes "line " ++ decimal line ++ codes ": " ++ tex
 abbrev pub said_of : RunFault → List ℕ
 said_of fault.OutOfMemory = codes "out of memory"
 said_of fault.Read = codes "reading failed"
+said_of fault.NoThread = codes "a thread could not be started"
 said_of fault.Write = codes "writing failed"
 said_of fault.NotText = codes "a word of the command line is not UTF-8"
 said_of (fault.Layout refusal) = codes "layout: " ++ fault_text refusal

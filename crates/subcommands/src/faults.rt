@@ -21,6 +21,8 @@ pub enum RunFault {
     OutOfMemory,
     /// The input failed.
     Read,
+    /// A thread could not be started.
+    NoThread,
     /// The output failed.
     Write,
     /// A word of the command line is not UTF-8.
@@ -60,6 +62,7 @@ impl From<MakeFault> for RunFault {
             MakeFault::OutOfMemory => RunFault::OutOfMemory,
             MakeFault::Read => RunFault::Read,
             MakeFault::Pbn(refusal) => RunFault::Pbn(refusal),
+            MakeFault::NoThread => RunFault::NoThread,
             MakeFault::Write => RunFault::Write,
         }
     }
@@ -88,7 +91,9 @@ pub fn tell<E: Sink>(fault: RunFault, errors: &mut E) -> Status
 {
     let _ = write_line(fault, errors);
     match fault {
-        RunFault::OutOfMemory | RunFault::Read | RunFault::Write => Status::Failed,
+        RunFault::OutOfMemory | RunFault::Read | RunFault::NoThread | RunFault::Write => {
+            Status::Failed
+        }
         RunFault::NotText
         | RunFault::Layout(_)
         | RunFault::TooLarge
@@ -114,6 +119,7 @@ fn write_fault<E: Sink>(fault: RunFault, errors: &mut E) -> Result<(), DeviceFau
     match fault {
         RunFault::OutOfMemory => write_all(errors, b"out of memory"),
         RunFault::Read => write_all(errors, b"reading failed"),
+        RunFault::NoThread => write_all(errors, b"a thread could not be started"),
         RunFault::Write => write_all(errors, b"writing failed"),
         RunFault::NotText => write_all(errors, b"a word of the command line is not UTF-8"),
         RunFault::Layout(refusal) => write_layout_refusal(refusal, errors),

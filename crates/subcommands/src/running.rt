@@ -2,7 +2,7 @@
 
 ghost use Rattle.std.specs.Prelude.{◌≡◌};
 ghost use Rattle.streams.specs.Flushes.{inner_contents};
-ghost use Rattle.subcommands.specs.Runs.{Closes, Does, IsInRange, RunsSubcommand, Shows, report_status};
+ghost use Rattle.subcommands.specs.Runs.{Closes, Does, RunsSubcommand, Shows, report_status};
 
 use crate::checks::check_answer;
 use crate::faults::{RunFault, tell};
@@ -10,12 +10,16 @@ use crate::plain::plain_line;
 use crate::solves::solve_layout;
 use crate::statuses::Status;
 use cards::{Seat, Sink, Source, Trump, write_all};
+use farm::{Clock, Settings};
+use lease_desk::Gate;
 use partition_solver::Solver;
 use std::alloc::Global;
 use std::io::{BufWriter, Write};
+use std::sync::Wait;
+use std::thread::Threads;
 use streams::WriterSink;
 use tables::Report;
-use tournaments::{Clock, make_tables_on_one_thread};
+use tournaments::make_tables;
 
 /// What is asked of a run.
 #[derive(Clone, Copy)]
@@ -42,12 +46,8 @@ pub enum Subcommand<'a> {
     },
     /// The tables of the boards of the input.
     Table {
-        /// How long a lease is good, in the clock's unit.
-        term: u64,
-        /// How often an entry may be leased, 1 to 1,000.
-        tries: u32,
-        /// How many steps the solver may take for an entry each time, at least 1.
-        budget: u64,
+        /// How many threads work on them, how often, and how long.
+        settings: Settings,
     },
     /// Whether the answer that is the input is right.
     Check {
@@ -64,35 +64,52 @@ pub enum Subcommand<'a> {
 ///
 /// What can't be done is told on the error output, with nothing on the output but the beginning that a failed output has
 /// taken; else the error output is as it was. Where the error output fails, nobody is left to be told.
-pub fn run_subcommand<P: Solver, C: Clock, I: Source, O: Sink, E: Sink>(
+pub fn run_subcommand<
+    P: Solver + Sync,
+    G: Gate + Sync,
+    C: Clock + Sync,
+    I: Source,
+    O: Sink,
+    E: Sink,
+    R: Threads + Wait + Sync,
+>(
+    rt: &R,
     alloc: Global,
     asked: Subcommand<'_>,
     solver: &P,
+    gate: &G,
     clock: &C,
     input: &mut I,
     output: &mut O,
     errors: &mut E,
 ) -> Status
-    requires { IsInRange asked }
     ensures { RunsSubcommand (P.may_find solver.now) (C.may_tell clock.now) asked.entry (I.state input.old) (I.state input.new)
         (O.state output.old) (O.state output.new) (E.state errors.old) (E.state errors.new) result }
 {
-    match try_subcommand(alloc, asked, solver, clock, input, output) {
+    match try_subcommand(rt, alloc, asked, solver, gate, clock, input, output) {
         Ok(status) => status,
         Err(fault) => tell(fault, errors),
     }
 }
 
 /// Does what is asked, and tells nothing.
-fn try_subcommand<P: Solver, C: Clock, I: Source, O: Sink>(
+fn try_subcommand<
+    P: Solver + Sync,
+    G: Gate + Sync,
+    C: Clock + Sync,
+    I: Source,
+    O: Sink,
+    R: Threads + Wait + Sync,
+>(
+    rt: &R,
     alloc: Global,
     asked: Subcommand<'_>,
     solver: &P,
+    gate: &G,
     clock: &C,
     input: &mut I,
     output: &mut O,
 ) -> Result<Status, RunFault>
-    requires { IsInRange asked }
     ensures { Does (P.may_find solver.now) (C.may_tell clock.now) asked.entry (I.state input.old) (I.state input.new)
         (O.state output.old) (O.state output.new) result }
 {
@@ -115,14 +132,8 @@ fn try_subcommand<P: Solver, C: Clock, I: Source, O: Sink>(
             solve_layout(alloc, value, declarer, trump, budget, solver, output)?;
             Ok(Status::Done)
         }
-        Subcommand::Table {
-            term,
-            tries,
-            budget,
-        } => {
-            let made = make_tables_on_one_thread(
-                alloc, input, output, term, tries, budget, solver, clock,
-            )?;
+        Subcommand::Table { settings } => {
+            let made = make_tables(rt, alloc, input, output, settings, solver, gate, clock)?;
             Ok(status_of(made.0))
         }
         Subcommand::Check {

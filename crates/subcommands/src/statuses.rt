@@ -8,7 +8,7 @@ ghost use Rattle.subcommands.specs.Statuses.{status_code};
 pub enum Status {
     /// All was done.
     Done,
-    /// Memory or a device failed.
+    /// Memory, a thread or a device failed.
     Failed,
     /// The command line or the input was refused.
     Refused,

@@ -1,3 +1,2 @@
-pub mod PublicationLaws
 pub mod ReadLaws
 pub mod WorkLaws

@@ -29,9 +29,9 @@ use Rattle.lease_book.specs.Replies.{IsReply, IsLeaseReply, IsLegal, is_shown_fo
 use Rattle.lease_book.specs.Books.{Ledger, IsAnswered, with_event}
 use Rattle.lease_book.proofs.LegalLaws.{nothing_left, gives_none}
 use Rattle.lease_book.proofs.FreeLaws.{ended, free_after_hand_in, free_after_give_up, free_at_end, published_at_end, given_at_end}
-use Rattle.tournaments.specs.Publications.{IsDone}
+use Rattle.tournaments.specs.Done.{IsDone}
 use Rattle.tournaments.specs.Asking.{MayFind, as_verdict, IsVerdictOn, IsFoundFor, asked_for, IsWorkedOn, AreWorkedOn}
-use Rattle.tournaments.specs.Moments.{MayTell, IsTimed, AreTimed}
+use Rattle.farm.specs.Moments.{MayTell, IsTimed, AreTimed}
 use Rattle.tournaments.specs.Working.{WorksOn, GivesOut}
 
 -- what is shown of an entry's own deal is for the entry

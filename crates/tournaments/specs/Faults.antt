@@ -5,19 +5,20 @@ use Rattle.pbn_deals.specs.Faults as pbn
 use Rattle.streams.specs.declared.inputs.InputFault.{InputFault}
 use Rattle.streams.specs.declared.inputs.InputFault.TheVariants as input
 use Rattle.tournaments.specs.declared.faults.MakeFault.{MakeFault}
-use Rattle.tournaments.specs.declared.faults.MakeFault.TheVariants.{OutOfMemory, Read, Pbn, Write}
+use Rattle.tournaments.specs.declared.faults.MakeFault.TheVariants.{OutOfMemory, Read, Pbn, NoThread, Write}
 
--- 4 is that of no fault yet
 abbrev pub fault_number : MakeFault → ℕ
 fault_number OutOfMemory = 1
 fault_number Read = 2
 fault_number (Pbn refusal) = 3
+fault_number NoThread = 4
 fault_number Write = 5
 
 abbrev pub fault_name : MakeFault → List ℕ
 fault_name OutOfMemory = codes "OutOfMemory"
 fault_name Read = codes "Read"
 fault_name (Pbn refusal) = codes "Pbn"
+fault_name NoThread = codes "NoThread"
 fault_name Write = codes "Write"
 
 -- of a refused text its own number and name
@@ -25,6 +26,7 @@ abbrev pub after_name : MakeFault → List ℕ
 after_name OutOfMemory = []
 after_name Read = []
 after_name (Pbn refusal) = 32 ∷ pbn.fault_text refusal
+after_name NoThread = []
 after_name Write = []
 
 -- the number and the name, as in `5 Write`, or `3 Pbn 5 CardTwice`

@@ -1,8 +1,7 @@
-pub mod Publications
+pub mod Done
 pub mod Faults
 pub mod Making
 pub mod Replaying
 pub mod Texts
 pub mod Asking
-pub mod Moments
 pub mod Working

@@ -11,10 +11,15 @@ use Rattle.tables.specs.declared.sheets.Report.{Report}
 use Rattle.tables.specs.BookResults.{book_results}
 use Rattle.tables.specs.TablesText.{tables_text, complete_count}
 use Rattle.tournaments.specs.declared.faults.MakeFault.{MakeFault}
-use Rattle.tournaments.specs.declared.faults.MakeFault.TheVariants.{OutOfMemory, Read, Pbn, Write}
-use Rattle.tournaments.specs.Publications.{IsTrueHistory, IsGivenOut, IsDone}
+use Rattle.tournaments.specs.declared.faults.MakeFault.TheVariants.{OutOfMemory, Read, Pbn, NoThread, Write}
+use Rattle.farm.specs.Publications.{IsTrueHistory, IsGivenOut}
+use Rattle.tournaments.specs.Done.{IsDone}
 use Rattle.tournaments.specs.Asking.{MayFind, AreWorkedOn}
-use Rattle.tournaments.specs.Moments.{MayTell, AreTimed}
+use Rattle.farm.specs.Moments.{MayTell, AreTimed}
+
+-- what is so of the history of a run, over the terms of its book
+abbrev pub RunFact : Type 1
+RunFact = Terms → List Event → Type 0
 
 -- the source was read to its end, and these are the boards of its text
 pub record HasBoards (old new : Device) (boards : List Board) : Type 0 where
@@ -40,37 +45,37 @@ pub record IsWholeRun (may_find : MayFind) (may_tell : MayTell) (budget : ℕ) (
   pub worked_on : AreWorkedOn may_find budget terms.boards events
   pub timed : AreTimed may_tell events
 
--- The source was read to its end, the book is one over the boards of its text, with this term and these tries, after a
--- whole run, and the sink has got the text of the boards with the numbers that the book's history publishes.
-pub record FillsTables (may_find : MayFind) (may_tell : MayTell) (term tries budget : ℕ) (source source' sink sink' : Device)
-    (report : Report) (book : Ledger) : Type 0 where
+-- The source was read to its end, the book is one over the boards of its text, with this term and these tries, after such
+-- a run, and the sink has got the text of the boards with the numbers that the book's history publishes.
+pub record FillsTables (is_run : RunFact) (term tries : ℕ) (source source' sink sink' : Device) (report : Report) (book : Ledger)
+    : Type 0 where
   pub boards : List Board
   pub read : HasBoards source source' boards
   pub terms : book.terms ≡ record { boards = boards; term = term; tries = tries }
-  pub run : IsWholeRun may_find may_tell budget book.terms book.events
+  pub run : is_run book.terms book.events
   pub written : Adds sink sink' (history_text boards book.events)
   pub counts : Counts boards book.events report
 
 -- after such a run a beginning of the text was written, before the sink failed
-pub record FillsBeginning (may_find : MayFind) (may_tell : MayTell) (term tries budget : ℕ) (source source' sink sink' : Device)
-    : Type 0 where
+pub record FillsBeginning (is_run : RunFact) (term tries : ℕ) (source source' sink sink' : Device) : Type 0 where
   pub boards : List Board
   pub read : HasBoards source source' boards
   pub events : List Event
-  pub run : IsWholeRun may_find may_tell budget (record { boards = boards; term = term; tries = tries }) events
+  pub run : is_run (record { boards = boards; term = term; tries = tries }) events
   pub written : AddsBeginning sink sink' (history_text boards events)
 
 -- What was answered, what the source has given and what the sink has got. Where the source failed or memory ran out, the bytes
 -- that were read are the first of the source. With all refusals but the last nothing was written.
-abbrev pub MakesTables :
-    MayFind → MayTell → ℕ → ℕ → ℕ → Device → Device → Device → Device → Result (Report × Ledger) MakeFault → Type 0
-MakesTables may_find may_tell term tries budget source source' sink sink' (Ok (report, book)) =
-    FillsTables may_find may_tell term tries budget source source' sink sink' report book
-MakesTables may_find may_tell term tries budget source source' sink sink' (Err OutOfMemory) =
+abbrev pub MakesTables : RunFact → ℕ → ℕ → Device → Device → Device → Device → Result (Report × Ledger) MakeFault → Type 0
+MakesTables is_run term tries source source' sink sink' (Ok (report, book)) =
+    FillsTables is_run term tries source source' sink sink' report book
+MakesTables is_run term tries source source' sink sink' (Err OutOfMemory) =
     Loses source source' source.failed × (sink' ≡ sink)
-MakesTables may_find may_tell term tries budget source source' sink sink' (Err Read) =
+MakesTables is_run term tries source source' sink sink' (Err Read) =
     Loses source source' (one_more source.failed) × (sink' ≡ sink)
-MakesTables may_find may_tell term tries budget source source' sink sink' (Err (Pbn fault)) =
+MakesTables is_run term tries source source' sink sink' (Err (Pbn fault)) =
     (text : List ℕ) × IsReadToEnd source source' text × TextAnswers text (Err fault) × (sink' ≡ sink)
-MakesTables may_find may_tell term tries budget source source' sink sink' (Err Write) =
-    FillsBeginning may_find may_tell term tries budget source source' sink sink'
+MakesTables is_run term tries source source' sink sink' (Err NoThread) =
+    (boards : List Board) × HasBoards source source' boards × (sink' ≡ sink)
+MakesTables is_run term tries source source' sink sink' (Err Write) =
+    FillsBeginning is_run term tries source source' sink sink'

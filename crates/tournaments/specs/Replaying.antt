@@ -9,8 +9,8 @@ use Rattle.lease_book.specs.declared.requests.Request.{Request}
 use Rattle.lease_book.specs.Replays.{IsReplayed}
 use Rattle.tables.specs.declared.sheets.Report.{Report}
 use Rattle.tournaments.specs.declared.faults.MakeFault.{MakeFault}
-use Rattle.tournaments.specs.declared.faults.MakeFault.TheVariants.{OutOfMemory, Read, Pbn, Write}
-use Rattle.tournaments.specs.Publications.{IsTrueHistory}
+use Rattle.tournaments.specs.declared.faults.MakeFault.TheVariants.{OutOfMemory, Read, Pbn, NoThread, Write}
+use Rattle.farm.specs.Publications.{IsTrueHistory}
 use Rattle.tournaments.specs.Making.{history_text, Counts}
 
 -- The boards are those of the text, and the history is that of the requests, each hand-in judged by its texts: it is
@@ -46,4 +46,5 @@ ReplaysTables text term tries requests sink sink' (Ok report) = FillsFromRequest
 ReplaysTables text term tries requests sink sink' (Err OutOfMemory) = sink' ≡ sink
 ReplaysTables text term tries requests sink sink' (Err Read) = ⊥
 ReplaysTables text term tries requests sink sink' (Err (Pbn fault)) = TextAnswers text (Err fault) × (sink' ≡ sink)
+ReplaysTables text term tries requests sink sink' (Err NoThread) = ⊥
 ReplaysTables text term tries requests sink sink' (Err Write) = BeginsFromRequests text term tries requests sink sink'

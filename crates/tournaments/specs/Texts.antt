@@ -9,7 +9,7 @@ use Rattle.lease_book.specs.Histories.{Terms}
 use Rattle.lease_book.specs.Books.{Ledger}
 use Rattle.lease_book.specs.Replays.{IsReplayed}
 use Rattle.tournaments.specs.declared.faults.MakeFault.{MakeFault}
-use Rattle.tournaments.specs.declared.faults.MakeFault.TheVariants.{OutOfMemory, Read, Pbn, Write}
+use Rattle.tournaments.specs.declared.faults.MakeFault.TheVariants.{OutOfMemory, Read, Pbn, NoThread, Write}
 
 -- the boards that a text says, or its first fault; memory may run out
 abbrev pub TakesBoards : List ℕ → Result (Vec Board Global) MakeFault → Type 0
@@ -17,7 +17,16 @@ TakesBoards text (Ok boards) = TextAnswers text (Ok boards.items)
 TakesBoards text (Err OutOfMemory) = ⊤
 TakesBoards text (Err Read) = ⊥
 TakesBoards text (Err (Pbn fault)) = TextAnswers text (Err fault)
+TakesBoards text (Err NoThread) = ⊥
 TakesBoards text (Err Write) = ⊥
+
+-- memory ran out, or a thread could not be started
+abbrev pub IsHalted : MakeFault → Type 0
+IsHalted OutOfMemory = ⊤
+IsHalted Read = ⊥
+IsHalted (Pbn fault) = ⊥
+IsHalted NoThread = ⊤
+IsHalted Write = ⊥
 
 -- a book that has answered these requests
 abbrev pub IsReplayedBook : Terms → List Request → Ledger → Type 0

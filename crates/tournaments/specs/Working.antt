@@ -7,8 +7,9 @@ use Rattle.lease_book.specs.declared.events.Reply.{Reply}
 use Rattle.lease_book.specs.Books.{Ledger, IsAnswered}
 use Rattle.lease_book.specs.Histories.{deal_of}
 use Rattle.tournaments.specs.Asking.{MayFind, IsFoundFor, asked_for, AreWorkedOn}
-use Rattle.tournaments.specs.Moments.{MayTell, AreTimed}
-use Rattle.tournaments.specs.Publications.{IsGivenOut, IsDone}
+use Rattle.farm.specs.Moments.{MayTell, AreTimed}
+use Rattle.farm.specs.Publications.{IsGivenOut}
+use Rattle.tournaments.specs.Done.{IsDone}
 
 -- the verdict on what the solver found for the entry was handed in under the lease, or the lease was given up
 pub record WorksOn (may_find : MayFind) (budget : ℕ) (old new : Ledger) (lease : ℕ) (entry : Entry) : Type 0 where

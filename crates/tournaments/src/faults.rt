@@ -20,12 +20,14 @@ pub enum MakeFault {
     Read,
     /// The text of the boards is refused, for this reason.
     Pbn(PbnFault),
+    /// A thread could not be started.
+    NoThread,
     /// The sink failed. It has got a beginning of the text.
     Write,
 }
 
 impl MakeFault {
-    /// The printed number. 4 is kept for a thread that can't be started.
+    /// The printed number.
     pub fn number(&self) -> u8
         ensures { result ≡ fault_number self.now }
     {
@@ -33,6 +35,7 @@ impl MakeFault {
             MakeFault::OutOfMemory => 1,
             MakeFault::Read => 2,
             MakeFault::Pbn(_) => 3,
+            MakeFault::NoThread => 4,
             MakeFault::Write => 5,
         }
     }
@@ -45,6 +48,7 @@ impl MakeFault {
             MakeFault::OutOfMemory => "OutOfMemory",
             MakeFault::Read => "Read",
             MakeFault::Pbn(_) => "Pbn",
+            MakeFault::NoThread => "NoThread",
             MakeFault::Write => "Write",
         }
     }

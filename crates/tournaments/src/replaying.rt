@@ -7,9 +7,9 @@ ghost use Rattle.tournaments.specs.Replaying.{ReplaysTables};
 ghost use Rattle.tournaments.specs.Texts.{IsReplayedBook};
 
 use crate::faults::{MakeFault, write_failed};
-use crate::histories::is_true_history;
 use crate::texts::take_boards;
 use cards::Sink;
+use farm::is_true_history;
 use lease_book::{Book, BookFault, Request, replay};
 use pbn_deals::Board;
 use std::alloc::Global;

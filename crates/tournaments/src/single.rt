@@ -1,15 +1,15 @@
 //! The tables on one thread.
 
-ghost use Rattle.std.specs.Prelude.{◌<◌};
+ghost use Rattle.std.specs.Prelude.{◌<◌, ◌≢◌, IfErr};
 ghost use Rattle.lease_book.specs.Books.{AreTries};
-ghost use Rattle.tournaments.specs.Making.{MakesTables};
+ghost use Rattle.tournaments.specs.declared.faults.MakeFault.TheVariants.{NoThread};
+ghost use Rattle.tournaments.specs.Making.{MakesTables, IsWholeRun};
 
-use crate::clocks::Clock;
 use crate::faults::{MakeFault, write_failed};
-use crate::histories::is_true_history;
 use crate::texts::{open_book, take_boards};
 use crate::working::work_through;
 use cards::{Sink, Source};
+use farm::{Clock, is_true_history};
 use lease_book::Book;
 use partition_solver::Solver;
 use std::alloc::Global;
@@ -34,8 +34,9 @@ pub fn make_tables_on_one_thread<I: Source, O: Sink, S: Solver, C: Clock>(
 ) -> Result<(Report, Book), MakeFault>
     requires tries { AreTries tries }
     requires budget { 0 < budget }
-    ensures { MakesTables (S.may_find solver.now) (C.may_tell clock.now) term tries budget (I.state input.old) (I.state input.new)
-        (O.state output.old) (O.state output.new) result }
+    ensures made { MakesTables (IsWholeRun (S.may_find solver.now) (C.may_tell clock.now) budget) term tries (I.state input.old)
+        (I.state input.new) (O.state output.old) (O.state output.new) result }
+    ensures one_thread { IfErr result (λ fault. fault ≢ NoThread) }
 {
     let text = read_all(alloc, input)?;
     let boards = take_boards(alloc, text.as_slice())?;

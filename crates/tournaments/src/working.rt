@@ -5,10 +5,10 @@ ghost use Rattle.lease_book.specs.Histories.{deal_of};
 ghost use Rattle.tournaments.specs.Asking.{IsVerdictOn, IsFoundFor};
 ghost use Rattle.tournaments.specs.Working.{GivesOut, WorksOn};
 
-use crate::clocks::Clock;
 use cards::Layout;
 use certificate_graph::Answer;
 use checker::{HandFault, OutOfMemory, Verdict, check_entry};
+use farm::Clock;
 use lease_book::{Book, Entry, Reply};
 use partition_solver::Solver;
 use pbn_deals::Board;

@@ -8,9 +8,16 @@ use crate::texts::word;
 use crate::words::{answer_check, answer_plain, answer_table, answer_told, answer_words};
 use partition_solver::Partition;
 use std::alloc::{AllocError, Global};
+use std::sync::Wait;
+use std::thread::Threads;
 
 /// Says what the libraries answer now. The first word of a case is its kind.
-pub fn answer_case(alloc: Global, case: &str, out: &mut String) -> Result<(), AllocError> {
+pub fn answer_case<R: Threads + Wait + Sync>(
+    rt: &R,
+    alloc: Global,
+    case: &str,
+    out: &mut String,
+) -> Result<(), AllocError> {
     match word(case, 0) {
         "boards" => answer_boards(alloc, case, out),
         "tables" => answer_tables(alloc, &FindsNothing, case, out),
@@ -19,11 +26,11 @@ pub fn answer_case(alloc: Global, case: &str, out: &mut String) -> Result<(), Al
         "certificate" => answer_certificate(alloc, case, out),
         "judge" => answer_judge(alloc, case, out),
         "answer" => answer_cut(alloc, case, out),
-        "check" => answer_check(alloc, case, out),
-        "table" => answer_table(alloc, case, out),
-        "plain" => answer_plain(alloc, case, out),
-        "words" => answer_words(alloc, case, out),
-        "told" => answer_told(alloc, case, out),
+        "check" => answer_check(rt, alloc, case, out),
+        "table" => answer_table(rt, alloc, case, out),
+        "plain" => answer_plain(rt, alloc, case, out),
+        "words" => answer_words(rt, alloc, case, out),
+        "told" => answer_told(rt, alloc, case, out),
         "requests" => answer_requests(alloc, case, out),
         _ => out.push_str("no such kind"),
     }

@@ -25,7 +25,7 @@ fn main(rt: HostRuntime) -> io::Result<()> {
         println!(rt; "{text}")?;
         if !text.is_empty() && !text.starts_with("#") {
             let mut answer = String::new(rt.alloc());
-            answer_case(rt.alloc(), text, &mut answer)?;
+            answer_case(&rt, rt.alloc(), text, &mut answer)?;
             println!(rt; "= {answer}")?;
         }
     }

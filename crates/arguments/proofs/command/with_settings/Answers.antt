@@ -1,0 +1,23 @@
+use Rattle.std.proofs.Common.{◌∙◌, ◌||◌, ap, ap₂}
+use Rattle.std.proofs.lemmas.Result.{IfOk-weaker}
+use Rattle.clap.specs.Words.{with_rule}
+use Rattle.arguments.proofs.command.with_settings.Goals as goal
+
+pub returns : goal.returns
+returns c =
+    let solvers = c.solvers_arg.ensures in
+    let checkers = c.checkers_arg.ensures in
+    let term = c.term_arg.ensures in
+    let tries = c.tries_arg.ensures in
+    let budget = c.budget_arg.ensures in
+    let one = c.in_ok-arg.ensures in
+    let two = c.in_ok-arg-2.ensures in
+    let three = c.in_ok-arg-3.ensures in
+    let four = c.in_ok-arg-4.ensures in
+    IfOk-weaker c.arg-5.result _ _ (λ made five. (
+      five.shape budget.1 ∙ ap₂ with_rule (four.shape tries.1
+          ∙ ap₂ with_rule (three.shape term.1 ∙ ap₂ with_rule (two.shape checkers.1
+          ∙ ap₂ with_rule (one.shape solvers.1 ∙ ap (with_rule _) solvers.0) checkers.0) term.0) tries.0) budget.0,
+      λ none. five.globals ∙ ap₂ ◌||◌ (four.globals ∙ ap₂ ◌||◌ (three.globals
+          ∙ ap₂ ◌||◌ (two.globals ∙ ap₂ ◌||◌ (one.globals ∙ ap₂ ◌||◌ none solvers.1) checkers.1) term.1) tries.1) budget.1,
+    )) c.arg-5.ensures

@@ -1,0 +1,76 @@
+//! The tables by many threads.
+
+ghost use Rattle.std.specs.Prelude.{◌≡◌, IfOk, IfErr};
+ghost use Rattle.lease_book.specs.Books.{AreBoards};
+ghost use Rattle.farm.specs.Runs.{IsBookOf, IsRun};
+ghost use Rattle.tournaments.specs.Making.{MakesTables};
+ghost use Rattle.tournaments.specs.Texts.{IsHalted};
+
+use crate::faults::{MakeFault, write_failed};
+use crate::texts::take_boards;
+use cards::{Sink, Source};
+use farm::{Clock, FarmFault, Settings, run_farm};
+use lease_book::Book;
+use lease_desk::Gate;
+use partition_solver::Solver;
+use pbn_deals::Board;
+use std::alloc::Global;
+use std::sync::Wait;
+use std::thread::Threads;
+use streams::read_all;
+use tables::{Report, write_tables};
+
+/// The book of a farm over boards of a text, unless memory runs out or a thread can't be started.
+fn farmed_book<S: Solver + Sync, G: Gate + Sync, C: Clock + Sync, R: Threads + Wait + Sync>(
+    rt: &R,
+    alloc: Global,
+    boards: Vec<Board>,
+    settings: Settings,
+    solver: &S,
+    gate: &G,
+    clock: &C,
+) -> Result<Book, MakeFault>
+    requires { AreBoards boards.items }
+    ensures book { IfOk result (IsBookOf (C.may_tell clock.now) (record { boards = boards.items; term = settings.term; tries = settings.tries })) }
+    ensures fault { IfErr result IsHalted }
+{
+    match run_farm(rt, alloc, boards, settings, solver, gate, clock) {
+        Ok(book) => Ok(book),
+        Err(FarmFault::OutOfMemory) => Err(MakeFault::OutOfMemory),
+        Err(FarmFault::NoThread) => Err(MakeFault::NoThread),
+        Err(FarmFault::Book(_)) => unreachable!(),
+    }
+}
+
+/// Reads the boards of a PBN text to its end, has a farm work through them as the settings say, and writes the tables of what
+/// was shown. The book of the run is handed out.
+///
+/// Whatever the solver answers, the gate does and the clock tells, and in whatever order the threads work, a number that is
+/// written is the double-dummy value of its deal, and is written once: an answer whose certificates don't show it gives none.
+/// With all refusals but a failed sink nothing was written.
+pub fn make_tables<
+    I: Source,
+    O: Sink,
+    S: Solver + Sync,
+    G: Gate + Sync,
+    C: Clock + Sync,
+    R: Threads + Wait + Sync,
+>(
+    rt: &R,
+    alloc: Global,
+    input: &mut I,
+    output: &mut O,
+    settings: Settings,
+    solver: &S,
+    gate: &G,
+    clock: &C,
+) -> Result<(Report, Book), MakeFault>
+    ensures { MakesTables (IsRun (C.may_tell clock.now)) settings.term settings.tries (I.state input.old) (I.state input.new)
+        (O.state output.old) (O.state output.new) result }
+{
+    let text = read_all(alloc, input)?;
+    let boards = take_boards(alloc, text.as_slice())?;
+    let book = farmed_book(rt, alloc, boards, settings, solver, gate, clock)?;
+    let report = write_tables(&book, output).map_err(write_failed)?;
+    Ok((report, book))
+}
