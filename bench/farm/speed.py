@@ -2,9 +2,9 @@
 """Times `ddfarm table` with 1, 2 and 4 solvers, each with 2 checkers, beside DDS's CalcAllTables with as many threads, over the same
 random boards.
 
-Usage: bench/farm/speed.py [BOARDS [SEED]], by default 100 boards of seed 2026. It needs Debian's libdds-dev and g++, and the program
+Usage: bench/farm/speed.py [BOARDS [SEED [ROUNDS]]], by default 100 boards of seed 2026 and three rounds. It needs Debian's libdds-dev and g++, and the program
 built (run ./ddfarm once). Of each it prints the seconds by the wall and of all processors together, the greatest memory, and how many
-times as fast it was as with one; every table has to be DDS's. The runs take turns three times, and the least of each is told.
+times as fast it was as with one; every table has to be DDS's. The runs take turns, and the least of each is told.
 """
 import os
 import subprocess
@@ -17,7 +17,7 @@ ROOT = Path(__file__).resolve().parent.parent.parent
 HERE = Path(__file__).resolve().parent
 PROGRAM = ROOT / "crates" / "ddfarm" / "out" / "ddfarm"
 THREADS = (1, 2, 4)
-ROUNDS = 3
+DEFAULTS = ("100", "2026", "3")
 
 
 def compiled(folder, source):
@@ -68,16 +68,17 @@ def theirs(folder, program, threads):
 
 
 def main():
-    words = [*sys.argv[1:], "100", "2026"][: 2] if len(sys.argv) < 2 else [*sys.argv[1:], "2026"][:2]
+    given = tuple(sys.argv[1:])
+    boards, seed, rounds = given + DEFAULTS[len(given):]
     with tempfile.TemporaryDirectory() as name:
         folder = Path(name)
-        tables = tables_of(folder, words)
+        tables = tables_of(folder, [boards, seed])
         games = "\n".join(f'[Board "{number}"]\n[Deal "{layout}"]\n' for number, layout in enumerate(tables, 1))
         (folder / "boards.pbn").write_text(games)
         (folder / "deals").write_text("\n".join(tables) + "\n")
         program = compiled(folder, HERE / "all_tables.cpp")
         best = {}
-        for _ in range(ROUNDS):
+        for _ in range(int(rounds)):
             for threads in THREADS:
                 for kind, run in (("ddfarm", ours(folder, threads, tables)), ("DDS", theirs(folder, program, threads))):
                     best[kind, threads] = min(best.get((kind, threads), run), run)
