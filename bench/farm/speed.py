@@ -1,10 +1,11 @@
 #!/usr/bin/env python3
-"""Times `ddfarm table` with 1, 2 and 4 solvers, each with 2 checkers, beside DDS's CalcAllTables with as many threads, over the same
-random boards.
+"""Times `ddfarm table` with 1, 2 and 4 solvers, each with 2 checkers, beside DDS's CalcAllTables with as many threads, over the
+same random boards.
 
-Usage: bench/farm/speed.py [BOARDS [SEED [ROUNDS]]], by default 100 boards of seed 2026 and three rounds. It needs Debian's libdds-dev and g++, and the program
-built (run ./ddfarm once). Of each it prints the seconds by the wall and of all processors together, the greatest memory, and how many
-times as fast it was as with one; every table has to be DDS's. The runs take turns, and the least of each is told.
+Usage: bench/farm/speed.py [BOARDS [SEED [ROUNDS]]], by default 100 boards of seed 2026 and three rounds. It needs Debian's
+libdds-dev and g++, and the program built (run ./ddfarm once). Of each it prints the seconds by the wall and of all processors
+together, the greatest memory, and how many times as fast it was as with one; every table has to be DDS's. The runs take turns,
+and the fastest of each is told.
 """
 import os
 import subprocess
@@ -50,7 +51,8 @@ def ours(folder, solvers, tables):
     """Seconds by the wall and of all processors, and megabytes, of a run of the program."""
     start = time.monotonic()
     with (folder / "boards.pbn").open() as source, (folder / "tables.pbn").open("w") as sink:
-        process = subprocess.Popen([str(PROGRAM), "table", "--solvers", str(solvers), "--checkers", "2"], stdin=source, stdout=sink)
+        words = [str(PROGRAM), "table", "--solvers", str(solvers), "--checkers", "2"]
+        process = subprocess.Popen(words, stdin=source, stdout=sink)
         _, status, usage = os.wait4(process.pid, 0)
     process.returncode = os.waitstatus_to_exitcode(status)
     wall = time.monotonic() - start
@@ -87,7 +89,8 @@ def main():
             for threads in THREADS:
                 wall, processors, memory = best[kind, threads]
                 gain = best[kind, 1][0] / wall
-                print(f"{kind} {threads}: {wall:.1f} s by the wall, {processors:.1f} of processors, {gain:.2f} times as fast as 1, {memory:.0f} MB")
+                print(f"{kind} {threads}: {wall:.1f} s by the wall, {processors:.1f} of processors,", end=" ")
+                print(f"{gain:.2f} times as fast as 1, {memory:.0f} MB")
 
 
 if __name__ == "__main__":

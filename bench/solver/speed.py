@@ -113,7 +113,8 @@ def run_table(folder, lines, theirs):
     (folder / "boards.pbn").write_text(games)
     subprocess.run([str(ROOT / "ddfarm"), "table"], stdin=subprocess.DEVNULL, stdout=subprocess.DEVNULL, check=True)
     with (folder / "boards.pbn").open() as source, (folder / "tables.pbn").open("w") as sink:
-        process = subprocess.Popen([str(ROOT / "crates/ddfarm/out/ddfarm"), "table", "--solvers", "1", "--checkers", "1"], stdin=source, stdout=sink)
+        words = [str(ROOT / "crates/ddfarm/out/ddfarm"), "table", "--solvers", "1", "--checkers", "1"]
+        process = subprocess.Popen(words, stdin=source, stdout=sink)
         _, status, usage = os.wait4(process.pid, 0)
         process.returncode = os.waitstatus_to_exitcode(status)
     printed = [printed_table(game) for game in (folder / "tables.pbn").read_text().split("[Board ")[1:]]
