@@ -23,7 +23,8 @@ fn hand_in<G: Gate, R: Wait>(
     ensures number { number_of chair.new ≡ number_of chair.old }
 {
     let task = found.task;
-    let _told = desk.hand_in(rt, chair, task.lease, task.entry, &found.answer, gate)?;
+    let told = desk.hand_in(rt, chair, task.lease, task.entry, &found.answer, gate)?;
+    gate.after_check(task.entry, told.event.reply);
     Ok(())
 }
 

@@ -115,6 +115,7 @@ pub fn run_farm<S: Solver + Sync, G: Gate + Sync, C: Clock + Sync, R: Threads + 
     ensures fault { IfErr result (IsFaultOf boards.items) }
 {
     let deals = deals_of(alloc, boards.as_slice())?;
+    gate.before_work(boards.as_slice());
     let (desk, chairs) = open_desk(rt, alloc, boards, settings)?;
     let chairs = work_all(
         rt,
@@ -127,6 +128,7 @@ pub fn run_farm<S: Solver + Sync, G: Gate + Sync, C: Clock + Sync, R: Threads + 
         clock,
         chairs,
     )?;
+    gate.after_work();
     let Closed { book, chairs: _ } = desk.close(rt, chairs);
     is_true_history(&book);
     Ok(book)

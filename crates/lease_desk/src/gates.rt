@@ -1,10 +1,22 @@
-//! Who is told what is about to be done.
+//! Who is told of the work.
 
-/// Is told of leases before the work on them. It is asked nothing, and what it does is its own.
+use lease_book::{Entry, Reply};
+use pbn_deals::Board;
+
+/// Is told of the work of threads. It is asked nothing, and what it does is its own.
 pub trait Gate {
+    /// Work on these boards is about to begin.
+    fn before_work(&self, _boards: &[Board]) {}
+
     /// A solver is about to work on this lease.
     fn before_solve(&self, lease: u64);
 
     /// An answer under this lease is about to be checked.
     fn before_check(&self, lease: u64);
+
+    /// An answer for this entry was checked and handed in, and had this reply.
+    fn after_check(&self, _entry: Entry, _reply: Reply) {}
+
+    /// All work has ended.
+    fn after_work(&self) {}
 }
