@@ -1,5 +1,8 @@
 //! Why a run ends before its time.
 
+ghost use Rattle.std.specs.Prelude.{◌≡◌};
+ghost use Rattle.farm.specs.declared.halts.Halt.TheVariants as halts;
+
 use lease_book::OutOfMemory;
 use std::alloc::{AllocError, AllocFailed};
 
@@ -13,18 +16,24 @@ pub(crate) enum Halt {
 }
 
 impl From<OutOfMemory> for Halt {
+    ghost from_gives = { λ _ answer. answer ≡ halts.OutOfMemory };
+
     fn from(_fault: OutOfMemory) -> Halt {
         Halt::OutOfMemory
     }
 }
 
 impl From<AllocError> for Halt {
+    ghost from_gives = { λ _ answer. answer ≡ halts.OutOfMemory };
+
     fn from(_fault: AllocError) -> Halt {
         Halt::OutOfMemory
     }
 }
 
 impl<T: Drop> From<AllocFailed<T>> for Halt {
+    ghost from_gives = { λ _ answer. answer ≡ halts.OutOfMemory };
+
     fn from(_fault: AllocFailed<T>) -> Halt {
         Halt::OutOfMemory
     }
