@@ -1,0 +1,23 @@
+-- What is told of the work.
+use Rattle.std.specs.Prelude.{ℕ, ◌-◌, List, ◌++◌, codes}
+use Rattle.std.specs.Fmt.{decimal}
+use Rattle.progress.specs.declared.counts.Counts.{Counts}
+
+-- `37 of 200 results, `
+abbrev pub counted : ℕ → ℕ → List ℕ → List ℕ
+counted done all name = decimal done ++ (codes " of " ++ (decimal all ++ name))
+
+-- `ddfarm: 37 of 200 results, 1 of 10 boards, `
+abbrev pub counts_text : Counts → List ℕ
+counts_text counts = codes "ddfarm: "
+    ++ (counted counts.published counts.results (codes " results, ") ++ counted counts.finished counts.boards (codes " boards, "))
+
+-- a line of the counts after so many seconds
+abbrev pub line_text : Counts → ℕ → List ℕ
+line_text counts seconds = counts_text counts ++ (decimal seconds ++ codes " s\n")
+
+-- the last line, such as `ddfarm: 200 of 200 results, 10 of 10 boards, 41 s, 0 tables incomplete`
+abbrev pub last_line_text : Counts → ℕ → List ℕ
+last_line_text counts seconds =
+    counts_text counts
+    ++ (decimal seconds ++ (codes " s, " ++ (decimal (counts.boards - counts.finished) ++ codes " tables incomplete\n")))

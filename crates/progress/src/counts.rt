@@ -1,0 +1,68 @@
+//! What of the work is done.
+
+ghost use Rattle.std.specs.Prelude.{◌≡◌, ◌-◌};
+
+use pbn_deals::Board;
+
+/// The most boards that a book has.
+const MOST_BOARDS: usize = 4096;
+
+/// How many results a board has.
+const RESULTS: u8 = 20;
+
+/// How many results are published, and of how many.
+#[derive(Drop)]
+pub(crate) struct Counts {
+    /// Of each board.
+    of_board: [u8; MOST_BOARDS],
+    /// Of all boards.
+    pub(crate) published: u64,
+    /// How many there may be: twenty of each board that has a deal.
+    pub(crate) results: u64,
+    /// How many boards have all of theirs.
+    pub(crate) finished: u64,
+    pub(crate) boards: u64,
+}
+
+impl Counts {
+    /// Of no boards.
+    pub(crate) const fn none() -> Counts {
+        Counts {
+            of_board: [0; MOST_BOARDS],
+            published: 0,
+            results: 0,
+            finished: 0,
+            boards: 0,
+        }
+    }
+
+    /// Of these boards, before the work on them.
+    pub(crate) fn begin(&mut self, boards: &[Board]) {
+        *self = Counts::none();
+        self.boards = boards.len() as u64;
+        for board in boards {
+            if board.deal.is_some() {
+                self.results = self.results.saturating_add(RESULTS as u64);
+            }
+        }
+    }
+
+    /// A result of this board was published.
+    pub(crate) fn publish(&mut self, board: usize) {
+        self.published = self.published.saturating_add(1);
+        if board < MOST_BOARDS {
+            let now = self.of_board[board].saturating_add(1);
+            self.of_board[board] = now;
+            if now == RESULTS {
+                self.finished = self.finished.saturating_add(1);
+            }
+        }
+    }
+
+    /// How many boards have not all of their results.
+    pub(crate) fn incomplete(&self) -> u64
+        ensures { result ≡ self.now.boards - self.now.finished }
+    {
+        self.boards.saturating_sub(self.finished)
+    }
+}
