@@ -5,6 +5,7 @@ use Rattle.std.specs.Borrow.{Bor}
 use Rattle.clap.specs.Words.{App, Rule, Shape, Text, app_of, new_rule, rule_of, with_rule}
 use Rattle.clap.specs.Simple.{new_shape}
 use Rattle.clap.specs.declared.builder.arg.Arg.{Arg}
+use Rattle.clap.specs.declared.builder.action.ArgAction.TheVariants.{SetTrue}
 use Rattle.clap.specs.declared.builder.command.Command.{Command}
 use Rattle.clap.specs.declared.builder.command.Command.TheViews.{out-Command as fields_of}
 use Rattle.clap.specs.declared.builder.value_parser.ValueParser.{ValueParser}
@@ -62,9 +63,20 @@ term = option (codes "term") (Unsigned 0 1000000000) (codes "600")
 abbrev pub tries : Rule
 tries = option (codes "tries") (Signed (pos 1) (pos 1000)) (codes "3")
 
+-- `--name` alone
+abbrev pub flag : Text → Rule
+flag name = record (new_rule name) {
+  long = Some name;
+  action = Some SetTrue;
+}
+
+-- whether it is told how far the work has come
+abbrev pub progress : Rule
+progress = flag (codes "progress")
+
 -- how tables are made
 abbrev pub settings : List Rule
-settings = solvers ∷ checkers ∷ term ∷ tries ∷ budget ∷ []
+settings = solvers ∷ checkers ∷ term ∷ tries ∷ budget ∷ progress ∷ []
 
 abbrev pub subcommand : Text → List Rule → Shape
 subcommand name rules = record (new_shape name) { rules = rules }

@@ -3,10 +3,10 @@
 ghost use Rattle.std.specs.Prelude.{◌≡◌, IfOk, codes};
 ghost use Rattle.clap.specs.Words.{app_of};
 ghost use Rattle.arguments.specs.CommandLine.{AddsRules, AreLetters, IsArg, IsLeaf, budget, check, checkers, choice, command_line};
-ghost use Rattle.arguments.specs.CommandLine.{hand_words, plain, settings, solve, solvers, table, term, tries, word};
+ghost use Rattle.arguments.specs.CommandLine.{hand_words, plain, progress, settings, solve, solvers, table, term, tries, word};
 
 use crate::help;
-use clap::{Arg, Command, value_parser};
+use clap::{Arg, ArgAction, Command, value_parser};
 use std::alloc::{AllocError, Global};
 
 static SEATS: [&str; 4] = ["N", "E", "S", "W"];
@@ -111,7 +111,8 @@ fn with_settings<'a>(alloc: Global, command: Command<'a>) -> Result<Command<'a>,
         .arg(checkers_arg(alloc))?
         .arg(term_arg(alloc))?
         .arg(tries_arg(alloc))?
-        .arg(budget_arg(alloc))
+        .arg(budget_arg(alloc))?
+        .arg(progress_arg(alloc))
 }
 
 fn layout_arg<'a>(alloc: Global) -> Arg<'a>
@@ -150,6 +151,15 @@ fn checkers_arg<'a>(alloc: Global) -> Arg<'a>
         .value_parser(value_parser!(u64).range(1..=64))
         .default_value("2")
         .help(help::CHECKERS)
+}
+
+fn progress_arg<'a>(alloc: Global) -> Arg<'a>
+    ensures { IsArg progress result }
+{
+    Arg::new(alloc, "progress")
+        .long("progress")
+        .action(ArgAction::SetTrue)
+        .help(help::PROGRESS)
 }
 
 fn budget_arg<'a>(alloc: Global) -> Arg<'a>

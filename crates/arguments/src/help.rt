@@ -76,6 +76,9 @@ How many entries are searched at a time: 1 to 64";
 pub const CHECKERS: &str = "\
 How many answers are checked at a time: 1 to 64";
 
+pub const PROGRESS: &str = "\
+Tells on the error output how far the work has come, at most once a second and at the end";
+
 pub const TERM: &str = "\
 How many seconds an entry is lent to a search before it is free again: 0 to 1000000000";
 

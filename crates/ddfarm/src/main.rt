@@ -5,8 +5,8 @@
 
 use command_line::run_command;
 use farm::Clock;
-use lease_desk::Gate;
 use partition_solver::Partition;
+use progress::Progress;
 use std::io::{BufWriter, ErrorKind};
 use std::process::ExitCode;
 use std::time::Instant;
@@ -33,16 +33,6 @@ impl Clock for Seconds<'_> {
     }
 }
 
-/// Nobody is told of leases.
-#[derive(Drop)]
-struct Unwatched;
-
-impl Gate for Unwatched {
-    fn before_solve(&self, _lease: u64) {}
-
-    fn before_check(&self, _lease: u64) {}
-}
-
 /// The words that the process was started with.
 fn words_of_process(rt: &HostRuntime) -> Result<Vec<String>, RunFault> {
     match std::env::args(rt) {
@@ -63,13 +53,14 @@ fn main(rt: HostRuntime) -> ExitCode {
         return ExitCode::from(tell(RunFault::OutOfMemory, &mut errors).code());
     };
     let mut output = WriterSink::new(buffered);
+    let progress = Progress::new(&rt, &clock, WriterSink::new(rt.stderr()));
     let status = match words_of_process(&rt) {
         Ok(words) => run_command(
             &rt,
             rt.alloc(),
             words.as_slice(),
             &Partition::new(),
-            &Unwatched,
+            &progress,
             &clock,
             &mut input,
             &mut output,

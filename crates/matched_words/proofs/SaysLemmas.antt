@@ -1,12 +1,12 @@
 -- What the words of a subcommand say, from what its matches hold.
-use Rattle.std.proofs.Common.{◌≡◌, ◌∙◌, ℕ, List, Option, Some, None, sym, refl, false, true, codes, option_map}
+use Rattle.std.proofs.Common.{◌≡◌, ◌∙◌, ℕ, List, Option, Some, None, sym, refl, Bool, false, true, codes, option_map}
 use Rattle.std.specs.Str.{bytes_eq}
 use Rattle.std.proofs.lemmas.Slice.Eq.{bytes_eq-Decides}
 use Rattle.clap.specs.Words.{Row, Text}
 use Rattle.farm.specs.declared.settings.Settings.{Settings}
 use Rattle.subcommands.specs.declared.running.Subcommand.{Subcommand}
 use Rattle.subcommands.specs.declared.running.Subcommand.TheVariants.{Plain, Solve, Table, Check}
-use Rattle.matched_words.specs.Matches.{IsRead, Says, SaysDeal, SaysMatched, SaysNumber, SaysSettings}
+use Rattle.matched_words.specs.Matches.{IsRead, Says, SaysDeal, SaysMatched, SaysFlag, SaysNumber, SaysSettings}
 use Rattle.matched_words.specs.declared.matched.NamedDeal.{NamedDeal}
 
 pub nothing_read : {T : Type 0} (Said : T → Type 0) (read : Option T) → read ≡ None → ((x : T) → Said x → ⊥) → IsRead Said read
@@ -24,7 +24,7 @@ pub no_plain : (said : List Row) → ((deal : NamedDeal) → SaysDeal said (code
     → (read : Subcommand) → Says (codes "plain") said read → ⊥
 no_plain said none (Plain layout leader trump) h = none (record { layout = layout; seat = leader; trump = trump }) h.1
 no_plain said none (Solve layout declarer trump budget) h = absurd (apart (codes "plain") (codes "solve") refl h.0)
-no_plain said none (Table settings) h = absurd (apart (codes "plain") (codes "table") refl h.0)
+no_plain said none (Table settings progress) h = absurd (apart (codes "plain") (codes "table") refl h.0)
 no_plain said none (Check layout declarer trump) h = absurd (apart (codes "plain") (codes "check") refl h.0)
 
 pub no_solve : (said : List Row)
@@ -32,21 +32,21 @@ pub no_solve : (said : List Row)
     → (read : Subcommand) → Says (codes "solve") said read → ⊥
 no_solve said none (Plain layout leader trump) h = absurd (apart (codes "solve") (codes "plain") refl h.0)
 no_solve said none (Solve layout declarer trump budget) h = none (record { layout = layout; seat = declarer; trump = trump }) budget h.1 h.2
-no_solve said none (Table settings) h = absurd (apart (codes "solve") (codes "table") refl h.0)
+no_solve said none (Table settings progress) h = absurd (apart (codes "solve") (codes "table") refl h.0)
 no_solve said none (Check layout declarer trump) h = absurd (apart (codes "solve") (codes "check") refl h.0)
 
-pub no_table : (said : List Row) → ((settings : Settings) → SaysSettings said settings → ⊥)
+pub no_table : (said : List Row) → ((settings : Settings) (progress : Bool) → SaysSettings said settings → SaysFlag said (codes "progress") progress → ⊥)
     → (read : Subcommand) → Says (codes "table") said read → ⊥
 no_table said none (Plain layout leader trump) h = absurd (apart (codes "table") (codes "plain") refl h.0)
 no_table said none (Solve layout declarer trump budget) h = absurd (apart (codes "table") (codes "solve") refl h.0)
-no_table said none (Table settings) h = none settings h.1
+no_table said none (Table settings progress) h = none settings progress h.1 h.2
 no_table said none (Check layout declarer trump) h = absurd (apart (codes "table") (codes "check") refl h.0)
 
 pub no_check : (said : List Row) → ((deal : NamedDeal) → SaysDeal said (codes "DECLARER") deal → ⊥)
     → (read : Subcommand) → Says (codes "check") said read → ⊥
 no_check said none (Plain layout leader trump) h = absurd (apart (codes "check") (codes "plain") refl h.0)
 no_check said none (Solve layout declarer trump budget) h = absurd (apart (codes "check") (codes "solve") refl h.0)
-no_check said none (Table settings) h = absurd (apart (codes "check") (codes "table") refl h.0)
+no_check said none (Table settings progress) h = absurd (apart (codes "check") (codes "table") refl h.0)
 no_check said none (Check layout declarer trump) h = none (record { layout = layout; seat = declarer; trump = trump }) h.1
 
 -- ---- the words of the subcommand

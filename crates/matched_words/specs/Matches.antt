@@ -1,5 +1,5 @@
 -- What the words of a subcommand say, and what `clap`'s matches are read as.
-use Rattle.std.specs.Prelude.{◌≡◌, ◌≤◌, ℕ, List, Option, Some, None, codes}
+use Rattle.std.specs.Prelude.{◌≡◌, ◌≤◌, ℕ, Bool, true, false, List, Option, Some, None, codes}
 use Rattle.std.specs.Str.Parse.{IsNumeral, digits_value, without_leading_plus}
 use Rattle.clap.specs.Words.{Row, Text, first_of, one_of}
 use Rattle.cards.specs.Seats.{seat_letter}
@@ -32,13 +32,21 @@ pub record SaysSettings (said : List Row) (settings : Settings) : Type 0 where
   pub tries : SaysNumber said (codes "tries") 1 1000 settings.tries
   pub budget : SaysNumber said (codes "budget") 1 1000000000 settings.budget
 
+-- an option without a value stands among the words, or does not
+abbrev pub flag_letters : Bool → Text
+flag_letters true = codes "true"
+flag_letters false = codes "false"
+
+abbrev pub SaysFlag : List Row → Text → Bool → Type 0
+SaysFlag said name flag = first_of name said ≡ Some (flag_letters flag)
+
 -- what was said after a subcommand's name is this
 abbrev pub Says : Text → List Row → Subcommand → Type 0
 Says name said (Plain layout leader trump) = (name ≡ codes "plain")
     × SaysDeal said (codes "LEADER") (record { layout = layout; seat = leader; trump = trump })
 Says name said (Solve layout declarer trump budget) = (name ≡ codes "solve")
     × SaysDeal said (codes "DECLARER") (record { layout = layout; seat = declarer; trump = trump }) × SaysNumber said (codes "budget") 1 1000000000 budget
-Says name said (Table settings) = (name ≡ codes "table") × SaysSettings said settings
+Says name said (Table settings progress) = (name ≡ codes "table") × SaysSettings said settings × SaysFlag said (codes "progress") progress
 Says name said (Check layout declarer trump) = (name ≡ codes "check")
     × SaysDeal said (codes "DECLARER") (record { layout = layout; seat = declarer; trump = trump })
 

@@ -4,7 +4,7 @@ ghost use Rattle.std.specs.Prelude.{◌≡◌, ◌↔◌, Some, codes, option_ma
 ghost use Rattle.clap.specs.Words.{first_of, found_of, rows_of, subcommand_rows_of};
 ghost use Rattle.cards.specs.Seats.{seat_letter};
 ghost use Rattle.cards.specs.Pack.{trump_letters};
-ghost use Rattle.matched_words.specs.Matches.{IsRead, Says, SaysDeal, SaysMatched, SaysNumber, SaysSettings};
+ghost use Rattle.matched_words.specs.Matches.{IsRead, flag_letters, Says, SaysDeal, SaysMatched, SaysNumber, SaysSettings};
 
 use cards::{Seat, Trump};
 use clap::ArgMatches;
@@ -75,7 +75,8 @@ fn table_subcommand<'a>(said: &ArgMatches<'a>) -> Option<Subcommand<'a>>
     ensures { IsRead (Says (codes "table") (rows_of (found_of said.now))) result }
 {
     let settings = settings_of(said)?;
-    Some(Subcommand::Table { settings })
+    let progress = flag_of(said, "progress")?;
+    Some(Subcommand::Table { settings, progress })
 }
 
 /// The settings that the options say.
@@ -133,6 +134,24 @@ fn trump_of(said: &ArgMatches<'_>) -> Option<Trump>
         ↔ (first_of (codes "TRUMP") (rows_of (found_of said.now)) ≡ Some (trump_letters trump)) }
 {
     Trump::of_letters(word_of(said, "TRUMP")?)
+}
+
+/// Whether an option without a value stands among the words.
+fn flag_of(said: &ArgMatches<'_>, name: &str) -> Option<bool>
+    ensures { (flag : _) → (result ≡ Some flag) ↔ (first_of name.now (rows_of (found_of said.now)) ≡ Some (flag_letters flag)) }
+{
+    flag_of_letters(word_of(said, name)?)
+}
+
+/// What `clap` writes for an option without a value.
+fn flag_of_letters(letters: &str) -> Option<bool>
+    ensures { (flag : _) → (result ≡ Some flag) ↔ (letters.now ≡ flag_letters flag) }
+{
+    match letters {
+        "true" => Some(true),
+        "false" => Some(false),
+        _ => None,
+    }
 }
 
 /// The text of a required word.

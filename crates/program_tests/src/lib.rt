@@ -12,6 +12,8 @@ mod full_tests;
 #[cfg(test)]
 mod plain_tests;
 #[cfg(test)]
+mod progress_tests;
+#[cfg(test)]
 mod solve_tests;
 #[cfg(test)]
 mod table_tests;

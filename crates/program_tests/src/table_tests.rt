@@ -18,9 +18,9 @@ const TRIES: u32 = 3;
 const STEPS: u64 = 10_000_000;
 
 /// The tables of the input, with a solver and a checker.
-pub fn tables() -> Result<Subcommand<'static>, SettingsFault> {
+pub fn tables(progress: bool) -> Result<Subcommand<'static>, SettingsFault> {
     let settings = Settings::new(1, 1, TERM, TRIES, STEPS)?;
-    Ok(Subcommand::Table { settings })
+    Ok(Subcommand::Table { settings, progress })
 }
 
 /// A file as a tournament writes it: CR LF, a comment over a blank line, words in small letters, section data with

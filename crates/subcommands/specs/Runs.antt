@@ -3,6 +3,7 @@ use Rattle.std.specs.Prelude.{◌≡◌, Result, Ok, Err, nat_lt, if◌then◌el
 use Rattle.lease_book.specs.Books.{Ledger}
 use Rattle.farm.specs.Moments.{MayTell}
 use Rattle.farm.specs.Runs.{IsRun}
+use Rattle.farm.specs.declared.settings.Settings.{Settings}
 use Rattle.tables.specs.declared.sheets.Report.{Report}
 use Rattle.tournaments.specs.declared.faults.MakeFault.{MakeFault}
 use Rattle.tournaments.specs.Making.{MakesTables}
@@ -24,6 +25,15 @@ use Rattle.subcommands.specs.Solves.{SolvesLayout}
 abbrev pub report_status : Report → Status
 report_status report = if nat_lt report.complete report.boards then Incomplete else Done
 
+-- the tables of the boards of the input, and whether one is incomplete
+abbrev pub WritesTables : MayTell → Settings → Device → Device → Device → Device → Result Status RunFault → Type 0
+WritesTables may_tell settings source source' sink sink' (Ok status) =
+    (report : Report) × (book : Ledger) × (status ≡ report_status report)
+    × MakesTables (IsRun may_tell) settings.term settings.tries source source' sink sink' (Ok (report, book))
+WritesTables may_tell settings source source' sink sink' (Err fault) =
+    (made : MakeFault) × (fault ≡ make_fault made)
+    × MakesTables (IsRun may_tell) settings.term settings.tries source source' sink sink' (Err made)
+
 -- What came of a run, by what the solver may find and the clock may tell, and what its devices have given and got. A single
 -- layout leaves the input as it was.
 abbrev pub Does : MayFind → MayTell → Subcommand → Device → Device → Device → Device → Result Status RunFault → Type 0
@@ -35,12 +45,8 @@ Does may_find may_tell (Solve layout declarer trump budget) source source' sink 
     (status ≡ Done) × (source' ≡ source) × SolvesLayout may_find layout.now declarer trump budget sink sink' (Ok tt)
 Does may_find may_tell (Solve layout declarer trump budget) source source' sink sink' (Err fault) =
     (source' ≡ source) × SolvesLayout may_find layout.now declarer trump budget sink sink' (Err fault)
-Does may_find may_tell (Table settings) source source' sink sink' (Ok status) =
-    (report : Report) × (book : Ledger) × (status ≡ report_status report)
-    × MakesTables (IsRun may_tell) settings.term settings.tries source source' sink sink' (Ok (report, book))
-Does may_find may_tell (Table settings) source source' sink sink' (Err fault) =
-    (made : MakeFault) × (fault ≡ make_fault made)
-    × MakesTables (IsRun may_tell) settings.term settings.tries source source' sink sink' (Err made)
+Does may_find may_tell (Table settings progress) source source' sink sink' answer =
+    WritesTables may_tell settings source source' sink sink' answer
 Does may_find may_tell (Check layout declarer trump) source source' sink sink' answer =
     ChecksAnswer layout.now declarer trump source source' sink sink' answer
 

@@ -2,7 +2,7 @@
 
 ghost use Rattle.std.specs.Prelude.{◌≡◌};
 ghost use Rattle.streams.specs.Flushes.{inner_contents};
-ghost use Rattle.subcommands.specs.Runs.{Closes, Does, RunsSubcommand, Shows, report_status};
+ghost use Rattle.subcommands.specs.Runs.{Closes, Does, RunsSubcommand, Shows, WritesTables, report_status};
 
 use crate::checks::check_answer;
 use crate::faults::{RunFault, tell};
@@ -48,6 +48,8 @@ pub enum Subcommand<'a> {
     Table {
         /// How many threads work on them, how often, and how long.
         settings: Settings,
+        /// Whether the gate is told of the work.
+        progress: bool,
     },
     /// Whether the answer that is the input is right.
     Check {
@@ -132,16 +134,56 @@ fn try_subcommand<
             solve_layout(alloc, value, declarer, trump, budget, solver, output)?;
             Ok(Status::Done)
         }
-        Subcommand::Table { settings } => {
-            let made = make_tables(rt, alloc, input, output, settings, solver, gate, clock)?;
-            Ok(status_of(made.0))
-        }
+        Subcommand::Table { settings, progress } => write_tables(
+            rt, alloc, settings, progress, solver, gate, clock, input, output,
+        ),
         Subcommand::Check {
             layout,
             declarer,
             trump,
         } => check_answer(alloc, layout.as_bytes(), declarer, trump, input, output),
     }
+}
+
+/// Nobody is told of the work.
+#[derive(Drop)]
+struct Unwatched;
+
+impl Gate for Unwatched {
+    fn before_solve(&self, _lease: u64) {}
+
+    fn before_check(&self, _lease: u64) {}
+}
+
+/// Writes the tables of the boards of the input. The gate is told of the work only where progress is asked for.
+fn write_tables<
+    P: Solver + Sync,
+    G: Gate + Sync,
+    C: Clock + Sync,
+    I: Source,
+    O: Sink,
+    R: Threads + Wait + Sync,
+>(
+    rt: &R,
+    alloc: Global,
+    settings: Settings,
+    progress: bool,
+    solver: &P,
+    gate: &G,
+    clock: &C,
+    input: &mut I,
+    output: &mut O,
+) -> Result<Status, RunFault>
+    ensures { WritesTables (C.may_tell clock.now) settings (I.state input.old) (I.state input.new) (O.state output.old)
+        (O.state output.new) result }
+{
+    if progress {
+        let made = make_tables(rt, alloc, input, output, settings, solver, gate, clock)?;
+        return Ok(status_of(made.0));
+    }
+    let gate = &Unwatched;
+    let made = make_tables(rt, alloc, input, output, settings, solver, gate, clock)?;
+    Ok(status_of(made.0))
 }
 
 /// Whether a table is incomplete.
