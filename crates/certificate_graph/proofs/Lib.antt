@@ -14,3 +14,4 @@ pub mod OneAnswer
 pub mod SomeForm
 pub mod SomeTree
 pub mod SomeAnswer
+pub mod ExtractLemmas

@@ -4,6 +4,7 @@ pub mod Stored
 pub mod StoredFalls
 pub mod Views
 pub mod Graphs
+pub mod Extracts
 pub mod GraphFaults
 pub mod Texts
 pub mod LineForms

@@ -1,7 +1,8 @@
 //! Graphs.
 
-ghost use Rattle.std.specs.Prelude.{◌≡◌, ◌⊎◌, Err};
+ghost use Rattle.std.specs.Prelude.{◌≡◌, ◌⊎◌, Err, IfOk};
 ghost use Rattle.certificate_graph.specs.Graphs.{IsGraph};
+ghost use Rattle.certificate_graph.specs.Extracts.{IsExtract, IsRootIn};
 ghost use Rattle.cards.specs.Devices.{Writes};
 ghost use Rattle.certificate_graph.specs.GraphFaults.{MakesGraph};
 ghost use Rattle.certificate_graph.specs.TextFaults.{TextAnswers};
@@ -9,13 +10,14 @@ ghost use Rattle.certificate_graph.specs.Texts.{graph_text};
 ghost use Rattle.certificate_graph.specs.declared.faults.TextFault.TheVariants.{OutOfMemory};
 
 use crate::checks::check_nodes;
+use crate::extracting::exchange_nodes;
 use crate::faults::{GraphFault, TextFault};
 use crate::line_writing::{write_count, write_heading, write_nodes};
 use crate::node_reading::read_nodes;
 use crate::nodes::Node;
 use crate::reading::{read_count, read_side, read_title, read_trump};
 use cards::{DeviceFault, Side, Sink, Trump};
-use std::alloc::Global;
+use std::alloc::{AllocError, Global};
 use std::marker::Model;
 
 /// A graph of a side, with a trump: at most 1,000,000 nodes, each named by its place.
@@ -99,6 +101,23 @@ impl Graph {
         write_heading(sink, self.trump(), self.side())?;
         write_count(sink, nodes.len() as u32)?;
         write_nodes(sink, nodes)
+    }
+
+    /// The graph with the node of this number first: that node and the first are exchanged, and the leaves name them by their
+    /// new numbers. Without a number it has no nodes. Fails only where memory runs out.
+    pub fn extract(&self, alloc: Global, root: Option<u32>) -> Result<Graph, AllocError>
+        requires { IsRootIn self.now.nodes root }
+        ensures { IfOk result (IsExtract self.now root) }
+    {
+        let nodes = match root {
+            Some(number) => exchange_nodes(alloc, self, number)?,
+            None => Vec::new(alloc),
+        };
+        Ok(Graph {
+            trump: self.trump,
+            side: self.side,
+            nodes,
+        })
     }
 
     /// What every graph keeps.

@@ -10,6 +10,7 @@
 mod answers;
 mod checks;
 mod children;
+mod extracting;
 mod faults;
 mod forms;
 mod graphs;
