@@ -63,6 +63,10 @@ term = option (codes "term") (Unsigned 0 1000000000) (codes "600")
 abbrev pub tries : Rule
 tries = option (codes "tries") (Signed (pos 1) (pos 1000)) (codes "3")
 
+-- how many entries are lent to a search at a time
+abbrev pub batch : Rule
+batch = option (codes "batch") (Unsigned 1 20) (codes "20")
+
 -- `--name` alone
 abbrev pub flag : Text → Rule
 flag name = record (new_rule name) {
@@ -76,7 +80,7 @@ progress = flag (codes "progress")
 
 -- how tables are made
 abbrev pub settings : List Rule
-settings = solvers ∷ checkers ∷ term ∷ tries ∷ budget ∷ progress ∷ []
+settings = solvers ∷ checkers ∷ term ∷ tries ∷ budget ∷ batch ∷ progress ∷ []
 
 abbrev pub subcommand : Text → List Rule → Shape
 subcommand name rules = record (new_shape name) { rules = rules }

@@ -2,7 +2,7 @@
 
 ghost use Rattle.std.specs.Prelude.{◌≡◌, IfOk, codes};
 ghost use Rattle.clap.specs.Words.{app_of};
-ghost use Rattle.arguments.specs.CommandLine.{AddsRules, AreLetters, IsArg, IsLeaf, budget, check, checkers, choice, command_line};
+ghost use Rattle.arguments.specs.CommandLine.{AddsRules, AreLetters, IsArg, IsLeaf, batch, budget, check, checkers, choice, command_line};
 ghost use Rattle.arguments.specs.CommandLine.{hand_words, plain, progress, settings, solve, solvers, table, term, tries, word};
 
 use crate::help;
@@ -112,6 +112,7 @@ fn with_settings<'a>(alloc: Global, command: Command<'a>) -> Result<Command<'a>,
         .arg(term_arg(alloc))?
         .arg(tries_arg(alloc))?
         .arg(budget_arg(alloc))?
+        .arg(batch_arg(alloc))?
         .arg(progress_arg(alloc))
 }
 
@@ -193,4 +194,15 @@ fn tries_arg<'a>(alloc: Global) -> Arg<'a>
         .value_parser(value_parser!(u32).range(1..=1000))
         .default_value("3")
         .help(help::TRIES)
+}
+
+fn batch_arg<'a>(alloc: Global) -> Arg<'a>
+    ensures { IsArg batch result }
+{
+    Arg::new(alloc, "batch")
+        .long("batch")
+        .value_name("ENTRIES")
+        .value_parser(value_parser!(u64).range(1..=20))
+        .default_value("20")
+        .help(help::BATCH)
 }

@@ -33,9 +33,9 @@ trick, the certificate of declarer's side, an empty line, and that of the defend
 
 Exit status:
   0  an answer was found
-  1  the output failed, or memory ran out outside the search
+  1  the output failed, or memory ran out
   2  the command line or the layout is refused
-  3  no answer was found in so many steps, or memory ran out in the search";
+  3  no answer was found in so many steps";
 
 pub const BUDGET: &str = "\
 How many steps a search for an answer may take, each one card tried: 1 to 1000000000";
@@ -71,7 +71,7 @@ Exit status:
   3  a table is incomplete: steps or memory ran out in a search";
 
 pub const SOLVERS: &str = "\
-How many entries are searched at a time: 1 to 64";
+How many searches go on at a time: 1 to 64";
 
 pub const CHECKERS: &str = "\
 How many answers are checked at a time: 1 to 64";
@@ -84,6 +84,9 @@ How many seconds an entry is lent to a search before it is free again: 0 to 1000
 
 pub const TRIES: &str = "\
 How often an entry is searched before it is left without a number: 1 to 1000";
+
+pub const BATCH: &str = "\
+How many entries are lent to a search at a time: 1 to 20";
 
 pub const CHECK_ABOUT: &str = "\
 Checks an answer: that declarer's side takes just so many tricks of a layout";

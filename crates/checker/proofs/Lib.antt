@@ -18,3 +18,4 @@ pub mod TrickWinner
 pub mod TrickRest
 pub mod StepIsSound
 pub mod ClaimsAreSound
+pub mod ExtractLaws

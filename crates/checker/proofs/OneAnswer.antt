@@ -13,13 +13,14 @@ use Rattle.checker.specs.declared.entry_faults.EntryFault.{EntryFault}
 use Rattle.checker.specs.declared.entry_faults.EntryFault.TheVariants.{KTooLarge, Declarer, Defenders}
 use Rattle.checker.specs.declared.hand_faults.HandFault.{HandFault}
 use Rattle.checker.specs.declared.hand_faults.HandFault.TheVariants.{DeclarerText, DefendersText, Entry, NoDeal}
+use Rattle.checker.specs.Roots.{RootedShape, from_first}
 use Rattle.checker.specs.Claims.{ShowValue}
 use Rattle.checker.specs.EntryFaults.{IsEntryFault, EntryAnswers}
 use Rattle.checker.specs.Verdicts.{GraphsAnswer, IsVerdict}
 use Rattle.checker.proofs.PartAnswers.{part_none, one_part}
 
 -- ---- two graphs
-entry_none : (deal : Deal) (declarer : Seat) (trump : Trump) (tricks : ℕ) (declarers defenders : GraphShape) (fault : EntryFault) → ShowValue deal declarer trump tricks declarers defenders →
+entry_none : (deal : Deal) (declarer : Seat) (trump : Trump) (tricks : ℕ) (declarers defenders : RootedShape) (fault : EntryFault) → ShowValue deal declarer trump tricks declarers defenders →
     IsEntryFault deal declarer trump tricks declarers defenders fault → ⊥
 entry_none deal declarer trump tricks declarers defenders KTooLarge show told = (let within = show.within in absurd (omega arith))
 entry_none deal declarer trump tricks declarers defenders (Declarer fault) show told =
@@ -27,7 +28,7 @@ entry_none deal declarer trump tricks declarers defenders (Declarer fault) show 
 entry_none deal declarer trump tricks declarers defenders (Defenders fault) show told =
     part_none defenders deal (next_of declarer) trump (other_side (side_of declarer)) (size_of deal - tricks) fault show.defenders_win told.2
 
-one_fault : (deal : Deal) (declarer : Seat) (trump : Trump) (tricks : ℕ) (declarers defenders : GraphShape) (one other : EntryFault) → IsEntryFault deal declarer trump tricks declarers defenders one →
+one_fault : (deal : Deal) (declarer : Seat) (trump : Trump) (tricks : ℕ) (declarers defenders : RootedShape) (one other : EntryFault) → IsEntryFault deal declarer trump tricks declarers defenders one →
     IsEntryFault deal declarer trump tricks declarers defenders other → one ≡ other
 one_fault deal declarer trump tricks declarers defenders KTooLarge KTooLarge a b = refl
 one_fault deal declarer trump tricks declarers defenders KTooLarge (Declarer fault) a b = absurd (omega (arith, b.0))
@@ -43,7 +44,7 @@ one_fault deal declarer trump tricks declarers defenders (Defenders one) (Declar
 one_fault deal declarer trump tricks declarers defenders (Defenders one) (Defenders other) a b =
     ap Defenders (one_part defenders deal (next_of declarer) trump (other_side (side_of declarer)) (size_of deal - tricks) one other a.2 b.2)
 
-pub one_entry : (deal : Deal) (declarer : Seat) (trump : Trump) (tricks : ℕ) (declarers defenders : GraphShape) (one other : Result Shown EntryFault) →
+pub one_entry : (deal : Deal) (declarer : Seat) (trump : Trump) (tricks : ℕ) (declarers defenders : RootedShape) (one other : Result Shown EntryFault) →
     EntryAnswers deal declarer trump tricks declarers defenders one → EntryAnswers deal declarer trump tricks declarers defenders other → one ≡ other
 one_entry deal declarer trump tricks declarers defenders (Ok one) (Ok other) a b = (let same : one ≡ other = a.0 ∙ sym b.0 in cc)
 one_entry deal declarer trump tricks declarers defenders (Ok one) (Err fault) a b = absurd (entry_none deal declarer trump tricks declarers defenders fault a.1 b)
@@ -64,9 +65,9 @@ one_of_texts : (deal : Deal) (declarer : Seat) (trump : Trump) (tricks : ℕ) (d
 one_of_texts deal declarer trump tricks declarer_text defenders_text one other a b =
     let declarers = one_read declarer_text a.declarers b.declarers a.declarers_read b.declarers_read in
     let defenders = one_read defenders_text a.defenders b.defenders a.defenders_read b.defenders_read in
-    one_entry deal declarer trump tricks b.declarers b.defenders one other
-    (subst (λ (g : GraphShape). EntryAnswers deal declarer trump tricks b.declarers g one) defenders
-    (subst (λ (g : GraphShape). EntryAnswers deal declarer trump tricks g a.defenders one) declarers a.answers))
+    one_entry deal declarer trump tricks (from_first b.declarers) (from_first b.defenders) one other
+    (subst (λ (g : GraphShape). EntryAnswers deal declarer trump tricks (from_first b.declarers) (from_first g) one) defenders
+    (subst (λ (g : GraphShape). EntryAnswers deal declarer trump tricks (from_first g) (from_first a.defenders) one) declarers a.answers))
     b.answers
 
 -- the answer for two graphs, and a fault of a text

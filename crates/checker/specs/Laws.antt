@@ -1,5 +1,5 @@
 -- What follows from the definitions, for all graphs.
-use Rattle.std.specs.Prelude.{◌≡◌, ◌↔◌, ℕ, ◌<◌, ◌≤◌, List, length, take, Result}
+use Rattle.std.specs.Prelude.{◌≡◌, ◌↔◌, ℕ, ◌<◌, ◌≤◌, List, length, take, Option, Result}
 use Rattle.cards.specs.declared.suits.Trump.{Trump}
 use Rattle.cards.specs.declared.seats.Seat.{Seat}
 use Rattle.cards.specs.Deal.{Deal}
@@ -8,6 +8,7 @@ use Rattle.pattern_step.specs.Tricks.{played_in_place}
 use Rattle.certificate_graph.specs.declared.nodes.Node.{Node}
 use Rattle.certificate_graph.specs.Trees.{TrickTree, Own}
 use Rattle.certificate_graph.specs.Graphs.{GraphShape, IsGraph}
+use Rattle.certificate_graph.specs.Extracts.{IsExtract, IsRootIn}
 use Rattle.checker.specs.declared.faults.StepFault.{StepFault}
 use Rattle.checker.specs.declared.faults.NodeFault.{NodeFault}
 use Rattle.checker.specs.declared.entry_faults.EntryFault.{EntryFault}
@@ -16,6 +17,7 @@ use Rattle.checker.specs.declared.entries.Shown.{Shown}
 use Rattle.checker.specs.Places.{LeadsTo}
 use Rattle.checker.specs.Steps.{StepHolds, StepsHold, BeginLine}
 use Rattle.checker.specs.Faults.{IsFirstFault, IsGraphFault}
+use Rattle.checker.specs.Roots.{RootedShape}
 use Rattle.checker.specs.EntryFaults.{EntryAnswers}
 use Rattle.checker.specs.Verdicts.{IsVerdict}
 
@@ -39,7 +41,7 @@ HasOneGraphFault =
 -- two graphs have one answer at most
 abbrev pub HasOneEntryAnswer : Type 0
 HasOneEntryAnswer =
-    (deal : Deal) (declarer : Seat) (trump : Trump) (tricks : ℕ) (declarers defenders : GraphShape)
+    (deal : Deal) (declarer : Seat) (trump : Trump) (tricks : ℕ) (declarers defenders : RootedShape)
     (one other : Result Shown EntryFault)
     → EntryAnswers deal declarer trump tricks declarers defenders one
     → EntryAnswers deal declarer trump tricks declarers defenders other
@@ -75,3 +77,10 @@ LinesLeadToPlaces =
     (graph : GraphShape) (node : Node) (cards : List PatCard)
     → StepHolds graph node → length cards ≤ 4 → BeginLine node cards → KeepTo node.tree cards
     → (place : TrickTree) × LeadsTo node.tree cards place
+
+-- ---- other roots
+-- where the steps of a graph hold, so do those of the graph that begins with another of its nodes
+abbrev pub ExtractsHold : Type 0
+ExtractsHold =
+    (graph other : GraphShape) (root : Option ℕ)
+    → IsRootIn graph.nodes root → IsExtract graph root other → StepsHold graph → StepsHold other

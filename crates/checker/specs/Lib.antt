@@ -2,7 +2,9 @@ pub mod Places
 pub mod Steps
 pub mod Faults
 pub mod Laws
+pub mod Roots
 pub mod Claims
+pub mod Witnesses
 pub mod Soundness
 pub mod EntryFaults
 pub mod FaultWords

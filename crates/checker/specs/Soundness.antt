@@ -16,6 +16,7 @@ use Rattle.certificate_graph.specs.Graphs.{GraphShape, IsGraph}
 use Rattle.checker.specs.Places.{LeadsTo}
 use Rattle.checker.specs.Steps.{StepHolds, StepsHold}
 use Rattle.checker.specs.declared.entries.Shown.{Shown}
+use Rattle.checker.specs.Roots.{RootedShape}
 use Rattle.checker.specs.Claims.{ShowValue, IsShown}
 
 -- the play of a deal with a node's seat to lead
@@ -54,8 +55,8 @@ GraphsAreSound =
 -- two graphs that show the value of a contract on a layout show its double-dummy value
 abbrev pub EntriesAreSound : Type 0
 EntriesAreSound =
-    (deal : Deal) (declarer : Seat) (trump : Trump) (tricks : ℕ) (declarers defenders : GraphShape)
-    → IsLayout deal → IsGraph declarers → IsGraph defenders
+    (deal : Deal) (declarer : Seat) (trump : Trump) (tricks : ℕ) (declarers defenders : RootedShape)
+    → IsLayout deal → IsGraph declarers.graph → IsGraph defenders.graph
     → ShowValue deal declarer trump tricks declarers defenders
     → IsValue deal declarer trump tricks
 

@@ -9,6 +9,7 @@ use Rattle.checker.specs.declared.entry_faults.EntryFault.{EntryFault}
 use Rattle.checker.specs.declared.hand_faults.HandFault.{HandFault}
 use Rattle.checker.specs.declared.hand_faults.HandFault.TheVariants.{DeclarerText, DefendersText, Entry, NoDeal}
 use Rattle.checker.specs.declared.entries.Shown.{Shown}
+use Rattle.checker.specs.Roots.{from_first}
 use Rattle.checker.specs.EntryFaults.{EntryAnswers}
 
 -- the texts are those of two graphs, and this is the answer for them
@@ -18,7 +19,7 @@ pub record GraphsAnswer (deal : Deal) (declarer : Seat) (trump : Trump) (tricks 
   pub defenders : GraphShape
   pub declarers_read : TextAnswers declarer_text (Ok declarers)
   pub defenders_read : TextAnswers defenders_text (Ok defenders)
-  pub answers : EntryAnswers deal declarer trump tricks declarers defenders answer
+  pub answers : EntryAnswers deal declarer trump tricks (from_first declarers) (from_first defenders) answer
 
 -- The verdict: the fault of the first text that has one, that of declarer's side first, and else the answer for the
 -- graphs.

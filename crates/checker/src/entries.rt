@@ -4,9 +4,13 @@ ghost use Rattle.std.specs.Prelude.{◌≡◌};
 ghost use Rattle.strategies.specs.Values.{IsValue};
 ghost use Rattle.checker.specs.Claims.{IsShown};
 ghost use Rattle.checker.specs.EntryFaults.{EntryAnswers};
+ghost use Rattle.checker.specs.Roots.{from_first};
+ghost use Rattle.checker.specs.Witnesses.{rooted_shape, seen_as};
 
+use crate::claims::Claimed;
 use crate::entry_faults::EntryFault;
 use crate::parts::{Claim, check_part};
+use crate::witnesses::Witness;
 use cards::{Layout, Seat, Trump};
 use certificate_graph::Graph;
 use std::marker::Model;
@@ -26,7 +30,7 @@ pub struct Shown {
 
 /// The proof that two graphs showed something, so that it is the double-dummy value: declarer's side has a strategy that
 /// wins so many tricks against every defence, and the defenders have one that wins the others against every play.
-/// [`check_entry`] alone makes one.
+/// [`check_entry`] and [`check_claim`] alone make one.
 #[derive(Clone, Copy, Debug, PartialEq)]
 pub struct Proven {
     shown: Shown,
@@ -63,8 +67,9 @@ impl Proven {
 }
 
 /// Checks that the two graphs show that declarer's side takes just k tricks: the first that it can win them, the second
-/// that the defenders can win the others. Else the answer is the first fault: [`EntryFault::KTooLarge`] where k exceeds
-/// the cards of a hand, then that of the first graph, then that of the second.
+/// that the defenders can win the others, each from its node 0. Else the answer is the first fault:
+/// [`EntryFault::KTooLarge`] where k exceeds the cards of a hand, then that of the first graph, then that of the second.
+/// Takes no memory.
 pub fn check_entry(
     layout: &Layout,
     declarer: Seat,
@@ -73,10 +78,43 @@ pub fn check_entry(
     declarers: &Graph,
     defenders: &Graph,
 ) -> Result<Proven, EntryFault>
-    ensures { EntryAnswers layout.now declarer trump k declarers.now defenders.now result }
+    ensures { EntryAnswers layout.now declarer trump k (from_first declarers.now) (from_first defenders.now) result }
 {
-    declarers.invariant();
-    defenders.invariant();
+    let declarers = Witness::Whole(declarers);
+    let defenders = Witness::Whole(defenders);
+    check_both(layout, declarer, trump, k, &declarers, &defenders)
+}
+
+/// The same of graphs that were checked before, each from the root that it comes with: a root that is not below the
+/// count of nodes is missing. Looks at no tree: where a graph has a root, what its check found stands for all nodes.
+/// Takes no memory.
+pub fn check_claim(
+    layout: &Layout,
+    declarer: Seat,
+    trump: Trump,
+    claimed: &Claimed,
+) -> Result<Proven, EntryFault>
+    ensures { EntryAnswers layout.now declarer trump claimed.now.k
+        (rooted_shape claimed.now.declarer) (rooted_shape claimed.now.defenders) result }
+{
+    let declarers = Witness::At(&claimed.declarer);
+    let defenders = Witness::At(&claimed.defenders);
+    check_both(layout, declarer, trump, claimed.k, &declarers, &defenders)
+}
+
+/// Both entrances: what the graphs show, whether they were checked before or not.
+fn check_both(
+    layout: &Layout,
+    declarer: Seat,
+    trump: Trump,
+    k: u8,
+    declarers: &Witness<'_>,
+    defenders: &Witness<'_>,
+) -> Result<Proven, EntryFault>
+    ensures { EntryAnswers layout.now declarer trump k (seen_as declarers.now) (seen_as defenders.now) result }
+{
+    declarers.graph().invariant();
+    defenders.graph().invariant();
     let size = layout.len() as u8;
     if k > size {
         return Err(EntryFault::KTooLarge);

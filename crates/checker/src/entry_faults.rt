@@ -7,25 +7,26 @@ use crate::faults::NodeFault;
 use std::error::Error;
 use std::fmt;
 
-/// Why a graph doesn't show that its side wins the tricks that it is to win. It is printed as its number and its name,
-/// a node's fault before that of its step: `7 RootPattern`, `8 Node 12 2 BranchMissing`.
+/// Why a graph doesn't show that its side wins the tricks that it is to win. Its root is the node that is read as its
+/// first: node 0 of a whole graph, which without nodes has none. It is printed as its number and its name, a node's fault
+/// before that of its step: `7 RootPattern`, `8 Node 12 2 BranchMissing`.
 #[derive(Clone, Copy, Debug, PartialEq, Eq)]
 pub enum PartFault {
-    /// Tricks are to be won, and there are no nodes.
+    /// Tricks are to be won, and there is no root, or no node of its number.
     RootMissing,
-    /// No tricks are to be won, and there are nodes.
+    /// No tricks are to be won, and there is a root.
     RootNeedless,
     /// The graph has another trump.
     RootTrump,
     /// The graph is of the other side.
     RootSide,
-    /// Node 0 has another seat to lead.
+    /// The root has another seat to lead.
     RootLead,
-    /// Node 0 has another need.
+    /// The root has another need.
     RootNeed,
-    /// The layout does not match the pattern of node 0.
+    /// The layout does not match the pattern of the root.
     RootPattern,
-    /// The step of a node doesn't hold.
+    /// The step of a node doesn't hold; of any node, where there is a root.
     Node(NodeFault),
 }
 

@@ -2,9 +2,12 @@
 //!
 //! A graph is right where the step of each of its nodes holds: one trick on the node's pattern, with the side's choice
 //! at its turns and all that the opponents may play at theirs, and nodes that go on from each end that still needs
-//! tricks. Nothing here plays a card of a deal, searches or takes memory.
+//! tricks. One check of a graph serves all that its nodes claim. Nothing here plays a card of a deal, searches or takes
+//! memory.
 #![tactic(auto)]
 
+mod checked_graphs;
+mod claims;
 mod ends;
 mod entries;
 mod entry_faults;
@@ -18,15 +21,18 @@ mod played;
 mod soundness;
 mod turns;
 mod walks;
+mod witnesses;
 
-pub use entries::{Proven, Shown, check_entry};
+pub use checked_graphs::CheckedGraph;
+pub use claims::{Claimed, Rooted};
+pub use entries::{Proven, Shown, check_claim, check_entry};
 pub use entry_faults::{EntryFault, PartFault};
 pub use faults::{NodeFault, StepFault};
 pub use graphs::check_graph;
 pub use hand_faults::{HandFault, OutOfMemory};
 pub use judging::{Verdict, judge};
 pub use laws::{
-    graph_has_one_first_fault, graphs_have_one_answer, lines_lead_to_places,
+    extracts_hold, graph_has_one_first_fault, graphs_have_one_answer, lines_lead_to_places,
     no_fault_where_steps_hold, place_has_one_first_fault, places_are_on_lines,
     texts_have_one_verdict,
 };

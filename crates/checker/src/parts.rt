@@ -1,13 +1,16 @@
 //! What one graph shows of a layout.
 
-ghost use Rattle.std.specs.Prelude.{MatchResult};
+ghost use Rattle.std.specs.Prelude.{◌≡◌, MatchResult};
+ghost use Rattle.std.specs.Option.{option_copied};
 ghost use Rattle.checker.specs.Claims.{IsRootOf, Shows};
 ghost use Rattle.checker.specs.EntryFaults.{IsRootFault, IsPartFault};
+ghost use Rattle.checker.specs.Roots.{node_at};
+ghost use Rattle.checker.specs.Witnesses.{seen_as};
 
 use crate::entry_faults::PartFault;
-use crate::graphs::check_graph;
+use crate::witnesses::Witness;
 use cards::{Layout, Seat, Side, Trump};
-use certificate_graph::{Graph, Node};
+use certificate_graph::Node;
 
 /// What a graph is to show: that the side wins so many tricks of the layout, with this seat to lead.
 #[derive(Drop)]
@@ -37,17 +40,26 @@ fn check_root(root: &Node, claim: &Claim<'_>) -> Result<(), PartFault>
     Ok(())
 }
 
-/// Checks that the graph shows what it is to show, else tells its first fault.
-pub(crate) fn check_part(graph: &Graph, claim: &Claim<'_>) -> Result<(), PartFault>
-    ensures { MatchResult result
-        (λ _. Shows graph.now claim.now.layout.now claim.now.leader claim.now.trump claim.now.side claim.now.need)
-        (IsPartFault graph.now claim.now.layout.now claim.now.leader claim.now.trump claim.now.side claim.now.need) }
+/// The node of this number, if there is one.
+fn node_at(nodes: &[Node], number: Option<u32>) -> Option<&Node>
+    ensures { option_copied result ≡ node_at nodes.now number }
 {
-    let nodes = graph.nodes();
-    if claim.need > 0 && nodes.is_empty() {
+    nodes.get(number? as usize)
+}
+
+/// Checks that the graph shows what it is to show, else tells its first fault.
+pub(crate) fn check_part(witness: &Witness<'_>, claim: &Claim<'_>) -> Result<(), PartFault>
+    ensures { MatchResult result
+        (λ _. Shows (seen_as witness.now) claim.now.layout.now claim.now.leader claim.now.trump claim.now.side claim.now.need)
+        (IsPartFault (seen_as witness.now) claim.now.layout.now claim.now.leader claim.now.trump claim.now.side claim.now.need) }
+{
+    let graph = witness.graph();
+    let number = witness.root();
+    let root = node_at(graph.nodes(), number);
+    if claim.need > 0 && root.is_none() {
         return Err(PartFault::RootMissing);
     }
-    if claim.need == 0 && !nodes.is_empty() {
+    if claim.need == 0 && number.is_some() {
         return Err(PartFault::RootNeedless);
     }
     if graph.trump() != claim.trump {
@@ -56,9 +68,9 @@ pub(crate) fn check_part(graph: &Graph, claim: &Claim<'_>) -> Result<(), PartFau
     if graph.side() != claim.side {
         return Err(PartFault::RootSide);
     }
-    let Some(root) = nodes.first() else {
+    let Some(root) = root else {
         return Ok(());
     };
     check_root(root, claim)?;
-    check_graph(graph).map_err(PartFault::Node)
+    witness.verdict().map_err(PartFault::Node)
 }

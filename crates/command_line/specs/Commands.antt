@@ -3,7 +3,7 @@ use Rattle.std.specs.Prelude.{◌≡◌, ℕ, List, [], ◌∷◌, ◌++◌, ◌
 use Rattle.clap.specs.declared.error.kind.ErrorKind.{ErrorKind}
 use Rattle.clap.specs.declared.error.kind.ErrorKind.TheVariants as kinds
 use Rattle.cards.specs.Devices.{Device}
-use Rattle.tournaments.specs.Asking.{MayFind}
+use Rattle.partition_solver.specs.Answers.{MayFind}
 use Rattle.farm.specs.Moments.{MayTell}
 use Rattle.arguments.specs.CommandLine.{AreLetters}
 use Rattle.arguments.specs.Words.{AskFor, HasNone}

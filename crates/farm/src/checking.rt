@@ -1,65 +1,101 @@
 //! The work of a checker.
 
-ghost use Rattle.std.specs.Prelude.{◌≡◌};
-ghost use Rattle.lease_desk.specs.Desks.{number_of};
-ghost use Rattle.farm.specs.Working.{IsWorker, never};
+use crate::tasks::{Answered, Found};
+use cards::Side;
+use certificate_graph::Graph;
+use checker::{CheckedGraph, Claimed, Rooted};
+use crossbeam_channel::{Receiver, Sender};
+use lease_desk::Gate;
+use partition_solver::{Bundle, Claim};
+use std::alloc::{AllocError, Global};
+use std::sync::{Arc, Wait};
 
-use crate::tasks::Found;
-use crossbeam_channel::Receiver;
-use lease_book::OutOfMemory;
-use lease_desk::{Chair, Desk, Gate};
-use std::sync::Wait;
-
-/// Hands an answer in.
-fn hand_in<G: Gate, R: Wait>(
-    rt: &R,
-    desk: &Desk,
-    gate: &G,
-    chair: &mut Chair,
-    found: &Found,
-) -> Result<(), OutOfMemory>
-    requires worker { IsWorker never desk.now chair.old }
-    ensures worker { IsWorker never desk.now chair.new }
-    ensures number { number_of chair.new ≡ number_of chair.old }
-{
-    let task = found.task;
-    let told = desk.hand_in(rt, chair, task.lease, task.entry, &found.answer, gate)?;
-    gate.after_check(task.entry, told.event.reply);
-    Ok(())
+/// The graphs of a bundle, each checked once.
+#[derive(Drop)]
+struct Pair {
+    ns: Arc<CheckedGraph>,
+    ew: Arc<CheckedGraph>,
 }
 
-/// Takes answers and hands each in, until the channel is closed and empty or memory has run out.
-fn hand_in_all<G: Gate, R: Wait>(
+/// Checks a graph, once.
+fn checked(alloc: Global, graph: &Arc<Graph>) -> Result<Arc<CheckedGraph>, AllocError> {
+    let graph = graph.clone()?;
+    Ok(Arc::new(alloc, CheckedGraph::of(graph))?)
+}
+
+impl Pair {
+    /// Checks both graphs.
+    fn of(alloc: Global, bundle: &Bundle) -> Result<Pair, AllocError> {
+        Ok(Pair {
+            ns: checked(alloc, &bundle.ns)?,
+            ew: checked(alloc, &bundle.ew)?,
+        })
+    }
+
+    /// The graph of a side.
+    fn of_side(&self, side: Side) -> Result<Arc<CheckedGraph>, AllocError> {
+        match side {
+            Side::NorthSouth => self.ns.clone(),
+            Side::EastWest => self.ew.clone(),
+        }
+    }
+
+    /// The claim on these graphs.
+    fn claimed(&self, claim: Claim) -> Result<Claimed, AllocError> {
+        let side = claim.declarer.side();
+        Ok(Claimed {
+            k: claim.k,
+            declarer: Rooted {
+                graph: self.of_side(side)?,
+                root: claim.declarer_root,
+            },
+            defenders: Rooted {
+                graph: self.of_side(side.other())?,
+                root: claim.defenders_root,
+            },
+        })
+    }
+}
+
+/// Tells the gate of the leases of a message, checks its graphs, and sends each claim on. A claim that is handed back is
+/// dropped; its lease stays.
+fn check_found<G: Gate, R: Wait>(
     rt: &R,
-    desk: &Desk,
+    alloc: Global,
     gate: &G,
-    chair: &mut Chair,
-    found: &Receiver<Found>,
-) -> Result<(), OutOfMemory>
-    requires worker { IsWorker never desk.now chair.old }
-    ensures worker { IsWorker never desk.now chair.new }
-    ensures number { number_of chair.new ≡ number_of chair.old }
-{
-    for answer in found.iter(rt) {
-        hand_in(rt, desk, gate, chair, &answer)?;
+    found: Found,
+    answered: &Sender<Answered>,
+) -> Result<(), AllocError> {
+    let Found { tasks, bundle } = found;
+    for task in tasks.iter() {
+        gate.before_graphs(task.lease);
+    }
+    let pair = Pair::of(alloc, &bundle)?;
+    for task in tasks.iter() {
+        if let Some(claim) = bundle.claim_for(task.entry.declarer) {
+            let claimed = pair.claimed(claim)?;
+            let _ = answered.send(
+                rt,
+                Answered {
+                    task: *task,
+                    claimed,
+                },
+            );
+        }
     }
     Ok(())
 }
 
-/// Takes answers until the channel is closed and empty, and hands each in. Once memory has run out it only goes on taking, so
-/// that no solver waits for room.
+/// Takes what was found until the channel is closed and empty, checks the graphs, and sends the claims on. What is refused for
+/// memory is dropped; its leases stay.
 pub(crate) fn check_all<G: Gate, R: Wait>(
     rt: &R,
-    desk: &Desk,
+    alloc: Global,
     gate: &G,
-    chair: &mut Chair,
     found: &Receiver<Found>,
-) -> Result<(), OutOfMemory>
-    requires worker { IsWorker never desk.now chair.old }
-    ensures worker { IsWorker never desk.now chair.new }
-    ensures number { number_of chair.new ≡ number_of chair.old }
-{
-    let outcome = hand_in_all(rt, desk, gate, chair, found);
-    for _unread in found.iter(rt) {}
-    outcome
+    answered: &Sender<Answered>,
+) {
+    for message in found.iter(rt) {
+        let _ = check_found(rt, alloc, gate, message, answered);
+    }
 }

@@ -12,6 +12,8 @@ pub(crate) struct Crew<'a, S, G, C> {
     /// The deals of the boards, by their numbers.
     pub(crate) deals: &'a [Option<Layout>],
     pub(crate) solver: &'a S,
+    /// How many entries a solver leases at a time.
+    pub(crate) batch: usize,
     /// How many steps of its own the solver has for an entry.
     pub(crate) budget: u64,
     pub(crate) gate: &'a G,
@@ -27,6 +29,7 @@ impl<S, G, C> Drop for Crew<'_, S, G, C> {
             desk: _,
             deals: _,
             solver: _,
+            batch: _,
             budget: _,
             gate: _,
             clock: _,

@@ -18,7 +18,7 @@ pub(crate) fn deals_of(alloc: Global, boards: &[Board]) -> Result<Vec<Option<Lay
     boards.iter().map(|board| board.deal).collect(alloc)
 }
 
-/// A desk over the boards, with a chair for each solver and each checker.
+/// A desk over the boards, with a chair for each solver and each clerk, of whom there are as many as checkers.
 pub(crate) fn open_desk<R: Wait>(
     rt: &R,
     alloc: Global,

@@ -50,12 +50,20 @@ fn work_in<'s, E, S: Solver + Sync, G: Gate + Sync, C: Clock + Sync, R: Threads 
         desk,
         deals,
         solver,
+        batch: settings.batch,
         budget: settings.budget,
         gate,
         clock,
         stop,
     };
-    let started = start_all(rt, scope, &crew, settings.solvers, chairs);
+    let started = start_all(
+        rt,
+        scope,
+        &crew,
+        settings.solvers,
+        settings.checkers,
+        chairs,
+    );
     if started.is_err() {
         stop.store(true, SeqCst);
     }
@@ -95,12 +103,14 @@ fn work_all<S: Solver + Sync, G: Gate + Sync, C: Clock + Sync, R: Threads + Wait
     )
 }
 
-/// Opens a desk over the boards, has as many solvers and checkers work at it as the settings say, each in a thread of its own,
-/// and hands out the book when all have ended.
+/// Opens a desk over the boards, has as many solvers and checkers work as the settings say, and as many clerks as checkers,
+/// each in a thread of its own, and hands out the book when all have ended.
 ///
-/// A solver leases one entry after another at the clock's moment, tells the gate, has `solver` look for an answer on the
-/// board's deal, and sends it to the checkers, or gives the lease up. Where no entry is open it has the leases freed that have
-/// run out, and ends where there is none. A checker hands in one answer after another, of which the desk tells the gate. The
+/// A solver leases a batch of entries, each at the clock's moment. For those of a board and denomination it tells the gate of
+/// each lease, has `solver` look for what shows their results, once, and sends it to the checkers, or gives the leases up for
+/// which nothing is claimed. Where no entry is open it has the leases freed that have run out, and ends where there is none.
+/// A checker tells the gate of the leases, checks both graphs, and sends each claim to the clerks. A clerk hands in one claim
+/// after another, of which the desk tells the gate. What memory is refused to on the way is dropped, and its leases stay. The
 /// book is handed out only where a solver was told that no entry is open.
 pub fn run_farm<S: Solver + Sync, G: Gate + Sync, C: Clock + Sync, R: Threads + Wait + Sync>(
     rt: &R,

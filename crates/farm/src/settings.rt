@@ -2,7 +2,7 @@
 
 ghost use Rattle.std.specs.Prelude.{◌<◌};
 ghost use Rattle.lease_book.specs.Books.{AreTries};
-ghost use Rattle.farm.specs.Counts.{AreThreads};
+ghost use Rattle.farm.specs.Counts.{AreThreads, IsBatch};
 
 use crate::settings_faults::SettingsFault;
 
@@ -19,10 +19,13 @@ pub struct Settings {
     pub tries: u32,
     /// How many steps of its own a solver has for an entry, at least 1.
     pub budget: u64,
+    /// How many entries a solver leases at a time, 1 to 20.
+    pub batch: usize,
     pub ghost solvers_are: { AreThreads solvers },
     pub ghost checkers_are: { AreThreads checkers },
     pub ghost tries_are: { AreTries tries },
     pub ghost budget_is: { 0 < budget },
+    pub ghost batch_is: { IsBatch batch },
 }
 
 impl Settings {
@@ -35,8 +38,9 @@ impl Settings {
         term: u64,
         tries: u32,
         budget: u64,
+        batch: usize,
     ) -> Result<Settings, SettingsFault>
-        ensures { MakesSettings solvers checkers term tries budget result }
+        ensures { MakesSettings solvers checkers term tries budget batch result }
     {
         if solvers == 0 || solvers > 64 {
             return Err(SettingsFault::Solvers);
@@ -50,12 +54,16 @@ impl Settings {
         if budget == 0 {
             return Err(SettingsFault::Budget);
         }
+        if batch == 0 || batch > 20 {
+            return Err(SettingsFault::Batch);
+        }
         Ok(Settings {
             solvers,
             checkers,
             term,
             tries,
             budget,
+            batch,
         })
     }
 }

@@ -17,6 +17,8 @@ pub enum SettingsFault {
     Tries,
     /// The budget is 0.
     Budget,
+    /// The entries leased at a time are not 1 to 20.
+    Batch,
 }
 
 impl SettingsFault {
@@ -29,6 +31,7 @@ impl SettingsFault {
             SettingsFault::Checkers => 2,
             SettingsFault::Tries => 3,
             SettingsFault::Budget => 4,
+            SettingsFault::Batch => 5,
         }
     }
 
@@ -41,6 +44,7 @@ impl SettingsFault {
             SettingsFault::Checkers => "Checkers",
             SettingsFault::Tries => "Tries",
             SettingsFault::Budget => "Budget",
+            SettingsFault::Batch => "Batch",
         }
     }
 }

@@ -1,15 +1,16 @@
-//! The threads of solvers and of checkers.
+//! The threads of solvers, of checkers and of clerks.
 
 ghost use Rattle.std.specs.Prelude.{◌≡◌, ◌≤◌, IfOk, IfSome};
 ghost use Rattle.lease_desk.specs.Desks.{number_of, receipts_in};
 ghost use Rattle.farm.specs.Working.{IsWorker, HasWorked, SawNothing, never};
 
 use crate::checking::check_all;
+use crate::clerks::settle_all;
 use crate::clocks::Clock;
 use crate::crews::Crew;
 use crate::halts::Halt;
 use crate::solving::solve_all;
-use crate::tasks::Found;
+use crate::tasks::{Answered, Found};
 use cards::Layout;
 use crossbeam_channel::{Receiver, Sender};
 use lease_desk::{Chair, Desk, Gate};
@@ -56,6 +57,7 @@ fn solve_at<S: Solver, G: Gate, C: Clock, R: Wait>(
     desk: &Desk,
     deals: &[Option<Layout>],
     solver: &S,
+    batch: usize,
     budget: u64,
     gate: &G,
     clock: &C,
@@ -73,6 +75,7 @@ fn solve_at<S: Solver, G: Gate, C: Clock, R: Wait>(
         desk,
         deals,
         solver,
+        batch,
         budget,
         gate,
         clock,
@@ -83,20 +86,20 @@ fn solve_at<S: Solver, G: Gate, C: Clock, R: Wait>(
     Ok(chair)
 }
 
-/// Works as a checker.
-fn check_at<G: Gate, R: Wait>(
+/// Works as a clerk.
+fn settle_at<G: Gate, R: Wait>(
     rt: &R,
     desk: &Desk,
     gate: &G,
     chair: Chair,
-    found: Receiver<Found>,
+    answered: Receiver<Answered>,
 ) -> Outcome
     requires { IsWorker never desk.now chair }
     ensures worker { IfOk result (IsWorker never desk.now) }
     ensures number { IfOk result (λ worked. number_of worked ≡ number_of chair) }
 {
     let mut chair = chair;
-    check_all(rt, desk, gate, &mut chair, &found)?;
+    settle_all(rt, desk, gate, &mut chair, &answered)?;
     Ok(chair)
 }
 
@@ -138,26 +141,26 @@ pub(crate) fn start_solver<
     ensures number { IfSome result (λ handle. handle.promise.number ≡ number_of chair) }
 {
     let (alloc, desk, deals) = (crew.alloc, crew.desk, crew.deals);
-    let (solver, budget) = (crew.solver, crew.budget);
+    let (solver, batch, budget) = (crew.solver, crew.batch, crew.budget);
     let (gate, clock, stop) = (crew.gate, crew.clock, crew.stop);
     let works = works_of(desk, clock, solvers, &chair);
     scope
         .spawn_with(works, move || {
             solve_at(
-                rt, alloc, desk, deals, solver, budget, gate, clock, stop, chair, found,
+                rt, alloc, desk, deals, solver, batch, budget, gate, clock, stop, chair, found,
             )
         })
         .ok()
 }
 
-/// Starts the thread of a checker, where one can be started.
-pub(crate) fn start_checker<'s, E, S, G: Gate + Sync, C: Clock, R: Wait + Sync>(
+/// Starts the thread of a clerk, where one can be started.
+pub(crate) fn start_clerk<'s, E, S, G: Gate + Sync, C: Clock, R: Wait + Sync>(
     rt: &'s R,
     scope: &Scope<'s, E>,
     crew: &Crew<'s, S, G, C>,
     solvers: usize,
     chair: Chair,
-    found: Receiver<Found>,
+    answered: Receiver<Answered>,
 ) -> Option<Handle<C>>
     requires worker { IsWorker never crew.now.desk.now chair }
     requires number { solvers ≤ number_of chair }
@@ -169,6 +172,21 @@ pub(crate) fn start_checker<'s, E, S, G: Gate + Sync, C: Clock, R: Wait + Sync>(
     let (desk, gate) = (crew.desk, crew.gate);
     let works = works_of(desk, crew.clock, solvers, &chair);
     scope
-        .spawn_with(works, move || check_at(rt, desk, gate, chair, found))
+        .spawn_with(works, move || settle_at(rt, desk, gate, chair, answered))
         .ok()
+}
+
+/// Starts the thread of a checker, where one can be started, and says whether it was. It ends by itself, and the scope waits
+/// for it.
+pub(crate) fn starts_checker<'s, E, S, G: Gate + Sync, C, R: Wait + Sync>(
+    rt: &'s R,
+    scope: &Scope<'s, E>,
+    crew: &Crew<'s, S, G, C>,
+    found: Receiver<Found>,
+    answered: Sender<Answered>,
+) -> bool {
+    let (alloc, gate) = (crew.alloc, crew.gate);
+    scope
+        .spawn(move || check_all(rt, alloc, gate, &found, &answered))
+        .is_ok()
 }

@@ -1,8 +1,9 @@
 //! Gates for tests.
 
+use crate::digits::Digits;
 use lease_desk::Gate;
-use std::sync::atomic::AtomicBool;
 use std::sync::atomic::Ordering::SeqCst;
+use std::sync::atomic::{AtomicBool, AtomicU64};
 
 /// A gate that does nothing.
 #[derive(Drop)]
@@ -69,18 +70,18 @@ impl Gate for TwoSolvers {
     }
 }
 
-/// The first and the second answer are checked only once both are about to be.
+/// Two leases, each of which goes on only once the other has come as far.
 #[derive(Drop)]
-pub struct TwoCheckers {
+struct Meeting {
     first: AtomicBool,
     second: AtomicBool,
-    /// Whether it has waited in vain.
-    pub failed: AtomicBool,
+    /// Whether one has waited in vain.
+    failed: AtomicBool,
 }
 
-impl TwoCheckers {
-    pub fn new() -> TwoCheckers {
-        TwoCheckers {
+impl Meeting {
+    fn new() -> Meeting {
+        Meeting {
             first: AtomicBool::new(false),
             second: AtomicBool::new(false),
             failed: AtomicBool::new(false),
@@ -93,16 +94,122 @@ impl TwoCheckers {
             self.failed.store(true, SeqCst);
         }
     }
-}
 
-impl Gate for TwoCheckers {
-    fn before_solve(&self, _lease: u64) {}
-
-    fn before_check(&self, lease: u64) {
+    /// The lease has come so far. All but the first two go on at once.
+    fn comes(&self, lease: u64) {
         match lease {
             1 => self.meet(&self.first, &self.second),
             2 => self.meet(&self.second, &self.first),
             _ => {}
         }
+    }
+
+    /// Whether both have come in time.
+    fn was_in_time(&self) -> bool {
+        !self.failed.load(SeqCst)
+    }
+}
+
+/// The graphs for the first and for the second lease are checked only once both are about to be.
+#[derive(Drop)]
+pub struct TwoCheckers(Meeting);
+
+impl TwoCheckers {
+    pub fn new() -> TwoCheckers {
+        TwoCheckers(Meeting::new())
+    }
+
+    /// Whether both were about to be checked at once.
+    pub fn have_met(&self) -> bool {
+        self.0.was_in_time()
+    }
+}
+
+impl Gate for TwoCheckers {
+    fn before_solve(&self, _lease: u64) {}
+
+    fn before_graphs(&self, lease: u64) {
+        self.0.comes(lease);
+    }
+
+    fn before_check(&self, _lease: u64) {}
+}
+
+/// The claims under the first and the second lease are checked only once both are about to be.
+#[derive(Drop)]
+pub struct TwoClerks(Meeting);
+
+impl TwoClerks {
+    pub fn new() -> TwoClerks {
+        TwoClerks(Meeting::new())
+    }
+
+    /// Whether both were about to be checked at once.
+    pub fn have_met(&self) -> bool {
+        self.0.was_in_time()
+    }
+}
+
+impl Gate for TwoClerks {
+    fn before_solve(&self, _lease: u64) {}
+
+    fn before_check(&self, lease: u64) {
+        self.0.comes(lease);
+    }
+}
+
+/// The leases of a board of which a thread was told, one after the other.
+#[derive(Drop)]
+pub struct Told {
+    /// Their denominations, no-trump, spades, hearts, diamonds and clubs being 1 to 5.
+    pub trumps: Digits,
+    /// The sum of two to the power of each. Of twenty leases it tells which they were.
+    pub leases: AtomicU64,
+}
+
+impl Told {
+    fn new() -> Told {
+        Told {
+            trumps: Digits::new(),
+            leases: AtomicU64::new(0),
+        }
+    }
+
+    /// The leases of a board are in the order of the entries, so that each fifth is in the same denomination.
+    fn add(&self, lease: u64) {
+        self.trumps.add(lease.wrapping_sub(1) % 5 + 1);
+        self.leases.fetch_add(1 << (lease % 64), SeqCst);
+    }
+}
+
+/// Remembers of which leases solver, checker and clerk were told, where there is one of each.
+#[derive(Drop)]
+pub struct TellsAll {
+    pub solved: Told,
+    pub checked: Told,
+    pub handed_in: Told,
+}
+
+impl TellsAll {
+    pub fn new() -> TellsAll {
+        TellsAll {
+            solved: Told::new(),
+            checked: Told::new(),
+            handed_in: Told::new(),
+        }
+    }
+}
+
+impl Gate for TellsAll {
+    fn before_solve(&self, lease: u64) {
+        self.solved.add(lease);
+    }
+
+    fn before_graphs(&self, lease: u64) {
+        self.checked.add(lease);
+    }
+
+    fn before_check(&self, lease: u64) {
+        self.handed_in.add(lease);
     }
 }

@@ -3,9 +3,19 @@
 #![tactic(auto)]
 
 #[cfg(test)]
+mod batch_tests;
+#[cfg(test)]
+mod digits;
+#[cfg(test)]
 mod expect;
 #[cfg(test)]
+mod flaw_tests;
+#[cfg(test)]
+mod flawed;
+#[cfg(test)]
 mod gates;
+#[cfg(test)]
+mod remembers;
 #[cfg(test)]
 mod run_tests;
 #[cfg(test)]

@@ -16,21 +16,26 @@ use std::thread::Threads;
 /// How many steps a solver has for an entry.
 const BUDGET: u64 = 10_000_000;
 
+/// How many entries a solver leases at a time: one, or all of a board.
+const BATCHES: [usize; 2] = [1, 20];
+
 /// A run over the four hands of one suit each, with one try an entry.
 fn run_on_one_suit_each<S: Solver + Sync, R: Threads + Wait + Abort + Sync>(
     rt: &R,
     alloc: Global,
     threads: usize,
+    batch: usize,
     solver: &S,
 ) -> Result<Tally, Fail> {
-    let settings = Settings::new(threads, threads, 600, 1, BUDGET)?;
+    let settings = Settings::new(threads, threads, 600, 1, BUDGET, batch)?;
     let boards = one_board(alloc, ONE_SUIT_EACH)?;
     let book = run_farm(rt, alloc, boards, settings, solver, &Open, &StandsStill)?;
     expect_eq(rt, &book.boards().len(), &1);
     Ok(tally_of(&book))
 }
 
-/// Where one solver and one checker are done with 20 entries: the leases, one that was not given, and an expiry.
+/// Where one solver and one checker are done with 20 entries: the leases, one that was not given, and an expiry. So it is with
+/// each batch that divides 20.
 const LEASED: Tally = Tally {
     given: 20,
     published: 0,
@@ -43,15 +48,17 @@ const LEASED: Tally = Tally {
 
 #[test]
 fn each_entry_is_leased_and_published_once(rt: HostRuntime) -> Result<(), Fail> {
-    let tally = run_on_one_suit_each(&rt, rt.alloc(), 1, &Partition::new())?;
-    expect_eq(
-        &rt,
-        &tally,
-        &Tally {
-            published: 20,
-            ..LEASED
-        },
-    );
+    for batch in BATCHES {
+        let tally = run_on_one_suit_each(&rt, rt.alloc(), 1, batch, &Partition::new())?;
+        expect_eq(
+            &rt,
+            &tally,
+            &Tally {
+                published: 20,
+                ..LEASED
+            },
+        );
+    }
     Ok(())
 }
 
@@ -61,25 +68,31 @@ fn what_is_not_found_is_given_up(rt: HostRuntime) -> Result<(), Fail> {
         gave_up: 20,
         ..LEASED
     };
-    let nothing = run_on_one_suit_each(&rt, rt.alloc(), 1, &FindsNothing)?;
-    expect_eq(&rt, &nothing, &wanted);
-    let no_memory = run_on_one_suit_each(&rt, rt.alloc(), 1, &HasNoMemory)?;
-    expect_eq(&rt, &no_memory, &wanted);
+    for batch in BATCHES {
+        let nothing = run_on_one_suit_each(&rt, rt.alloc(), 1, batch, &FindsNothing)?;
+        expect_eq(&rt, &nothing, &wanted);
+        let no_memory = run_on_one_suit_each(&rt, rt.alloc(), 1, batch, &HasNoMemory)?;
+        expect_eq(&rt, &no_memory, &wanted);
+    }
     Ok(())
 }
 
 #[test]
 fn what_is_not_shown_is_not_published(rt: HostRuntime) -> Result<(), Fail> {
-    let tally = run_on_one_suit_each(&rt, rt.alloc(), 1, &FindsTheAce)?;
-    expect_eq(&rt, &tally, &Tally { bad: 20, ..LEASED });
+    for batch in BATCHES {
+        let tally = run_on_one_suit_each(&rt, rt.alloc(), 1, batch, &FindsTheAce)?;
+        expect_eq(&rt, &tally, &Tally { bad: 20, ..LEASED });
+    }
     Ok(())
 }
 
 #[test]
 fn many_threads_publish_as_much(rt: HostRuntime) -> Result<(), Fail> {
     for threads in [2, 64] {
-        let tally = run_on_one_suit_each(&rt, rt.alloc(), threads, &Partition::new())?;
-        expect_eq(&rt, &(tally.given, tally.published), &(20, 20));
+        for batch in BATCHES {
+            let tally = run_on_one_suit_each(&rt, rt.alloc(), threads, batch, &Partition::new())?;
+            expect_eq(&rt, &(tally.given, tally.published), &(20, 20));
+        }
     }
     Ok(())
 }
@@ -87,7 +100,7 @@ fn many_threads_publish_as_much(rt: HostRuntime) -> Result<(), Fail> {
 #[test]
 fn too_many_boards(rt: HostRuntime) -> Result<(), Fail> {
     let alloc = rt.alloc();
-    let settings = Settings::new(1, 1, 0, 1, 1)?;
+    let settings = Settings::new(1, 1, 0, 1, 1, 1)?;
     let boards = empty_boards(alloc, 4097)?;
     let made = run_farm(
         &rt,

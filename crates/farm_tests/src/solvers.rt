@@ -1,10 +1,12 @@
 //! Solvers and a clock for tests.
 
-use cards::{Layout, Seat, Trump};
-use certificate_graph::{Answer, Graph};
+use arrayvec::ArrayVec;
+use cards::{Layout, Seat, Side, Trump};
+use certificate_graph::Graph;
 use farm::Clock;
-use partition_solver::Solver;
+use partition_solver::{Bundle, Claim, Solver};
 use std::alloc::{AllocError, Global};
+use std::sync::Arc;
 
 /// A clock that stays at 0.
 #[derive(Drop)]
@@ -25,10 +27,10 @@ impl Solver for FindsNothing {
         &self,
         _alloc: Global,
         _layout: &Layout,
-        _declarer: Seat,
+        _declarers: &[Seat],
         _trump: Trump,
         _budget: u64,
-    ) -> Result<Option<Answer>, AllocError> {
+    ) -> Result<Option<Bundle>, AllocError> {
         Ok(None)
     }
 }
@@ -42,10 +44,10 @@ impl Solver for HasNoMemory {
         &self,
         _alloc: Global,
         _layout: &Layout,
-        _declarer: Seat,
+        _declarers: &[Seat],
         _trump: Trump,
         _budget: u64,
-    ) -> Result<Option<Answer>, AllocError> {
+    ) -> Result<Option<Bundle>, AllocError> {
         Err(AllocError)
     }
 }
@@ -68,7 +70,30 @@ side EW
 nodes 0
 ";
 
-/// A solver that gives the answer for North in no-trump on one card each, whatever it is asked.
+/// The graph of a text.
+fn graph_of(alloc: Global, text: &[u8]) -> Result<Arc<Graph>, AllocError> {
+    match Graph::read(alloc, text) {
+        Ok(graph) => Ok(Arc::new(alloc, graph)?),
+        Err(_) => Err(AllocError),
+    }
+}
+
+/// What shows the trick of North's ace, claimed for each of these declarers.
+fn claims_of_the_ace(declarers: &[Seat]) -> ArrayVec<Claim, 4> {
+    let mut claims = ArrayVec::new();
+    for declarer in declarers {
+        let _ = claims.try_push(Claim {
+            declarer: *declarer,
+            k: 1,
+            declarer_root: Some(0),
+            defenders_root: None,
+        });
+    }
+    claims
+}
+
+/// A solver that gives the answer for North in no-trump on one card each, whatever it is asked: the first declarer's side has
+/// North's graph.
 #[derive(Drop)]
 pub struct FindsTheAce;
 
@@ -77,20 +102,23 @@ impl Solver for FindsTheAce {
         &self,
         alloc: Global,
         _layout: &Layout,
-        _declarer: Seat,
+        declarers: &[Seat],
         _trump: Trump,
         _budget: u64,
-    ) -> Result<Option<Answer>, AllocError> {
-        let (Ok(declarer), Ok(defenders)) = (
-            Graph::read(alloc, ACE_WINS),
-            Graph::read(alloc, NOTHING),
-        ) else {
-            return Err(AllocError);
+    ) -> Result<Option<Bundle>, AllocError> {
+        let Some(first) = declarers.first() else {
+            return Ok(None);
         };
-        Ok(Some(Answer {
-            k: 1,
-            declarer,
-            defenders,
+        let ace = graph_of(alloc, ACE_WINS)?;
+        let nothing = graph_of(alloc, NOTHING)?;
+        let (ns, ew) = match first.side() {
+            Side::NorthSouth => (ace, nothing),
+            Side::EastWest => (nothing, ace),
+        };
+        Ok(Some(Bundle {
+            ns,
+            ew,
+            claims: claims_of_the_ace(declarers),
         }))
     }
 }

@@ -1,6 +1,6 @@
 //! Boards for tests, and what is in a book.
 
-use lease_book::{Book, Reply};
+use lease_book::{Asked, Book, Reply};
 use pbn_deals::{Board, BoardName, read_layout};
 use std::alloc::{AllocError, Global};
 use std::test::Fail;
@@ -9,15 +9,22 @@ use std::test::Fail;
 pub const ONE_SUIT_EACH: &[u8] =
     b"N:AKQJT98765432... .AKQJT98765432.. ..AKQJT98765432. ...AKQJT98765432";
 
+/// A board for each of these deals.
+pub fn boards_of(alloc: Global, deals: &[&[u8]]) -> Result<Vec<Board>, Fail> {
+    let mut boards = Vec::new(alloc);
+    for deal in deals {
+        let layout = read_layout(deal)?;
+        boards.push(Board {
+            name: BoardName::new(Vec::new(alloc)),
+            deal: Some(layout),
+        })?;
+    }
+    Ok(boards)
+}
+
 /// One board with this deal.
 pub fn one_board(alloc: Global, deal: &[u8]) -> Result<Vec<Board>, Fail> {
-    let layout = read_layout(deal)?;
-    let mut boards = Vec::new(alloc);
-    boards.push(Board {
-        name: BoardName::new(Vec::new(alloc)),
-        deal: Some(layout),
-    })?;
-    Ok(boards)
+    boards_of(alloc, &[deal])
 }
 
 /// So many boards without a deal.
@@ -78,4 +85,16 @@ pub fn tally_of(book: &Book) -> Tally {
         *count = count.saturating_add(1);
     }
     tally
+}
+
+/// The leases that were given up, by their numbers.
+pub fn leases_given_up(alloc: Global, book: &Book) -> Result<Vec<u64>, AllocError> {
+    let mut leases = Vec::new(alloc);
+    for event in book.history() {
+        if let (Asked::GiveUp { lease }, Reply::GaveUp) = (event.asked, event.reply) {
+            leases.push(lease)?;
+        }
+    }
+    leases.sort_unstable();
+    Ok(leases)
 }

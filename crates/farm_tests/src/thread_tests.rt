@@ -1,7 +1,7 @@
 //! That threads work side by side: each of these runs would wait in vain if one thread did all.
 
 use crate::expect::expect_eq;
-use crate::gates::{TwoCheckers, TwoSolvers};
+use crate::gates::{TwoCheckers, TwoClerks, TwoSolvers};
 use crate::solvers::{ACE, FindsTheAce, StandsStill};
 use crate::tables::one_board;
 use farm::{Settings, run_farm};
@@ -12,7 +12,7 @@ use std::sync::atomic::Ordering::SeqCst;
 use std::test::Fail;
 use std::thread::Threads;
 
-/// A run over the board of one card each.
+/// A run over the board of one card each, whose entries are leased one by one.
 fn run_on_the_ace<G: Gate + Sync, R: Threads + Wait + Sync>(
     rt: &R,
     alloc: Global,
@@ -20,7 +20,7 @@ fn run_on_the_ace<G: Gate + Sync, R: Threads + Wait + Sync>(
     checkers: usize,
     gate: &G,
 ) -> Result<(), Fail> {
-    let settings = Settings::new(solvers, checkers, 600, 1, 1)?;
+    let settings = Settings::new(solvers, checkers, 600, 1, 1, 1)?;
     let boards = one_board(alloc, ACE)?;
     let _book = run_farm(
         rt,
@@ -46,6 +46,14 @@ fn two_solvers(rt: HostRuntime) -> Result<(), Fail> {
 fn two_checkers(rt: HostRuntime) -> Result<(), Fail> {
     let gate = TwoCheckers::new();
     run_on_the_ace(&rt, rt.alloc(), 1, 2, &gate)?;
-    expect_eq(&rt, &gate.failed.load(SeqCst), &false);
+    expect_eq(&rt, &gate.have_met(), &true);
+    Ok(())
+}
+
+#[test]
+fn two_clerks(rt: HostRuntime) -> Result<(), Fail> {
+    let gate = TwoClerks::new();
+    run_on_the_ace(&rt, rt.alloc(), 1, 2, &gate)?;
+    expect_eq(&rt, &gate.have_met(), &true);
     Ok(())
 }

@@ -4,17 +4,25 @@
 #![tactic(auto)]
 
 #[cfg(test)]
+mod bundle_tests;
+#[cfg(test)]
 mod card_tests;
 #[cfg(test)]
 mod certificates;
 #[cfg(test)]
 mod checker_tests;
 #[cfg(test)]
+mod claim_tests;
+#[cfg(test)]
+mod claimed;
+#[cfg(test)]
 mod desk_tests;
 #[cfg(test)]
 mod due_row_tests;
 #[cfg(test)]
 mod expect;
+#[cfg(test)]
+mod extract_tests;
 #[cfg(test)]
 mod fixed_numbers;
 #[cfg(test)]

@@ -79,8 +79,9 @@ fn answered(alloc: Global, lease: u64, declarer: Seat, trump: Trump) -> Result<R
     let layout = read_layout(
         b"N:AKQJT98765432... .AKQJT98765432.. ..AKQJT98765432. ...AKQJT98765432",
     )?;
-    let found = Partition::new().solve(alloc, &layout, declarer, trump, BUDGET)?;
-    let answer = found.ok_or("no answer")?;
+    let found = Partition::new().solve(alloc, &layout, &[declarer], trump, BUDGET)?;
+    let bundle = found.ok_or("nothing found")?;
+    let answer = bundle.answer_for(alloc, declarer)?.ok_or("no answer")?;
     let ours = text_of(alloc, &answer.declarer)?;
     let theirs = text_of(alloc, &answer.defenders)?;
     Ok(hand_in(

@@ -1,21 +1,21 @@
 //! Answers with DDS's numbers, which the checker has to accept.
 
 use crate::expect::expect;
-use cards::{Seat, Suit, Trump};
+use cards::{Layout, Seat, Suit, Trump};
 use certificate_graph::Answer;
 use checker::check_entry;
 use partition_solver::{Partition, Solver};
 use pbn_deals::read_layout;
-use std::alloc::Global;
+use std::alloc::{AllocError, Global};
 use std::process::Abort;
 use std::test::Fail;
 use std::thread;
 
 /// A layout, and by declarer (N E S W) the tricks in no-trump, spades, hearts, diamonds and clubs that DDS 2.9 gives.
-type Row = (&'static str, &'static str);
+pub type Row = (&'static str, &'static str);
 
 /// Endings of one to four cards a hand: a trump, a finesse, squeezes.
-const ENDINGS: [Row; 6] = [
+pub const ENDINGS: [Row; 6] = [
     ("N:A... K... Q... J...", "11111 00000 11111 00000"),
     ("N:2... .A.. 3... .K..", "01000 00100 01000 00100"),
     ("N:AQ... 65... 32... K4...", "22222 00000 22222 11111"),
@@ -25,7 +25,7 @@ const ENDINGS: [Row; 6] = [
 ];
 
 /// Random endings of three and of five cards a hand.
-const SMALL: [Row; 6] = [
+pub const SMALL: [Row; 6] = [
     (
         "N:.5.A5.Q8 .K.J2.T4 K7..7.75 J86..9.K",
         "22213 23222 22213 23222",
@@ -44,7 +44,7 @@ const SMALL: [Row; 6] = [
 ];
 
 /// One of nine cards a hand.
-const NINE: Row = (
+pub const NINE: Row = (
     "N:43..K93.AQJT 95.T6.862.32 AJ762.J8..86 .K95.AQJT4.5",
     "59238 00550 79339 00550",
 );
@@ -56,7 +56,7 @@ const NINE_TURNED: &str = "S:43..K93.AQJT 95.T6.862.32 AJ762.J8..86 .K95.AQJT4.5
 const BOARD: &str = "N:T97.643.A73.AQJ8 832.KJT7.QJ942.4 AQ54.Q52.K6.K932 KJ6.A98.T85.T765";
 
 /// The denominations in the order of a row.
-const TRUMPS: [Trump; 5] = [
+pub const TRUMPS: [Trump; 5] = [
     Trump::Nt,
     Trump::Suit(Suit::Spades),
     Trump::Suit(Suit::Hearts),
@@ -74,12 +74,12 @@ fn number_of(digit: u8) -> u8 {
 }
 
 /// It holds of the entry of a layout.
-fn expect_for(rt: &impl Abort, text: &str, declarer: Seat, trump: Trump, holds: bool) {
+pub fn expect_for(rt: &impl Abort, text: &str, declarer: Seat, trump: Trump, holds: bool) {
     assert!(rt; holds, "{text} {declarer} {trump}");
 }
 
 /// The number of a row for a declarer and the denomination in this place. 99 where there is none.
-fn number_in(numbers: &str, declarer: Seat, place: usize) -> u8 {
+pub fn number_in(numbers: &str, declarer: Seat, place: usize) -> u8 {
     let place = declarer.number() * 6 + place % 6;
     let digit = numbers.as_bytes().get(place).copied();
     digit.map_or(99, number_of)
@@ -94,7 +94,9 @@ fn tricks_of(
     trump: Trump,
 ) -> Option<u8> {
     let layout = read_layout(text.as_bytes()).ok()?;
-    let answer = solver.solve(alloc, &layout, declarer, trump, 10_000_000);
+    let found = solver.solve(alloc, &layout, &[declarer], trump, 10_000_000);
+    let bundle = found.ok()??;
+    let answer = bundle.answer_for(alloc, declarer);
     let Answer {
         k,
         declarer: by_declarer,
@@ -174,6 +176,23 @@ fn four_threads(rt: HostRuntime) -> Result<(), Fail> {
     Ok(())
 }
 
+/// The tricks that are claimed for the declarer who is asked for alone, with ten thousand steps.
+fn soon_claimed(
+    alloc: Global,
+    solver: &Partition,
+    layout: &Layout,
+    declarer: Seat,
+    trump: Trump,
+) -> Result<Option<u8>, AllocError> {
+    let Some(bundle) = solver.solve(alloc, layout, &[declarer], trump, 10_000)? else {
+        return Ok(None);
+    };
+    let Some(claim) = bundle.claim_for(declarer) else {
+        return Ok(None);
+    };
+    Ok(Some(claim.k))
+}
+
 /// One solver is asked of two deals by turns, with too few steps for a new search of either: the second call on a deal goes
 /// on where its first one stopped, though the other deal came between.
 #[test]
@@ -183,8 +202,7 @@ fn two_deals_by_turns(rt: HostRuntime) -> Result<(), Fail> {
     for wanted in [None, Some(3)] {
         for (text, declarer) in [(NINE.0, Seat::North), (NINE_TURNED, Seat::South)] {
             let layout = read_layout(text.as_bytes())?;
-            let answer = solver.solve(rt.alloc(), &layout, declarer, trump, 10_000)?;
-            let number = answer.map(|answer| answer.k);
+            let number = soon_claimed(rt.alloc(), &solver, &layout, declarer, trump)?;
             expect_for(&rt, text, declarer, trump, number == wanted);
         }
     }
@@ -199,18 +217,17 @@ fn too_few_steps(rt: HostRuntime) -> Result<(), Fail> {
     let (text, _) = NINE;
     let (north, trump) = (Seat::North, Trump::Suit(Suit::Diamonds));
     let layout = read_layout(text.as_bytes())?;
-    let first = solver.solve(rt.alloc(), &layout, north, trump, 10_000)?;
+    let first = soon_claimed(rt.alloc(), &solver, &layout, north, trump)?;
     expect_for(&rt, text, north, trump, first.is_none());
-    let again = solver.solve(rt.alloc(), &layout, north, trump, 10_000)?;
-    let again = again.ok_or("no answer")?;
-    expect_for(&rt, text, north, trump, again.k == 3);
+    let again = soon_claimed(rt.alloc(), &solver, &layout, north, trump)?;
+    expect_for(&rt, text, north, trump, again == Some(3));
     let solver = Partition::new();
     for (text, _) in ENDINGS {
         let layout = read_layout(text.as_bytes())?;
         for declarer in Seat::ALL {
             for trump in TRUMPS {
-                let answer = solver.solve(rt.alloc(), &layout, declarer, trump, 3)?;
-                expect_for(&rt, text, declarer, trump, answer.is_none());
+                let bundle = solver.solve(rt.alloc(), &layout, &[declarer], trump, 3)?;
+                expect_for(&rt, text, declarer, trump, bundle.is_none());
             }
         }
     }

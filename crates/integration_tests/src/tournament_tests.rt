@@ -1,10 +1,10 @@
 //! Tournaments with solvers that answer for another entry, and with devices that fail; whole ones are among `worked_cases`.
 
 use crate::expect::{expect_bytes, expect_eq, joined};
-use cards::{Buffer, Bytes, Layout, Seat, Trump};
-use certificate_graph::Answer;
+use arrayvec::ArrayVec;
+use cards::{Buffer, Bytes, Layout, Seat, Side, Trump};
 use farm::Clock;
-use partition_solver::{Partition, Solver};
+use partition_solver::{Bundle, Claim, Partition, Solver};
 use std::alloc::{AllocError, Global};
 use std::process::Abort;
 use std::test::Fail;
@@ -30,10 +30,10 @@ impl Solver for FindsNothing {
         &self,
         _alloc: Global,
         _layout: &Layout,
-        _declarer: Seat,
+        _declarers: &[Seat],
         _trump: Trump,
         _budget: u64,
-    ) -> Result<Option<Answer>, AllocError> {
+    ) -> Result<Option<Bundle>, AllocError> {
         Ok(None)
     }
 }
@@ -42,16 +42,36 @@ impl Solver for FindsNothing {
 #[derive(Drop)]
 struct OneAnswer;
 
+/// What is found for North, claimed for another declarer, whose side has North's graph.
+fn claimed_for(declarer: Seat, bundle: Bundle) -> Option<Bundle> {
+    let claim = bundle.claim_for(Seat::North)?;
+    let Bundle { ns, ew, claims: _ } = bundle;
+    let mut claims = ArrayVec::new();
+    let _ = claims.try_push(Claim { declarer, ..claim });
+    Some(match declarer.side() {
+        Side::NorthSouth => Bundle { ns, ew, claims },
+        Side::EastWest => Bundle {
+            ns: ew,
+            ew: ns,
+            claims,
+        },
+    })
+}
+
 impl Solver for OneAnswer {
     fn solve(
         &self,
         alloc: Global,
         layout: &Layout,
-        _declarer: Seat,
+        declarers: &[Seat],
         _trump: Trump,
         budget: u64,
-    ) -> Result<Option<Answer>, AllocError> {
-        Partition::new().solve(alloc, layout, Seat::North, Trump::Nt, budget)
+    ) -> Result<Option<Bundle>, AllocError> {
+        let found = Partition::new().solve(alloc, layout, &[Seat::North], Trump::Nt, budget)?;
+        let (Some(declarer), Some(bundle)) = (declarers.first(), found) else {
+            return Ok(None);
+        };
+        Ok(claimed_for(*declarer, bundle))
     }
 }
 

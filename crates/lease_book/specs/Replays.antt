@@ -5,6 +5,7 @@ use Rattle.cards.specs.declared.seats.Seat.{Seat}
 use Rattle.cards.specs.declared.suits.Trump.{Trump}
 use Rattle.certificate_graph.specs.Graphs.{GraphShape}
 use Rattle.certificate_graph.specs.TextFaults.{TextAnswers}
+use Rattle.checker.specs.Roots.{from_first}
 use Rattle.checker.specs.Claims.{ShowValue}
 use Rattle.pbn_deals.specs.declared.boards.Board.{Board}
 use Rattle.lease_book.specs.declared.entries.Entry.{Entry}
@@ -24,7 +25,7 @@ pub record TextsShow (deal : Deal) (declarer : Seat) (trump : Trump) (k : ℕ) (
   pub defenders : GraphShape
   pub declarers_read : TextAnswers declarer_text (Ok declarers)
   pub defenders_read : TextAnswers defenders_text (Ok defenders)
-  pub show : ShowValue deal declarer trump k declarers defenders
+  pub show : ShowValue deal declarer trump k (from_first declarers) (from_first defenders)
 
 -- a reply before this place gave the lease for the entry
 abbrev pub WasGiven : List Reply → ℕ → ℕ → Entry → Type 0

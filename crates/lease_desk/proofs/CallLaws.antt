@@ -1,7 +1,7 @@
 -- What a call tells its chair.
 use Rattle.std.proofs.Common.{◌≡◌, ℕ, Bool, true, false, cond, ◌&&◌, List, [], ◌∷◌, ◌++◌, All, Option, None, Some, Result, Ok, Err, IfOk, is_some, refl, sym, ap, ◌∙◌, subst}
 use Rattle.cards.specs.Deal.{Deal}
-use Rattle.certificate_graph.specs.declared.answers.Answer.{Answer}
+use Rattle.checker.specs.declared.claims.Claimed.{Claimed}
 use Rattle.checker.specs.declared.entries.Shown.{Shown}
 use Rattle.checker.specs.declared.hand_faults.HandFault.{HandFault}
 use Rattle.checker.specs.declared.hand_faults.HandFault.TheVariants.{NoDeal}
@@ -56,23 +56,23 @@ shown_by terms events None entry evidence k e = cc
 shown_by terms events (Some grant) entry evidence k e =
     shown_if (is_same_entry grant.entry entry && is_evidence_for terms.boards entry evidence) (is_some (published_in events entry)) evidence k e
 
-value_in : (terms : Terms) (entry : Entry) (answer : Answer) (k : ℕ) (found : Option Deal) (verdict : Result Shown HandFault) → deal_of terms.boards entry.board ≡ found → IsVerdictOn found entry answer verdict → IfOk verdict IsProven → IsShownAs (evidence_of verdict) k → IsValueOf terms entry k
-value_in terms entry answer k found (Err fault) on judged proven is = let apart : Faulty fault ≡ Shows is.shown = is.shows in cc
-value_in terms entry answer k None (Ok shown) on judged proven is = let apart : Ok shown ≡ Err NoDeal = judged in cc
-value_in terms entry answer k (Some deal) (Ok shown) on judged proven is =
+value_in : (terms : Terms) (entry : Entry) (claimed : Claimed) (k : ℕ) (found : Option Deal) (verdict : Result Shown HandFault) → deal_of terms.boards entry.board ≡ found → IsVerdictOn found entry claimed verdict → IfOk verdict IsProven → IsShownAs (evidence_of verdict) k → IsValueOf terms entry k
+value_in terms entry claimed k found (Err fault) on judged proven is = let apart : Faulty fault ≡ Shows is.shown = is.shows in cc
+value_in terms entry claimed k None (Ok shown) on judged proven is = let apart : Ok shown ≡ Err NoDeal = judged in cc
+value_in terms entry claimed k (Some deal) (Ok shown) on judged proven is =
     let same : shown ≡ is.shown = let both : Shows shown ≡ Shows is.shown = is.shows in cc in
     let of : ℕ → Shown = λ n. record { layout = deal; declarer = entry.declarer; trump = entry.trump; k = n } in
-    let tricks : answer.k ≡ k = sym (ap (λ (s : Shown). s.k) judged.0) ∙ ap (λ (s : Shown). s.k) same ∙ is.tricks in
+    let tricks : claimed.k ≡ k = sym (ap (λ (s : Shown). s.k) judged.0) ∙ ap (λ (s : Shown). s.k) same ∙ is.tricks in
     record { deal = deal; on = on; proven = subst IsProven (judged.0 ∙ ap of tricks) proven }
 
-pub handed : (terms : Terms) (before after : List Receipt) (lease : ℕ) (entry : Entry) (answer : Answer) (verdict : Result Shown HandFault) (result : Result Receipt OutOfMemory) → IsVerdictOn (deal_of terms.boards entry.board) entry answer verdict → IfOk verdict IsProven
-    → IfOk result (IsTold terms before after (HandIn lease entry (evidence_of verdict))) → IfOk result (IsHandedIn terms before after lease entry answer)
-handed terms before after lease entry answer verdict (Err refused) judged proven told = tt
-handed terms before after lease entry answer verdict (Ok receipt) judged proven told = record {
+pub handed : (terms : Terms) (before after : List Receipt) (lease : ℕ) (entry : Entry) (claimed : Claimed) (verdict : Result Shown HandFault) (result : Result Receipt OutOfMemory) → IsVerdictOn (deal_of terms.boards entry.board) entry claimed verdict → IfOk verdict IsProven
+    → IfOk result (IsTold terms before after (HandIn lease entry (evidence_of verdict))) → IfOk result (IsHandedIn terms before after lease entry claimed)
+handed terms before after lease entry claimed verdict (Err refused) judged proven told = tt
+handed terms before after lease entry claimed verdict (Ok receipt) judged proven told = record {
   verdict = verdict;
   judged = judged;
   told_is = told;
   published = λ k e.
-      value_in terms entry answer k (deal_of terms.boards entry.board) verdict refl judged proven
+      value_in terms entry claimed k (deal_of terms.boards entry.board) verdict refl judged proven
       (shown_by terms told.named.earlier (grant_of told.named.earlier lease) entry (evidence_of verdict) k (sym told.named.reply_is ∙ e));
 }

@@ -1,10 +1,11 @@
 -- What calls ask of a book.
 use Rattle.std.specs.Prelude.{◌≡◌, Option, None, Some, Result, Ok, Err}
 use Rattle.cards.specs.Deal.{Deal}
-use Rattle.certificate_graph.specs.declared.answers.Answer.{Answer}
+use Rattle.checker.specs.declared.claims.Claimed.{Claimed}
 use Rattle.checker.specs.declared.entries.Shown.{Shown}
 use Rattle.checker.specs.declared.hand_faults.HandFault.{HandFault}
 use Rattle.checker.specs.declared.hand_faults.HandFault.TheVariants.{NoDeal, Entry}
+use Rattle.checker.specs.Witnesses.{rooted_shape}
 use Rattle.checker.specs.EntryFaults.{EntryAnswers}
 use Rattle.lease_book.specs.declared.entries.Entry as entries
 use Rattle.lease_book.specs.declared.events.Asked.{Asked}
@@ -20,11 +21,11 @@ asked_of (asking.Expire now) = Expire now
 asked_of (asking.GiveUp lease) = GiveUp lease
 asked_of (asking.HandIn lease entry verdict) = HandIn lease entry (evidence_of verdict)
 
--- the verdict on an answer for an entry whose board has this deal
-abbrev pub IsVerdictOn : Option Deal → entries.Entry → Answer → Result Shown HandFault → Type 0
-IsVerdictOn None entry answer verdict = verdict ≡ Err NoDeal
-IsVerdictOn (Some deal) entry answer (Ok shown) =
-    EntryAnswers deal entry.declarer entry.trump answer.k answer.declarer answer.defenders (Ok shown)
-IsVerdictOn (Some deal) entry answer (Err (Entry fault)) =
-    EntryAnswers deal entry.declarer entry.trump answer.k answer.declarer answer.defenders (Err fault)
-IsVerdictOn (Some deal) entry answer (Err _) = ⊥
+-- the verdict on a claim for an entry whose board has this deal
+abbrev pub IsVerdictOn : Option Deal → entries.Entry → Claimed → Result Shown HandFault → Type 0
+IsVerdictOn None entry claimed verdict = verdict ≡ Err NoDeal
+IsVerdictOn (Some deal) entry claimed (Ok shown) =
+    EntryAnswers deal entry.declarer entry.trump claimed.k (rooted_shape claimed.declarer) (rooted_shape claimed.defenders) (Ok shown)
+IsVerdictOn (Some deal) entry claimed (Err (Entry fault)) =
+    EntryAnswers deal entry.declarer entry.trump claimed.k (rooted_shape claimed.declarer) (rooted_shape claimed.defenders) (Err fault)
+IsVerdictOn (Some deal) entry claimed (Err _) = ⊥

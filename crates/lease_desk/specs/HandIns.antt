@@ -1,7 +1,7 @@
 -- What a hand-in tells its chair.
 use Rattle.std.specs.Prelude.{◌≡◌, ℕ, List, Some, Result}
 use Rattle.cards.specs.Deal.{Deal}
-use Rattle.certificate_graph.specs.declared.answers.Answer.{Answer}
+use Rattle.checker.specs.declared.claims.Claimed.{Claimed}
 use Rattle.checker.specs.declared.entries.Shown.{Shown}
 use Rattle.checker.specs.declared.hand_faults.HandFault.{HandFault}
 use Rattle.lease_book.specs.declared.entries.Entry.{Entry}
@@ -19,10 +19,10 @@ pub record IsValueOf (terms : Terms) (entry : Entry) (k : ℕ) : Type 0 where
   pub on : deal_of terms.boards entry.board ≡ Some deal
   pub proven : IsProven (record { layout = deal; declarer = entry.declarer; trump = entry.trump; k = k })
 
--- The verdict on the answer was handed in under the lease. A number that the reply publishes is the entry's value.
-pub record IsHandedIn (terms : Terms) (before after : List Receipt) (lease : ℕ) (entry : Entry) (answer : Answer) (told : Receipt)
+-- The verdict on the claim was handed in under the lease. A number that the reply publishes is the entry's value.
+pub record IsHandedIn (terms : Terms) (before after : List Receipt) (lease : ℕ) (entry : Entry) (claimed : Claimed) (told : Receipt)
     : Type 0 where
   pub verdict : Result Shown HandFault
-  pub judged : IsVerdictOn (deal_of terms.boards entry.board) entry answer verdict
+  pub judged : IsVerdictOn (deal_of terms.boards entry.board) entry claimed verdict
   pub told_is : IsTold terms before after (HandIn lease entry (evidence_of verdict)) told
   pub published : (k : ℕ) → told.event.reply ≡ Published k → IsValueOf terms entry k

@@ -13,7 +13,7 @@ use crate::entering::attend;
 use crate::gates::Gate;
 use crate::receipts::Receipt;
 use crate::verdicts::verdict_on;
-use certificate_graph::Answer;
+use checker::Claimed;
 use lease_book::{Entry, OutOfMemory};
 use std::sync::Wait;
 
@@ -87,25 +87,25 @@ impl Desk {
         self.call(rt, chair, Asking::GiveUp { lease })
     }
 
-    /// Tells the gate, checks the answer for the entry on the deal of its board, and hands the verdict in under the lease.
-    /// The answer is checked before the book is taken, so that others go on meanwhile.
+    /// Tells the gate, checks the claim for the entry on the deal of its board, and hands the verdict in under the lease.
+    /// The claim is checked before the book is taken, so that others go on meanwhile.
     pub fn hand_in<R: Wait, G: Gate>(
         &self,
         rt: &R,
         chair: &mut Chair,
         lease: u64,
         entry: Entry,
-        answer: &Answer,
+        claimed: &Claimed,
         gate: &G,
     ) -> Result<Receipt, OutOfMemory>
         requires chair { IsChairOf self.now chair.old }
         ensures chair { IsChairOf self.now chair.new }
         ensures number { number_of chair.new ≡ number_of chair.old }
-        ensures ok { IfOk result (IsHandedIn (terms_of self.now) (receipts_in chair.old) (receipts_in chair.new) lease entry answer.now) }
+        ensures ok { IfOk result (IsHandedIn (terms_of self.now) (receipts_in chair.old) (receipts_in chair.new) lease entry claimed.now) }
         ensures err { OnErr result (receipts_in chair.new ≡ receipts_in chair.old) }
     {
         gate.before_check(lease);
-        let verdict = verdict_on(self.boards.as_slice(), entry, answer);
+        let verdict = verdict_on(self.boards.as_slice(), entry, claimed);
         self.call(
             rt,
             chair,

@@ -11,10 +11,13 @@ pub trait Gate {
     /// A solver is about to work on this lease.
     fn before_solve(&self, lease: u64);
 
-    /// An answer under this lease is about to be checked.
+    /// The graphs that an answer under this lease claims something of are about to be checked.
+    fn before_graphs(&self, _lease: u64) {}
+
+    /// A claim under this lease is about to be checked.
     fn before_check(&self, lease: u64);
 
-    /// An answer for this entry was checked and handed in, and had this reply.
+    /// A claim for this entry was checked and handed in, and had this reply.
     fn after_check(&self, _entry: Entry, _reply: Reply) {}
 
     /// All work has ended.

@@ -1,4 +1,4 @@
-//! The verdict on an answer that is handed in.
+//! The verdict on a claim that is handed in.
 
 ghost use Rattle.std.specs.Prelude.{◌≡◌, IfOk};
 ghost use Rattle.std.specs.Option.{option_copied};
@@ -7,8 +7,7 @@ ghost use Rattle.lease_book.specs.Proofs.{IsProven};
 ghost use Rattle.lease_desk.specs.Askings.{IsVerdictOn};
 
 use cards::Layout;
-use certificate_graph::Answer;
-use checker::{HandFault, Verdict, check_entry};
+use checker::{Claimed, HandFault, Verdict, check_claim};
 use lease_book::Entry;
 use pbn_deals::Board;
 
@@ -22,22 +21,15 @@ fn deal_on(boards: &[Board], board: usize) -> Option<&Layout>
     }
 }
 
-/// The verdict on an answer for an entry, on the deal of its board.
-pub(crate) fn verdict_on(boards: &[Board], entry: Entry, answer: &Answer) -> Verdict
-    ensures verdict { IsVerdictOn (deal_of boards.now entry.board) entry answer.now result }
+/// The verdict on a claim for an entry, on the deal of its board.
+pub(crate) fn verdict_on(boards: &[Board], entry: Entry, claimed: &Claimed) -> Verdict
+    ensures verdict { IsVerdictOn (deal_of boards.now entry.board) entry claimed.now result }
     ensures proven { IfOk result IsProven }
 {
     let Some(layout) = deal_on(boards, entry.board) else {
         return Err(HandFault::NoDeal);
     };
-    match check_entry(
-        layout,
-        entry.declarer,
-        entry.trump,
-        answer.k,
-        &answer.declarer,
-        &answer.defenders,
-    ) {
+    match check_claim(layout, entry.declarer, entry.trump, claimed) {
         Ok(proven) => {
             proven.invariant();
             Ok(proven)

@@ -31,6 +31,7 @@ pub record SaysSettings (said : List Row) (settings : Settings) : Type 0 where
   pub term : SaysNumber said (codes "term") 0 1000000000 settings.term
   pub tries : SaysNumber said (codes "tries") 1 1000 settings.tries
   pub budget : SaysNumber said (codes "budget") 1 1000000000 settings.budget
+  pub batch : SaysNumber said (codes "batch") 1 20 settings.batch
 
 -- an option without a value stands among the words, or does not
 abbrev pub flag_letters : Bool → Text

@@ -23,6 +23,9 @@ const LONGEST_TERM: u64 = 1_000_000_000;
 /// How often an entry is searched at most.
 const MOST_TRIES: u64 = 1000;
 
+/// The most entries that are lent to a search at a time.
+const MOST_ENTRIES: u64 = 20;
+
 /// What the words of `plain`, `solve` and `check` name.
 #[derive(Clone, Copy)]
 pub struct NamedDeal<'a> {
@@ -88,12 +91,14 @@ fn settings_of(said: &ArgMatches<'_>) -> Option<Settings>
     let term = number_of(said, "term", 0, LONGEST_TERM)?;
     let tries = number_of(said, "tries", 1, MOST_TRIES)?;
     let budget = number_of(said, "budget", 1, MOST_STEPS)?;
+    let batch = number_of(said, "batch", 1, MOST_ENTRIES)?;
     Settings::new(
         solvers as usize,
         checkers as usize,
         term,
         tries as u32,
         budget,
+        batch as usize,
     )
     .ok()
 }

@@ -1,4 +1,4 @@
-//! The graph of a side, written from the root on, each node after those that name it first.
+//! The graph of a side, written from its roots on, each node after those that name it first.
 
 use crate::plans::{Goal, PLAN_FUEL, Piece, Plan, TrickStart};
 use crate::search::Search;
@@ -8,10 +8,9 @@ use certificate_graph::{Branch, Child, Graph, Node, Tree};
 use pattern_step::PatCard;
 use patterns::{Pattern, SuitPart};
 use search_state::played_patterns::{LOW, PlainCard, PlayedPattern};
-use search_state::positions::Position;
-use search_state::records::list_of;
 use search_state::words::MOST_CARDS;
 use std::alloc::{AllocError, Global};
+use std::sync::Arc;
 
 /// How many nodes a graph has at most.
 const MOST_NODES: usize = 1_000_000;
@@ -29,15 +28,14 @@ struct Writing {
     nodes: Vec<Node>,
 }
 
-/// The graph that shows that the side can win so many tricks with this seat to lead. None where what is remembered does
-/// not show it, no steps are left, or memory ran out.
+/// The graph of a side that begins with these roots. None where what is remembered does not show them, no steps are left, or
+/// memory ran out.
 pub(crate) fn write_graph(
     search: &mut Search,
     trump: Trump,
-    leader: usize,
     ours: bool,
-    need: i32,
-) -> Option<Graph> {
+    roots: &[TrickStart],
+) -> Option<Arc<Graph>> {
     let Ok(plan) = Plan::new(search.alloc, search, ours) else {
         search.run_out();
         return None;
@@ -49,10 +47,15 @@ pub(crate) fn write_graph(
         todo: Vec::new(search.alloc),
         nodes: Vec::new(search.alloc),
     };
-    if need > 0 && !writing.add_all(search, leader, need) {
+    if !writing.add_all(search, roots) {
         return None;
     }
-    writing.into_graph(trump, ours)
+    let graph = writing.into_graph(trump, ours)?;
+    let shared = Arc::new(search.alloc, graph);
+    if shared.is_err() {
+        search.run_out();
+    }
+    shared.ok()
 }
 
 /// The seat with this number.
@@ -72,12 +75,9 @@ impl Writing {
         Graph::new(trump, side, nodes).ok()
     }
 
-    /// Writes the root and all nodes that are named. False where one is not shown.
-    fn add_all(&mut self, search: &mut Search, leader: usize, need: i32) -> bool {
-        let Some(root) = self.root(search, leader, need) else {
-            return false;
-        };
-        if self.put_down(root).is_err() {
+    /// Writes the roots and all nodes that are named. False where one is not shown.
+    fn add_all(&mut self, search: &mut Search, roots: &[TrickStart]) -> bool {
+        if self.put_down_roots(roots).is_err() {
             search.run_out();
             return false;
         }
@@ -92,24 +92,19 @@ impl Writing {
         self.todo.len() <= MOST_NODES
     }
 
-    /// Where play starts, if it is known that the side wins just so many tricks.
-    fn root(&self, search: &Search, leader: usize, need: i32) -> Option<TrickStart> {
-        let lengths = Position::start(search.deal.hands, leader).lengths;
-        let slot = search.records.slot(lengths)?;
-        let list = list_of(leader, self.plan.ours);
-        let record = search.records.find(slot, list, search.all_owners(), need)?;
-        if i32::from(search.records.record(record).need) != need {
-            return None;
+    /// Puts down the roots.
+    fn put_down_roots(&mut self, roots: &[TrickStart]) -> Result<(), AllocError> {
+        for root in roots {
+            self.put_down(*root)?;
         }
-        Some(TrickStart {
-            lengths,
-            record,
-            leader,
-        })
+        Ok(())
     }
 
-    /// Puts a node down for writing, with the next number.
+    /// Puts a node down for writing, with the next number, unless it has one.
     fn put_down(&mut self, start: TrickStart) -> Result<(), AllocError> {
+        if self.plan.number(start.record) != 0 {
+            return Ok(());
+        }
         self.todo.push(start)?;
         let number = (self.todo.len() & 0xffff_ffff) as u32;
         if let Some(old) = self.plan.numbers.get_mut(start.record as usize) {
@@ -151,13 +146,11 @@ impl Writing {
         Ok(())
     }
 
-    /// Puts down the nodes that the tree in work names and that have no number yet.
+    /// Puts down the nodes that the tree in work names.
     fn put_down_children(&mut self) -> Result<(), AllocError> {
         for place in 0..self.plan.pieces.len() {
             if let Some(Piece::Child(start)) = self.plan.pieces.get(place).copied() {
-                if self.plan.number(start.record) == 0 {
-                    self.put_down(start)?;
-                }
+                self.put_down(start)?;
             }
         }
         Ok(())

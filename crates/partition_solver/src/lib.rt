@@ -1,10 +1,13 @@
-//! A solver: how many tricks declarer's side takes, with a certificate for each side.
+//! A solver: how many tricks declarers of a denomination take, with a certificate for each side that they share.
 //!
 //! A partition search over the real cards remembers patterns, each with what a side can win of it, and the certificates
 //! are written from what it remembers. Nothing that it answers is trusted: the checker decides. It promises only that it
 //! returns, whatever the layout, the budget and the memory. `docs/SOLVER.md` tells the algorithm.
 #![tactic(auto)]
 
+mod answers;
+mod bundles;
+mod claims;
 mod graph_writing;
 mod memory;
 mod plans;
@@ -13,4 +16,5 @@ mod search;
 mod solving;
 mod values;
 
+pub use bundles::{Bundle, Claim};
 pub use solving::{Partition, Solver};

@@ -101,14 +101,13 @@ impl Memory {
         None
     }
 
-    /// The search of this deal in this denomination, with so many steps: one that is kept, else a new one. It has its
-    /// part of the room that the kept ones leave. They are dropped where this one could not remember all that it found.
+    /// The search of this deal in this denomination: one that is kept, else a new one. It has its part of the room that the
+    /// kept ones leave. They are dropped where this one could not remember all that it found.
     pub(crate) fn search_of(
         &self,
         alloc: Global,
         layout: &Layout,
         trump: Trump,
-        steps: u64,
     ) -> Result<Search, AllocError> {
         let mut search = match self.taken(layout, trump) {
             Some(search) => search,
@@ -121,7 +120,6 @@ impl Memory {
         }
         let held = self.shrink(most);
         search.records.room = self.room().saturating_sub(held) / self.threads().max(1);
-        search.steps = steps;
         Ok(search)
     }
 

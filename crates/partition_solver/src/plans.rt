@@ -32,7 +32,7 @@ pub(crate) enum Piece {
 
 /// The start of a trick, as a node has it: a record with its shape, and the seat that leads. In a child that seat has won the
 /// trick before.
-#[derive(Clone, Copy)]
+#[derive(Clone, Copy, Default)]
 pub(crate) struct TrickStart {
     /// The lengths, as the search has them.
     pub lengths: u64,

@@ -1,42 +1,43 @@
 //! What a solver is, and the partition search as one.
 
-use crate::graph_writing::write_graph;
+use crate::bundles::Bundle;
+use crate::claims::bundle_of;
 use crate::memory::Memory;
-use crate::search::Search;
 use cards::{Layout, Seat, Trump};
-use certificate_graph::{Answer, Graph};
 use std::alloc::{AllocError, Global};
 
-/// Something that looks for the tricks that declarer's side takes, and for the graphs that show them. Nothing is
+/// Something that looks for the tricks of declarers of a denomination, and for the graphs that show them. Nothing is
 /// promised of what it answers.
 pub trait Solver {
-    ghost use Rattle.std.specs.Prelude.{ℕ, Option, ⊤};
+    ghost use Rattle.std.specs.Prelude.{ℕ, List, Option, ⊤};
     ghost use Rattle.std.specs.Option.{option_flatten};
     ghost use Rattle.std.specs.Result.{result_ok};
     ghost use Rattle.cards.specs.Deal.{Deal};
     ghost use Rattle.cards.specs.declared.seats.Seat.{Seat};
     ghost use Rattle.cards.specs.declared.suits.Trump.{Trump};
-    ghost use Rattle.certificate_graph.specs.declared.answers.Answer.{Answer};
+    ghost use Rattle.partition_solver.specs.declared.bundles.Bundle.{Bundle};
 
-    /// What may be found for a deal, a declarer and a denomination within a budget: anything. Who is to show that it may
-    /// be found has to ask for it.
-    ghost may_find: { Self → Deal → Seat → Trump → ℕ → Option Answer → Type 0 } = { λ _ _ _ _ _ _. ⊤ };
+    /// What may be found for a deal, declarers and a denomination within a budget: anything. Who is to show that it may be
+    /// found has to ask for it.
+    ghost may_find: { Self → Deal → List Seat → Trump → ℕ → Option Bundle → Type 0 } = { λ _ _ _ _ _ _. ⊤ };
 
-    /// An answer for the layout, with the seat at declarer's left to lead, if one was found within the budget.
+    /// Claims for those of the declarers whose tricks were found, with the seat at declarer's left to lead, if there are
+    /// any. The declarers are distinct. The budget is a number of steps for each of them.
     fn solve(
         &self,
         alloc: Global,
         layout: &Layout,
-        declarer: Seat,
+        declarers: &[Seat],
         trump: Trump,
         budget: u64,
-    ) -> Result<Option<Answer>, AllocError>
-        ensures { may_find self.now layout.now declarer trump budget (option_flatten (result_ok result)) };
+    ) -> Result<Option<Bundle>, AllocError>
+        ensures { may_find self.now layout.now declarers.now trump budget (option_flatten (result_ok result)) };
 }
 
 /// A partition search. A step of its budget is one card tried, in the search or for a tree of a graph; the last card of a
-/// trick is free where it is only looked up. What it finds is remembered for later calls: the other declarers of a
-/// denomination have use for it, and a call that ran out of steps can be made again. Threads may call it at once: none waits.
+/// trick is free where it is only looked up. The tricks of a declarer are found within the budget, and the graphs of all are
+/// written with what they leave of it. What it finds is remembered for later calls, unless each seat has a claim: a call that
+/// ran out of steps can be made again, and declarers can be asked for one by one. Threads may call it at once: none waits.
 #[derive(Drop)]
 pub struct Partition {
     memory: Memory,
@@ -52,22 +53,27 @@ impl Partition {
         }
     }
 
-    /// An answer, as `solve` gives it.
+    /// Claims, as `solve` gives them. Where each seat has one the search is not kept.
     fn found(
         &self,
         alloc: Global,
         layout: &Layout,
-        declarer: Seat,
+        declarers: &[Seat],
         trump: Trump,
         budget: u64,
-    ) -> Result<Option<Answer>, AllocError> {
-        let mut search = self.memory.search_of(alloc, layout, trump, budget)?;
-        let answer = answer(&mut search, layout.len() as i32, declarer, trump);
+    ) -> Result<Option<Bundle>, AllocError> {
+        let mut search = self.memory.search_of(alloc, layout, trump)?;
+        let bundle = bundle_of(&mut search, layout.len() as i32, declarers, trump, budget);
         if search.memory_ran_out {
             return Err(AllocError);
         }
-        self.memory.keep(search);
-        Ok(answer)
+        if !bundle
+            .as_ref()
+            .is_some_and(|bundle| bundle.claims.is_full())
+        {
+            self.memory.keep(search);
+        }
+        Ok(bundle)
     }
 }
 
@@ -82,39 +88,16 @@ impl Solver for Partition {
         &self,
         alloc: Global,
         layout: &Layout,
-        declarer: Seat,
+        declarers: &[Seat],
         trump: Trump,
         budget: u64,
-    ) -> Result<Option<Answer>, AllocError> {
+    ) -> Result<Option<Bundle>, AllocError> {
         self.memory.enter();
-        let found = self.found(alloc, layout, declarer, trump, budget);
+        let found = self.found(alloc, layout, declarers, trump, budget);
         self.memory.leave();
         if found.is_err() {
             self.memory.shrink(0);
         }
         found
-    }
-}
-
-/// An answer for a deal of so many tricks, by a search of it. None where no steps are left, too little is remembered, or
-/// memory ran out.
-fn answer(search: &mut Search, tricks: i32, declarer: Seat, trump: Trump) -> Option<Answer> {
-    let leader = declarer.next().number();
-    let ours = search.value(leader)?;
-    let theirs = tricks.wrapping_sub(ours);
-    let by_ns = write_graph(search, trump, leader, true, ours)?;
-    let by_ew = write_graph(search, trump, leader, false, theirs)?;
-    Some(match declarer {
-        Seat::North | Seat::South => answer_of(ours, by_ns, by_ew),
-        Seat::East | Seat::West => answer_of(theirs, by_ew, by_ns),
-    })
-}
-
-/// The answer that declarer's side takes so many tricks.
-fn answer_of(tricks: i32, declarer: Graph, defenders: Graph) -> Answer {
-    Answer {
-        k: (tricks & 15) as u8,
-        declarer,
-        defenders,
     }
 }

@@ -39,13 +39,13 @@ impl Search {
             / 100
     }
 
-    /// How many tricks North and South can win with this seat to lead. Each question brings the bounds nearer by one at
-    /// least. None where no steps are left or memory ran out.
-    pub(crate) fn value(&mut self, leader: usize) -> Option<i32> {
+    /// How many tricks North and South can win with this seat to lead. So many are asked for first, if a guess is given. Each
+    /// question brings the bounds nearer by one at least. None where no steps are left or memory ran out.
+    pub(crate) fn value(&mut self, leader: usize, guess: Option<i32>) -> Option<i32> {
         let mut position = Position::start(self.deal.hands, leader);
         let mut least = 0;
         let mut most = position.tricks;
-        position.want = self.guess(position.tricks);
+        position.want = guess.unwrap_or(self.guess(position.tricks));
         for _ in 0..MOST_CARDS {
             if least >= most {
                 break;

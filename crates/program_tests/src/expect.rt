@@ -2,10 +2,9 @@
 //! `assert_eq!` a second or more.
 
 use cards::{Buffer, Bytes, Layout, Seat, Trump};
-use certificate_graph::Answer;
 use farm::Clock;
 use lease_desk::Gate;
-use partition_solver::Solver;
+use partition_solver::{Bundle, Solver};
 use std::alloc::{AllocError, Global};
 use std::fmt::Debug;
 use std::process::Abort;
@@ -28,10 +27,10 @@ impl Solver for Nothing {
         &self,
         _alloc: Global,
         _layout: &Layout,
-        _declarer: Seat,
+        _declarers: &[Seat],
         _trump: Trump,
         _budget: u64,
-    ) -> Result<Option<Answer>, AllocError> {
+    ) -> Result<Option<Bundle>, AllocError> {
         Ok(None)
     }
 }

@@ -58,14 +58,16 @@ fn expect_cut<R: Abort + Threads + Wait + Sync, S: Solver + Sync>(
 fn full_outputs(rt: HostRuntime) -> Result<(), Fail> {
     let alloc = rt.alloc();
     expect_cut(&rt, alloc, CHECK, &Nothing, FINESSE, "accepted 0\n")?;
-    expect_cut(
-        &rt,
-        alloc,
-        tables(false)?,
-        &Nothing,
-        b"[Deal \"?\"]",
-        UNNAMED,
-    )?;
+    for batch in [1, 20] {
+        expect_cut(
+            &rt,
+            alloc,
+            tables(false, batch)?,
+            &Nothing,
+            b"[Deal \"?\"]",
+            UNNAMED,
+        )?;
+    }
     let solver = Claims { tricks: Some(13) };
     expect_cut(&rt, alloc, east(ACE, STEPS), &solver, b"", THIRTEEN)
 }

@@ -23,6 +23,7 @@ const BOARD: &[u8] =
 struct Counts {
     begun: AtomicU64,
     solved: AtomicU64,
+    checked: AtomicU64,
     ended: AtomicU64,
 }
 
@@ -35,21 +36,37 @@ impl Gate for Counts {
         self.solved.fetch_add(1, SeqCst);
     }
 
-    fn before_check(&self, _lease: u64) {}
+    fn before_graphs(&self, _lease: u64) {
+        self.checked.fetch_add(1, SeqCst);
+    }
+
+    fn before_check(&self, _lease: u64) {
+        self.checked.fetch_add(1, SeqCst);
+    }
 
     fn after_work(&self) {
         self.ended.fetch_add(1, SeqCst);
     }
 }
 
+/// Whether progress is told, how many entries are leased at a time, and how many boards, leases, checks and ends are told. Each
+/// entry is tried three times.
+const TOLD: [(bool, usize, [u64; 4]); 4] = [
+    (false, 1, [0, 0, 0, 0]),
+    (true, 1, [1, 60, 0, 1]),
+    (false, 20, [0, 0, 0, 0]),
+    (true, 20, [1, 60, 0, 1]),
+];
+
 /// The gate is told of the work where that is asked for, and of none of it where it isn't.
 #[test]
 fn who_asks_is_told(rt: HostRuntime) -> Result<(), Fail> {
     let alloc = rt.alloc();
-    for (progress, wanted) in [(false, [0, 0, 0]), (true, [1, 60, 1])] {
+    for (progress, batch, wanted) in TOLD {
         let gate = Counts {
             begun: AtomicU64::new(0),
             solved: AtomicU64::new(0),
+            checked: AtomicU64::new(0),
             ended: AtomicU64::new(0),
         };
         let mut output = Buffer::new(alloc, ROOM, ROOM)?;
@@ -57,7 +74,7 @@ fn who_asks_is_told(rt: HostRuntime) -> Result<(), Fail> {
         let status = run_subcommand(
             &rt,
             alloc,
-            tables(progress)?,
+            tables(progress, batch)?,
             &Nothing,
             &gate,
             &Stopped,
@@ -66,8 +83,8 @@ fn who_asks_is_told(rt: HostRuntime) -> Result<(), Fail> {
             &mut errors,
         );
         expect_eq(&rt, &status, &Status::Incomplete);
-        let told = [&gate.begun, &gate.solved, &gate.ended].map(|count| count.load(SeqCst));
-        expect_eq(&rt, &told, &wanted);
+        let counts = [&gate.begun, &gate.solved, &gate.checked, &gate.ended];
+        expect_eq(&rt, &counts.map(|count| count.load(SeqCst)), &wanted);
     }
     Ok(())
 }

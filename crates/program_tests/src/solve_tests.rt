@@ -1,13 +1,14 @@
 //! Answers that are found, written and then checked.
 
 use crate::expect::{End, Nothing, Open, ROOM, Stopped, expect_eq, expect_run};
+use arrayvec::ArrayVec;
 use cards::{Buffer, Bytes, Layout, Seat, Side, Suit, Trump};
-use certificate_graph::{Answer, Graph};
-use partition_solver::{Partition, Solver};
+use certificate_graph::Graph;
+use partition_solver::{Bundle, Claim, Partition, Solver};
 use pbn_deals::read_layout;
 use std::alloc::{AllocError, Global};
 use std::process::Abort;
-use std::sync::Wait;
+use std::sync::{Arc, Wait};
 use std::test::Fail;
 use std::thread::Threads;
 use strategies::plain_value;
@@ -120,6 +121,34 @@ pub fn east(layout: &str, budget: u64) -> Subcommand<'_> {
     }
 }
 
+/// Graphs without nodes, and these claims.
+fn bundle_of(alloc: Global, trump: Trump, claims: &[Claim]) -> Result<Option<Bundle>, AllocError> {
+    let ns = Graph::new(trump, Side::NorthSouth, Vec::new(alloc));
+    let ew = Graph::new(trump, Side::EastWest, Vec::new(alloc));
+    let mut list = ArrayVec::new();
+    for claim in claims {
+        let _ = list.try_push(*claim);
+    }
+    match (ns, ew) {
+        (Ok(ns), Ok(ew)) => Ok(Some(Bundle {
+            ns: Arc::new(alloc, ns)?,
+            ew: Arc::new(alloc, ew)?,
+            claims: list,
+        })),
+        _ => Ok(None),
+    }
+}
+
+/// That a declarer takes so many tricks, with nothing to show it.
+fn unfounded(declarer: Seat, k: u8) -> Claim {
+    Claim {
+        declarer,
+        k,
+        declarer_root: None,
+        defenders_root: None,
+    }
+}
+
 /// Gives so many tricks for every layout, and certificates without nodes; or finds no memory.
 #[derive(Drop)]
 pub struct Claims {
@@ -132,23 +161,18 @@ impl Solver for Claims {
         &self,
         alloc: Global,
         _layout: &Layout,
-        declarer: Seat,
+        declarers: &[Seat],
         trump: Trump,
         _budget: u64,
-    ) -> Result<Option<Answer>, AllocError> {
+    ) -> Result<Option<Bundle>, AllocError> {
         let Some(k) = self.tricks else {
             return Err(AllocError);
         };
-        let ours = Graph::new(trump, declarer.side(), Vec::new(alloc));
-        let theirs = Graph::new(trump, declarer.next().side(), Vec::new(alloc));
-        match (ours, theirs) {
-            (Ok(declarer), Ok(defenders)) => Ok(Some(Answer {
-                k,
-                declarer,
-                defenders,
-            })),
-            _ => Ok(None),
+        let mut claims: ArrayVec<Claim, 4> = ArrayVec::new();
+        for declarer in declarers {
+            let _ = claims.try_push(unfounded(*declarer, k));
         }
+        bundle_of(alloc, trump, claims.as_slice())
     }
 }
 
@@ -209,4 +233,76 @@ fn unfounded_claims(rt: HostRuntime) -> Result<(), Fail> {
         ROOM,
         NO_ANSWER,
     )
+}
+
+/// Gives these claims for every layout, and certificates without nodes.
+#[derive(Drop)]
+struct Lists {
+    claims: &'static [Claim],
+}
+
+impl Solver for Lists {
+    fn solve(
+        &self,
+        alloc: Global,
+        _layout: &Layout,
+        _declarers: &[Seat],
+        trump: Trump,
+        _budget: u64,
+    ) -> Result<Option<Bundle>, AllocError> {
+        bundle_of(alloc, trump, self.claims)
+    }
+}
+
+/// Thirteen tricks, with nothing to show them.
+const BY_EAST: Claim = Claim {
+    declarer: Seat::East,
+    k: 13,
+    declarer_root: None,
+    defenders_root: None,
+};
+
+const BY_NORTH: Claim = Claim {
+    declarer: Seat::North,
+    ..BY_EAST
+};
+
+/// A trick more than there may be.
+const TOO_MANY: Claim = Claim { k: 14, ..BY_EAST };
+
+/// Claims by a node that isn't there.
+const NO_DECLARER_NODE: Claim = Claim {
+    declarer_root: Some(0),
+    ..BY_EAST
+};
+
+const NO_DEFENDERS_NODE: Claim = Claim {
+    defenders_root: Some(0),
+    ..BY_EAST
+};
+
+/// What a solver claims that is asked for East's tricks, and how the run ends. The first claim for East counts.
+const LISTS: [(&[Claim], End<'static>); 8] = [
+    (&[], NO_ANSWER),
+    (&[BY_NORTH], NO_ANSWER),
+    (&[NO_DECLARER_NODE], NO_ANSWER),
+    (&[NO_DEFENDERS_NODE], NO_ANSWER),
+    (&[NO_DECLARER_NODE, BY_EAST], NO_ANSWER),
+    (&[TOO_MANY, BY_EAST], NO_ANSWER),
+    (&[BY_EAST, TOO_MANY], (Status::Done, THIRTEEN, "")),
+    (
+        &[BY_NORTH, BY_EAST, NO_DECLARER_NODE],
+        (Status::Done, THIRTEEN, ""),
+    ),
+];
+
+/// An answer is the first claim for declarer, and there is none where it names a node that isn't there.
+#[test]
+fn claims_of_others(rt: HostRuntime) -> Result<(), Fail> {
+    let alloc = rt.alloc();
+    for &(claims, wanted) in &LISTS {
+        let solver = Lists { claims };
+        expect_run(&rt, alloc, east(ACE, STEPS), &solver, b"", ROOM, wanted)?;
+    }
+    Ok(())
 }

@@ -17,9 +17,9 @@ const TRIES: u32 = 3;
 
 const STEPS: u64 = 10_000_000;
 
-/// The tables of the input, with a solver and a checker.
-pub fn tables(progress: bool) -> Result<Subcommand<'static>, SettingsFault> {
-    let settings = Settings::new(1, 1, TERM, TRIES, STEPS)?;
+/// The tables of the input, with a solver, a checker and so many leases at a time.
+pub fn tables(progress: bool, batch: usize) -> Result<Subcommand<'static>, SettingsFault> {
+    let settings = Settings::new(1, 1, TERM, TRIES, STEPS, batch)?;
     Ok(Subcommand::Table { settings, progress })
 }
 

@@ -7,7 +7,7 @@ use Rattle.farm.specs.declared.settings.Settings.{Settings}
 use Rattle.tables.specs.declared.sheets.Report.{Report}
 use Rattle.tournaments.specs.declared.faults.MakeFault.{MakeFault}
 use Rattle.tournaments.specs.Making.{MakesTables}
-use Rattle.tournaments.specs.Asking.{MayFind}
+use Rattle.partition_solver.specs.Answers.{MayFind}
 use Rattle.streams.specs.Flushes.{HandsOn}
 use Rattle.cards.specs.Devices.{Device, Fails, Adds, AddsBeginning}
 use Rattle.subcommands.specs.declared.faults.RunFault.{RunFault}

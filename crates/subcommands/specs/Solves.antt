@@ -9,7 +9,8 @@ use Rattle.pbn_deals.specs.LayoutValue.{SaysLayout}
 use Rattle.certificate_graph.specs.declared.answers.Answer.{Answer}
 use Rattle.certificate_graph.specs.Graphs.{GraphShape, IsGraph}
 use Rattle.certificate_graph.specs.Texts.{graph_text}
-use Rattle.tournaments.specs.Asking.{MayFind}
+use Rattle.partition_solver.specs.declared.bundles.Bundle.{Bundle}
+use Rattle.partition_solver.specs.Answers.{MayFind, MayAnswer}
 use Rattle.subcommands.specs.declared.faults.RunFault.{RunFault}
 use Rattle.subcommands.specs.declared.faults.RunFault.TheVariants.{OutOfMemory, Read, NoThread, Write, NotText, Layout, TooLarge}
 use Rattle.subcommands.specs.declared.faults.RunFault.TheVariants.{Pbn, NoResult, NoAnswer}
@@ -25,21 +26,22 @@ answer_text tricks declarers defenders = result_line tricks ++ (graph_text decla
 
 -- an answer of the solver for the deal, of at most 13 tricks and with two graphs
 pub record IsFound (may_find : MayFind) (deal : Deal) (declarer : Seat) (trump : Trump) (budget : ℕ) (answer : Answer) : Type 0 where
-  pub found : may_find deal declarer trump budget (Some answer)
+  pub found : MayAnswer may_find deal declarer trump budget (Some answer)
   pub few : answer.k ≤ 13
   pub graphs : IsGraph answer.declarer × IsGraph answer.defenders
 
--- the solver has found nothing, or claims over 13 tricks, of which there is no result line
+-- the solver has no answer, or claims over 13 tricks, of which there is no result line
 abbrev pub IsNoAnswer : Option Answer → Type 0
 IsNoAnswer None = ⊤
 IsNoAnswer (Some answer) = 13 < answer.k
 
--- what comes of the solver's answer for a deal; where memory ran out it has found nothing
+-- what comes of the solver's answer for a deal; memory ran out in the solver, or for the answer's graphs
 abbrev pub FindsAnswer : MayFind → Deal → Seat → Trump → ℕ → Result Answer RunFault → Type 0
 FindsAnswer may_find deal declarer trump budget (Ok answer) = IsFound may_find deal declarer trump budget answer
 FindsAnswer may_find deal declarer trump budget (Err NoAnswer) =
-    (found : Option Answer) × may_find deal declarer trump budget found × IsNoAnswer found
-FindsAnswer may_find deal declarer trump budget (Err OutOfMemory) = may_find deal declarer trump budget None
+    (answer : Option Answer) × MayAnswer may_find deal declarer trump budget answer × IsNoAnswer answer
+FindsAnswer may_find deal declarer trump budget (Err OutOfMemory) =
+    (found : Option Bundle) × may_find deal (declarer ∷ []) trump budget found
 FindsAnswer may_find deal declarer trump budget (Err _) = ⊥
 
 -- the bytes spell a layout, and the text is that of an answer of the solver for it

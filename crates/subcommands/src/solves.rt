@@ -33,7 +33,8 @@ pub fn solve_layout<P: Solver, O: Sink>(
     write_answer(&answer, output).map_err(write_failed)
 }
 
-/// The answer of the solver, or that there is none: also where it claims over 13 tricks, which no result line can say.
+/// The solver's answer for this declarer alone, or that there is none: also where it claims over 13 tricks, which no result
+/// line can say.
 fn find_answer<P: Solver>(
     alloc: Global,
     layout: &Layout,
@@ -44,10 +45,16 @@ fn find_answer<P: Solver>(
 ) -> Result<Answer, RunFault>
     ensures { FindsAnswer (P.may_find solver.now) layout.now declarer trump budget result }
 {
-    let Ok(found) = solver.solve(alloc, layout, declarer, trump, budget) else {
+    let Ok(found) = solver.solve(alloc, layout, &[declarer], trump, budget) else {
         return Err(RunFault::OutOfMemory);
     };
-    match found {
+    let Some(bundle) = found else {
+        return Err(RunFault::NoAnswer);
+    };
+    let Ok(answered) = bundle.answer_for(alloc, declarer) else {
+        return Err(RunFault::OutOfMemory);
+    };
+    match answered {
         Some(answer) if answer.k <= 13 => {
             answer.declarer.invariant();
             answer.defenders.invariant();

@@ -13,6 +13,7 @@ use Rattle.certificate_graph.specs.declared.answers.Answer.{Answer}
 use Rattle.checker.specs.declared.entries.Shown.{Shown}
 use Rattle.checker.specs.declared.entry_faults.EntryFault.{EntryFault}
 use Rattle.checker.specs.declared.hand_faults.HandFault.{HandFault}
+use Rattle.checker.specs.Roots.{from_first}
 use Rattle.checker.specs.EntryFaults.{EntryAnswers}
 use Rattle.lease_book.specs.declared.entries.Entry.{Entry}
 use Rattle.lease_book.specs.declared.events.Grant.{Grant}
@@ -30,7 +31,8 @@ use Rattle.lease_book.specs.Books.{Ledger, IsAnswered, with_event}
 use Rattle.lease_book.proofs.LegalLaws.{nothing_left, gives_none}
 use Rattle.lease_book.proofs.FreeLaws.{ended, free_after_hand_in, free_after_give_up, free_at_end, published_at_end, given_at_end}
 use Rattle.tournaments.specs.Done.{IsDone}
-use Rattle.tournaments.specs.Asking.{MayFind, as_verdict, IsVerdictOn, IsFoundFor, asked_for, IsWorkedOn, AreWorkedOn}
+use Rattle.partition_solver.specs.Answers.{MayFind}
+use Rattle.tournaments.specs.Asking.{as_verdict, IsVerdictOn, IsFoundFor, asked_for, IsWorkedOn, AreWorkedOn}
 use Rattle.farm.specs.Moments.{MayTell, IsTimed, AreTimed}
 use Rattle.tournaments.specs.Working.{WorksOn, GivesOut}
 
@@ -49,7 +51,7 @@ pub found_for : (may_find : MayFind) (budget : ℕ) (boards : List Board) (entry
 found_for may_find budget boards entry verdict h = go (deal_of boards entry.board) refl h
   where
     of_checked : (deal : Deal) (answer : Answer) (checked : Result Shown EntryFault) → deal_of boards entry.board ≡ Some deal
-        → EntryAnswers deal entry.declarer entry.trump answer.k answer.declarer answer.defenders checked → is_evidence_for boards entry (evidence_of (as_verdict checked)) ≡ true
+        → EntryAnswers deal entry.declarer entry.trump answer.k (from_first answer.declarer) (from_first answer.defenders) checked → is_evidence_for boards entry (evidence_of (as_verdict checked)) ≡ true
     of_checked deal answer (Ok shown) on answers = shown_for boards entry deal shown answer.k on answers.0
     of_checked deal answer (Err fault) on answers = refl
 

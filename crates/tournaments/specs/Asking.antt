@@ -1,15 +1,15 @@
 -- That a solver was asked for each entry that was leased, and that what it found was handed in.
 use Rattle.std.specs.Prelude.{◌≡◌, ℕ, List, [], ◌∷◌, Option, None, Some, Result, Ok, Err}
 use Rattle.cards.specs.Deal.{Deal}
-use Rattle.cards.specs.declared.seats.Seat.{Seat}
-use Rattle.cards.specs.declared.suits.Trump.{Trump}
 use Rattle.pbn_deals.specs.declared.boards.Board.{Board}
 use Rattle.certificate_graph.specs.declared.answers.Answer.{Answer}
 use Rattle.checker.specs.declared.entries.Shown.{Shown}
 use Rattle.checker.specs.declared.entry_faults.EntryFault.{EntryFault}
 use Rattle.checker.specs.declared.hand_faults.HandFault.{HandFault}
 use Rattle.checker.specs.declared.hand_faults.HandFault.TheVariants as hand
+use Rattle.checker.specs.Roots.{from_first}
 use Rattle.checker.specs.EntryFaults.{EntryAnswers}
+use Rattle.partition_solver.specs.Answers.{MayFind, MayAnswer}
 use Rattle.lease_book.specs.declared.entries.Entry.{Entry}
 use Rattle.lease_book.specs.declared.events.Grant.{Grant}
 use Rattle.lease_book.specs.declared.events.Asked.{Asked}
@@ -17,10 +17,6 @@ use Rattle.lease_book.specs.declared.events.Asked.TheVariants.{GiveUp, HandIn}
 use Rattle.lease_book.specs.declared.events.Event.{Event}
 use Rattle.lease_book.specs.Histories.{given_by, deal_of}
 use Rattle.lease_book.specs.Proofs.{evidence_of}
-
--- what a solver may find for a deal, a declarer and a denomination within a budget
-abbrev pub MayFind : Type 1
-MayFind = Deal → Seat → Trump → ℕ → Option Answer → Type 0
 
 -- what the checker's answer for two graphs is as a verdict
 abbrev pub as_verdict : Result Shown EntryFault → Result Shown HandFault
@@ -32,14 +28,14 @@ abbrev pub IsVerdictOn : Deal → Entry → Option Answer → Option (Result Sho
 IsVerdictOn deal entry None verdict = verdict ≡ None
 IsVerdictOn deal entry (Some answer) verdict =
     (checked : Result Shown EntryFault)
-    × EntryAnswers deal entry.declarer entry.trump answer.k answer.declarer answer.defenders checked
+    × EntryAnswers deal entry.declarer entry.trump answer.k (from_first answer.declarer) (from_first answer.defenders) checked
     × (verdict ≡ Some (as_verdict checked))
 
--- the verdict on what the solver was asked for and found for an entry; on a board without a deal it is not asked
+-- the verdict on what the solver was asked for and answered for an entry; on a board without a deal it is not asked
 abbrev pub IsFoundFor : MayFind → ℕ → Option Deal → Entry → Option (Result Shown HandFault) → Type 0
 IsFoundFor may_find budget None entry verdict = verdict ≡ None
 IsFoundFor may_find budget (Some deal) entry verdict =
-    (found : Option Answer) × may_find deal entry.declarer entry.trump budget found × IsVerdictOn deal entry found verdict
+    (found : Option Answer) × MayAnswer may_find deal entry.declarer entry.trump budget found × IsVerdictOn deal entry found verdict
 
 -- what is asked of the book then: the verdict is handed in under the lease, or the lease is given up
 abbrev pub asked_for : ℕ → Entry → Option (Result Shown HandFault) → Asked

@@ -14,7 +14,8 @@ use Rattle.tournaments.specs.declared.faults.MakeFault.{MakeFault}
 use Rattle.tournaments.specs.declared.faults.MakeFault.TheVariants.{OutOfMemory, Read, Pbn, NoThread, Write}
 use Rattle.farm.specs.Publications.{IsTrueHistory, IsGivenOut}
 use Rattle.tournaments.specs.Done.{IsDone}
-use Rattle.tournaments.specs.Asking.{MayFind, AreWorkedOn}
+use Rattle.partition_solver.specs.Answers.{MayFind}
+use Rattle.tournaments.specs.Asking.{AreWorkedOn}
 use Rattle.farm.specs.Moments.{MayTell, AreTimed}
 
 -- what is so of the history of a run, over the terms of its book

@@ -6,7 +6,8 @@ use Rattle.lease_book.specs.declared.entries.Entry.{Entry}
 use Rattle.lease_book.specs.declared.events.Reply.{Reply}
 use Rattle.lease_book.specs.Books.{Ledger, IsAnswered}
 use Rattle.lease_book.specs.Histories.{deal_of}
-use Rattle.tournaments.specs.Asking.{MayFind, IsFoundFor, asked_for, AreWorkedOn}
+use Rattle.partition_solver.specs.Answers.{MayFind}
+use Rattle.tournaments.specs.Asking.{IsFoundFor, asked_for, AreWorkedOn}
 use Rattle.farm.specs.Moments.{MayTell, AreTimed}
 use Rattle.farm.specs.Publications.{IsGivenOut}
 use Rattle.tournaments.specs.Done.{IsDone}

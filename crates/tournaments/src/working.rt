@@ -1,7 +1,8 @@
 //! The work on the entries of a book, one after another.
 
-ghost use Rattle.std.specs.Prelude.{◌≡◌, [], OnOk, MatchOption};
+ghost use Rattle.std.specs.Prelude.{◌≡◌, [], IfOk, OnOk, MatchOption};
 ghost use Rattle.lease_book.specs.Histories.{deal_of};
+ghost use Rattle.partition_solver.specs.Answers.{MayAnswer};
 ghost use Rattle.tournaments.specs.Asking.{IsVerdictOn, IsFoundFor};
 ghost use Rattle.tournaments.specs.Working.{GivesOut, WorksOn};
 
@@ -36,22 +37,43 @@ fn verdict_of(layout: &Layout, entry: Entry, answer: &Answer) -> Verdict
     checked.map_err(HandFault::Entry)
 }
 
-/// The verdict on the solver's answer for an entry, if it has one: none where the board has no deal, where nothing was
-/// found within the budget, and where the solver had no memory.
+/// The solver's answer for an entry, whose layout this is: none where nothing was found within the budget, and where the
+/// solver had no memory. Fails only where memory runs out for the answer's graphs.
+fn answer_for<S: Solver>(
+    alloc: Global,
+    layout: &Layout,
+    entry: Entry,
+    budget: u64,
+    solver: &S,
+) -> Result<Option<Answer>, OutOfMemory>
+    ensures { IfOk result (MayAnswer (S.may_find solver.now) layout.now entry.declarer entry.trump budget) }
+{
+    let Ok(Some(bundle)) = solver.solve(alloc, layout, &[entry.declarer], entry.trump, budget)
+    else {
+        return Ok(None);
+    };
+    bundle
+        .answer_for(alloc, entry.declarer)
+        .map_err(|_| OutOfMemory)
+}
+
+/// The verdict on the solver's answer for an entry, if it has one: none too where the board has no deal.
 fn verdict_on<S: Solver>(
     alloc: Global,
     boards: &[Board],
     entry: Entry,
     budget: u64,
     solver: &S,
-) -> Option<Verdict>
-    ensures { IsFoundFor (S.may_find solver.now) budget (deal_of boards.now entry.board) entry result }
+) -> Result<Option<Verdict>, OutOfMemory>
+    ensures { IfOk result (IsFoundFor (S.may_find solver.now) budget (deal_of boards.now entry.board) entry) }
 {
-    let layout = layout_for(boards, entry)?;
-    match solver.solve(alloc, layout, entry.declarer, entry.trump, budget) {
-        Ok(Some(answer)) => Some(verdict_of(layout, entry, &answer)),
-        _ => None,
-    }
+    let Some(layout) = layout_for(boards, entry) else {
+        return Ok(None);
+    };
+    let Some(answer) = answer_for(alloc, layout, entry, budget, solver)? else {
+        return Ok(None);
+    };
+    Ok(Some(verdict_of(layout, entry, &answer)))
 }
 
 /// Hands in what the solver answers for the entry of a lease, or gives the lease up.
@@ -65,7 +87,7 @@ fn work_on<S: Solver>(
 ) -> Result<(), OutOfMemory>
     ensures { OnOk result (WorksOn (S.may_find solver.now) budget book.old book.new lease entry) }
 {
-    match verdict_on(alloc, book.boards(), entry, budget, solver) {
+    match verdict_on(alloc, book.boards(), entry, budget, solver)? {
         Some(verdict) => book.settle(lease, entry, verdict)?,
         None => book.give_up(lease)?,
     };

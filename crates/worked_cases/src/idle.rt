@@ -1,10 +1,9 @@
 //! A solver, a gate and a clock that do nothing.
 
 use cards::{Layout, Seat, Trump};
-use certificate_graph::Answer;
 use farm::Clock;
 use lease_desk::Gate;
-use partition_solver::Solver;
+use partition_solver::{Bundle, Solver};
 use std::alloc::{AllocError, Global};
 
 /// A solver that finds nothing.
@@ -15,10 +14,10 @@ impl Solver for FindsNothing {
         &self,
         _alloc: Global,
         _layout: &Layout,
-        _declarer: Seat,
+        _declarers: &[Seat],
         _trump: Trump,
         _budget: u64,
-    ) -> Result<Option<Answer>, AllocError> {
+    ) -> Result<Option<Bundle>, AllocError> {
         Ok(None)
     }
 }

@@ -3,10 +3,11 @@
 ghost use Rattle.std.specs.Prelude.{◌≡◌};
 ghost use Rattle.lease_desk.specs.Desks.{IsChairOf, number_of};
 
+use crate::claimed::claimed_of;
 use crate::expect::expect_eq;
 use crate::lease_tests::long_list::verdict_on;
-use certificate_graph::{Answer, Graph};
-use checker::OutOfMemory;
+use certificate_graph::Graph;
+use checker::{Claimed, OutOfMemory};
 use lease_book::{Asked, Event, Evidence, GraphText, Reply, Request};
 use lease_desk::{Chair, Closed, Desk, Gate, Receipt};
 use pbn_deals::Board;
@@ -24,19 +25,20 @@ impl Gate for Open {
     fn before_check(&self, _lease: u64) {}
 }
 
-/// The answer of two texts, each of which has to be that of a graph.
-fn answer_of<R: Abort>(
+/// What two texts claim, each of which has to be that of a graph.
+fn claimed_by<R: Abort>(
     rt: &R,
     alloc: Global,
     k: u8,
     declarer: &GraphText,
     defenders: &GraphText,
-) -> Answer {
-    Answer {
-        k,
-        declarer: Graph::read(alloc, declarer.as_bytes()).expect(rt, "a graph for declarer"),
-        defenders: Graph::read(alloc, defenders.as_bytes()).expect(rt, "a graph for the defenders"),
-    }
+) -> Claimed {
+    let declarer = Graph::read(alloc, declarer.as_bytes()).expect(rt, "a graph for declarer");
+    let defenders = Graph::read(alloc, defenders.as_bytes()).expect(
+        rt,
+        "a graph for the defenders",
+    );
+    claimed_of(alloc, k, declarer, defenders).expect(rt, "memory for a claim")
 }
 
 /// Asks it at the desk, from this chair.
@@ -63,8 +65,8 @@ pub fn ask<R: Abort + Wait, G: Gate>(
             declarer,
             defenders,
         } => {
-            let answer = answer_of(rt, alloc, *k, declarer, defenders);
-            desk.hand_in(rt, chair, *lease, *entry, &answer, gate)
+            let claimed = claimed_by(rt, alloc, *k, declarer, defenders);
+            desk.hand_in(rt, chair, *lease, *entry, &claimed, gate)
         }
     };
     told.expect(rt, "memory for a call")

@@ -37,6 +37,10 @@ impl Gate for Digits {
         self.add(9);
     }
 
+    fn before_graphs(&self, _lease: u64) {
+        self.add(8);
+    }
+
     fn before_check(&self, lease: u64) {
         self.add(lease);
     }

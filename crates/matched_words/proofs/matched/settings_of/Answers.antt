@@ -15,3 +15,6 @@ returns-in_err-tries c = nothing_read _ _ c.from_residual-in_err-tries.ensures (
 
 pub returns-in_err-budget : goal.returns-in_err-budget
 returns-in_err-budget c = nothing_read _ _ c.from_residual-in_err-budget.ensures (λ settings said. c.in_err-budget.ensures settings.budget said.budget)
+
+pub returns-in_err-batch : goal.returns-in_err-batch
+returns-in_err-batch c = nothing_read _ _ c.from_residual-in_err-batch.ensures (λ settings said. c.in_err-batch.ensures settings.batch said.batch)

@@ -4,5 +4,5 @@ use Rattle.lease_desk.proofs.desk.Desk.hand_in.Goals as goal
 
 pub returns-clause-ok : goal.returns-clause-ok
 returns-clause-ok g c =
-    handed (terms_of c.args.self.now) _ _ c.args.lease c.args.entry c.args.answer.now c.verdict_on-verdict.result c.call.result
+    handed (terms_of c.args.self.now) _ _ c.args.lease c.args.entry c.args.claimed.now c.verdict_on-verdict.result c.call.result
     (rw c.as_slice.ensures.value at c.verdict_on-verdict.ensures.verdict) c.verdict_on-verdict.ensures.proven c.call.ensures.ok

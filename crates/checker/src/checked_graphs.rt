@@ -1,0 +1,61 @@
+//! Graphs with what their check found.
+
+ghost use Rattle.std.specs.Prelude.{◌≡◌, MatchResult};
+ghost use Rattle.checker.specs.Steps.{StepsHold};
+ghost use Rattle.checker.specs.Faults.{IsGraphFault};
+
+use crate::faults::NodeFault;
+use crate::graphs::check_graph;
+use certificate_graph::Graph;
+use std::marker::Model;
+use std::sync::Arc;
+
+/// A graph, and what [`check_graph`] found of it: one check serves all that is shown by the graph's nodes, and whoever
+/// holds the value, in any thread, knows that it was made. To contracts it is the graph alone, from which the verdict
+/// follows.
+#[derive(Drop)]
+pub struct CheckedGraph {
+    graph: Arc<Graph>,
+    verdict: Result<(), NodeFault>,
+}
+
+impl Model for CheckedGraph {
+    ghost use Rattle.std.specs.Prelude.{MatchResult};
+    ghost use Rattle.std.specs.Coded.{codes};
+    ghost use Rattle.certificate_graph.specs.Graphs.{GraphShape};
+    ghost use Rattle.certificate_graph.specs.TreeCodes.{tree_code};
+    ghost use Rattle.checker.specs.Steps.{StepsHold};
+    ghost use Rattle.checker.specs.Faults.{IsGraphFault};
+
+    ghost Value = { GraphShape };
+
+    ghost coded = { Prim.hlevel (codes, tree_code) };
+
+    ghost view = { λ checked. checked.graph.value };
+
+    ghost invariant = { λ checked. MatchResult checked.verdict (λ _. StepsHold checked.graph.value) (IsGraphFault checked.graph.value) };
+}
+
+impl CheckedGraph {
+    /// Checks the graph, once. Takes no memory.
+    pub fn of(graph: Arc<Graph>) -> CheckedGraph
+        ensures { result ≡ graph.value }
+    {
+        let verdict = check_graph(&graph);
+        CheckedGraph { graph, verdict }
+    }
+
+    /// The graph.
+    pub fn graph(&self) -> &Graph
+        ensures { result.now ≡ self.now }
+    {
+        &self.graph
+    }
+
+    /// What was found: that all steps hold, else the first fault. It looks at no node.
+    pub fn verdict(&self) -> Result<(), NodeFault>
+        ensures { MatchResult result (λ _. StepsHold self.now) (IsGraphFault self.now) }
+    {
+        self.verdict
+    }
+}

@@ -1,0 +1,161 @@
+//! What a solver leases at a time, and how it is grouped.
+
+use crate::expect::expect_eq;
+use crate::gates::{Open, TellsAll, Told};
+use crate::remembers::Remembers;
+use crate::solvers::{ACE, StandsStill};
+use crate::tables::{ONE_SUIT_EACH, Tally, boards_of, one_board, tally_of};
+use farm::{Settings, run_farm};
+use lease_book::Book;
+use partition_solver::Partition;
+use std::alloc::Global;
+use std::process::Abort;
+use std::sync::Wait;
+use std::sync::atomic::Ordering::SeqCst;
+use std::test::Fail;
+use std::thread::Threads;
+
+/// How many steps a solver has for a declarer.
+const BUDGET: u64 = 10_000_000;
+
+/// What comes of a batch on one board, with one solver, checker and clerk.
+#[derive(Clone, Copy)]
+struct Row {
+    batch: usize,
+    /// How often no entry was open. Where the batch doesn't divide 20, the last one is cut short so.
+    nothing: u64,
+    /// The denominations of the solver's calls, no-trump, spades, hearts, diamonds and clubs being 1 to 5.
+    calls: u64,
+    /// How many declarers each of them had.
+    declarers: u64,
+    /// The denominations of the leases, one group after the other.
+    leases: u64,
+}
+
+/// By the order of the entries, North's before South's, East's and West's, and of the groups of a batch, by their least leases. In
+/// batches of seven a seat's last entries are leased together with the next seat's first ones.
+const ROWS: [Row; 5] = [
+    Row {
+        batch: 1,
+        nothing: 1,
+        calls: 12345_12345_12345_12345,
+        declarers: 11111_11111_11111_11111,
+        leases: 12345_12345_12345_12345,
+    },
+    Row {
+        batch: 5,
+        nothing: 1,
+        calls: 12345_12345_12345_12345,
+        declarers: 11111_11111_11111_11111,
+        leases: 12345_12345_12345_12345,
+    },
+    Row {
+        batch: 7,
+        nothing: 2,
+        calls: 12345_34512_51234,
+        declarers: 22111_22111_21111,
+        leases: 1122345_3344512_551234,
+    },
+    Row {
+        batch: 10,
+        nothing: 1,
+        calls: 12345_12345,
+        declarers: 22222_22222,
+        leases: 1122334455_1122334455,
+    },
+    Row {
+        batch: 20,
+        nothing: 1,
+        calls: 12345,
+        declarers: 44444,
+        leases: 11112222333344445555,
+    },
+];
+
+/// The sum of two to the power of each of the leases 1 to 20.
+const ALL_LEASES: u64 = 0x1f_fffe;
+
+/// A thread was told of each lease once, in this order.
+fn expect_told(rt: &impl Abort, told: &Told, leases: u64) {
+    expect_eq(rt, &told.trumps.number(), &leases);
+    expect_eq(rt, &told.leases.load(SeqCst), &ALL_LEASES);
+}
+
+/// Fills the table of four hands of one suit each. A message has two graphs, which are checked once the gate is told of its
+/// leases. So by the runs of like digits before the graphs it is told how many messages there were, and half of how many graphs
+/// were checked: with a batch of twenty five runs, and ten graphs. That none is checked twice is not seen here.
+fn expect_groups<R: Threads + Wait + Abort + Sync>(
+    rt: &R,
+    alloc: Global,
+    row: &Row,
+) -> Result<(), Fail> {
+    let (solver, gate) = (Remembers::new(), TellsAll::new());
+    let settings = Settings::new(1, 1, 600, 1, BUDGET, row.batch)?;
+    let boards = one_board(alloc, ONE_SUIT_EACH)?;
+    let book = run_farm(rt, alloc, boards, settings, &solver, &gate, &StandsStill)?;
+    let wanted = Tally {
+        given: 20,
+        published: 20,
+        gave_up: 0,
+        bad: 0,
+        nothing: row.nothing,
+        freed_none: 1,
+        others: 0,
+    };
+    expect_eq(rt, &tally_of(&book), &wanted);
+    expect_eq(rt, &solver.trumps.number(), &row.calls);
+    expect_eq(rt, &solver.declarers.number(), &row.declarers);
+    expect_told(rt, &gate.solved, row.leases);
+    expect_told(rt, &gate.checked, row.leases);
+    expect_told(rt, &gate.handed_in, row.leases);
+    Ok(())
+}
+
+#[test]
+fn leases_are_grouped_by_denominations(rt: HostRuntime) -> Result<(), Fail> {
+    for row in &ROWS {
+        expect_groups(&rt, rt.alloc(), row)?;
+    }
+    Ok(())
+}
+
+/// The cards of North's ace, each at the next seat.
+const TURNED: &[u8] = b"N:J... A... K... Q...";
+
+/// The book of one card each, and of the same cards one seat further on.
+fn book_of_two_boards<R: Threads + Wait + Sync>(
+    rt: &R,
+    alloc: Global,
+    settings: Settings,
+) -> Result<Book, Fail> {
+    let boards = boards_of(alloc, &[ACE, TURNED])?;
+    let solver = Partition::new();
+    let book = run_farm(rt, alloc, boards, settings, &solver, &Open, &StandsStill)?;
+    Ok(book)
+}
+
+/// Batches with the last entries of one board and the first of the next, among them some in the same denomination.
+#[test]
+fn leases_are_grouped_by_boards(rt: HostRuntime) -> Result<(), Fail> {
+    for batch in [8, 13, 20] {
+        let settings = Settings::new(1, 1, 600, 1, BUDGET, batch)?;
+        let tally = tally_of(&book_of_two_boards(&rt, rt.alloc(), settings)?);
+        expect_eq(&rt, &(tally.given, tally.published), &(40, 40));
+    }
+    Ok(())
+}
+
+/// Leases that run out at once: what is handed in late counts.
+#[test]
+fn late_answers_are_published(rt: HostRuntime) -> Result<(), Fail> {
+    for batch in [1, 13, 20] {
+        let settings = Settings::new(2, 2, 0, 3, BUDGET, batch)?;
+        let tally = tally_of(&book_of_two_boards(&rt, rt.alloc(), settings)?);
+        expect_eq(
+            &rt,
+            &(tally.published, tally.gave_up, tally.bad),
+            &(40, 0, 0),
+        );
+    }
+    Ok(())
+}

@@ -1,0 +1,135 @@
+//! What a call claims: the tricks of each declarer, and the roots of both graphs that are to show them.
+
+use crate::bundles::{Bundle, Claim};
+use crate::graph_writing::write_graph;
+use crate::plans::TrickStart;
+use crate::search::Search;
+use arrayvec::ArrayVec;
+use cards::{Seat, Trump};
+use search_state::positions::Position;
+use search_state::records::list_of;
+
+/// Where play starts for the declarers of a denomination, each once. A root's number is its place: a graph begins with them.
+type Roots = ArrayVec<TrickStart, 4>;
+
+/// What is claimed so far.
+#[derive(Drop)]
+struct Claims {
+    claims: ArrayVec<Claim, 4>,
+    /// The roots of North's and South's graph.
+    ours: Roots,
+    /// Those of East's and West's.
+    theirs: Roots,
+    /// By the leader's side, North's and South's first, how many tricks North and South take where its last value was found.
+    last: [Option<i32>; 2],
+}
+
+/// The claims for these declarers of a deal of so many tricks, with their graphs. None where a graph can't be finished,
+/// nothing is claimed or memory ran out. Each declarer's tricks are searched with so many steps, and the graphs written with
+/// those that are left.
+pub(crate) fn bundle_of(
+    search: &mut Search,
+    tricks: i32,
+    declarers: &[Seat],
+    trump: Trump,
+    budget: u64,
+) -> Option<Bundle> {
+    let mut found = Claims::new();
+    let mut left = 0u64;
+    for declarer in declarers {
+        search.steps = budget;
+        found.add(search, tricks, *declarer);
+        left = left.saturating_add(search.steps);
+        if search.memory_ran_out || found.claims.is_full() {
+            break;
+        }
+    }
+    if search.memory_ran_out || found.claims.is_empty() {
+        return None;
+    }
+    search.steps = left;
+    Some(Bundle {
+        ns: write_graph(search, trump, true, found.ours.as_slice())?,
+        ew: write_graph(search, trump, false, found.theirs.as_slice())?,
+        claims: found.claims,
+    })
+}
+
+impl Claims {
+    /// Nothing is claimed.
+    fn new() -> Claims {
+        Claims {
+            claims: ArrayVec::new(),
+            ours: Roots::new(),
+            theirs: Roots::new(),
+            last: [None; 2],
+        }
+    }
+
+    /// Adds the claim for a declarer, if its value is found and what shows it is remembered.
+    fn add(&mut self, search: &mut Search, tricks: i32, declarer: Seat) -> Option<()> {
+        let leader = declarer.next().number();
+        let side = leader & 1;
+        let guess = self.last[side].or(self.last[1 - side]);
+        let ours = search.value(leader, guess)?;
+        self.last[side] = Some(ours);
+        let theirs = tricks.wrapping_sub(ours);
+        let our_start = start_of(search, leader, true, ours)?;
+        let their_start = start_of(search, leader, false, theirs)?;
+        let our_root = our_start.map(|start| root_in(&mut self.ours, start));
+        let their_root = their_start.map(|start| root_in(&mut self.theirs, start));
+        let claim = match declarer {
+            Seat::North | Seat::South => claim_of(declarer, ours, our_root, their_root),
+            Seat::East | Seat::West => claim_of(declarer, theirs, their_root, our_root),
+        };
+        self.claims.try_push(claim).ok()
+    }
+}
+
+/// Where play starts for a side that wins just so many tricks with this seat to lead, or nothing where those are none. None
+/// where it is not remembered.
+fn start_of(search: &Search, leader: usize, ours: bool, need: i32) -> Option<Option<TrickStart>> {
+    if need <= 0 {
+        return Some(None);
+    }
+    let lengths = Position::start(search.deal.hands, leader).lengths;
+    let slot = search.records.slot(lengths)?;
+    let list = list_of(leader, ours);
+    let record = search.records.find(slot, list, search.all_owners(), need)?;
+    if i32::from(search.records.record(record).need) != need {
+        return None;
+    }
+    Some(Some(TrickStart {
+        lengths,
+        record,
+        leader,
+    }))
+}
+
+/// The number of a root, which is added where it is new.
+fn root_in(roots: &mut Roots, start: TrickStart) -> u32 {
+    let mut number = 0u32;
+    for root in roots.as_slice() {
+        if root.record == start.record {
+            return number;
+        }
+        number = number.wrapping_add(1);
+    }
+    let _ = roots.try_push(start);
+    number
+}
+
+/// The claim that declarer's side takes so many tricks, with these roots.
+fn claim_of(
+    declarer: Seat,
+    tricks: i32,
+    declarer_root: Option<u32>,
+    defenders_root: Option<u32>,
+) -> Claim {
+    Claim {
+        declarer,
+        k: (tricks & 15) as u8,
+        declarer_root,
+        defenders_root,
+    }
+}
