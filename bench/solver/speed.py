@@ -76,7 +76,7 @@ def build(folder, lines):
     (crate / "src").mkdir(parents=True)
     (crate / "src" / "main.rt").write_text(filled(lines))
     kept = [line for line in (ROOT / "crates.txt").read_text().splitlines() if line.split(":")[0] in CRATES]
-    (folder / "crates.txt").write_text("\n".join(kept + ["solver_speed: partition_solver checker certificate_graph cards"]) + "\n")
+    (folder / "crates.txt").write_text("\n".join(kept + ["solver_speed: partition_solver checker certificate_graph cards arrayvec"]) + "\n")
     subprocess.run(["git", "init", "-q", "."], cwd=folder, check=True)
     subprocess.run(["rt", "run"], cwd=crate, stdout=subprocess.DEVNULL)
     return crate / "out" / "solver_speed"
@@ -93,7 +93,7 @@ def report(run, theirs):
     """What came of our run beside DDS's times."""
     rows = [[int(word) for word in line.split()] for line in run.splitlines()]
     entries, tries, wrong, unanswered, refused, nodes = (sum(row[place] for row in rows) for place in range(6))
-    print(f"{entries} entries, {tries} tries: {wrong} wrong, {unanswered} without an answer, {refused} refused, {nodes / entries:.0f} nodes each")
+    print(f"{entries} entries, {tries} tries: {wrong} wrong, {unanswered} without an answer, {refused} refused, {nodes / entries:.0f} nodes an entry")
     told("DDS", theirs)
     told("solving", [row[6] for row in rows])
     told("checking", [row[7] for row in rows])
