@@ -5,6 +5,7 @@ pub mod OneSpelling
 pub mod NumberLemmas
 pub mod OneNode
 pub mod LeafLemmas
+pub mod RowLemmas
 pub mod TreeLemmas
 pub mod PatternLemmas
 pub mod LineLemmas
@@ -14,4 +15,5 @@ pub mod OneAnswer
 pub mod SomeForm
 pub mod SomeTree
 pub mod SomeAnswer
+pub mod RenameLemmas
 pub mod ExtractLemmas

@@ -3,7 +3,8 @@ use Rattle.std.proofs.Common.{◌≡◌, ℕ, List, ◌∷◌, sym, ◌∙◌, a
 use Rattle.cards.specs.declared.seats.Seat.{Seat}
 use Rattle.patterns.specs.Shapes.{Shape}
 use Rattle.certificate_graph.specs.Trees.{TrickTree}
-use Rattle.certificate_graph.specs.TextFaults.{LacksNode}
+use Rattle.certificate_graph.specs.Texts.{claim_text, pattern_text, tree_text}
+use Rattle.certificate_graph.specs.TextFaults.{BeginsNode, LacksNode}
 use Rattle.certificate_graph.specs.Readings.{seat_text, len_text, IsLen, Begins, BeginsClaim, LacksClaim, BeginsPattern, LacksPattern, BeginsTree, LacksTree}
 use Rattle.certificate_graph.proofs.OneNode.{one_claim, one_pattern, one_tree}
 use Rattle.certificate_graph.proofs.LeafLemmas.{LacksByte}
@@ -31,3 +32,11 @@ node_by_end text lead need after pattern next tree end claim suits of_tree lacks
     let shape = one_pattern pattern node.pattern next _ suits.form begins.form.pattern (sym suits.is ∙ same.2) in
     let below = one_tree tree node.tree 4 4 end _ of_tree.good.form begins.form.tree.form of_tree.good.numbers begins.form.tree.numbers (sym of_tree.is ∙ shape.1) in
     lacks rest below.1
+
+pub node_begun : (text : List ℕ) (lead : Seat) (need : ℕ) (after : List ℕ) (pattern : Shape) (next : List ℕ) (tree : TrickTree) (end rest : List ℕ) →
+    BeginsClaim text lead need after → BeginsPattern after pattern next → BeginsTree 4 next tree end → end ≡ 10 ∷ rest →
+    BeginsNode text (record { pattern = pattern; lead = lead; need = need; tree = tree }) rest
+node_begun text lead need after pattern next tree end rest claim suits of_tree ended = record {
+  form = record { pattern = suits.form; need = claim.is_need; tree = of_tree.good };
+  is = claim.is ∙ ap (claim_text lead need) (suits.is ∙ ap (λ t. pattern_text pattern (32 ∷ t)) (of_tree.is ∙ ap (tree_text tree) ended));
+}

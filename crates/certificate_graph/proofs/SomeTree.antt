@@ -11,30 +11,13 @@ use Rattle.certificate_graph.specs.declared.children.Child.{Child}
 use Rattle.certificate_graph.specs.declared.nodes.Node.{Node}
 use Rattle.certificate_graph.specs.Trees.{TrickTree, Own, Reply, Leaf, Branches, NoBranch, Branch}
 use Rattle.certificate_graph.specs.Graphs.{IsCard, card_place}
-use Rattle.certificate_graph.specs.Texts.{card_text, claim_text, pattern_text, tree_text}
 use Rattle.certificate_graph.specs.TextFaults.{BeginsNode, LacksNode}
-use Rattle.certificate_graph.specs.Readings.{seat_text, Lacks, Begins, LacksLeaf, LacksReply, LacksOwn, BeginsChild, LacksChild, BeginsMore, LacksMore, BeginsChildren, LacksChildren, BeginsBranch, LacksBranch, BeginsBranches, LacksBranches, BeginsTree, LacksTree}
-use Rattle.certificate_graph.proofs.OneSpelling.{one_seat, one_card}
+use Rattle.certificate_graph.specs.Readings.{seat_text, BeginsChild, LacksChild, BeginsMore, LacksMore, BeginsChildren, LacksChildren, BeginsBranch, LacksBranch, BeginsBranches, LacksBranches, BeginsTree, LacksTree}
+use Rattle.certificate_graph.proofs.OneSpelling.{one_seat}
 use Rattle.certificate_graph.proofs.LeafLemmas.{LacksByte, lacks_by_blank, lacks_by_child, lacks_by_seat, lacks_by_more, more_read, lacks_children_by_child, lacks_children_by_more, children_read}
-use Rattle.certificate_graph.proofs.TreeLemmas.{leaf_tree, lacks_leaf, no_room, reply_tree, lacks_reply, own_tree, lacks_own, lacks_by_first, lacks_by_place, lacks_by_rest, branches_read}
-use Rattle.certificate_graph.proofs.LineLemmas.{node_by_suits, node_by_tree, node_by_end}
+use Rattle.certificate_graph.proofs.TreeLemmas.{no_leaf, no_reply, no_own, no_branch_card, no_branch_tree, branch_begun, leaf_tree, lacks_leaf, no_room, reply_tree, lacks_reply, own_tree, lacks_own, lacks_by_first, lacks_by_place, lacks_by_rest, branches_read}
+use Rattle.certificate_graph.proofs.LineLemmas.{node_by_suits, node_by_tree, node_by_end, node_begun}
 use Rattle.certificate_graph.proofs.SomeForm.{same_or_not, some_byte, some_seat, some_card, some_number, some_pattern, some_claim}
-
--- ---- a tree of one kind
-no_leaf : (text : List ℕ) → LacksChildren text → LacksLeaf text
-no_leaf text lacks (Own card below) rest begins = begins
-no_leaf text lacks (Reply branches) rest begins = begins
-no_leaf text lacks (Leaf children) rest begins = lacks children rest begins
-
-no_reply : (room : ℕ) (text : List ℕ) → LacksBranches room 0 text → LacksReply room text
-no_reply room text lacks (Own card below) rest begins = begins
-no_reply room text lacks (Reply branches) rest begins = lacks branches rest begins
-no_reply room text lacks (Leaf children) rest begins = begins
-
-no_own : (room : ℕ) (text : List ℕ) → LacksBranch room text → LacksOwn room text
-no_own room text lacks (Own card below) rest begins = lacks card below rest begins
-no_own room text lacks (Reply branches) rest begins = begins
-no_own room text lacks (Leaf children) rest begins = begins
 
 -- ---- leaves
 some_child : (text : List ℕ) → LacksChild text ⊎ ((child : Child) × (rest : List ℕ) × BeginsChild text child rest)
@@ -109,13 +92,6 @@ no_branches_left room least text high closing NoBranch rest begins = closing res
 no_branches_left room least text high closing (Branch card below more) rest begins =
     let low = card_place-lt card begins.form.0 in omega (arith, begins.form.1)
 
-no_branch_card : (room : ℕ) (text : List ℕ) → Lacks IsCard card_text text → LacksBranch room text
-no_branch_card room text lacks card below rest begins = lacks card _ begins.of_pack begins.is
-
-no_branch_tree : (room : ℕ) (text : List ℕ) (card : PatCard) (after : List ℕ) → Begins IsCard card_text text card after → LacksTree room after → LacksBranch room text
-no_branch_tree room text card after first lacks other below rest begins =
-    lacks below rest (record { good = begins.form; is = (one_card card other after _ first.good begins.of_pack (sym first.is ∙ begins.is)).1 })
-
 mutual
   some_tree : (fuel room : ℕ) (text : List ℕ) → 100 * room < fuel → LacksTree room text ⊎ ((tree : TrickTree) × (rest : List ℕ) × BeginsTree room text tree rest)
   some_tree zero room text enough = absurd (omega arith)
@@ -149,11 +125,7 @@ mutual
         card.0,
         tree.0,
         tree.1,
-        record {
-          of_pack = card.2.good;
-          form = tree.2.good;
-          is = card.2.is ∙ ap (card_text card.0) tree.2.is;
-        },
+        branch_begun room text card.0 card.1 tree.0 tree.1 card.2 tree.2,
       )
     ]
   ]
@@ -192,10 +164,7 @@ some_node text = elim (some_claim text) [
             inr (
               node,
               end.0,
-              record {
-                form = record { pattern = shape.2.form; need = claim.3.is_need; tree = tree.2.good };
-                is = claim.3.is ∙ ap (claim_text claim.0 claim.1) (shape.2.is ∙ ap (λ t. pattern_text shape.0 (32 ∷ t)) (tree.2.is ∙ ap (tree_text tree.0) end.1));
-              },
+              node_begun text claim.0 claim.1 claim.2 shape.0 shape.1 tree.0 tree.1 end.0 claim.3 shape.2 tree.2 end.1,
             )
       ]
     ]

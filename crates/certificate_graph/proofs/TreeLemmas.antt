@@ -3,9 +3,9 @@ use Rattle.std.proofs.Common.{◌≡◌, ℕ, ◌+◌, ◌-◌, ◌<◌, ◌≤�
 use Rattle.std.specs.Prelude.{IfOk}
 use Rattle.pattern_step.specs.declared.pat_cards.PatCard.{PatCard}
 use Rattle.certificate_graph.specs.Trees.{TrickTree, Own, Reply, Leaf, Branches, NoBranch, Branch}
-use Rattle.certificate_graph.specs.Graphs.{card_place, HaveForm}
+use Rattle.certificate_graph.specs.Graphs.{card_place, IsCard, HaveForm}
 use Rattle.certificate_graph.specs.Texts.{card_text, tree_text, branches_text}
-use Rattle.certificate_graph.specs.Readings.{BeginsBranch, LacksBranch, BeginsBranches, LacksBranches, BeginsTree, LacksTree, BeginsLeaf, LacksLeaf, BeginsOwn, LacksOwn, BeginsReply, LacksReply}
+use Rattle.certificate_graph.specs.Readings.{Begins, Lacks, LacksChildren, BeginsBranch, LacksBranch, BeginsBranches, LacksBranches, BeginsTree, LacksTree, BeginsLeaf, LacksLeaf, BeginsOwn, LacksOwn, BeginsReply, LacksReply}
 use Rattle.certificate_graph.proofs.OneSpelling.{heads, tails, one_card}
 use Rattle.certificate_graph.proofs.OneNode.{card_first, one_tree}
 use Rattle.certificate_graph.proofs.LeafLemmas.{LacksByte}
@@ -13,6 +13,22 @@ use Rattle.certificate_graph.proofs.LeafLemmas.{LacksByte}
 pub ok_map : {A E : Type 0} {P P' : A → Type 0} (r : Result A E) → ((a : A) → P a → P' a) → IfOk r P → IfOk r P'
 ok_map (Ok a) f h = f a h
 ok_map (Err e) f h = h
+
+-- ---- what a tree lacks that begins otherwise
+pub no_leaf : (text : List ℕ) → LacksChildren text → LacksLeaf text
+no_leaf text lacks (Own card below) rest begins = begins
+no_leaf text lacks (Reply branches) rest begins = begins
+no_leaf text lacks (Leaf children) rest begins = lacks children rest begins
+
+pub no_reply : (room : ℕ) (text : List ℕ) → LacksBranches room 0 text → LacksReply room text
+no_reply room text lacks (Own card below) rest begins = begins
+no_reply room text lacks (Reply branches) rest begins = lacks branches rest begins
+no_reply room text lacks (Leaf children) rest begins = begins
+
+pub no_own : (room : ℕ) (text : List ℕ) → LacksBranch room text → LacksOwn room text
+no_own room text lacks (Own card below) rest begins = lacks card below rest begins
+no_own room text lacks (Reply branches) rest begins = begins
+no_own room text lacks (Leaf children) rest begins = begins
 
 -- ---- leaves
 pub leaf_tree : (room : ℕ) (text after : List ℕ) (tree : TrickTree) (rest : List ℕ) → text ≡ 123 ∷ after → BeginsLeaf after tree rest → BeginsTree room text tree rest
@@ -48,6 +64,21 @@ lacks_reply room text after e lacks (Own card below) rest begins = let first = c
 lacks_reply room text after e lacks (Reply branches) rest begins =
     lacks (Reply branches) rest (record { form = begins.good.form.1; numbers = begins.good.numbers; is = tails _ _ _ _ (sym e ∙ begins.is) })
 lacks_reply room text after e lacks (Leaf children) rest begins = let first = heads _ _ _ _ (sym begins.is ∙ e) in omega arith
+
+-- ---- a card and what follows it
+pub no_branch_card : (room : ℕ) (text : List ℕ) → Lacks IsCard card_text text → LacksBranch room text
+no_branch_card room text lacks card below rest begins = lacks card _ begins.of_pack begins.is
+
+pub no_branch_tree : (room : ℕ) (text : List ℕ) (card : PatCard) (after : List ℕ) → Begins IsCard card_text text card after → LacksTree room after → LacksBranch room text
+no_branch_tree room text card after first lacks other below rest begins =
+    lacks below rest (record { good = begins.form; is = (one_card card other after _ first.good begins.of_pack (sym first.is ∙ begins.is)).1 })
+
+pub branch_begun : (room : ℕ) (text : List ℕ) (card : PatCard) (after : List ℕ) (below : TrickTree) (rest : List ℕ) → Begins IsCard card_text text card after → BeginsTree room after below rest → BeginsBranch room text card below rest
+branch_begun room text card after below rest first tree = record {
+  of_pack = first.good;
+  form = tree.good;
+  is = first.is ∙ ap (card_text card) tree.is;
+}
 
 -- ---- a card of the side
 pub own_tree : (room : ℕ) (text : List ℕ) (tree : TrickTree) (rest : List ℕ) → 0 < room → BeginsOwn (room - 1) text tree rest → BeginsTree room text tree rest

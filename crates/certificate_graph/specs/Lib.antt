@@ -1,10 +1,11 @@
 pub mod Trees
 pub mod TreeCodes
-pub mod Stored
-pub mod StoredFalls
+pub mod Rows
+pub mod OneTree
 pub mod Views
 pub mod Graphs
 pub mod Extracts
+pub mod RowNames
 pub mod GraphFaults
 pub mod Texts
 pub mod LineForms

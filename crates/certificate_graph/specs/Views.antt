@@ -6,4 +6,4 @@ use Rattle.certificate_graph.specs.Trees.{TrickTree, Own, Reply, Leaf}
 abbrev pub tree_seen : View → TrickTree
 tree_seen (view.Own card below) = Own card below
 tree_seen (view.Reply branches) = Reply branches
-tree_seen (view.Leaf children) = Leaf children.now
+tree_seen (view.Leaf children) = Leaf children

@@ -1,16 +1,15 @@
 //! The nodes of a graph that begins with another node.
 
-ghost use Rattle.std.specs.Prelude.{◌≡◌, ◌<◌, ◌++◌, List, IfOk, OnOk, length, map};
-ghost use Rattle.certificate_graph.specs.declared.trees.Branch.{Branch};
-ghost use Rattle.certificate_graph.specs.Extracts.{AreExchanged, exchanged, rename_child, rename_tree, rename_branches, rename_node};
+ghost use Rattle.std.specs.Prelude.{◌≡◌, ◌<◌, IfOk, length};
+ghost use Rattle.certificate_graph.specs.Extracts.{AreExchanged, exchanged, rename_tree, rename_node};
 ghost use Rattle.certificate_graph.specs.Graphs.{AreNodes};
-ghost use Rattle.certificate_graph.specs.Stored.{branches_of};
+ghost use Rattle.certificate_graph.specs.RowNames.{rename_token};
 
 use crate::children::Child;
 use crate::graphs::Graph;
 use crate::nodes::Node;
-use crate::places::{Branches, Place, View};
-use crate::trees::{Branch, Tree};
+use crate::rows::Token;
+use crate::trees::Tree;
 use std::alloc::{AllocError, Global};
 
 /// The number of a node where this one and the first are exchanged.
@@ -26,60 +25,36 @@ fn exchanged(root: u32, number: u32) -> u32
     }
 }
 
-/// The children by their new numbers.
-fn rename_children(alloc: Global, children: &[Child], root: u32) -> Result<Vec<Child>, AllocError>
-    ensures { IfOk result (λ renamed. renamed.items ≡ map (rename_child (exchanged root)) children.now) }
+/// The token, which names a node by its new number.
+fn rename_token(token: Token, root: u32) -> Token
+    ensures { result ≡ rename_token (exchanged root) token }
 {
-    let mut renamed = Vec::with_capacity(alloc, children.len())?;
-    for child in children {
-        renamed.push(Child {
+    match token {
+        Token::Child(child) => Token::Child(Child {
             winner: child.winner,
             number: exchanged(root, child.number),
-        })?;
-    }
-    Ok(renamed)
-}
-
-/// A copy of what stands in a place, whose leaves name the nodes by their new numbers.
-#[cycle(renaming)]
-fn rename_tree(alloc: Global, place: &Place<'_>, root: u32) -> Result<Tree, AllocError>
-    ensures { IfOk result (λ tree. tree ≡ rename_tree (exchanged root) place.now) }
-{
-    match place.view() {
-        View::Own(card, below) => Tree::own(alloc, card, rename_tree(alloc, &below, root)?),
-        View::Reply(branches) => {
-            let mut renamed = Vec::new(alloc);
-            rename_branches(alloc, &branches, root, &mut renamed)?;
-            Ok(Tree::reply(renamed))
-        }
-        View::Leaf(children) => Ok(Tree::leaf(rename_children(alloc, children, root)?)),
+        }),
+        token => token,
     }
 }
 
-/// Copies branches to the end of a list.
-#[cycle(renaming)]
-fn rename_branches(
-    alloc: Global,
-    branches: &Branches<'_>,
-    root: u32,
-    renamed: &mut Vec<Branch>,
-) -> Result<(), AllocError>
-    ensures { OnOk result ((more : List Branch) × (branches_of more ≡ rename_branches (exchanged root) branches.now)
-        × (renamed.new.items ≡ renamed.old.items ++ more)) }
+/// A copy of a tree, whose leaves name the nodes by their new numbers.
+fn rename_tree(alloc: Global, tree: &Tree, root: u32) -> Result<Tree, AllocError>
+    ensures { IfOk result (λ renamed. renamed ≡ rename_tree (exchanged root) tree.now) }
 {
-    let Some((card, below, rest)) = branches.split_first() else {
-        return Ok(());
-    };
-    let below = rename_tree(alloc, &below, root)?;
-    renamed.push(Branch { card, below })?;
-    rename_branches(alloc, &rest, root, renamed)
+    let row = tree.tokens();
+    let mut renamed = Vec::with_capacity(alloc, row.len())?;
+    for token in row {
+        renamed.push(rename_token(*token, root))?;
+    }
+    Ok(Tree::of_row(renamed))
 }
 
 /// A copy of a node, whose leaves name the nodes by their new numbers.
 fn rename_node(alloc: Global, node: &Node, root: u32) -> Result<Node, AllocError>
     ensures { IfOk result (λ renamed. renamed ≡ rename_node (exchanged root) node.now) }
 {
-    let tree = rename_tree(alloc, &node.tree.root(), root)?;
+    let tree = rename_tree(alloc, &node.tree, root)?;
     Ok(Node {
         pattern: node.pattern,
         lead: node.lead,

@@ -4,8 +4,7 @@ ghost use Rattle.std.specs.Prelude.{◌≡◌, ◌↔◌, IsTrue, ◌<◌};
 ghost use Rattle.std.specs.List.{AllByRecursion};
 ghost use Rattle.certificate_graph.specs.Graphs.{card_place, IsCard, SeatsRise, HasForm, HaveForm, NamesBelow, NameBelow};
 
-use crate::children::Child;
-use crate::places::{Branches, Place, View};
+use crate::places::{Branches, Children, Place, View};
 use pattern_step::PatCard;
 
 /// The cards of a trick: so many stand one below another in a tree at most.
@@ -38,13 +37,13 @@ fn is_card(card: PatCard) -> bool
 }
 
 /// Whether the seats rise, from this number on.
-fn seats_rise(children: &[Child], least: usize) -> bool
+fn seats_rise(children: &Children<'_>, least: usize) -> bool
     ensures { IsTrue result ↔ SeatsRise least children.now }
 {
-    match children {
-        [] => true,
-        [child, rest @ ..] => {
-            least <= child.winner.number() && seats_rise(rest, child.winner.number() + 1)
+    match children.split_first() {
+        None => true,
+        Some((child, rest)) => {
+            least <= child.winner.number() && seats_rise(&rest, child.winner.number() + 1)
         }
     }
 }
@@ -57,7 +56,7 @@ pub(crate) fn has_form(place: &Place<'_>, room: u8) -> bool
     match place.view() {
         View::Own(card, below) => room > 0 && is_card(card) && has_form(&below, room - 1),
         View::Reply(branches) => room > 0 && have_form(&branches, room - 1, 0),
-        View::Leaf(children) => seats_rise(children, 0),
+        View::Leaf(children) => seats_rise(&children, 0),
     }
 }
 
@@ -85,7 +84,7 @@ pub(crate) fn names_below(place: &Place<'_>, count: u32) -> bool
     match place.view() {
         View::Own(_, below) => names_below(&below, count),
         View::Reply(branches) => name_below(&branches, count),
-        View::Leaf(children) => are_below(children, count),
+        View::Leaf(children) => are_below(&children, count),
     }
 }
 
@@ -101,11 +100,11 @@ fn name_below(branches: &Branches<'_>, count: u32) -> bool
 }
 
 /// Whether the children are nodes below this number.
-fn are_below(children: &[Child], count: u32) -> bool
+fn are_below(children: &Children<'_>, count: u32) -> bool
     ensures { IsTrue result ↔ AllByRecursion (λ child. child.number < count) children.now }
 {
-    match children {
-        [] => true,
-        [child, rest @ ..] => child.number < count && are_below(rest, count),
+    match children.split_first() {
+        None => true,
+        Some((child, rest)) => child.number < count && are_below(&rest, count),
     }
 }

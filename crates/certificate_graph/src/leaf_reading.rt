@@ -1,13 +1,15 @@
 //! The children of a leaf, as they are read.
 
-ghost use Rattle.std.specs.Prelude.{◌≡◌, ◌++◌, [], List, ◌≤◌, length, MatchOption, IfOk};
+ghost use Rattle.std.specs.Prelude.{◌≡◌, ◌++◌, [], List, ◌≤◌, length, MatchOption, IfOk, OnOk};
 ghost use Rattle.certificate_graph.specs.Readings.{BeginsChild, LacksChild, BeginsMore, LacksMore, BeginsChildren, LacksChildren};
+ghost use Rattle.certificate_graph.specs.Rows.{children_row};
 ghost use Rattle.certificate_graph.specs.declared.children.Child.{Child};
 
 use crate::children::Child;
+use crate::rows::Token;
 use crate::scanning::{after_byte, read_number, read_seat};
 use arrayvec::ArrayVec;
-use std::alloc::{AllocError, Global};
+use std::alloc::AllocError;
 
 /// A child, and the text after it.
 fn read_child(text: &[u8]) -> Option<(Child, &[u8])>
@@ -64,16 +66,27 @@ fn read_rising<'a>(text: &'a [u8], children: &mut ArrayVec<Child, 4>) -> Option<
     read_more(rest, child.winner.number() + 1, children)
 }
 
-/// The children of a leaf, and the text after the closing brace.
-pub(crate) fn read_children(
-    alloc: Global,
-    text: &[u8],
-) -> Result<Option<(Vec<Child>, &[u8])>, AllocError>
-    ensures { IfOk result (λ read. MatchOption read (LacksChildren text.now) (λ p. BeginsChildren text.now p.0.items p.1.now)) }
+/// Puts children at the end of a row.
+fn push_children(row: &mut Vec<Token>, children: &[Child]) -> Result<(), AllocError>
+    ensures { OnOk result (row.new.items ≡ row.old.items ++ children_row children.now) }
+{
+    for child in children {
+        row.push(Token::Child(*child))?;
+    }
+    Ok(())
+}
+
+/// Puts the children of a leaf at the end of a row, and answers the text after the closing brace.
+pub(crate) fn read_children<'a>(
+    text: &'a [u8],
+    row: &mut Vec<Token>,
+) -> Result<Option<&'a [u8]>, AllocError>
+    ensures { IfOk result (λ read. MatchOption read (LacksChildren text.now) (λ rest. (children : List Child) × BeginsChildren text.now children rest.now × (row.new.items ≡ row.old.items ++ children_row children))) }
 {
     let mut children = ArrayVec::new();
     let Some(rest) = read_rising(text, &mut children) else {
         return Ok(None);
     };
-    Ok(Some((Vec::from_slice(alloc, children.as_slice())?, rest)))
+    push_children(row, children.as_slice())?;
+    Ok(Some(rest))
 }

@@ -3,8 +3,8 @@
 //! A graph has a side, a trump and nodes. A node claims that from every layout that matches its pattern, with one
 //! seat to lead, the side can win so many tricks; its tree says how the first of them is played, and names the nodes
 //! that go on after it. The crate says which nodes make a graph, writes the one text of a graph, and reads a text as
-//! its graph or tells the first fault. Whether the claims are shown is not asked here. Contracts see a tree by its
-//! cards and children, and know nothing of how it is stored; it is looked at place by place, without memory.
+//! its graph or tells the first fault. Whether the claims are shown is not asked here. A tree is one row of tokens; contracts
+//! see it by its cards and children, and it is looked at place by place, without memory.
 #![tactic(auto)]
 
 mod answers;
@@ -23,6 +23,7 @@ mod nodes;
 mod pattern_reading;
 mod places;
 mod reading;
+mod rows;
 mod scanning;
 mod tree_reading;
 mod trees;
@@ -34,5 +35,6 @@ pub use faults::{GraphFault, TextFault};
 pub use graphs::Graph;
 pub use laws::{graphs_are_read_back, one_answer, one_graph, one_text};
 pub use nodes::Node;
-pub use places::{Branches, Place, View};
-pub use trees::{Branch, Tree};
+pub use places::{Branches, Children, Place, View};
+pub use rows::Token;
+pub use trees::Tree;

@@ -9,6 +9,7 @@ ghost use Rattle.certificate_graph.specs.Suits.{node_read};
 
 use crate::forms::TRICK_CARDS;
 use crate::pattern_reading::{Suits, read_suits};
+use crate::rows::Token;
 use crate::scanning::{after_byte, read_len, read_seat};
 use crate::tree_reading::read_tree;
 use crate::trees::Tree;
@@ -47,8 +48,12 @@ fn read_claim(text: &[u8]) -> Option<(Seat, u8, &[u8])>
     Some((lead, need, rest))
 }
 
-/// The line of a node, and the text after it.
-pub(crate) fn read_line(alloc: Global, text: &[u8]) -> Result<Option<(Line, &[u8])>, AllocError>
+/// The line of a node, and the text after it. The row has room for its tokens.
+pub(crate) fn read_line<'a>(
+    alloc: Global,
+    text: &'a [u8],
+    row: &mut Vec<Token>,
+) -> Result<Option<(Line, &'a [u8])>, AllocError>
     ensures { IfOk result (λ read. MatchOption read (LacksNode text.now) (λ p. BeginsNode text.now (node_read p.0) p.1.now)) }
 {
     let Some((lead, need, rest)) = read_claim(text) else {
@@ -57,17 +62,19 @@ pub(crate) fn read_line(alloc: Global, text: &[u8]) -> Result<Option<(Line, &[u8
     let Some((suits, rest)) = read_suits(rest) else {
         return Ok(None);
     };
-    let Some((tree, rest)) = read_tree(alloc, rest, TRICK_CARDS)? else {
+    row.clear();
+    let Some(rest) = read_tree(rest, TRICK_CARDS, row)? else {
         return Ok(None);
     };
     let Some(rest) = after_byte(rest, b'\n') else {
         return Ok(None);
     };
+    let tokens = Vec::from_slice(alloc, row.as_slice())?;
     let line = Line {
         lead,
         need,
         suits,
-        tree,
+        tree: Tree::of_row(tokens),
     };
     Ok(Some((line, rest)))
 }

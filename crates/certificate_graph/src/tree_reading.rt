@@ -1,95 +1,96 @@
 //! Trees, as they are read. A tree has room for a few cards one below another, so that no text goes deep.
 
-ghost use Rattle.std.specs.Prelude.{◌≡◌, ◌++◌, ◌+◌, ◌<◌, List, ◌≤◌, MatchOption, IfOk};
+ghost use Rattle.std.specs.Prelude.{◌≡◌, ◌∷◌, ◌++◌, ◌+◌, ◌-◌, ◌<◌, ◌≤◌, length, slice_set, MatchOption, IfOk, OnOk};
 ghost use Rattle.certificate_graph.specs.Graphs.{card_place};
 ghost use Rattle.certificate_graph.specs.Readings.{BeginsBranch, LacksBranch, BeginsBranches, LacksBranches, BeginsTree, LacksTree, BeginsLeaf, LacksLeaf, BeginsOwn, LacksOwn, BeginsReply, LacksReply};
-ghost use Rattle.certificate_graph.specs.Stored.{branches_of};
-ghost use Rattle.certificate_graph.specs.declared.trees.Branch.{Branch};
+ghost use Rattle.certificate_graph.specs.Rows.{tree_row, branches_row};
+ghost use Rattle.certificate_graph.specs.Trees.{TrickTree, Branches};
+ghost use Rattle.certificate_graph.specs.declared.rows.Token.TheVariants as token;
 
 use crate::forms::card_place;
 use crate::leaf_reading::read_children;
+use crate::rows::Token;
 use crate::scanning::{after_byte, read_card};
-use crate::trees::{Branch, Tree};
 use pattern_step::PatCard;
-use std::alloc::{AllocError, Global};
+use std::alloc::AllocError;
 
-/// A tree with room for so many cards one below another, and the text after it.
+/// Puts a tree with room for so many cards one below another at the end of a row, and answers the text after it.
 #[cycle(tree)]
-pub(crate) fn read_tree(
-    alloc: Global,
-    text: &[u8],
+pub(crate) fn read_tree<'a>(
+    text: &'a [u8],
     room: u8,
-) -> Result<Option<(Tree, &[u8])>, AllocError>
-    ensures { IfOk result (λ read. MatchOption read (LacksTree room text.now) (λ p. BeginsTree room text.now p.0 p.1.now)) }
+    row: &mut Vec<Token>,
+) -> Result<Option<&'a [u8]>, AllocError>
+    ensures { IfOk result (λ read. MatchOption read (LacksTree room text.now) (λ rest. (tree : TrickTree) × BeginsTree room text.now tree rest.now × (row.new.items ≡ row.old.items ++ tree_row tree))) }
 {
     if let Some(rest) = after_byte(text, b'{') {
-        return read_leaf(alloc, rest);
+        return read_leaf(rest, row);
     }
     if room == 0 {
         return Ok(None);
     }
     if let Some(rest) = after_byte(text, b'(') {
-        return read_reply(alloc, rest, room - 1);
+        return read_reply(rest, room - 1, row);
     }
-    read_own(alloc, text, room - 1)
+    read_own(text, room - 1, row)
 }
 
-/// A leaf after its opening brace, and the text after it.
-fn read_leaf(alloc: Global, text: &[u8]) -> Result<Option<(Tree, &[u8])>, AllocError>
-    ensures { IfOk result (λ read. MatchOption read (LacksLeaf text.now) (λ p. BeginsLeaf text.now p.0 p.1.now)) }
+/// A leaf after its opening brace.
+fn read_leaf<'a>(text: &'a [u8], row: &mut Vec<Token>) -> Result<Option<&'a [u8]>, AllocError>
+    ensures { IfOk result (λ read. MatchOption read (LacksLeaf text.now) (λ rest. (tree : TrickTree) × BeginsLeaf text.now tree rest.now × (row.new.items ≡ row.old.items ++ tree_row tree))) }
 {
-    let Some((children, rest)) = read_children(alloc, text)? else {
-        return Ok(None);
-    };
-    Ok(Some((Tree::leaf(children), rest)))
+    read_children(text, row)
 }
 
-/// A card of the side with what follows it, and the text after that.
+/// A card of the side with what follows it.
 #[cycle(tree)]
-fn read_own(alloc: Global, text: &[u8], room: u8) -> Result<Option<(Tree, &[u8])>, AllocError>
-    ensures { IfOk result (λ read. MatchOption read (LacksOwn room text.now) (λ p. BeginsOwn room text.now p.0 p.1.now)) }
+fn read_own<'a>(
+    text: &'a [u8],
+    room: u8,
+    row: &mut Vec<Token>,
+) -> Result<Option<&'a [u8]>, AllocError>
+    ensures { IfOk result (λ read. MatchOption read (LacksOwn room text.now) (λ rest. (tree : TrickTree) × BeginsOwn room text.now tree rest.now × (row.new.items ≡ row.old.items ++ tree_row tree))) }
 {
-    let Some((card, below, rest)) = read_branch(alloc, text, room)? else {
+    let Some((card, rest)) = read_card(text) else {
         return Ok(None);
     };
-    Ok(Some((Tree::own(alloc, card, below)?, rest)))
+    row.push(Token::Own(card))?;
+    read_tree(rest, room, row)
 }
 
-/// The opponents' cards after the opening parenthesis, and the text after the closing one.
+/// The opponents' cards after the opening parenthesis, to the closing one.
 #[cycle(tree)]
-fn read_reply(alloc: Global, text: &[u8], room: u8) -> Result<Option<(Tree, &[u8])>, AllocError>
-    ensures { IfOk result (λ read. MatchOption read (LacksReply room text.now) (λ p. BeginsReply room text.now p.0 p.1.now)) }
+fn read_reply<'a>(
+    text: &'a [u8],
+    room: u8,
+    row: &mut Vec<Token>,
+) -> Result<Option<&'a [u8]>, AllocError>
+    ensures { IfOk result (λ read. MatchOption read (LacksReply room text.now) (λ rest. (tree : TrickTree) × BeginsReply room text.now tree rest.now × (row.new.items ≡ row.old.items ++ tree_row tree))) }
 {
-    let mut branches = Vec::with_capacity(alloc, 1)?;
-    let Some(rest) = read_branches(alloc, text, room, 0, &mut branches)? else {
-        return Ok(None);
-    };
-    branches.shrink_to_fit();
-    Ok(Some((Tree::reply(branches), rest)))
+    row.push(Token::Reply)?;
+    read_branches(text, room, 0, row)
 }
 
-/// Branches whose cards rise from this place on, and the text after the closing parenthesis.
+/// Branches whose cards rise from this place on, to the closing parenthesis.
 #[cycle(tree)]
 fn read_branches<'a>(
-    alloc: Global,
     text: &'a [u8],
     room: u8,
     least: u16,
-    branches: &mut Vec<Branch>,
+    row: &mut Vec<Token>,
 ) -> Result<Option<&'a [u8]>, AllocError>
-    ensures { IfOk result (λ read. MatchOption read (LacksBranches room least text.now) (λ rest. (more : List Branch) × BeginsBranches room least text.now (branches_of more) rest.now × (branches.new.items ≡ branches.old.items ++ more))) }
+    ensures { IfOk result (λ read. MatchOption read (LacksBranches room least text.now) (λ rest. (branches : Branches) × BeginsBranches room least text.now branches rest.now × (row.new.items ≡ row.old.items ++ branches_row branches))) }
 {
     if let Some(rest) = after_byte(text, b')') {
         return Ok(Some(rest));
     }
-    let Some((card, below, rest)) = read_branch(alloc, text, room)? else {
+    let Some((card, rest)) = read_branch(text, room, row)? else {
         return Ok(None);
     };
     let Some(next) = next_place(card, least) else {
         return Ok(None);
     };
-    branches.push(Branch { card, below })?;
-    read_branches(alloc, rest, room, next, branches)
+    read_branches(rest, room, next, row)
 }
 
 /// The least place that a card after this one may have, where this one has at least this place itself.
@@ -103,20 +104,36 @@ fn next_place(card: PatCard, least: u16) -> Option<u16>
     Some(place + 1)
 }
 
-/// A card with what follows it, and the text after that.
+/// A card of the opponents with what follows it.
 #[cycle(tree)]
-fn read_branch(
-    alloc: Global,
-    text: &[u8],
+fn read_branch<'a>(
+    text: &'a [u8],
     room: u8,
-) -> Result<Option<(PatCard, Tree, &[u8])>, AllocError>
-    ensures { IfOk result (λ read. MatchOption read (LacksBranch room text.now) (λ p. BeginsBranch room text.now p.0 p.1 p.2.now)) }
+    row: &mut Vec<Token>,
+) -> Result<Option<(PatCard, &'a [u8])>, AllocError>
+    ensures { IfOk result (λ read. MatchOption read (LacksBranch room text.now) (λ p. (below : TrickTree) × BeginsBranch room text.now p.0 below p.1.now × (row.new.items ≡ row.old.items ++ token.Branch p.0 (length (tree_row below)) ∷ tree_row below))) }
 {
     let Some((card, rest)) = read_card(text) else {
         return Ok(None);
     };
-    let Some((below, rest)) = read_tree(alloc, rest, room)? else {
+    let place = row.len();
+    row.push(Token::Branch(card, 0))?;
+    let Some(rest) = read_tree(rest, room, row)? else {
         return Ok(None);
     };
-    Ok(Some((card, below, rest)))
+    end_branch(row, place, card)?;
+    Ok(Some((card, rest)))
+}
+
+/// Says in the token of a branch, which stands in this place, how many tokens it has after it. Fails where they are over
+/// 4,294,967,295, for which there is no memory.
+fn end_branch(row: &mut Vec<Token>, place: usize, card: PatCard) -> Result<(), AllocError>
+    requires { place < length row.old.items }
+    ensures { OnOk result (row.new.items ≡ slice_set row.old.items place (token.Branch card (length row.old.items - (place + 1)))) }
+{
+    let Ok(count) = u32::try_from(row.len() - (place + 1)) else {
+        return Err(AllocError);
+    };
+    row[place] = Token::Branch(card, count);
+    Ok(())
 }

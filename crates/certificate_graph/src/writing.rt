@@ -10,7 +10,7 @@ ghost use Rattle.certificate_graph.specs.Graphs.{IsCard, IsTree, AreBranches};
 ghost use Rattle.certificate_graph.specs.Texts.{card_text, child_text, more_children_text, children_text, tree_text, branches_text, owners_text, suit_text, pattern_text};
 
 use crate::children::Child;
-use crate::places::{Branches, Place, View};
+use crate::places::{Branches, Children, Place, View};
 use cards::{DeviceFault, Seat, Sink, Suit, write_all, write_number};
 use pattern_step::PatCard;
 use patterns::Pattern;
@@ -59,28 +59,28 @@ fn write_child<S: Sink>(sink: &mut S, child: &Child) -> Result<(), DeviceFault>
 }
 
 /// Writes children that follow another one, and the closing brace.
-fn write_more_children<S: Sink>(sink: &mut S, children: &[Child]) -> Result<(), DeviceFault>
+fn write_more_children<S: Sink>(sink: &mut S, children: &Children<'_>) -> Result<(), DeviceFault>
     ensures { Writes (S.state sink.old) (S.state sink.new) (more_children_text children.now []) result }
 {
     match children.split_first() {
         None => write_all(sink, b"}"),
         Some((child, more)) => {
             write_all(sink, b" ")?;
-            write_child(sink, child)?;
-            write_more_children(sink, more)
+            write_child(sink, &child)?;
+            write_more_children(sink, &more)
         }
     }
 }
 
 /// Writes children and the closing brace.
-fn write_children<S: Sink>(sink: &mut S, children: &[Child]) -> Result<(), DeviceFault>
+fn write_children<S: Sink>(sink: &mut S, children: &Children<'_>) -> Result<(), DeviceFault>
     ensures { Writes (S.state sink.old) (S.state sink.new) (children_text children.now []) result }
 {
     match children.split_first() {
         None => write_all(sink, b"}"),
         Some((child, more)) => {
-            write_child(sink, child)?;
-            write_more_children(sink, more)
+            write_child(sink, &child)?;
+            write_more_children(sink, &more)
         }
     }
 }
@@ -102,7 +102,7 @@ pub(crate) fn write_tree<S: Sink>(sink: &mut S, place: &Place<'_>) -> Result<(),
         }
         View::Leaf(children) => {
             write_all(sink, b"{")?;
-            write_children(sink, children)
+            write_children(sink, &children)
         }
     }
 }

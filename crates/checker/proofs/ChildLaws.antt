@@ -1,7 +1,8 @@
 -- The nodes that go on after a trick, one after another.
-use Rattle.std.proofs.Common.{◌≡◌, ℕ, zero, suc, ◌<◌, ◌≤◌, List, [], ◌∷◌, length, take, get_or, Some, All, inl, inr, sym, ◌∙◌, ap, subst, arith}
-use Rattle.std.specs.Prelude.{slice_get}
-use Rattle.std.proofs.lemmas.List.Elements.{All-head, All-tail}
+use Rattle.std.proofs.Common.{◌≡◌, ℕ, ◌≤◌, List, [], ◌∷◌, Some, All, Result, Ok, Err, ◌⊎◌, inl, inr, sym, ◌∙◌, ap, subst, arith}
+use Rattle.std.specs.Prelude.{slice_get, MatchResult}
+use Rattle.std.proofs.lemmas.List.Elements.{All-cons, Contains-append_left, Contains-append_right, Contains-append_cases, Contains-push, Contains-push_cases}
+use Rattle.cards.specs.declared.seats.Seat.{Seat}
 use Rattle.patterns.specs.Shapes.{Shape, Covers}
 use Rattle.pattern_step.specs.declared.pat_cards.PatCard.{PatCard}
 use Rattle.pattern_step.specs.Tricks.{IsLeft}
@@ -10,9 +11,8 @@ use Rattle.certificate_graph.specs.declared.children.Child.{Child}
 use Rattle.certificate_graph.specs.declared.nodes.Node.{Node}
 use Rattle.certificate_graph.specs.Graphs.{GraphShape}
 use Rattle.checker.specs.declared.faults.StepFault.{StepFault}
-use Rattle.checker.specs.declared.faults.StepFault.TheVariants.{ChildLead, ChildNeed, ChildPattern}
-use Rattle.checker.specs.Steps.{need_after, IsRightChild}
-use Rattle.checker.specs.Faults.{IfWrong, NoFault, HasWrongLead, NeedsTooLittle, FailsToCover, IsChildrenFault}
+use Rattle.checker.specs.Steps.{need_after, IsListed, IsRightChild}
+use Rattle.checker.specs.Faults.{HasWrongLead, NeedsTooLittle, FailsToCover, IsChildrenFault}
 
 -- one node stands under a number
 pub same_node : (nodes : List Node) (number : ℕ) (one other : Node) → slice_get nodes number ≡ Some one → slice_get nodes number ≡ Some other → one ≡ other
@@ -36,14 +36,8 @@ pub wrong_pattern : (graph : GraphShape) (node : Node) (cards : List PatCard) (c
 wrong_pattern graph node cards child next left there is fails =
     (next, there, λ (rest, is', covers). fails (subst (Covers next.pattern) (one_left node.pattern node.lead cards rest left is' is) covers))
 
--- the first fault of one child
-abbrev pub IsChildFault : GraphShape → Node → List PatCard → Child → StepFault → Type 0
-IsChildFault graph node cards child =
-    IfWrong (HasWrongLead graph child) ChildLead
-    (IfWrong (NeedsTooLittle graph node child) ChildNeed
-    (IfWrong (FailsToCover graph node cards child) ChildPattern NoFault))
-
-here : (graph : GraphShape) (node : Node) (cards : List PatCard) (child : Child) (rest : List Child) (fault : StepFault) → IsChildFault graph node cards child fault → IsChildrenFault graph node cards (child ∷ rest) fault
+-- the fault of the first child is that of all
+pub here : (graph : GraphShape) (node : Node) (cards : List PatCard) (child : Child) (rest : List Child) (fault : StepFault) → IsChildrenFault graph node cards (child ∷ []) fault → IsChildrenFault graph node cards (child ∷ rest) fault
 here graph node cards child rest fault told =
     elim told [
       | inl lead ↦ inl lead
@@ -72,11 +66,28 @@ later graph node cards child rest fault (next, there, goes_on) told =
       ),
     )
 
--- the fault of the first child that has one
-pub first_of_children : (graph : GraphShape) (node : Node) (cards : List PatCard) (children : List Child) (i : ℕ) (d : Child) (fault : StepFault) → i < length children → All (IsRightChild graph node cards) (take i children) →
-    IsChildFault graph node cards (get_or children i d) fault → IsChildrenFault graph node cards children fault
-first_of_children graph node cards [] i d fault less before told = absurd (omega arith)
-first_of_children graph node cards (child ∷ rest) zero d fault less before told = here graph node cards child rest fault told
-first_of_children graph node cards (child ∷ rest) (suc i) d fault less before told =
-    later graph node cards child rest fault (All-head (IsRightChild graph node cards) child (take i rest) before)
-    (first_of_children graph node cards rest i d fault (omega arith) (All-tail (IsRightChild graph node cards) child (take i rest) before) told)
+-- what is told of the other children is told of all, where the first is right
+pub more_told : {A : Type 0} (graph : GraphShape) (node : Node) (cards : List PatCard) (child : Child) (rest children : List Child) (answer : Result A StepFault) →
+    children ≡ child ∷ rest → IsRightChild graph node cards child →
+    MatchResult answer (λ _. All (IsRightChild graph node cards) rest) (IsChildrenFault graph node cards rest) →
+    MatchResult answer (λ _. All (IsRightChild graph node cards) children) (IsChildrenFault graph node cards children)
+more_told graph node cards child rest children (Ok done) is right told =
+    subst (All (IsRightChild graph node cards)) (sym is) (All-cons (IsRightChild graph node cards) child rest right told)
+more_told graph node cards child rest children (Err fault) is right told =
+    subst (λ (l : List Child). IsChildrenFault graph node cards l fault) (sym is) (later graph node cards child rest fault right told)
+
+-- ---- the seats that are listed
+pub listed_first : (child : Child) (rest : List Child) → IsListed (child ∷ rest) child.winner
+listed_first child rest = (child.number, Contains-append_left (child ∷ []) rest child (Contains-push [] child))
+
+pub listed_later : (child : Child) (rest : List Child) (seat : Seat) → IsListed rest seat → IsListed (child ∷ rest) seat
+listed_later child rest seat (number, there) = (number, Contains-append_right (child ∷ []) rest (record { winner = seat; number = number }) there)
+
+pub listed_cases : (child : Child) (rest : List Child) (seat : Seat) → IsListed (child ∷ rest) seat → (child.winner ≡ seat) ⊎ IsListed rest seat
+listed_cases child rest seat (number, there) = elim (Contains-append_cases (child ∷ []) rest (record { winner = seat; number = number }) there) [
+  | inl first ↦ elim (Contains-push_cases [] child (record { winner = seat; number = number }) first) [
+    | inl none ↦ absurd (omega (arith, none.1))
+    | inr same ↦ inl (ap (λ (c : Child). c.winner) same)
+  ]
+  | inr later ↦ inr (number, later)
+]

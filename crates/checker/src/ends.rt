@@ -1,6 +1,6 @@
 //! The end of a trick: who may have won it, and the nodes that go on.
 
-ghost use Rattle.std.specs.Prelude.{◌≡◌, ◌<◌, ◌≤◌, ◌≢◌, ◌↔◌, IsTrue, MatchResult, All, length};
+ghost use Rattle.std.specs.Prelude.{◌≡◌, ◌<◌, ◌≤◌, ◌≢◌, ◌↔◌, IsTrue, MatchResult, All, length, [], ◌∷◌};
 ghost use Rattle.cards.specs.declared.seats.Seat.{Seat};
 ghost use Rattle.pattern_step.specs.SeatSets.{is_in};
 ghost use Rattle.pattern_step.specs.Tricks.{AreLegalInTurn};
@@ -10,7 +10,7 @@ ghost use Rattle.checker.specs.Faults.{IsChildrenFault, IsLeafFault};
 use crate::faults::StepFault;
 use crate::played::Played;
 use cards::{Seat, Side};
-use certificate_graph::{Child, Graph, Node};
+use certificate_graph::{Child, Children, Graph, Node};
 use pattern_step::{PatCard, SeatSet, rest, winners};
 
 /// What is still needed when this seat has won the trick.
@@ -25,14 +25,23 @@ fn need_after(side: Side, need: u8, winner: Seat) -> u8
 }
 
 /// Whether the seat is among those listed.
-fn is_listed(children: &[Child], seat: Seat) -> bool
+fn is_listed(children: &Children<'_>, seat: Seat) -> bool
     ensures { IsTrue result ↔ IsListed children.now seat }
 {
-    children.iter().any(|child| child.winner == seat)
+    match children.split_first() {
+        None => false,
+        Some((child, rest)) => child.winner == seat || is_listed(&rest, seat),
+    }
 }
 
 /// Whether the seat is listed just where it is one of the winners and something is needed when it has won.
-fn is_rightly_listed(side: Side, need: u8, winners: SeatSet, children: &[Child], seat: Seat) -> bool
+fn is_rightly_listed(
+    side: Side,
+    need: u8,
+    winners: SeatSet,
+    children: &Children<'_>,
+    seat: Seat,
+) -> bool
     ensures { IsTrue result ↔ (IsListed children.now seat ↔ (IsTrue (is_in winners seat) × (0 < need_after side need seat))) }
 {
     let goes_on = winners.contains(seat) && need_after(side, need, seat) > 0;
@@ -40,7 +49,7 @@ fn is_rightly_listed(side: Side, need: u8, winners: SeatSet, children: &[Child],
 }
 
 /// Whether the seats listed are those that may win and have to go on.
-fn lists_winners(graph: &Graph, node: &Node, trick: &[PatCard; 4], children: &[Child]) -> bool
+fn lists_winners(graph: &Graph, node: &Node, trick: &[PatCard; 4], children: &Children<'_>) -> bool
     ensures { IsTrue result ↔ ListsWinners graph.now node.now trick.now children.now }
 {
     let winners = winners(&node.pattern, graph.trump(), node.lead, trick);
@@ -51,12 +60,39 @@ fn lists_winners(graph: &Graph, node: &Node, trick: &[PatCard; 4], children: &[C
         && is_rightly_listed(side, node.need, winners, children, Seat::West)
 }
 
-/// Checks, one after another, that the nodes named go on from what the four cards leave.
+/// Checks that the node named goes on from what the four cards leave.
+fn check_child(
+    graph: &Graph,
+    node: &Node,
+    trick: &[PatCard; 4],
+    child: Child,
+) -> Result<(), StepFault>
+    requires legal { AreLegalInTurn node.now.pattern node.now.lead trick.now }
+    requires named { child.number < length graph.now.nodes }
+    ensures { MatchResult result
+        (λ _. IsRightChild graph.now node.now trick.now child)
+        (IsChildrenFault graph.now node.now trick.now (child ∷ [])) }
+{
+    let next = &graph.nodes()[child.number as usize];
+    if next.lead != child.winner {
+        return Err(StepFault::ChildLead);
+    }
+    if next.need < need_after(graph.side(), node.need, child.winner) {
+        return Err(StepFault::ChildNeed);
+    }
+    let left = rest(&node.pattern, node.lead, trick);
+    if !next.pattern.covers(&left) {
+        return Err(StepFault::ChildPattern);
+    }
+    Ok(())
+}
+
+/// Checks the children, one after another.
 fn check_children(
     graph: &Graph,
     node: &Node,
     trick: &[PatCard; 4],
-    children: &[Child],
+    children: &Children<'_>,
 ) -> Result<(), StepFault>
     requires legal { AreLegalInTurn node.now.pattern node.now.lead trick.now }
     requires named { All (λ child. child.number < length graph.now.nodes) children.now }
@@ -64,20 +100,13 @@ fn check_children(
         (λ _. All (IsRightChild graph.now node.now trick.now) children.now)
         (IsChildrenFault graph.now node.now trick.now children.now) }
 {
-    let left = rest(&node.pattern, node.lead, trick);
-    for child in children {
-        let next = &graph.nodes()[child.number as usize];
-        if next.lead != child.winner {
-            return Err(StepFault::ChildLead);
-        }
-        if next.need < need_after(graph.side(), node.need, child.winner) {
-            return Err(StepFault::ChildNeed);
-        }
-        if !next.pattern.covers(&left) {
-            return Err(StepFault::ChildPattern);
+    match children.split_first() {
+        None => Ok(()),
+        Some((child, rest)) => {
+            check_child(graph, node, trick, child)?;
+            check_children(graph, node, trick, &rest)
         }
     }
-    Ok(())
 }
 
 /// Checks that the trick ends here, and that the children are the right ones.
@@ -85,7 +114,7 @@ pub(crate) fn check_leaf(
     graph: &Graph,
     node: &Node,
     played: &Played,
-    children: &[Child],
+    children: &Children<'_>,
 ) -> Result<(), StepFault>
     requires begun { BeginLine node.now played.now }
     requires named { All (λ child. child.number < length graph.now.nodes) children.now }

@@ -36,7 +36,7 @@ pub(crate) fn check_place(
             check_reply(graph.side(), node, played, &branches)?;
             check_branches(graph, node, played, &branches)
         }
-        View::Leaf(children) => check_leaf(graph, node, played, children),
+        View::Leaf(children) => check_leaf(graph, node, played, &children),
     }
 }
 

@@ -3,10 +3,10 @@
 use crate::certificates::{ACE, FINESSE, NOTHING};
 use crate::expect::{expect_bytes, expect_eq};
 use cards::{Buffer, DeviceFault, Seat, Side, Suit, Trump};
-use certificate_graph::{Branch, Child, Graph, GraphFault, Node, TextFault, Tree};
+use certificate_graph::{Child, Graph, GraphFault, Node, TextFault, Token, Tree};
 use pattern_step::PatCard;
 use patterns::Pattern;
-use std::alloc::{AllocError, Global};
+use std::alloc::Global;
 use std::process::Abort;
 use std::test::Fail;
 
@@ -74,22 +74,29 @@ const ONE_EACH: u64 = 0x11111;
 
 const LOW: PatCard = PatCard::Low(Suit::Spades);
 
-/// The cards of one branch each.
-fn reply(alloc: Global, card: PatCard, below: Tree) -> Result<Tree, AllocError> {
-    let mut branches = Vec::new(alloc);
-    branches.push(Branch { card, below })?;
-    Ok(Tree::reply(branches))
+/// How the ace is played, with this card for it and these children at the end.
+fn tree_of_ace(alloc: Global, card: PatCard, children: &[Child]) -> Result<Tree, Fail> {
+    // The table below has two at most.
+    let count = (children.len() & 3) as u32;
+    let mut tokens = Vec::new(alloc);
+    tokens.push(Token::Reply)?;
+    tokens.push(Token::Branch(LOW, count + 4))?;
+    tokens.push(Token::Own(LOW))?;
+    tokens.push(Token::Reply)?;
+    tokens.push(Token::Branch(LOW, count + 1))?;
+    tokens.push(Token::Own(card))?;
+    for child in children {
+        tokens.push(Token::Child(*child))?;
+    }
+    match Tree::from_tokens(tokens) {
+        Some(tree) => Ok(tree),
+        None => Err(Fail::new("these tokens are of no tree")),
+    }
 }
 
-/// The nodes of the ace, with this card for it, this need, and this child at the end.
+/// The nodes of the ace, with this card for it, this need, and these children at the end.
 fn ace(alloc: Global, card: PatCard, need: u8, children: &[Child]) -> Result<Vec<Node>, Fail> {
-    let leaf = Tree::leaf(Vec::from_slice(alloc, children)?);
-    let fourth = Tree::own(alloc, card, leaf)?;
-    let tree = reply(
-        alloc,
-        LOW,
-        Tree::own(alloc, LOW, reply(alloc, LOW, fourth)?)?,
-    )?;
+    let tree = tree_of_ace(alloc, card, children)?;
     let pattern = Pattern::from_words([ONE_EACH, 0, 0, 0])?;
     let mut nodes = Vec::new(alloc);
     nodes.push(Node {
@@ -136,6 +143,49 @@ fn nodes_of_no_graph(rt: HostRuntime) -> Result<(), Fail> {
         let nodes = ace(rt.alloc(), card, need, children)?;
         let built = Graph::new(Trump::Nt, Side::NorthSouth, nodes);
         expect_eq(&rt, &built.err(), &fault);
+    }
+    Ok(())
+}
+
+/// Tokens, and whether they are those of a tree.
+const TOKENS: [(&[Token], bool); 12] = [
+    (&[], true),
+    (&[Token::Child(OF_EAST), Token::Child(OF_NORTH)], true),
+    (
+        &[Token::Own(TOP), Token::Own(PAST), Token::Child(ABSENT)],
+        true,
+    ),
+    (&[Token::Reply], true),
+    (
+        &[Token::Reply, Token::Branch(LOW, 0), Token::Branch(LOW, 0)],
+        true,
+    ),
+    (
+        &[Token::Reply, Token::Branch(LOW, 1), Token::Child(OF_EAST)],
+        true,
+    ),
+    (
+        &[Token::Reply, Token::Branch(LOW, 2), Token::Child(OF_EAST)],
+        false,
+    ),
+    (
+        &[Token::Reply, Token::Branch(LOW, 0), Token::Child(OF_EAST)],
+        false,
+    ),
+    (&[Token::Reply, Token::Own(LOW)], false),
+    (&[Token::Reply, Token::Reply], false),
+    (&[Token::Branch(LOW, 0)], false),
+    (&[Token::Child(OF_EAST), Token::Own(LOW)], false),
+];
+
+#[test]
+fn tokens_of_trees(rt: HostRuntime) -> Result<(), Fail> {
+    for (tokens, is_tree) in TOKENS {
+        let tree = Tree::from_tokens(Vec::from_slice(rt.alloc(), tokens)?);
+        expect_eq(&rt, &tree.is_some(), &is_tree);
+        if let Some(tree) = tree {
+            expect_eq(&rt, &(tree.tokens() == tokens), &true);
+        }
     }
     Ok(())
 }

@@ -28,8 +28,8 @@ const CR_LF: &[u8] = b"% PBN 2.1\r
 /// The deal of its first board.
 const FOUR_SUITS: &[u8] = b"N:AKQJT98765432... .AKQJT98765432.. ..AKQJT98765432. ...AKQJT98765432";
 
-/// A graph with each kind of place in its trees. The nodes, the branches, the place below the first own card and the children
-/// take memory.
+/// A graph with each kind of place in its trees. The row of tokens in which a line is read, which has to grow once, the tokens of
+/// the first node and the list of nodes take memory.
 const GRAPH: &[u8] = b"DDC 1
 trump NT
 side NS

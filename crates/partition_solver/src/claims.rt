@@ -6,7 +6,7 @@ use crate::plans::TrickStart;
 use crate::search::Search;
 use arrayvec::ArrayVec;
 use cards::{Seat, Trump};
-use search_state::positions::Position;
+use search_state::positions::Holdings;
 use search_state::records::list_of;
 
 /// Where play starts for the declarers of a denomination, each once. A root's number is its place: a graph begins with them.
@@ -92,10 +92,13 @@ fn start_of(search: &Search, leader: usize, ours: bool, need: i32) -> Option<Opt
     if need <= 0 {
         return Some(None);
     }
-    let lengths = Position::start(search.deal.hands, leader).lengths;
+    let lengths = Holdings::of(search.deal.hands).lengths;
     let slot = search.records.slot(lengths)?;
     let list = list_of(leader, ours);
-    let record = search.records.find(slot, list, search.all_owners(), need)?;
+    let first = search.records.first(slot, list);
+    let record = search
+        .records
+        .find(first, &search.all_cards(), need.cast_unsigned())?;
     if i32::from(search.records.record(record).need) != need {
         return None;
     }

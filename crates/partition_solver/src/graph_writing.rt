@@ -1,22 +1,17 @@
 //! The graph of a side, written from its roots on, each node after those that name it first.
 
-use crate::plans::{Goal, PLAN_FUEL, Piece, Plan, TrickStart};
+use crate::plans::{PLAN_FUEL, Piece, Plan, TrickStart, Turn};
 use crate::search::Search;
-use arrayvec::ArrayVec;
 use cards::{Seat, Side, Suit, Trump};
-use certificate_graph::{Branch, Child, Graph, Node, Tree};
+use certificate_graph::{Child, Graph, Node, Token, Tree};
 use pattern_step::PatCard;
-use patterns::{Pattern, SuitPart};
-use search_state::played_patterns::{LOW, PlainCard, PlayedPattern};
-use search_state::words::MOST_CARDS;
+use patterns::Pattern;
+use search_state::pattern_tricks::{Held, LOW, PatternTrick};
 use std::alloc::{AllocError, Global};
 use std::sync::Arc;
 
 /// How many nodes a graph has at most.
 const MOST_NODES: usize = 1_000_000;
-
-/// How deep the calls for a tree lie in one another: at most two a card (`tree` and `branches`), and one for the leaf.
-const TREE_FUEL: u32 = 4 * 2 + 1;
 
 /// A graph in work.
 #[derive(Drop)]
@@ -100,152 +95,95 @@ impl Writing {
         Ok(())
     }
 
-    /// Puts a node down for writing, with the next number, unless it has one.
-    fn put_down(&mut self, start: TrickStart) -> Result<(), AllocError> {
-        if self.plan.number(start.record) != 0 {
-            return Ok(());
+    /// Puts a node down for writing, with the next number, unless it has one. Answers its number, from 1.
+    fn put_down(&mut self, start: TrickStart) -> Result<u32, AllocError> {
+        let old = self.plan.number(start.record);
+        if old != 0 {
+            return Ok(old);
         }
         self.todo.push(start)?;
         let number = (self.todo.len() & 0xffff_ffff) as u32;
         if let Some(old) = self.plan.numbers.get_mut(start.record as usize) {
             *old = number;
         }
-        Ok(())
+        Ok(number)
     }
 
     /// Writes a node. None where it is not shown, no steps are left or memory runs out.
     fn add_node(&mut self, search: &mut Search, start: TrickStart) -> Option<()> {
         let record = search.records.record(start.record);
-        let played = PlayedPattern::start(&record, start.lengths, start.leader);
-        let pattern = self.pattern_of(&played)?;
-        let goal = Goal {
+        let held = Held::of(&record, start.lengths);
+        let pattern = self.pattern_of(&held)?;
+        let turn = Turn {
+            held: &held,
+            trick: PatternTrick::start(start.lengths, start.leader),
             need: i32::from(record.need),
             limit: u32::MAX,
         };
         self.plan.pieces.truncate(0);
-        self.plan.add_tree(search, PLAN_FUEL, &played, goal)?;
-        let lead = seat_at(start.leader);
-        if self.write_node(pattern, lead, record.need).is_err() {
+        self.plan.add_tree(search, PLAN_FUEL, &turn)?;
+        let Ok(tokens) = self.tokens() else {
+            search.run_out();
+            return None;
+        };
+        let node = Node {
+            pattern,
+            lead: seat_at(start.leader),
+            need: record.need,
+            tree: Tree::from_tokens(tokens)?,
+        };
+        if self.nodes.push(node).is_err() {
             search.run_out();
             return None;
         }
         Some(())
     }
 
-    /// Adds a node with the tree in work, and puts down those that it names.
-    fn write_node(&mut self, pattern: Pattern, lead: Seat, need: u8) -> Result<(), AllocError> {
-        self.put_down_children()?;
-        let mut place = 0;
-        let tree = self.tree(TREE_FUEL, &mut place)?;
-        self.nodes.push(Node {
-            pattern,
-            lead,
-            need,
-            tree,
-        })?;
-        Ok(())
-    }
-
-    /// Puts down the nodes that the tree in work names.
-    fn put_down_children(&mut self) -> Result<(), AllocError> {
-        for place in 0..self.plan.pieces.len() {
-            if let Some(Piece::Child(start)) = self.plan.pieces.get(place).copied() {
-                self.put_down(start)?;
+    /// The tokens of the tree in work. The nodes that it names are put down.
+    fn tokens(&mut self) -> Result<Vec<Token>, AllocError> {
+        let count = self.plan.pieces.len();
+        let mut tokens = Vec::with_capacity(self.alloc, count)?;
+        for place in 0..count {
+            if let Some(piece) = self.plan.pieces.get(place).copied() {
+                tokens.push(self.token(piece)?)?;
             }
         }
-        Ok(())
+        Ok(tokens)
+    }
+
+    /// A piece as the graph has it.
+    fn token(&mut self, piece: Piece) -> Result<Token, AllocError> {
+        Ok(match piece {
+            Piece::Own(number) => Token::Own(self.card(number)),
+            Piece::Reply => Token::Reply,
+            Piece::Branch(number, count) => Token::Branch(self.card(number), count),
+            Piece::Child(start) => Token::Child(Child {
+                winner: seat_at(start.leader),
+                number: self.put_down(start)?.wrapping_sub(1),
+            }),
+        })
     }
 
     /// The pattern at a trick's start.
-    fn pattern_of(&self, played: &PlayedPattern) -> Option<Pattern> {
+    fn pattern_of(&self, held: &Held) -> Option<Pattern> {
         let lanes = self.plan.lanes;
-        Pattern::from_parts([
-            part(played, lanes[0]),
-            part(played, lanes[1]),
-            part(played, lanes[2]),
-            part(played, lanes[3]),
+        Pattern::from_words([
+            held.word(lanes[0]),
+            held.word(lanes[1]),
+            held.word(lanes[2]),
+            held.word(lanes[3]),
         ])
         .ok()
     }
 
-    /// A card as the graph names it.
-    fn card(&self, card: PlainCard) -> PatCard {
-        let suit = self.suits[card.lane & 3];
-        if card.place == LOW {
+    /// A card, which is told by the number of its bit, as the graph names it.
+    fn card(&self, number: u32) -> PatCard {
+        let suit = self.suits[(number >> 4 & 3) as usize];
+        let place = number & 15;
+        if place == LOW {
             PatCard::Low(suit)
         } else {
-            PatCard::Top(suit, (card.place & 15) as u8)
+            PatCard::Top(suit, place as u8)
         }
-    }
-
-    /// The tree of the pieces from this place on, which then stands after them. Where they are none, which a plan never
-    /// leaves, it is a leaf without children.
-    #[cycle(writing)]
-    fn tree(&self, fuel: u32, place: &mut usize) -> Result<Tree, AllocError> {
-        let piece = self.plan.pieces.get(*place).copied();
-        *place = place.wrapping_add(1);
-        match piece {
-            Some(Piece::Own(card)) if fuel > 0 => {
-                let below = self.tree(fuel - 1, place)?;
-                Tree::own(self.alloc, self.card(card), below)
-            }
-            Some(Piece::Reply(count)) if fuel > 0 => self.branches(fuel - 1, count, place),
-            Some(Piece::Leaf(count)) => self.leaf(count, place),
-            _ => self.leaf(0, place),
-        }
-    }
-
-    /// The tree of so many branches.
-    #[cycle(writing)]
-    fn branches(&self, fuel: u32, count: usize, place: &mut usize) -> Result<Tree, AllocError> {
-        let mut branches = Vec::with_capacity(self.alloc, count.min(52))?;
-        for _ in 0..count {
-            if let Some(Piece::Branch(card)) = self.plan.pieces.get(*place).copied() {
-                if fuel == 0 {
-                    break;
-                }
-                *place = place.wrapping_add(1);
-                let below = self.tree(fuel - 1, place)?;
-                branches.push(Branch {
-                    card: self.card(card),
-                    below,
-                })?;
-            }
-        }
-        Ok(Tree::reply(branches))
-    }
-
-    /// The leaf of so many children.
-    fn leaf(&self, count: usize, place: &mut usize) -> Result<Tree, AllocError> {
-        let mut children = Vec::with_capacity(self.alloc, count.min(4))?;
-        for _ in 0..count {
-            if let Some(Piece::Child(start)) = self.plan.pieces.get(*place).copied() {
-                children.push(Child {
-                    winner: seat_at(start.leader),
-                    number: self.plan.number(start.record).wrapping_sub(1),
-                })?;
-            }
-            *place = place.wrapping_add(1);
-        }
-        Ok(Tree::leaf(children))
-    }
-}
-
-/// One suit of a pattern.
-fn part(played: &PlayedPattern, lane: usize) -> SuitPart {
-    let mut owners = ArrayVec::new();
-    for place in 0..MOST_CARDS {
-        if place < played.depth(lane) && owners.len() < 13 {
-            owners.push(seat_at(played.owner(lane, place)));
-        }
-    }
-    SuitPart {
-        lens: [
-            played.length_of(lane, 0),
-            played.length_of(lane, 1),
-            played.length_of(lane, 2),
-            played.length_of(lane, 3),
-        ],
-        owners,
     }
 }

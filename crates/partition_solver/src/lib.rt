@@ -9,11 +9,15 @@ mod answers;
 mod bundles;
 mod claims;
 mod graph_writing;
+mod last_hand;
+mod leaves;
 mod memory;
 mod plans;
 mod remembering;
 mod search;
 mod solving;
+mod starts;
+mod turns;
 mod values;
 
 pub use bundles::{Bundle, Claim};

@@ -1,10 +1,8 @@
-//! The proof of a record: one trick on its pattern, worked out anew from what the search remembers.
+//! The tree of a node: one trick on a remembered pattern, worked out anew from what the search remembers.
 
 use crate::search::Search;
 use cards::Suit;
-use search_state::blocks::PLACES;
-use search_state::played_patterns::{LOWS, PlainCard, PlayedPattern, Remains};
-use search_state::records::{Slot, list_of, number_of};
+use search_state::pattern_tricks::{Held, LOWS, PatternTrick};
 use search_state::words::{SUIT, lowest};
 use std::alloc::{AllocError, Global};
 
@@ -15,18 +13,16 @@ pub(crate) const PLAN_FUEL: u32 = 4 * 3 + 1;
 /// Where fewer steps than these are left for each block of records, the first card that shows a tree is taken.
 const STEPS_A_BLOCK: u64 = 40;
 
-/// A piece of a tree, in the order of its text.
+/// A token of a tree in work. A card is told by the number of its bit.
 #[derive(Clone, Copy)]
 pub(crate) enum Piece {
     /// A card of the side; what follows it comes next.
-    Own(PlainCard),
-    /// So many cards of the opponents come next, each with what follows it.
-    Reply(usize),
-    /// One of them.
-    Branch(PlainCard),
-    /// So many children come next.
-    Leaf(usize),
-    /// One of them.
+    Own(u32),
+    /// The opponents' cards come next, each with what follows it.
+    Reply,
+    /// One of them, and of how many pieces what follows it is.
+    Branch(u32, u32),
+    /// A node that goes on.
     Child(TrickStart),
 }
 
@@ -55,18 +51,12 @@ pub(crate) struct Plan {
     pub lanes: [usize; 4],
 }
 
-/// The records that go on after a trick, by the seat that won it, 0 where none is needed, and what the new nodes cost: one
-/// each, and one for each owner that they name.
+/// A place of the tree in work: the node's pattern, the trick so far, and what has to be shown: so many tricks, with new nodes
+/// that cost less than the limit.
 #[derive(Clone, Copy)]
-struct Leaf {
-    lengths: u64,
-    records: [u32; 4],
-    cost: u32,
-}
-
-/// What a tree has to show: so many tricks, with new nodes that cost less than the limit.
-#[derive(Clone, Copy)]
-pub(crate) struct Goal {
+pub(crate) struct Turn<'a> {
+    pub held: &'a Held,
+    pub trick: PatternTrick,
     pub need: i32,
     pub limit: u32,
 }
@@ -84,18 +74,40 @@ fn lane_of(suits: [Suit; 4], suit: Suit) -> usize {
     }
 }
 
-/// So many nodes without a number.
-fn no_numbers(alloc: Global, count: usize) -> Result<Vec<u32>, AllocError> {
-    let mut numbers = Vec::new(alloc);
-    for _ in 0..count {
-        numbers.push(0)?;
-    }
-    Ok(numbers)
+/// The number of a card's bit.
+fn number_of(card: u64) -> u32 {
+    card.trailing_zeros() & 63
 }
 
 /// The highest place of each run of touching tops of one seat, and the low card.
-fn tops_of_runs(legal: u64) -> u64 {
+pub(crate) fn tops_of_runs(legal: u64) -> u64 {
     legal & (!(legal & !LOWS).wrapping_shl(1) | LOWS)
+}
+
+impl<'a> Turn<'a> {
+    /// The place after a card, where what follows it may cost so much.
+    pub(crate) fn after(&self, card: u64, trumps: u64, limit: u32) -> Turn<'a> {
+        Turn {
+            held: self.held,
+            trick: self.trick.after(card, trumps),
+            need: self.need,
+            limit,
+        }
+    }
+
+    /// The cards that the seat to play may play.
+    pub(crate) fn legal_cards(&self) -> u64 {
+        self.held.legal_cards(&self.trick)
+    }
+
+    /// The card that showed the node's record, where it is the turn to lead.
+    fn first_card(&self) -> u64 {
+        if self.trick.on_table == 0 {
+            self.held.first_card
+        } else {
+            0
+        }
+    }
 }
 
 impl Plan {
@@ -105,7 +117,7 @@ impl Plan {
         let short = STEPS_A_BLOCK.saturating_mul(search.records.blocks());
         Ok(Plan {
             pieces: Vec::new(alloc),
-            numbers: no_numbers(alloc, search.records.numbers())?,
+            numbers: vec![in alloc; 0; search.records.numbers()]?,
             ours,
             is_thrifty: search.steps < short,
             lanes: [
@@ -122,8 +134,13 @@ impl Plan {
         self.numbers.get(record as usize).copied().unwrap_or(0)
     }
 
+    /// Whether the seat is of the plan's side.
+    pub(crate) fn owns(&self, seat: usize) -> bool {
+        (seat & 1 == 0) == self.ours
+    }
+
     /// Adds a piece. None where memory runs out.
-    fn push(&mut self, search: &mut Search, piece: Piece) -> Option<()> {
+    pub(crate) fn push(&mut self, search: &mut Search, piece: Piece) -> Option<()> {
         if self.pieces.push(piece).is_err() {
             search.run_out();
             return None;
@@ -147,23 +164,22 @@ impl Plan {
         &mut self,
         search: &mut Search,
         fuel: u32,
-        played: &PlayedPattern,
-        goal: Goal,
+        turn: &Turn<'_>,
     ) -> Option<u32> {
         if fuel == 0 {
             return None;
         }
-        if played.on_table >= 4 {
-            let leaf = self.leaf(search, played, goal)?;
+        if turn.trick.on_table >= 4 {
+            let leaf = self.leaf(search, turn)?;
             return self.add_leaf(search, &leaf);
         }
-        if (played.seat & 1 == 0) != self.ours {
-            return self.add_reply(search, fuel - 1, played, goal);
+        if !self.owns(turn.trick.seat) {
+            return self.add_reply(search, fuel - 1, turn);
         }
-        if played.on_table == 3 {
-            return self.add_last(search, played, goal);
+        if turn.trick.on_table == 3 {
+            return self.add_last(search, turn);
         }
-        self.add_own(search, fuel - 1, played, goal)
+        self.add_own(search, fuel - 1, turn)
     }
 
     /// Adds a card and what follows it.
@@ -172,49 +188,40 @@ impl Plan {
         &mut self,
         search: &mut Search,
         fuel: u32,
-        played: &PlayedPattern,
-        goal: Goal,
         piece: Piece,
-        card: PlainCard,
+        after: &Turn<'_>,
     ) -> Option<u32> {
         if fuel == 0 {
             return None;
         }
         Plan::spend(search)?;
         self.push(search, piece)?;
-        let after = played.after(card, search.deal.trumps != 0);
-        self.add_tree(search, fuel - 1, &after, goal)
+        self.add_tree(search, fuel - 1, after)
     }
 
     /// Adds the card of the side whose tree's new nodes cost least.
     #[cycle(planning)]
-    fn add_own(
-        &mut self,
-        search: &mut Search,
-        fuel: u32,
-        played: &PlayedPattern,
-        goal: Goal,
-    ) -> Option<u32> {
+    fn add_own(&mut self, search: &mut Search, fuel: u32, turn: &Turn<'_>) -> Option<u32> {
         if fuel == 0 {
             return None;
         }
         let begin = self.pieces.len();
-        let mut least = goal;
+        let mut least = turn.limit;
         let mut found = None;
-        let mut waiting = tops_of_runs(played.legal_cards());
-        let first = played.first_card & waiting;
+        let mut waiting = tops_of_runs(turn.legal_cards());
+        let first = turn.first_card() & waiting;
         for _ in 0..u64::BITS {
-            if waiting == 0 || least.limit == 0 || self.is_thrifty && found.is_some() {
+            if waiting == 0 || least == 0 || self.is_thrifty && found.is_some() {
                 break;
             }
-            let bit = played.choose(waiting, first);
-            waiting &= !bit;
-            let card = PlainCard::of(bit);
+            let card = turn.trick.choose(waiting, first);
+            waiting &= !card;
             let from = self.pieces.len();
-            let cost = self.add_card(search, fuel - 1, played, least, Piece::Own(card), card);
+            let after = turn.after(card, search.deal.trumps, least);
+            let cost = self.add_card(search, fuel - 1, Piece::Own(number_of(card)), &after);
             if let Some(new) = cost {
                 self.drop_pieces(begin, from);
-                least.limit = new;
+                least = new;
                 found = cost;
             } else {
                 self.pieces.truncate(from);
@@ -243,40 +250,35 @@ impl Plan {
 
     /// Adds all cards of the opponents.
     #[cycle(planning)]
-    fn add_reply(
-        &mut self,
-        search: &mut Search,
-        fuel: u32,
-        played: &PlayedPattern,
-        goal: Goal,
-    ) -> Option<u32> {
+    fn add_reply(&mut self, search: &mut Search, fuel: u32, turn: &Turn<'_>) -> Option<u32> {
         if fuel == 0 {
             return None;
         }
-        let begin = self.pieces.len();
-        self.push(search, Piece::Reply(0))?;
-        let mut count = 0usize;
+        self.push(search, Piece::Reply)?;
         let mut sum = 0u32;
-        let mut waiting = played.legal_cards();
+        let mut waiting = turn.legal_cards();
         for _ in 0..u64::BITS {
             if waiting == 0 {
                 break;
             }
-            let bit = self.first_of(waiting);
-            waiting &= !bit;
-            let card = PlainCard::of(bit);
-            let rest = Goal {
-                need: goal.need,
-                limit: goal.limit.saturating_sub(sum),
-            };
-            let cost = self.add_card(search, fuel - 1, played, rest, Piece::Branch(card), card)?;
-            count = count.wrapping_add(1);
+            let card = self.first_of(waiting);
+            waiting &= !card;
+            let begin = self.pieces.len();
+            let number = number_of(card);
+            let after = turn.after(card, search.deal.trumps, turn.limit.saturating_sub(sum));
+            let cost = self.add_card(search, fuel - 1, Piece::Branch(number, 0), &after)?;
+            self.end_branch(begin, number);
             sum = sum.saturating_add(cost);
         }
-        if let Some(piece) = self.pieces.get_mut(begin) {
-            *piece = Piece::Reply(count);
-        }
         Some(sum)
+    }
+
+    /// Says in the piece of a branch, which stands in this place, of how many pieces what follows it is.
+    fn end_branch(&mut self, begin: usize, number: u32) {
+        let count = self.pieces.len().wrapping_sub(begin).wrapping_sub(1);
+        if let Some(piece) = self.pieces.get_mut(begin) {
+            *piece = Piece::Branch(number, (count & 0xffff_ffff) as u32);
+        }
     }
 
     /// The first of these cards: spades first, and of a suit the highest first.
@@ -291,130 +293,10 @@ impl Plan {
     }
 
     /// Adds the last card of a trick, where it is the side's: the one whose new children cost least.
-    fn add_last(&mut self, search: &mut Search, played: &PlayedPattern, goal: Goal) -> Option<u32> {
-        let (card, leaf) = self.best_last(search, played, goal)?;
+    fn add_last(&mut self, search: &mut Search, turn: &Turn<'_>) -> Option<u32> {
+        let (card, leaf) = self.best_last(search, turn)?;
         Plan::spend(search)?;
-        self.push(search, Piece::Own(card))?;
+        self.push(search, Piece::Own(number_of(card)))?;
         self.add_leaf(search, &leaf)
-    }
-
-    /// The last card of a trick whose new children cost least, and the children.
-    fn best_last(
-        &self,
-        search: &Search,
-        played: &PlayedPattern,
-        goal: Goal,
-    ) -> Option<(PlainCard, Leaf)> {
-        let mut waiting = tops_of_runs(played.legal_cards());
-        let mut least = goal;
-        let mut best = None;
-        for _ in 0..u64::BITS {
-            if waiting == 0 || least.limit == 0 {
-                break;
-            }
-            let bit = played.choose(waiting, 0);
-            waiting &= !bit;
-            let card = PlainCard::of(bit);
-            let after = played.after(card, search.deal.trumps != 0);
-            if let Some(leaf) = self.leaf(search, &after, least) {
-                least.limit = leaf.cost;
-                best = Some((card, leaf));
-            }
-        }
-        best
-    }
-
-    /// Adds the pieces of a leaf, and answers its cost.
-    fn add_leaf(&mut self, search: &mut Search, leaf: &Leaf) -> Option<u32> {
-        let mut count = 0usize;
-        for seat in 0..4usize {
-            if leaf.records[seat] != 0 {
-                count = count.wrapping_add(1);
-            }
-        }
-        self.push(search, Piece::Leaf(count))?;
-        for seat in 0..4usize {
-            if leaf.records[seat] != 0 {
-                let child = TrickStart {
-                    lengths: leaf.lengths,
-                    record: leaf.records[seat],
-                    leader: seat,
-                };
-                self.push(search, Piece::Child(child))?;
-            }
-        }
-        Some(leaf.cost)
-    }
-
-    /// The children after a trick. None where what is remembered does not show them for less than the limit.
-    fn leaf(&self, search: &Search, played: &PlayedPattern, goal: Goal) -> Option<Leaf> {
-        let winners = played.winners();
-        let slot = search.records.slot(played.lengths);
-        let remains = played.remains();
-        let mut leaf = Leaf {
-            lengths: played.lengths,
-            records: [0; 4],
-            cost: 0,
-        };
-        for seat in 0..4usize {
-            let won = if (seat & 1 == 0) == self.ours { 1 } else { 0 };
-            let rest = goal.need.wrapping_sub(won);
-            if winners.wrapping_shr(seat as u32) & 1 == 0 || rest <= 0 {
-                continue;
-            }
-            let record = self.child(search, slot?, remains, seat, rest)?;
-            leaf.cost = leaf.cost.wrapping_add(self.cost_of(search, record));
-            leaf.records[seat] = record;
-        }
-        if leaf.cost < goal.limit {
-            Some(leaf)
-        } else {
-            None
-        }
-    }
-
-    /// What a child of this record costs: nothing where it has a node already.
-    fn cost_of(&self, search: &Search, record: u32) -> u32 {
-        if self.number(record) != 0 {
-            return 0;
-        }
-        u32::from(search.records.record(record).owners_named()) + 1
-    }
-
-    /// A record that goes on after the trick: one that has a node already, else the one that names the fewest owners.
-    fn child(
-        &self,
-        search: &Search,
-        slot: &Slot,
-        remains: Remains,
-        winner: usize,
-        need: i32,
-    ) -> Option<u32> {
-        let mut number = search.records.first(slot, list_of(winner, self.ours));
-        let mut first = None;
-        for _ in 0..search.records.numbers() {
-            let Some(block) = search.records.block(number) else {
-                break;
-            };
-            if number == 0 {
-                break;
-            }
-            for place in 0..PLACES {
-                if i32::from(block.need[place]) < need
-                    || !search.records.is_known(number, place, remains)
-                {
-                    continue;
-                }
-                let record = number_of(number, place);
-                if self.number(record) != 0 {
-                    return Some(record);
-                }
-                if first.is_none() {
-                    first = Some(record);
-                }
-            }
-            number = block.next as usize;
-        }
-        first
     }
 }

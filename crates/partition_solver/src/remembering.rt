@@ -1,13 +1,12 @@
 //! What a search knows of the start of a trick, and what it remembers of it.
 
-use crate::search::{Found, Search};
+use crate::search::Search;
+use crate::starts::{Found, Start};
 use search_state::blocks::Record;
-use search_state::deals::Owners;
-use search_state::positions::Position;
-use search_state::records::{Slot, list_of};
+use search_state::deals::CardsLeft;
+use search_state::records::list_of;
 use search_state::relevant_cards::{depths_of, named_card};
 use search_state::words::MIXER;
-use std::alloc::AllocError;
 
 /// There are 2 to this power of places for remembered leads.
 const HINT_BITS: u32 = 18;
@@ -16,107 +15,107 @@ const HINT_BITS: u32 = 18;
 pub(crate) const HINTS: usize = 1 << HINT_BITS;
 
 /// The place of the lead that is remembered for such a start of a trick.
-fn hint_place(position: &Position) -> usize {
-    let key = position.lengths
-        ^ (position.seat as u64).wrapping_shl(61)
-        ^ u64::from(position.want.unsigned_abs()).wrapping_shl(57);
+fn hint_place(lengths: u64, start: &Start) -> usize {
+    let key = lengths
+        ^ (start.leader as u64).wrapping_shl(61)
+        ^ u64::from(start.want).wrapping_shl(57);
     (key.wrapping_mul(MIXER) >> 64 - HINT_BITS) as usize
 }
 
-/// The answer where a side wants nothing.
-fn nothing_needed(ours: bool) -> Found {
-    Found {
-        ours,
-        bound: 0,
-        relevant: 0,
-    }
-}
-
 impl Search {
-    /// What is known of the start of a trick.
-    pub(crate) fn known(&self, position: &Position) -> Option<Found> {
-        if position.wanted_by(true) <= 0 {
-            return Some(nothing_needed(true));
+    /// The first block of what is remembered of the start of a trick for a side, 0 where nothing is.
+    pub(crate) fn first(&self, start: &Start, ours: bool) -> usize {
+        self.records
+            .first_at(start.place, list_of(start.leader, ours))
+    }
+
+    /// What is known of the start of a trick that is not settled.
+    pub(crate) fn known(&self, tricks: u32, start: &Start) -> Option<Found> {
+        let mut ours = self.first(start, true);
+        let mut theirs = self.first(start, false);
+        match start.asked {
+            Some(true) => ours = 0,
+            Some(false) => theirs = 0,
+            None => {}
         }
-        if position.wanted_by(false) <= 0 {
-            return Some(nothing_needed(false));
+        if ours | theirs == 0 {
+            return None;
         }
-        let slot = self.records.slot(position.lengths)?;
-        let owners = self.deal.owners(position.left);
-        match self.found_in(slot, owners, position, true) {
+        let left = self.deal.cards_left(start.left);
+        match self.found_from(ours, &left, start.wanted_by(true, tricks), true) {
             Some(found) => Some(found),
-            None => self.found_in(slot, owners, position, false),
+            None => self.found_from(theirs, &left, start.wanted_by(false, tricks), false),
         }
     }
 
-    /// What is known of the start of a trick, where this side gets what it wants.
-    pub(crate) fn known_for(&self, position: &Position, ours: bool) -> Option<Found> {
-        if position.wanted_by(ours) <= 0 {
-            return Some(nothing_needed(ours));
+    /// What is known of the start of a trick, if anything is.
+    pub(crate) fn looked_up(&self, tricks: u32, start: &Start) -> Option<Found> {
+        match start.settled(tricks) {
+            Some(found) => Some(found),
+            None => self.known(tricks, start),
         }
-        let slot = self.records.slot(position.lengths)?;
-        self.found_in(slot, self.deal.owners(position.left), position, ours)
     }
 
-    /// What the records of a shape say of the start of a trick, where this side gets what it wants.
-    fn found_in(
+    /// What is known of these cards left, where this side gets what it needs, by the records from this block on.
+    pub(crate) fn known_from(
         &self,
-        slot: &Slot,
-        owners: Owners,
-        position: &Position,
+        first: usize,
+        left: u64,
+        need: u32,
         ours: bool,
     ) -> Option<Found> {
-        let list = list_of(position.seat, ours);
-        let number = self
-            .records
-            .find(slot, list, owners, position.wanted_by(ours))?;
-        Some(self.told(position.left, ours, number))
+        if need == 0 {
+            Some(Found::nothing_needed(ours))
+        } else if first == 0 {
+            None
+        } else {
+            self.found_from(first, &self.deal.cards_left(left), need, ours)
+        }
     }
 
-    /// What a record says of these cards.
-    fn told(&self, left: u64, ours: bool, number: u32) -> Found {
+    /// What the records say from this block on, where this side gets what it needs.
+    fn found_from(&self, first: usize, left: &CardsLeft, need: u32, ours: bool) -> Option<Found> {
+        let number = self.records.find(first, left, need)?;
         let record = self.records.record(number);
-        Found {
+        Some(Found {
+            relevant: self.deal.cards_at(left.cards, record.depths),
+            bound: u32::from(record.need),
             ours,
-            bound: i32::from(record.need),
-            relevant: self.deal.cards_at(left, record.depths),
-        }
+        })
     }
 
-    /// Remembers what was found at the start of a trick, and the lead that succeeded, if any.
-    pub(crate) fn remember(
-        &mut self,
-        position: &Position,
-        found: Found,
-        first_card: u64,
-    ) -> Result<(), AllocError> {
-        if first_card != 0 {
-            self.remember_lead(position, first_card);
+    /// Remembers what was found at the start of a trick, and of the card that showed it, if any, the name.
+    pub(crate) fn remember(&mut self, start: &Start, found: Found, card: u64) {
+        let depths = depths_of(start.left, found.relevant);
+        let named = named_card(start.left, depths, card);
+        let left = self.deal.cards_left(start.left);
+        let record = Record::new(&left, depths, (found.bound & 15) as u8, named);
+        let list = list_of(start.leader, found.ours);
+        let lengths = self.held.lengths;
+        self.adds = self.adds.wrapping_add(1);
+        let added = self
+            .records
+            .add(self.alloc, start.place, lengths, list, record);
+        if added.is_err() {
+            self.run_out();
         }
-        let depths = depths_of(position.left, found.relevant);
-        let record = Record::new(
-            self.deal.owners(position.left),
-            depths,
-            (found.bound & 15) as u8,
-            named_card(position.left, depths, first_card),
-        );
-        let list = list_of(position.seat, found.ours);
-        self.records.add(self.alloc, position.lengths, list, record)
     }
 
     /// Remembers that this lead succeeded.
-    fn remember_lead(&mut self, position: &Position, card: u64) {
-        if let Some(hint) = self.hints.get_mut(hint_place(position)) {
+    pub(crate) fn remember_lead(&mut self, start: &Start, card: u64) {
+        let place = hint_place(self.held.lengths, start);
+        if let Some(hint) = self.hints.get_mut(place) {
             *hint = (card.trailing_zeros() & 63) as u8 + 1;
         }
     }
 
     /// The lead that succeeded before at such a place, or no card.
-    pub(crate) fn hint(&self, position: &Position) -> u64 {
-        if position.on_table != 0 {
-            return 0;
-        }
-        match self.hints.get(hint_place(position)).copied() {
+    pub(crate) fn hint(&self, start: &Start) -> u64 {
+        match self
+            .hints
+            .get(hint_place(self.held.lengths, start))
+            .copied()
+        {
             Some(place) if place != 0 => 1u64.wrapping_shl(u32::from(place) - 1),
             _ => 0,
         }

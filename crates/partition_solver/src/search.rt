@@ -1,38 +1,19 @@
-//! The search: whether North and South can win so many of the tricks left.
+//! The search: whether North and South can win so many of the tricks left. Each hand's turn is a function; what is held is changed
+//! before a call, and put back after it.
 
 use crate::remembering::HINTS;
+use crate::starts::{Found, Start, is_ours, trick_for};
 use cards::{Layout, Trump};
 use search_state::deals::Deal;
-use search_state::moves::Moves;
-use search_state::positions::Position;
+use search_state::moves::{Moves, Runs};
+use search_state::positions::{Holdings, Trick};
 use search_state::records::Records;
-use search_state::relevant_cards::{owners_named, relevant_after, whole_runs};
-use search_state::words::{MOST_CARDS, below, suit_of};
+use search_state::relevant_cards::{needs_fewer, relevant_after};
+use search_state::words::{MOST_CARDS, below};
 use std::alloc::{AllocError, Global};
 
-/// How many calls lie between the start of a trick and that of the next, at most: three a card (`search`, `try_cards` and
-/// `follow`), and three after the last one (`ended`, `whoever` and `led_by`).
-const CALLS_A_TRICK: u32 = 4 * 3 + 3;
-
-/// How deep calls may lie in one another: as deep as thirteen tricks need, and what is known after them.
-pub(crate) const FUEL: u32 = MOST_CARDS * CALLS_A_TRICK + 1;
-
 /// With how many tricks left other possible winners are searched.
-const SEARCHED: i32 = 7;
-
-/// More tricks than a hand has.
-const NO_BOUND: i32 = 14;
-
-/// The answer of a search.
-#[derive(Clone, Copy)]
-pub(crate) struct Found {
-    /// The side that gets what it wants: whether it is North's and South's.
-    pub ours: bool,
-    /// How many of the tricks left it can win, at least.
-    pub bound: i32,
-    /// The cards whose rank that needed.
-    pub relevant: u64,
-}
+const SEARCHED: u32 = 7;
 
 /// A search of one deal in one denomination, with all that it remembers.
 #[derive(Drop)]
@@ -44,203 +25,312 @@ pub(crate) struct Search {
     pub steps: u64,
     /// Whether memory ran out. Then no steps are left, and the search is of no more use.
     pub memory_ran_out: bool,
+    /// What the seats hold now.
+    pub held: Holdings,
+    /// Whether a card was to be tried and no step was left, or memory ran out: then an answer says nothing.
+    pub stopped: bool,
+    /// How often something was remembered.
+    pub adds: u32,
     /// By lengths, leader and want the lead that succeeded last: its bit and one, or 0.
     pub hints: Vec<u8>,
-}
-
-/// Whether the seat is of North's and South's side.
-fn is_ours(seat: usize) -> bool {
-    seat & 1 == 0
-}
-
-/// A trick that the seat wins, where it counts for the side.
-fn trick_for(seat: usize, ours: bool) -> i32 {
-    if is_ours(seat) == ours { 1 } else { 0 }
-}
-
-/// No lead is remembered.
-fn no_hints(alloc: Global) -> Result<Vec<u8>, AllocError> {
-    let mut hints = Vec::new(alloc);
-    for _ in 0..HINTS {
-        hints.push(0)?;
-    }
-    Ok(hints)
 }
 
 impl Search {
     /// A search that has found nothing yet, and has no steps.
     pub(crate) fn new(alloc: Global, layout: &Layout, trump: Trump) -> Result<Search, AllocError> {
+        let deal = Deal::new(alloc, layout, trump)?;
         Ok(Search {
             alloc,
-            deal: Deal::new(alloc, layout, trump)?,
+            held: Holdings::of(deal.hands),
+            deal,
             records: Records::new(alloc)?,
             steps: 0,
             memory_ran_out: false,
-            hints: no_hints(alloc)?,
+            stopped: false,
+            adds: 0,
+            hints: vec![in alloc; 0; HINTS]?,
         })
     }
 
     /// Notes that memory ran out, and ends the search.
     pub(crate) fn run_out(&mut self) {
         self.memory_ran_out = true;
+        self.stopped = true;
         self.steps = 0;
     }
 
-    /// Whether North and South win what they want of the tricks left, else that East and West win more than the rest.
-    /// None where no steps are left.
-    #[cycle(searching)]
-    pub(crate) fn search(&mut self, fuel: u32, position: &Position) -> Option<Found> {
-        if fuel == 0 {
-            return None;
+    /// Spends a step. False where none is left.
+    fn spend(&mut self) -> bool {
+        if self.steps == 0 {
+            self.stopped = true;
+            return false;
         }
-        if position.on_table == 0 {
-            if let Some(found) = self.known(position) {
-                return Some(found);
-            }
-        }
-        let moves = Moves::of(&self.deal, position, self.hint(position));
-        if position.on_table == 3 {
-            if let Some((after, found)) = self.ask(position, moves) {
-                return Some(self.ended(fuel - 1, &after, found));
-            }
-        }
-        let (answer, success) = self.try_cards(fuel - 1, position, moves)?;
-        if position.on_table == 0 && self.remember(position, answer, success).is_err() {
-            self.run_out();
-            return None;
-        }
-        Some(answer)
+        self.steps -= 1;
+        true
     }
 
-    /// Tries the cards of a turn: the answer, and the card that succeeded, 0 where none did.
+    /// Whether North and South win what they want of so many tricks left, else that East and West win more than the rest.
     #[cycle(searching)]
-    fn try_cards(
-        &mut self,
-        fuel: u32,
-        position: &Position,
-        mut moves: Moves,
-    ) -> Option<(Found, u64)> {
-        let mover = position.is_ours();
-        let mut answer = Found {
-            ours: !mover,
-            bound: NO_BOUND,
-            relevant: 0,
-        };
+    pub(crate) fn search(&mut self, tricks: u32, start: &Start) -> Found {
+        if let Some(found) = start.settled(tricks) {
+            return found;
+        }
+        if let Some(found) = self.known(tricks, start) {
+            return found;
+        }
+        self.lead(tricks, start)
+    }
+
+    /// The leader's turn. What is found is remembered.
+    #[cycle(searching)]
+    fn lead(&mut self, tricks: u32, start: &Start) -> Found {
+        let seat = start.leader;
+        let mover = is_ours(seat);
+        let before = self.held.before(seat);
+        let runs = Runs::of(before.hand, start.left);
+        let mut moves = Moves::of(&runs);
+        let mut next = self.first_lead(tricks, start, runs, &mut moves);
+        let mut answer = Found::unless_one_succeeds(!mover);
         for _ in 0..MOST_CARDS {
-            let Some(tried) = moves.next(position, self.deal.trumps) else {
+            let Some(tried) = next else {
                 break;
             };
-            if fuel == 0 || self.steps == 0 {
-                return None;
+            if !self.spend() {
+                return answer;
             }
-            self.steps -= 1;
-            let after = position.after(tried.card, self.deal.trumps);
-            let found = self.follow(fuel - 1, &after)?;
+            self.held.play(seat, tried.card);
+            let found = self.second(tricks, start, &Trick::led(seat, tried.card));
+            self.held.put_back(seat, before);
+            if self.stopped {
+                return answer;
+            }
             if found.ours == mover {
-                return Some((found, tried.card));
+                self.remember_lead(start, tried.card);
+                self.remember(start, found, tried.card);
+                return found;
             }
-            answer.bound = answer.bound.min(found.bound);
-            answer.relevant |= whole_runs(tried, found.relevant);
+            answer = answer.with_failed(tried, found);
             moves.skip(tried, found.relevant);
+            next = self.next_lead(tricks, start, runs, &mut moves);
         }
-        Some((answer, 0))
+        self.remember(start, answer, 0);
+        answer
     }
 
-    /// A card of the last hand that is known to succeed, the one that needs the fewest owners: the trick with it, and
-    /// what is known of the rest.
-    fn ask(&self, position: &Position, mut moves: Moves) -> Option<(Position, Found)> {
-        let trumps = self.deal.trumps;
-        let mover = position.is_ours();
-        let mut best = None;
-        let mut least = u32::MAX;
+    /// The second hand's turn.
+    #[cycle(searching)]
+    fn second(&mut self, tricks: u32, start: &Start, trick: &Trick) -> Found {
+        let seat = start.leader.wrapping_add(1) & 3;
+        let mover = is_ours(seat);
+        let before = self.held.before(seat);
+        let runs = Runs::of(trick.legal(before.hand), start.left);
+        let mut moves = Moves::of(&runs);
+        let mut next = self.first_second(tricks, start, trick, runs, &mut moves);
+        let mut answer = Found::unless_one_succeeds(!mover);
         for _ in 0..MOST_CARDS {
-            let Some(tried) = moves.next(position, trumps) else {
+            let Some(tried) = next else {
                 break;
             };
-            let after = position.after(tried.card, trumps);
-            let next = after.next(after.winner);
-            if let Some(found) = self.known_for(&next, mover) {
-                let owners = owners_named(position.left, relevant_after(&after, found.relevant));
-                if owners < least {
-                    least = owners;
-                    best = Some((after, found));
-                }
+            if !self.spend() {
+                return answer;
             }
+            let after = trick.after(seat, tried.card, self.deal.trumps);
+            self.held.play(seat, tried.card);
+            let found = self.third(tricks, start, &after);
+            self.held.put_back(seat, before);
+            if self.stopped || found.ours == mover {
+                return found;
+            }
+            answer = answer.with_failed(tried, found);
+            moves.skip(tried, found.relevant);
+            next = moves.next();
         }
-        best
+        answer
     }
 
-    /// Goes on after a card.
+    /// The third hand's turn.
     #[cycle(searching)]
-    fn follow(&mut self, fuel: u32, after: &Position) -> Option<Found> {
-        if fuel == 0 {
-            return None;
+    fn third(&mut self, tricks: u32, start: &Start, trick: &Trick) -> Found {
+        let seat = start.leader.wrapping_add(2) & 3;
+        let mover = is_ours(seat);
+        let before = self.held.before(seat);
+        let runs = Runs::of(trick.legal(before.hand), start.left);
+        let mut moves = Moves::of(&runs);
+        let mut next = self.first_third(tricks, start, trick, runs, &mut moves);
+        let mut answer = Found::unless_one_succeeds(!mover);
+        for _ in 0..MOST_CARDS {
+            let Some(tried) = next else {
+                break;
+            };
+            if !self.spend() {
+                return answer;
+            }
+            let after = trick.after(seat, tried.card, self.deal.trumps);
+            self.held.play(seat, tried.card);
+            let found = self.last(tricks, start, &after);
+            self.held.put_back(seat, before);
+            if self.stopped || found.ours == mover {
+                return found;
+            }
+            answer = answer.with_failed(tried, found);
+            moves.skip(tried, found.relevant);
+            next = moves.next();
         }
-        if after.on_table < 4 {
-            return self.search(fuel - 1, after);
+        answer
+    }
+
+    /// The last hand's turn: a card that is known to succeed, else all are tried.
+    #[cycle(searching)]
+    fn last(&mut self, tricks: u32, start: &Start, trick: &Trick) -> Found {
+        let seat = start.leader.wrapping_add(3) & 3;
+        if tricks == 0 {
+            return Found::unless_one_succeeds(!is_ours(seat));
         }
-        let found = self.search(fuel - 1, &after.next(after.winner))?;
-        Some(self.ended(fuel - 1, after, found))
+        let rest = tricks - 1;
+        let before = self.held.before(seat);
+        let own = trick.legal(before.hand);
+        let runs = Runs::of(own, start.left);
+        let place = self.place_in_suit(own, trick, seat);
+        if !runs.is_single() {
+            if let Some((card, found)) = self.ask(rest, start, trick, runs, place) {
+                let after = trick.after(seat, card, self.deal.trumps);
+                self.held.play(seat, card);
+                let place = self.records.place_near(place, self.held.lengths);
+                let next = start.next(after.winner as usize, self.held.all(), place);
+                let whole = self.ended(rest, start, &after, &next, found);
+                self.held.put_back(seat, before);
+                return whole;
+            }
+        }
+        self.try_last(rest, start, trick, runs, place)
+    }
+
+    /// Tries the cards of the last hand, of which none is known to succeed, or there is one run only.
+    #[cycle(searching)]
+    fn try_last(
+        &mut self,
+        rest: u32,
+        start: &Start,
+        trick: &Trick,
+        runs: Runs,
+        place: usize,
+    ) -> Found {
+        let seat = start.leader.wrapping_add(3) & 3;
+        let mover = is_ours(seat);
+        let before = self.held.before(seat);
+        let mut moves = Moves::of(&runs);
+        let mut next = self.first_last(rest.wrapping_add(1), start, trick, runs, &mut moves);
+        let adds = self.adds;
+        let mut answer = Found::unless_one_succeeds(!mover);
+        for _ in 0..MOST_CARDS {
+            let Some(tried) = next else {
+                break;
+            };
+            if !self.spend() {
+                return answer;
+            }
+            let after = trick.after(seat, tried.card, self.deal.trumps);
+            let is_asked = !runs.is_single() && self.adds == adds;
+            self.held.play(seat, tried.card);
+            let found = self.rest(rest, start, &after, place, is_asked);
+            self.held.put_back(seat, before);
+            if self.stopped || found.ours == mover {
+                return found;
+            }
+            answer = answer.with_failed(tried, found);
+            moves.skip(tried, found.relevant);
+            next = moves.next();
+        }
+        answer
+    }
+
+    /// Goes on after a trick. The slot of what is left may be in this place, and the records of the last hand's side may have
+    /// been asked.
+    #[cycle(searching)]
+    fn rest(
+        &mut self,
+        rest: u32,
+        start: &Start,
+        trick: &Trick,
+        place: usize,
+        is_asked: bool,
+    ) -> Found {
+        let place = self.records.place_near(place, self.held.lengths);
+        let mut next = start.next(trick.winner as usize, self.held.all(), place);
+        if is_asked {
+            next.asked = Some(!is_ours(start.leader));
+        }
+        let found = self.search(rest, &next);
+        if self.stopped {
+            return found;
+        }
+        self.ended(rest, start, trick, &next, found)
     }
 
     /// What was found of a trick that has ended: the winner's rank matters where others played to its suit, unless what
     /// is left goes the same way whoever of them wins.
     #[cycle(searching)]
-    fn ended(&mut self, fuel: u32, after: &Position, found: Found) -> Found {
+    fn ended(
+        &mut self,
+        rest: u32,
+        start: &Start,
+        trick: &Trick,
+        next: &Start,
+        found: Found,
+    ) -> Found {
         let mut whole = found;
-        whole.bound = found
-            .bound
-            .wrapping_add(trick_for(after.winner, found.ours));
-        let relevant = relevant_after(after, found.relevant);
-        if fuel == 0 || relevant == found.relevant {
+        whole.bound = found.bound.wrapping_add(trick_for(next.leader, found.ours));
+        let relevant = relevant_after(trick, found.relevant);
+        if relevant == found.relevant {
             return whole;
         }
-        if let Some(other) = self.whoever(fuel - 1, after, whole) {
+        if let Some(other) = self.whoever(rest, start, trick, next, whole) {
             return other;
         }
         whole.relevant = relevant;
         whole
     }
 
-    /// The same answer whoever of those who played to the winner's suit wins, where that is known or soon found, and
-    /// names fewer owners.
+    /// The same answer whoever of those who played to the winner's suit wins, where that is known, or searched since few
+    /// tricks are left, and names fewer owners.
     #[cycle(searching)]
-    fn whoever(&mut self, fuel: u32, after: &Position, found: Found) -> Option<Found> {
-        let low = below(after.best) | after.best;
-        if fuel == 0 || found.relevant & suit_of(after.best) & low != 0 {
-            return None;
-        }
-        let partners = if is_ours(after.winner) { 5 } else { 10 };
-        if is_ours(after.winner) == found.ours && after.contenders & !partners != 0 {
+    fn whoever(
+        &mut self,
+        rest: u32,
+        start: &Start,
+        trick: &Trick,
+        next: &Start,
+        found: Found,
+    ) -> Option<Found> {
+        let low = below(trick.best) | trick.best;
+        let partners = if is_ours(next.leader) { 5 } else { 10 };
+        if found.relevant & trick.deciding & low != 0
+            || is_ours(next.leader) == found.ours && trick.contenders & !partners != 0
+        {
             return None;
         }
         let mut answer = found;
         for seat in 0..4usize {
-            if seat == after.winner || after.contenders.wrapping_shr(seat as u32) & 1 == 0 {
+            if seat == next.leader || trick.contenders.wrapping_shr(seat as u32) & 1 == 0 {
                 continue;
             }
-            let other = self.led_by(fuel - 1, &after.next(seat))?;
-            if other.ours != found.ours {
+            let then = next.led_by(seat);
+            let other = if rest > SEARCHED {
+                self.looked_up(rest, &then)?
+            } else {
+                self.search(rest, &then)
+            };
+            if self.stopped || other.ours != found.ours {
                 return None;
             }
             let bound = other.bound.wrapping_add(trick_for(seat, found.ours));
             answer.bound = answer.bound.min(bound);
             answer.relevant |= other.relevant;
         }
-        let with_winner = owners_named(after.left, found.relevant | after.best);
-        if owners_named(after.left, answer.relevant) < with_winner {
+        if needs_fewer(start.left, answer.relevant, found.relevant | trick.best) {
             Some(answer)
         } else {
             None
         }
-    }
-
-    /// What is left with another seat to lead: looked up, or searched where few tricks are left.
-    #[cycle(searching)]
-    fn led_by(&mut self, fuel: u32, next: &Position) -> Option<Found> {
-        if fuel == 0 || next.tricks > SEARCHED {
-            return self.known(next);
-        }
-        self.search(fuel - 1, next)
     }
 }

@@ -34,10 +34,11 @@ pub trait Solver {
         ensures { may_find self.now layout.now declarers.now trump budget (option_flatten (result_ok result)) };
 }
 
-/// A partition search. A step of its budget is one card tried, in the search or for a tree of a graph; the last card of a
-/// trick is free where it is only looked up. The tricks of a declarer are found within the budget, and the graphs of all are
-/// written with what they leave of it. What it finds is remembered for later calls, unless each seat has a claim: a call that
-/// ran out of steps can be made again, and declarers can be asked for one by one. Threads may call it at once: none waits.
+/// A partition search. A step of its budget is one card tried, in the search or for a tree of a graph; where the last hand
+/// of a trick has a choice, its card is free if it is only looked up. The tricks of a declarer are found within the budget,
+/// and the graphs of all are written with what they leave of it. What it finds is remembered for later calls, unless each seat
+/// has a claim: a call that ran out of steps can be made again, and declarers can be asked for one by one. Threads may call it
+/// at once: none waits.
 #[derive(Drop)]
 pub struct Partition {
     memory: Memory,

@@ -1,8 +1,10 @@
 //! How many tricks a side can win: a first guess, and questions up and down from there.
 
-use crate::search::{FUEL, Search};
-use search_state::deals::Owners;
-use search_state::positions::Position;
+use crate::search::Search;
+use crate::starts::Start;
+use search_state::deals::CardsLeft;
+use search_state::positions::Holdings;
+use search_state::records::NO_PLACE;
 use search_state::words::MOST_CARDS;
 
 /// How many cards a set has.
@@ -42,30 +44,51 @@ impl Search {
     /// How many tricks North and South can win with this seat to lead. So many are asked for first, if a guess is given. Each
     /// question brings the bounds nearer by one at least. None where no steps are left or memory ran out.
     pub(crate) fn value(&mut self, leader: usize, guess: Option<i32>) -> Option<i32> {
-        let mut position = Position::start(self.deal.hands, leader);
+        let tricks = self.deal.hands[0].count_ones();
         let mut least = 0;
-        let mut most = position.tricks;
-        position.want = guess.unwrap_or(self.guess(position.tricks));
+        let mut most = tricks;
+        let mut want = guess
+            .unwrap_or(self.guess(tricks as i32))
+            .max(0)
+            .cast_unsigned();
+        self.held = Holdings::of(self.deal.hands);
+        self.stopped = false;
         for _ in 0..MOST_CARDS {
             if least >= most {
                 break;
             }
-            position.want = position.want.max(least.wrapping_add(1)).min(most);
-            let found = self.search(FUEL, &position)?;
+            want = want.max(least.wrapping_add(1)).min(most);
+            let start = self.start(leader, want);
+            let found = self.search(tricks, &start);
+            if self.stopped {
+                return None;
+            }
             if found.ours {
                 least = least.max(found.bound);
-                position.want = least.wrapping_add(1);
+                want = least.wrapping_add(1);
             } else {
-                most = most.min(position.tricks.wrapping_sub(found.bound));
-                position.want = most;
+                most = most.min(tricks.wrapping_sub(found.bound));
+                want = most;
             }
         }
-        Some(least)
+        Some((least & 15) as i32)
     }
 
-    /// The owners of all cards.
-    pub(crate) fn all_owners(&self) -> Owners {
+    /// The start of play, where North and South want so many tricks.
+    fn start(&self, leader: usize, want: u32) -> Start {
+        Start {
+            left: self.held.all(),
+            place: self.records.place_near(NO_PLACE, self.held.lengths),
+            leader: leader & 3,
+            want,
+            asked: None,
+        }
+    }
+
+    /// All cards, with their owners.
+    pub(crate) fn all_cards(&self) -> CardsLeft<'_> {
         let hands = self.deal.hands;
-        self.deal.owners(hands[0] | hands[1] | hands[2] | hands[3])
+        let cards = hands[0] | hands[1] | hands[2] | hands[3];
+        self.deal.cards_left(cards)
     }
 }

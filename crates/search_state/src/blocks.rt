@@ -1,6 +1,7 @@
 //! How records are kept: three in a block, which takes 64 bytes.
 
-use crate::deals::Owners;
+use crate::deals::CardsLeft;
+use crate::pattern_tricks::Remains;
 
 /// How many records a block has.
 pub const PLACES: usize = 3;
@@ -70,13 +71,18 @@ pub(crate) fn is_deep(depths: u16) -> bool {
 }
 
 impl Record {
-    /// A record with the owners down to these depths.
-    pub fn new(owners: Owners, depths: u16, need: u8, first_card: u8) -> Record {
+    /// A record with the owners of these cards down to these depths.
+    pub fn new(left: &CardsLeft, depths: u16, need: u8, first_card: u8) -> Record {
         let mask = near_mask(depths);
+        let deep = if is_deep(depths) {
+            left.deep() & deep_mask(depths)
+        } else {
+            0
+        };
         Record {
-            near: owners.near & mask,
+            near: left.near & mask,
             mask,
-            deep: owners.deep & deep_mask(depths),
+            deep,
             depths,
             need,
             first_card,
@@ -91,12 +97,16 @@ impl Record {
 
     /// Whether the record says at least what the other says.
     pub(crate) fn serves(&self, other: &Record) -> bool {
-        let deep = deep_mask(self.depths);
         self.need >= other.need
             && self.mask & !other.mask == 0
             && (self.near ^ other.near) & self.mask == 0
-            && deep & !deep_mask(other.depths) == 0
-            && (self.deep ^ other.deep) & deep == 0
+            && (!is_deep(self.depths) || self.serves_deep(other))
+    }
+
+    /// Whether it says no more of the owners after the eighth than the other.
+    fn serves_deep(&self, other: &Record) -> bool {
+        let deep = deep_mask(self.depths);
+        deep & !deep_mask(other.depths) == 0 && (self.deep ^ other.deep) & deep == 0
     }
 }
 
@@ -105,6 +115,13 @@ impl Block {
     pub(crate) fn begins(&self, place: usize, near: u64) -> bool {
         let place = place.min(2);
         (self.near[place] ^ near) & self.mask[place] == 0
+    }
+
+    /// Whether what is known of the first owners that remain is what the record in this place says.
+    pub(crate) fn is_known(&self, place: usize, remains: &Remains) -> bool {
+        let place = place.min(2);
+        let unlike = (self.near[place] ^ remains.owners.near) | !remains.known.near;
+        unlike & self.mask[place] == 0
     }
 
     /// The record in a place, with its owners after the eighth.

@@ -1,13 +1,16 @@
 //! The tables of one deal: who owns the cards of a suit, and which rank each of them has.
 
-use crate::words::SUIT;
+use crate::words::{MOST_CARDS, SUIT};
 use cards::{Layout, Seat, Suit, Trump};
 use std::alloc::{AllocError, Global};
 
 const SETS: usize = 8192;
 
-/// The owners of the cards in all hands, two bits each, in every suit the highest card first: `near` has the first
-/// eight of each suit, `deep` the others.
+/// How many sets of ranks four suits have.
+const ALL_SETS: usize = 4 * SETS;
+
+/// Owners of cards, two bits each, in every suit the highest card first: `near` has the first eight of each suit, `deep` the
+/// others.
 #[derive(Clone, Copy, Default)]
 pub struct Owners {
     pub near: u64,
@@ -23,8 +26,19 @@ pub struct Deal {
     pub trumps: u64,
     /// The suits as they lie in a word, from the lowest.
     pub suits: [Suit; 4],
-    owners: Vec<u32>,
+    /// By suit and set of ranks the owners of the first eight.
+    near: Vec<u16>,
+    /// And of the others.
+    deep: Vec<u16>,
     ranks: Vec<u64>,
+}
+
+/// The cards in all hands, with the first eight owners of each suit. Those of the others are looked up where they are asked for.
+#[derive(Clone, Copy)]
+pub struct CardsLeft<'a> {
+    deal: &'a Deal,
+    pub cards: u64,
+    pub(crate) near: u64,
 }
 
 /// The suits in the order of a word: the trump suit last.
@@ -78,6 +92,28 @@ fn holder(hands: [u64; 4], card: u64) -> u32 {
     }
 }
 
+/// The owners of these cards by a table of four suits.
+fn owners_by(table: &[u16], left: u64) -> u64 {
+    if table.len() < ALL_SETS {
+        return 0;
+    }
+    let lowest = table[(left & 0x1fff) as usize];
+    let second = table[SETS + (left >> 16 & 0x1fff) as usize];
+    let third = table[2 * SETS + (left >> 32 & 0x1fff) as usize];
+    let highest = table[3 * SETS + (left >> 48 & 0x1fff) as usize];
+    u64::from(lowest)
+        | u64::from(second).wrapping_shl(16)
+        | u64::from(third).wrapping_shl(32)
+        | u64::from(highest).wrapping_shl(48)
+}
+
+impl CardsLeft<'_> {
+    /// The owners after the eighth of each suit.
+    pub(crate) fn deep(&self) -> u64 {
+        owners_by(self.deal.deep.as_slice(), self.cards)
+    }
+}
+
 impl Deal {
     /// The tables of a layout.
     pub fn new(alloc: Global, layout: &Layout, trump: Trump) -> Result<Deal, AllocError> {
@@ -86,7 +122,8 @@ impl Deal {
             hands: hands_of(layout, suits),
             trumps: trumps_of(trump),
             suits,
-            owners: Vec::new(alloc),
+            near: Vec::new(alloc),
+            deep: Vec::new(alloc),
             ranks: Vec::new(alloc),
         };
         deal.fill_owners()?;
@@ -104,57 +141,67 @@ impl Deal {
         self.suits == suits_of(trump) && self.trumps == trumps_of(trump)
     }
 
-    /// For each suit and each set of its ranks the owners, the highest first. The rest of a set is a lower set.
+    /// For each suit and each set of its ranks the owners, the highest first.
     fn fill_owners(&mut self) -> Result<(), AllocError> {
         for lane in 0..4u32 {
-            self.owners.push(0)?;
-            for set in 1..SETS {
-                let top = 15u32.wrapping_sub((set as u16).leading_zeros());
-                let owner = holder(
-                    self.hands,
-                    1u64.wrapping_shl(top.wrapping_add(lane.wrapping_mul(16))),
-                );
-                let rest = set & !1usize.wrapping_shl(top);
-                let others = self.owners_in(lane as usize, rest);
-                self.owners.push(others.wrapping_shl(2) | owner)?;
+            self.push_owners(0)?;
+            for top in 0..MOST_CARDS {
+                self.fill_sets(lane, top)?;
             }
         }
+        Ok(())
+    }
+
+    /// For each set of ranks of a suit with this one as the highest the owners. The others of a set are a set before it.
+    fn fill_sets(&mut self, lane: u32, top: u32) -> Result<(), AllocError> {
+        let card = 1u64.wrapping_shl(top.wrapping_add(lane.wrapping_mul(16)));
+        let owner = holder(self.hands, card);
+        for others in 0..1usize.wrapping_shl(top) {
+            let owners = self.owners_in(lane as usize, others);
+            self.push_owners(owners.wrapping_shl(2) | owner)?;
+        }
+        Ok(())
+    }
+
+    /// Adds the owners of the next set.
+    fn push_owners(&mut self, owners: u32) -> Result<(), AllocError> {
+        self.near.push((owners & 0xffff) as u16)?;
+        self.deep.push((owners >> 16 & 0xffff) as u16)?;
         Ok(())
     }
 
     /// For each set of ranks the ranks themselves, four bits each, the highest first.
     fn fill_ranks(&mut self) -> Result<(), AllocError> {
         self.ranks.push(0)?;
-        for set in 1..SETS {
-            let top = 15u32.wrapping_sub((set as u16).leading_zeros());
-            let rest = set & !1usize.wrapping_shl(top);
-            let others = self.ranks.get(rest).copied().unwrap_or(0);
-            self.ranks.push(others.wrapping_shl(4) | u64::from(top))?;
+        for top in 0..MOST_CARDS {
+            for others in 0..1usize.wrapping_shl(top) {
+                let ranks = self.ranks.get(others).copied().unwrap_or(0);
+                self.ranks.push(ranks.wrapping_shl(4) | u64::from(top))?;
+            }
         }
         Ok(())
     }
 
     /// The owners of the cards of a suit, by its number in the word.
-    pub(crate) fn owners_in(&self, lane: usize, ranks: usize) -> u32 {
+    fn owners_in(&self, lane: usize, ranks: usize) -> u32 {
         let place = lane.wrapping_mul(SETS).wrapping_add(ranks & 0x1fff);
-        self.owners.get(place).copied().unwrap_or(0)
+        let near = self.near.get(place).copied().unwrap_or(0);
+        let deep = self.deep.get(place).copied().unwrap_or(0);
+        u32::from(near) | u32::from(deep) << 16
     }
 
-    /// The owners of these cards.
-    pub fn owners(&self, left: u64) -> Owners {
-        let lowest = u64::from(self.owners_in(0, (left & 0x1fff) as usize));
-        let second = u64::from(self.owners_in(1, (left >> 16 & 0x1fff) as usize));
-        let third = u64::from(self.owners_in(2, (left >> 32 & 0x1fff) as usize));
-        let highest = u64::from(self.owners_in(3, (left >> 48 & 0x1fff) as usize));
-        Owners {
-            near: lowest & SUIT
-                | (second & SUIT).wrapping_shl(16)
-                | (third & SUIT).wrapping_shl(32)
-                | highest.wrapping_shl(48),
-            deep: lowest >> 16
-                | (second >> 16).wrapping_shl(16)
-                | (third >> 16).wrapping_shl(32)
-                | (highest >> 16).wrapping_shl(48),
+    /// The owners of the first eight cards of a suit, by its number in the word.
+    pub(crate) fn near_in(&self, lane: usize, ranks: usize) -> u32 {
+        let place = lane.wrapping_mul(SETS).wrapping_add(ranks & 0x1fff);
+        u32::from(self.near.get(place).copied().unwrap_or(0))
+    }
+
+    /// These cards with their owners.
+    pub fn cards_left(&self, cards: u64) -> CardsLeft<'_> {
+        CardsLeft {
+            deal: self,
+            cards,
+            near: owners_by(self.near.as_slice(), cards),
         }
     }
 

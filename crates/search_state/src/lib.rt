@@ -4,11 +4,14 @@
 
 pub mod blocks;
 pub mod deals;
+mod followers;
+mod leads;
 pub mod moves;
 mod order;
-pub mod played_patterns;
+pub mod pattern_tricks;
 pub mod positions;
 pub mod records;
 pub mod relevant_cards;
+mod waiting;
 mod weights;
 pub mod words;

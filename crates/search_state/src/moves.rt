@@ -1,18 +1,17 @@
-//! The cards to be tried at a turn: one of each run of touching cards.
+//! The cards to be tried at a turn, in their order: one of each run of touching cards.
 
-use crate::deals::Deal;
-use crate::order::Order;
-use crate::positions::Position;
 use crate::words::{
-    ABOVE, MOST_CARDS, below, bottoms, highest, lowest, start_of, suit_of, top_of_run,
+    ABOVE, below, bottoms, highest, highest_bit, lowest, lowest_bit, start_of, suit_of,
     without_lowest,
 };
 
-/// How many runs a hand has at most.
-const MOST_RUNS: usize = MOST_CARDS as usize;
+/// How many runs there is room for: more than a hand has.
+const ROOM: usize = 16;
 
-/// The weight of the card that is tried first in any case.
-const FIRST: i32 = 1_000_000;
+/// What a weight is multiplied with beside the number of a bit, and the bit that tells that the highest card is tried.
+const WEIGHED: i32 = 128;
+
+const TOP: i32 = 64;
 
 /// A card to be tried, with the lowest and the highest card of its run.
 #[derive(Clone, Copy)]
@@ -22,103 +21,173 @@ pub struct Move {
     pub top: u64,
 }
 
-/// The runs that are still to be tried, each named by its lowest card, and the order.
+/// The runs of a hand's cards, from the lowest.
+#[derive(Clone, Copy)]
+pub struct Runs {
+    /// The cards.
+    pub own: u64,
+    /// The lowest card of each run.
+    pub bottoms: u64,
+    /// Those of the runs that are still to come.
+    rest: u64,
+}
+
+/// A run, by the numbers of the bits of its lowest and its highest card.
+#[derive(Clone, Copy)]
+pub struct Run {
+    pub bottom: u32,
+    pub top: u32,
+}
+
+/// The runs that are still to be tried.
 #[derive(Clone, Copy)]
 pub struct Moves {
     own: u64,
-    left: u64,
     bottoms: u64,
+    /// The lowest card of each run that is not skipped.
     waiting: u64,
-    /// Of each run the weight of its card, times 64, and the bit of its lowest card.
-    keys: [i32; MOST_RUNS],
+    /// The runs by falling weight: the weight, whether the highest card is tried, and the bit of the lowest.
+    runs: [i32; ROOM],
     count: usize,
+    /// The place of the run that is tried next.
+    next: usize,
 }
 
-/// The card of a run that is tried: the highest where it beats what lies, else the lowest.
-fn choice(position: &Position, bottom: u64, top: u64, trumps: u64) -> u64 {
-    if position.beats(top, trumps) {
-        top
-    } else {
-        bottom
+/// The card of a bit.
+pub fn card_at(bit: u32) -> u64 {
+    1u64.wrapping_shl(bit)
+}
+
+impl Run {
+    /// The highest card.
+    pub fn highest(&self) -> u64 {
+        card_at(self.top)
+    }
+
+    /// The bit of the card that is tried: the highest where it wins, else the lowest.
+    pub fn choice(&self, wins: bool) -> u32 {
+        if wins { self.top } else { self.bottom }
     }
 }
 
-/// The key of a run whose card has this weight.
-fn key_of(weight: i32, bottom: u64) -> i32 {
-    weight.wrapping_mul(64) | (bottom.trailing_zeros() & 63) as i32
+impl Runs {
+    /// The runs of these cards, where those in all hands are these.
+    pub fn of(own: u64, left: u64) -> Runs {
+        let all = bottoms(own, left);
+        Runs {
+            own,
+            bottoms: all,
+            rest: all,
+        }
+    }
+
+    /// Whether there is one run at most.
+    pub fn is_single(&self) -> bool {
+        without_lowest(self.bottoms) == 0
+    }
+
+    /// Where the suit of the lowest run begins.
+    pub(crate) fn first_suit(&self) -> u32 {
+        lowest_bit(self.bottoms) & 48
+    }
+
+    /// The next run.
+    pub fn next(&mut self) -> Option<Run> {
+        if self.rest == 0 {
+            return None;
+        }
+        let bottom = lowest_bit(self.rest);
+        self.rest = without_lowest(self.rest);
+        Some(Run {
+            bottom,
+            top: highest_bit(self.own & below(lowest(self.rest))),
+        })
+    }
 }
 
 impl Moves {
-    /// The cards to be tried, after this hint where it is one of them.
-    pub fn of(deal: &Deal, position: &Position, hint: u64) -> Moves {
-        let own = position.legal();
-        let all = bottoms(own, position.left);
-        let mut moves = Moves {
-            own,
-            left: position.left,
-            bottoms: all,
-            waiting: all,
-            keys: [0; MOST_RUNS],
+    /// No run yet of these.
+    pub fn of(runs: &Runs) -> Moves {
+        Moves {
+            own: runs.own,
+            bottoms: runs.bottoms,
+            waiting: runs.bottoms,
+            runs: [0; ROOM],
             count: 0,
-        };
-        if without_lowest(all) == 0 {
-            moves.keys[0] = key_of(0, all);
-            moves.count = 1;
-        } else {
-            moves.weigh(Order::of(deal, position), deal.trumps, hint);
+            next: 0,
         }
-        moves
     }
 
-    /// Gives each run its key.
-    fn weigh(&mut self, order: Order, trumps: u64, hint: u64) {
-        let mut rest = self.bottoms;
-        for place in 0..MOST_RUNS {
-            if rest == 0 {
+    /// The only run. Its highest card is tried, or its lowest.
+    pub fn only(&self, tries_top: bool) -> Move {
+        self.move_of(self.bottoms, tries_top)
+    }
+
+    /// The run whose highest card is this, if there is one. It is tried before the others have weights.
+    pub fn of_top(&self, card: u64) -> Option<Move> {
+        if card & self.own == 0 {
+            return None;
+        }
+        let tried = self.move_of(highest(self.bottoms & (below(card) | card)), true);
+        if tried.card != card {
+            return None;
+        }
+        Some(tried)
+    }
+
+    /// Whether runs wait that have no weights yet.
+    pub fn are_unsorted(&self) -> bool {
+        self.count == 0 && self.waiting != 0
+    }
+
+    /// Puts a run where it belongs by its weight. Its highest card is tried, or its lowest.
+    pub(crate) fn add(&mut self, run: Run, tries_top: bool, weight: i32) {
+        let top = if tries_top { TOP } else { 0 };
+        let entry = weight.wrapping_mul(WEIGHED) | top | (run.bottom & 63) as i32;
+        let mut place = self.count;
+        for before in (0..self.count).rev() {
+            let other = self.runs[before & 15];
+            if other >= entry {
                 break;
             }
-            let bottom = lowest(rest);
-            rest = without_lowest(rest);
-            let top = top_of_run(bottom, self.own, self.left);
-            let card = choice(order.position, bottom, top, trumps);
-            let weight = if card & hint != 0 {
-                FIRST
-            } else {
-                order.weigh(card)
-            };
-            self.keys[place] = key_of(weight, bottom);
-            self.count = place + 1;
+            self.runs[place & 15] = other;
+            place = before;
         }
+        self.runs[place & 15] = entry;
+        self.count = self.count.wrapping_add(1);
     }
 
     /// The next card.
-    pub fn next(&mut self, position: &Position, trumps: u64) -> Option<Move> {
-        if self.waiting == 0 {
-            return None;
-        }
-        let mut best = i32::MIN;
-        for place in 0..MOST_RUNS {
-            if place >= self.count {
-                break;
-            }
-            let key = self.keys[place];
-            if key > best && 1u64.wrapping_shl((key & 63) as u32) & self.waiting != 0 {
-                best = key;
+    pub fn next(&mut self) -> Option<Move> {
+        for place in self.next..self.count {
+            let entry = self.runs[place & 15];
+            let bottom = card_at((entry & 63) as u32);
+            if self.waiting & bottom != 0 {
+                self.next = place.wrapping_add(1);
+                return Some(self.move_of(bottom, entry & TOP != 0));
             }
         }
-        let bottom = 1u64.wrapping_shl((best & 63) as u32);
-        self.waiting &= !bottom;
-        let top = top_of_run(bottom, self.own, self.left);
-        Some(Move {
-            card: choice(position, bottom, top, trumps),
+        None
+    }
+
+    /// The card to be tried of the run that begins with this one: its highest, or its lowest.
+    fn move_of(&self, bottom: u64, tries_top: bool) -> Move {
+        let above = self.bottoms & !below(bottom) & !bottom;
+        let top = highest(self.own & below(lowest(above)));
+        Move {
+            card: if tries_top { top } else { bottom },
             bottom,
             top,
-        })
+        }
     }
 
     /// After a card failed for reasons that need these cards: runs of its suit that lie wholly below them would fail
     /// alike, if its own does.
     pub fn skip(&mut self, tried: Move, relevant: u64) {
+        self.waiting &= !tried.bottom;
+        if self.waiting == 0 {
+            return;
+        }
         let suit = suit_of(tried.bottom);
         let named = relevant & suit;
         let limit = if named == 0 {

@@ -1,32 +1,55 @@
-//! A position of the search: the cards held, and the trick in progress.
+//! A position of the search: the cards held, and the trick in progress. Seats are numbers from North's 0.
 
+use crate::deals::Deal;
+use crate::weights::{EAGER, MODEST, Weights};
 use crate::words::{start_of, suit_of};
 
-/// A position. Seats are numbers from North's 0; the tricks of North and South are counted.
+/// The cards that the seats hold. A search plays them one by one, and puts them back.
 #[derive(Clone, Copy)]
-pub struct Position {
-    /// The cards that each seat holds.
+pub struct Holdings {
+    /// The cards of each seat.
     pub hands: [u64; 4],
-    /// The cards in all hands at the trick's start.
-    pub left: u64,
     /// How many cards each seat holds in each suit, four bits each, by suit and seat.
     pub lengths: u64,
-    /// All bits of the suit led, 0 before the lead.
+}
+
+/// What a seat held before it played, with the lengths of all.
+#[derive(Clone, Copy)]
+pub struct Before {
+    pub hand: u64,
+    pub lengths: u64,
+}
+
+/// The cards of a trick so far, after the lead.
+#[derive(Clone, Copy)]
+pub struct Trick {
+    /// All bits of the suit led.
     pub led: u64,
+    /// All bits of the suit of the card that wins so far.
+    pub deciding: u64,
     /// The card that wins so far.
     pub best: u64,
     /// The seat that holds it.
-    pub winner: usize,
-    /// A bit for each seat that played to the suit of the card that wins so far.
+    pub winner: u32,
+    /// A bit for each seat that played to its suit.
     pub contenders: u32,
+}
+
+/// A seat's turn, before it plays.
+#[derive(Clone, Copy)]
+pub struct Turn<'a> {
+    pub deal: &'a Deal,
+    pub held: &'a Holdings,
+    /// The cards in all hands at the trick's start.
+    pub left: u64,
     /// The seat to play.
     pub seat: usize,
-    /// How many cards lie on the table.
-    pub on_table: u32,
-    /// How many tricks North and South want of those left at the trick's start.
-    pub want: i32,
-    /// How many tricks were left at the trick's start.
-    pub tricks: i32,
+    pub(crate) weights: &'static Weights,
+}
+
+/// One card of a suit and a seat, in the word of the lengths.
+pub fn one_of(card: u64, seat: usize) -> u64 {
+    1u64.wrapping_shl(start_of(card).wrapping_add((seat & 3) as u32 * 4))
 }
 
 /// The lengths of four hands.
@@ -42,99 +65,126 @@ fn lengths_of(hands: [u64; 4]) -> u64 {
     lengths
 }
 
-impl Position {
-    /// The start of play.
-    pub fn start(hands: [u64; 4], leader: usize) -> Position {
-        Position {
+impl Holdings {
+    /// These hands.
+    pub fn of(hands: [u64; 4]) -> Holdings {
+        Holdings {
             hands,
-            left: hands[0] | hands[1] | hands[2] | hands[3],
             lengths: lengths_of(hands),
-            led: 0,
-            best: 0,
-            winner: leader,
-            contenders: 0,
-            seat: leader,
-            on_table: 0,
-            want: 0,
-            tricks: hands[0].count_ones() as i32,
         }
     }
 
-    /// Whether North or South is to play.
-    pub fn is_ours(&self) -> bool {
-        self.seat & 1 == 0
+    /// The cards in all hands.
+    pub fn all(&self) -> u64 {
+        self.hands[0] | self.hands[1] | self.hands[2] | self.hands[3]
     }
 
-    /// How many of the tricks left North and South want, or how many East and West then want to stop them.
-    pub fn wanted_by(&self, ours: bool) -> i32 {
-        if ours {
-            self.want
+    /// What the seat holds, to be put back later.
+    pub fn before(&self, seat: usize) -> Before {
+        Before {
+            hand: self.hands[seat & 3],
+            lengths: self.lengths,
+        }
+    }
+
+    /// The seat plays a card.
+    pub fn play(&mut self, seat: usize, card: u64) {
+        self.hands[seat & 3] &= !card;
+        self.lengths = self.lengths.wrapping_sub(one_of(card, seat));
+    }
+
+    /// The seat has again what it held.
+    pub fn put_back(&mut self, seat: usize, before: Before) {
+        self.hands[seat & 3] = before.hand;
+        self.lengths = before.lengths;
+    }
+}
+
+impl Trick {
+    /// A trick to which the seat has led the card.
+    pub fn led(seat: usize, card: u64) -> Trick {
+        let suit = suit_of(card);
+        Trick {
+            led: suit,
+            deciding: suit,
+            best: card,
+            winner: (seat & 3) as u32,
+            contenders: 1u32.wrapping_shl((seat & 3) as u32),
+        }
+    }
+
+    /// Whether the card wins against those on the table.
+    pub fn beats(&self, card: u64, trumps: u64) -> bool {
+        card & (self.deciding | trumps) > self.best
+    }
+
+    /// What a card of the suit led has to beat: no card does where a ruff stands.
+    pub(crate) fn best_in_suit(&self) -> u64 {
+        if self.deciding == self.led {
+            self.best
         } else {
-            self.tricks.wrapping_sub(self.want).wrapping_add(1)
+            u64::MAX
         }
     }
 
-    /// The hand of the seat to play.
-    pub fn hand(&self) -> u64 {
-        self.hands[self.seat & 3]
+    /// The trick after the seat has played the card.
+    pub fn after(&self, seat: usize, card: u64, trumps: u64) -> Trick {
+        let mut next = *self;
+        let seat = (seat & 3) as u32;
+        let bit = 1u32.wrapping_shl(seat);
+        if card & self.deciding != 0 {
+            next.contenders = self.contenders | bit;
+            if card > self.best {
+                next.best = card;
+                next.winner = seat;
+            }
+        } else if card & trumps != 0 {
+            next.deciding = trumps;
+            next.best = card;
+            next.winner = seat;
+            next.contenders = bit;
+        }
+        next
     }
 
-    /// The cards that the seat to play may play.
-    pub fn legal(&self) -> u64 {
-        let hand = self.hand();
+    /// The cards of a hand that may be played.
+    pub fn legal(&self, hand: u64) -> u64 {
         let follows = hand & self.led;
         if follows != 0 { follows } else { hand }
     }
 
-    /// How many cards of the suit that starts here the seat holds.
-    pub(crate) fn length(&self, start: u32, seat: usize) -> i32 {
-        let place = start.wrapping_add((seat & 3) as u32 * 4);
-        (self.lengths.wrapping_shr(place) & 15) as i32
+    /// Whether a card of the suit that decides was played by more than one seat.
+    pub fn is_contended(&self) -> bool {
+        self.contenders & self.contenders.wrapping_sub(1) != 0
+    }
+}
+
+impl<'a> Turn<'a> {
+    /// A seat's turn, where these cards were left at the trick's start, and its side wants more than half of the tricks or not.
+    pub fn of(
+        deal: &'a Deal,
+        held: &'a Holdings,
+        left: u64,
+        seat: usize,
+        is_eager: bool,
+    ) -> Turn<'a> {
+        Turn {
+            deal,
+            held,
+            left,
+            seat: seat & 3,
+            weights: if is_eager { &EAGER } else { &MODEST },
+        }
     }
 
-    /// Whether the card wins against those on the table.
-    pub(crate) fn beats(&self, card: u64, trumps: u64) -> bool {
-        self.led == 0 || card & (self.led | trumps) > self.best
+    /// The hand of the seat so many places to the left of the one to play.
+    pub(crate) fn hand(&self, places: usize) -> u64 {
+        self.held.hands[self.seat.wrapping_add(places) & 3]
     }
 
-    /// The position after the seat to play has played the card.
-    pub fn after(&self, card: u64, trumps: u64) -> Position {
-        let mut next = *self;
-        let seat = self.seat & 3;
-        next.hands[seat] &= !card;
-        let place = start_of(card).wrapping_add(seat as u32 * 4);
-        next.lengths = self.lengths.wrapping_sub(1u64.wrapping_shl(place));
-        if self.led == 0 {
-            next.led = suit_of(card);
-        }
-        let bit = 1u32.wrapping_shl(seat as u32);
-        if self.best & suit_of(card) != 0 {
-            next.contenders = self.contenders | bit;
-        }
-        if card & (next.led | trumps) > self.best {
-            if self.best & suit_of(card) == 0 {
-                next.contenders = bit;
-            }
-            next.best = card;
-            next.winner = seat;
-        }
-        next.seat = seat + 1 & 3;
-        next.on_table = self.on_table.wrapping_add(1);
-        next
-    }
-
-    /// The start of the next trick where the seat has won this one.
-    pub fn next(&self, winner: usize) -> Position {
-        let mut next = *self;
-        next.left = self.hands[0] | self.hands[1] | self.hands[2] | self.hands[3];
-        next.led = 0;
-        next.best = 0;
-        next.contenders = 0;
-        next.winner = winner;
-        next.seat = winner & 3;
-        next.on_table = 0;
-        next.want = self.want.wrapping_sub(if winner & 1 == 0 { 1 } else { 0 });
-        next.tricks = self.tricks.wrapping_sub(1);
-        next
+    /// How many cards of the suit that starts here the seats have, from the one to play on, four bits each.
+    pub(crate) fn lengths(&self, start: u32) -> u32 {
+        let lengths = (self.held.lengths.wrapping_shr(start) & 0xffff) as u32;
+        (lengths | lengths << 16).wrapping_shr((self.seat & 3) as u32 * 4) & 0xffff
     }
 }

@@ -1,8 +1,9 @@
 //! What the search remembers: for each shape, leader and side the patterns found, with what the side can win.
 
 use crate::blocks::{Block, PLACES, Record, deep_mask, is_deep};
-use crate::deals::Owners;
-use crate::played_patterns::Remains;
+use crate::deals::CardsLeft;
+use crate::pattern_tricks::Remains;
+use crate::waiting::Waiting;
 use std::alloc::{AllocError, Global};
 
 /// How many blocks are kept at most. A block takes 88 bytes with the owners after the eighth.
@@ -16,6 +17,9 @@ const FIRST_SLOTS: usize = 1 << 12;
 
 /// How many slots are looked at for a shape.
 const PROBES: usize = 256;
+
+/// The place of no slot.
+pub const NO_PLACE: usize = usize::MAX;
 
 /// All lists of one shape: by the seat that leads and the side that wins. The number 0 ends a list.
 #[derive(Clone, Copy, Default)]
@@ -36,19 +40,6 @@ pub struct Records {
     deep: Vec<[u64; PLACES]>,
     /// How many blocks there may be.
     pub room: usize,
-}
-
-/// A record on its way into a list.
-#[derive(Clone, Copy)]
-struct Waiting {
-    /// The record itself.
-    new: Record,
-    /// What has to find a place now: the record, or the one that it has moved.
-    moved: Record,
-    /// Whether the record has its place.
-    stands: bool,
-    /// Whether something still has to find a place.
-    waits: bool,
 }
 
 /// The list of a leader and a side.
@@ -76,45 +67,6 @@ fn free_slots(alloc: Global, count: usize) -> Result<Vec<Slot>, AllocError> {
         slots.push(Slot::default())?;
     }
     Ok(slots)
-}
-
-impl Waiting {
-    /// Lays what waits down in a place that is free.
-    fn lie_down(&mut self, block: &mut Block, deep: &mut [u64; 3], place: usize) {
-        block.set(place, self.moved);
-        deep[place.min(2)] = self.moved.deep;
-        self.waits = false;
-    }
-
-    /// Goes past a place of a block: it may be taken, and what lies there may have to go on, or be dropped.
-    fn pass(&mut self, block: &mut Block, deep: &mut [u64; 3], place: usize) {
-        let other = block.record(place, deep[place.min(2)]);
-        if other.need == 0 {
-            if self.waits && self.stands {
-                self.lie_down(block, deep, place);
-            }
-            return;
-        }
-        let is_served = self.new.serves(&other);
-        if self.waits && (self.stands || other.owners_named() > self.new.owners_named()) {
-            self.lie_down(block, deep, place);
-            self.stands = true;
-            self.moved = other;
-            self.waits = !is_served;
-        } else if is_served {
-            block.set(place, Record::default());
-            deep[place.min(2)] = 0;
-        }
-    }
-
-    /// Takes the first free place of a list's last block.
-    fn end(&mut self, block: &mut Block, deep: &mut [u64; 3]) {
-        for place in 0..PLACES {
-            if self.waits && block.need[place] == 0 {
-                self.lie_down(block, deep, place);
-            }
-        }
-    }
 }
 
 impl Records {
@@ -183,18 +135,34 @@ impl Records {
         if slot.key == key { Some(slot) } else { None }
     }
 
-    /// The number of the first record of a list that serves.
-    pub fn find(&self, slot: &Slot, list: usize, owners: Owners, need: i32) -> Option<u32> {
-        let mut number = slot.heads[list & 7] as usize;
+    /// The place of the shape's slot, or of a free one: this place where it still is, else where it is now.
+    pub fn place_near(&self, place: usize, key: u64) -> usize {
+        match self.slots.get(place) {
+            Some(slot) if slot.key == key || slot.key == 0 => place,
+            _ => self.place_of(key).unwrap_or(NO_PLACE),
+        }
+    }
+
+    /// The first block of a list of the slot in this place, 0 where there is none.
+    pub fn first_at(&self, place: usize, list: usize) -> usize {
+        match self.slots.get(place) {
+            Some(slot) => slot.heads[list & 7] as usize,
+            None => 0,
+        }
+    }
+
+    /// The number of the first record that serves, from this block of its list on.
+    pub fn find(&self, first: usize, left: &CardsLeft, need: u32) -> Option<u32> {
+        let mut number = first;
         for _ in 0..self.blocks.len() {
             if number == 0 {
                 return None;
             }
             let block = self.blocks.get(number)?;
             for place in 0..PLACES {
-                if block.begins(place, owners.near)
-                    && i32::from(block.need[place]) >= need
-                    && self.goes_on(number, place, block.depths[place], owners.deep)
+                if block.begins(place, left.near)
+                    && u32::from(block.need[place]) >= need
+                    && self.goes_on(number, place, block.depths[place], left)
                 {
                     return Some(number_of(number, place));
                 }
@@ -212,21 +180,19 @@ impl Records {
         }
     }
 
-    /// Whether these owners after the eighth are those of the record.
-    fn goes_on(&self, block: usize, place: usize, depths: u16, deep: u64) -> bool {
-        !is_deep(depths) || (self.deep_of(block, place) ^ deep) & deep_mask(depths) == 0
+    /// Whether the owners after the eighth are those of the record.
+    fn goes_on(&self, block: usize, place: usize, depths: u16, left: &CardsLeft) -> bool {
+        !is_deep(depths) || (self.deep_of(block, place) ^ left.deep()) & deep_mask(depths) == 0
     }
 
-    /// Whether the record says no more of the owners than what is known of what remains.
-    pub fn is_known(&self, number: usize, place: usize, remains: Remains) -> bool {
-        let Some(block) = self.blocks.get(number) else {
+    /// Whether the record in this place of a block says no more of the owners than what is known of what remains.
+    pub fn is_known(&self, number: usize, block: &Block, place: usize, remains: &Remains) -> bool {
+        if !block.is_known(place, remains) {
             return false;
-        };
-        let place = place.min(PLACES - 1);
-        let near = (block.near[place] ^ remains.owners.near) | !remains.known.near;
-        let depths = block.depths[place];
-        if near & block.mask[place] != 0 || !is_deep(depths) {
-            return near & block.mask[place] == 0;
+        }
+        let depths = block.depths[place.min(PLACES - 1)];
+        if !is_deep(depths) {
+            return true;
         }
         let deep = self.deep_of(number, place);
         ((deep ^ remains.owners.deep) | !remains.known.deep) & deep_mask(depths) == 0
@@ -263,8 +229,19 @@ impl Records {
         }
     }
 
-    /// The place of the shape's slot, which is made where there is none. None where there is no room.
-    fn make_slot(&mut self, alloc: Global, key: u64) -> Result<Option<usize>, AllocError> {
+    /// The place of the shape's slot, which is made where there is none: this place where it still is. None where there is
+    /// no room.
+    fn make_slot(
+        &mut self,
+        alloc: Global,
+        place: usize,
+        key: u64,
+    ) -> Result<Option<usize>, AllocError> {
+        if let Some(slot) = self.slots.get(place) {
+            if slot.key == key {
+                return Ok(Some(place));
+            }
+        }
         if self.shapes >= self.slots.len() / 2 && self.shapes < MOST_SHAPES {
             self.grow(alloc)?;
         }
@@ -285,36 +262,25 @@ impl Records {
         Some(place)
     }
 
-    /// Adds a record after those of its list that name fewer owners, or as many; those that it serves are dropped.
+    /// Adds a record after those of its list that name fewer owners, or as many; those that it serves are dropped. The slot
+    /// of the shape may be in this place.
     pub fn add(
         &mut self,
         alloc: Global,
+        place: usize,
         key: u64,
         list: usize,
         record: Record,
     ) -> Result<(), AllocError> {
-        let Some(place) = self.make_slot(alloc, key)? else {
+        let Some(place) = self.make_slot(alloc, place, key)? else {
             return Ok(());
         };
-        let mut waiting = Waiting {
-            new: record,
-            moved: record,
-            stands: false,
-            waits: true,
-        };
-        let last = self.pass_list(self.head_of(place, list), &mut waiting);
+        let mut waiting = Waiting::of(record);
+        let last = self.pass_list(self.first_at(place, list), &mut waiting);
         if !waiting.waits {
             return Ok(());
         }
         self.append(place, list, last, waiting.moved)
-    }
-
-    /// The first block of a list of the slot in this place.
-    fn head_of(&self, place: usize, list: usize) -> usize {
-        match self.slots.get(place) {
-            Some(slot) => slot.heads[list & 7] as usize,
-            None => 0,
-        }
     }
 
     /// Leads a record along a list from its first block on, and answers the last one, 0 where there is none.

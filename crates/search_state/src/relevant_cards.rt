@@ -2,8 +2,8 @@
 
 use crate::blocks::NO_CARD;
 use crate::moves::Move;
-use crate::played_patterns::LOW;
-use crate::positions::Position;
+use crate::pattern_tricks::LOW;
+use crate::positions::Trick;
 use crate::words::{SUIT, below, lowest, start_of, suit_of};
 
 /// How deep the lowest relevant card of the suit that starts here lies.
@@ -25,9 +25,14 @@ pub fn depths_of(left: u64, relevant: u64) -> u16 {
 }
 
 /// How many owners have to be known for these cards.
-pub fn owners_named(left: u64, relevant: u64) -> u32 {
+fn owners_named(left: u64, relevant: u64) -> u32 {
     let depths = u32::from(depths_of(left, relevant));
     (depths & 15) + (depths >> 4 & 15) + (depths >> 8 & 15) + (depths >> 12)
+}
+
+/// Whether fewer owners have to be known for the first cards than for the second.
+pub fn needs_fewer(left: u64, first: u64, second: u64) -> bool {
+    owners_named(left, first) < owners_named(left, second)
 }
 
 /// The card as a pattern of these depths names it: its suit times sixteen, and its place, or `LOW` for a low card.
@@ -43,11 +48,11 @@ pub fn named_card(left: u64, depths: u16, card: u64) -> u8 {
 }
 
 /// The cards whose rank matters after a trick: those of the rest, and that of the winner where others played to its suit.
-pub fn relevant_after(after: &Position, rest: u64) -> u64 {
-    if after.contenders & after.contenders.wrapping_sub(1) == 0 {
-        rest
+pub fn relevant_after(trick: &Trick, rest: u64) -> u64 {
+    if trick.is_contended() {
+        rest | trick.best
     } else {
-        rest | after.best
+        rest
     }
 }
 

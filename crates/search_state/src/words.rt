@@ -21,12 +21,19 @@ pub(crate) fn without_lowest(cards: u64) -> u64 {
     cards & cards.wrapping_sub(1)
 }
 
+/// The number of the lowest card's bit.
+pub(crate) fn lowest_bit(cards: u64) -> u32 {
+    cards.trailing_zeros() & 63
+}
+
+/// The number of the highest card's bit, 0 where there is none.
+pub(crate) fn highest_bit(cards: u64) -> u32 {
+    63u32.wrapping_sub((cards | 1).leading_zeros()) & 63
+}
+
 /// The highest card of a set.
 pub fn highest(cards: u64) -> u64 {
-    if cards == 0 {
-        return 0;
-    }
-    0x8000_0000_0000_0000u64.wrapping_shr(cards.leading_zeros())
+    cards & 1u64.wrapping_shl(highest_bit(cards))
 }
 
 /// Where the suit of the card begins: 0, 16, 32 or 48.
@@ -47,12 +54,4 @@ pub fn below(card: u64) -> u64 {
 /// The lowest card of each run of touching cards of a hand: those between which no card is left with others.
 pub(crate) fn bottoms(own: u64, left: u64) -> u64 {
     own & !own.wrapping_shl(1).wrapping_add(PACK & !left)
-}
-
-/// The highest card of the run that begins with this one.
-pub(crate) fn top_of_run(bottom: u64, own: u64, left: u64) -> u64 {
-    let suit = suit_of(bottom);
-    let end = ABOVE.wrapping_shl(start_of(bottom));
-    let stop = lowest((left & !own & suit & !below(bottom)) | end);
-    highest(own & suit & below(stop))
 }

@@ -1,7 +1,10 @@
-use Rattle.std.proofs.Common.{◌∷◌, ◌++◌, [], ◌∙◌, ap, append_assoc, arith}
-use Rattle.certificate_graph.specs.declared.trees.Branch.{Branch}
+use Rattle.std.proofs.Common.{◌∷◌, ◌++◌, [], length, sym, ◌∙◌, ap, append_assoc, append-nil, arith}
+use Rattle.certificate_graph.specs.Trees.{Own, Reply, NoBranch, Branch}
+use Rattle.certificate_graph.specs.Rows.{tree_row, branches_row}
+use Rattle.certificate_graph.specs.declared.rows.Token.TheVariants as token
 use Rattle.certificate_graph.proofs.LeafLemmas.{match_map}
-use Rattle.certificate_graph.proofs.TreeLemmas.{ok_map, leaf_tree, lacks_leaf, no_room, reply_tree, lacks_reply, own_tree, lacks_own, lacks_by_first, lacks_by_place, lacks_by_rest, branches_read}
+use Rattle.certificate_graph.proofs.RowLemmas.{branch_ended}
+use Rattle.certificate_graph.proofs.TreeLemmas.{ok_map, no_reply, no_own, no_branch_card, no_branch_tree, branch_begun, leaf_tree, lacks_leaf, no_room, reply_tree, lacks_reply, own_tree, lacks_own, lacks_by_first, lacks_by_place, lacks_by_rest, branches_read}
 use Rattle.certificate_graph.proofs.tree_reading.+tree.Goals as goal
 
 pub read_tree-returns-in-Some : goal.read_tree-returns-in-Some
@@ -9,7 +12,7 @@ read_tree-returns-in-Some t c =
     let text = c.args.text.now in
     ok_map c.read_leaf.result (λ read. match_map read
     (λ lacks. lacks_leaf c.args.room text _ c.in-Some.ensures lacks)
-    (λ p begins. leaf_tree c.args.room text _ p.0 p.1.now c.in-Some.ensures begins))
+    (λ rest begins. (begins.0, leaf_tree c.args.room text _ begins.0 rest.now c.in-Some.ensures begins.1, begins.2)))
     c.read_leaf.ensures
 
 pub read_tree-returns-then-room-eq0 : goal.read_tree-returns-then-room-eq0
@@ -20,7 +23,7 @@ read_tree-returns-in-Some-after_byte t c =
     let text = c.args.text.now in
     ok_map c.read_reply.result (λ read. match_map read
     (λ lacks. lacks_reply c.args.room text _ c.in-Some-after_byte.ensures lacks)
-    (λ p begins. reply_tree c.args.room text _ p.0 p.1.now (omega arith) c.in-Some-after_byte.ensures begins))
+    (λ rest begins. (begins.0, reply_tree c.args.room text _ begins.0 rest.now (omega arith) c.in-Some-after_byte.ensures begins.1, begins.2)))
     c.read_reply.ensures
 
 pub read_tree-returns : goal.read_tree-returns
@@ -28,8 +31,41 @@ read_tree-returns t c =
     let text = c.args.text.now in
     ok_map c.read_own.result (λ read. match_map read
     (λ lacks. lacks_own c.args.room text c.in_default.ensures c.in_default-after_byte.ensures lacks)
-    (λ p begins. own_tree c.args.room text p.0 p.1.now (omega arith) begins))
+    (λ rest begins. (begins.0, own_tree c.args.room text begins.0 rest.now (omega arith) begins.1, begins.2)))
     c.read_own.ensures
+
+pub read_own-returns-in_default : goal.read_own-returns-in_default
+read_own-returns-in_default t c = no_own c.args.room c.args.text.now (no_branch_card c.args.room c.args.text.now c.in_default.ensures)
+
+pub read_own-returns : goal.read_own-returns
+read_own-returns t c =
+    let text = c.args.text.now in
+    let card = c.in-Some.card in
+    let after = c.in-Some.rest.now in
+    let before = c.args.row.now.items in
+    ok_map c.read_tree.result (λ read. match_map read
+    (λ lacks. no_own c.args.room text (no_branch_tree c.args.room text card after c.in-Some.ensures lacks))
+    (λ rest begins. (
+      Own card begins.0,
+      branch_begun c.args.room text card after begins.0 rest.now c.in-Some.ensures begins.1,
+      begins.2 ∙ (ap (λ list. list ++ tree_row begins.0) c.in_ok-push.ensures.items ∙ append_assoc before (token.Own card ∷ []) (tree_row begins.0)),
+    )))
+    c.read_tree.ensures
+
+pub read_reply-returns : goal.read_reply-returns
+read_reply-returns t c =
+    let before = c.args.row.now.items in
+    ok_map c.read_branches.result (λ read. match_map read
+    (λ lacks. no_reply c.args.room c.args.text.now lacks)
+    (λ rest begins. (
+      Reply begins.0,
+      begins.1,
+      begins.2 ∙ (ap (λ list. list ++ branches_row begins.0) c.in_ok-push.ensures.items ∙ append_assoc before (token.Reply ∷ []) (branches_row begins.0)),
+    )))
+    c.read_branches.ensures
+
+pub read_branches-returns-in-Some : goal.read_branches-returns-in-Some
+read_branches-returns-in-Some t c = (NoBranch, record { form = tt; numbers = tt; is = c.in-Some.ensures }, sym (append-nil c.args.row.now.items))
 
 pub read_branches-returns-in_default-2 : goal.read_branches-returns-in_default-2
 read_branches-returns-in_default-2 t c =
@@ -37,22 +73,44 @@ read_branches-returns-in_default-2 t c =
 
 pub read_branches-returns-in_default-next_place : goal.read_branches-returns-in_default-next_place
 read_branches-returns-in_default-next_place t c =
-    lacks_by_place c.args.room c.args.least c.args.text.now c.in-Some-2.card c.in-Some-2.below c.in-Some-2.rest.now c.in_default.ensures
-    (rw c.in-Some-2.is at c.in_ok-card.ensures) c.in_default-next_place.ensures
+    let first = (rw c.in-Some-2.is at c.in_ok-card.ensures) in
+    lacks_by_place c.args.room c.args.least c.args.text.now c.in-Some-2.card first.0 c.in-Some-2.rest.now c.in_default.ensures
+    first.1 c.in_default-next_place.ensures
 
 pub read_branches-returns : goal.read_branches-returns
 read_branches-returns t c =
     let next = c.in-Some-next_place.ensures in
     let text = c.args.text.now in
     let card = c.in-Some-2.card in
-    let below = c.in-Some-2.below in
     let after = c.in-Some-2.rest.now in
-    let branch : Branch = record { card = card; below = below } in
+    let before = c.args.row.now.items in
+    let first = (rw c.in-Some-2.is at c.in_ok-card.ensures) in
+    let below = first.0 in
     ok_map c.read_branches.result (λ read. match_map read
-    (λ lacks. lacks_by_rest c.args.room c.args.least text card below after c.in_default.ensures (rw c.in-Some-2.is at c.in_ok-card.ensures) (rw next.1 at lacks))
+    (λ lacks. lacks_by_rest c.args.room c.args.least text card below after c.in_default.ensures first.1 (rw next.1 at lacks))
     (λ rest begins. (
-      branch ∷ begins.0,
-      branches_read c.args.room c.args.least text card below after _ rest.now (rw c.in-Some-2.is at c.in_ok-card.ensures) next.0 (rw next.1 at begins.1),
-      begins.2 ∙ (ap (λ list. list ++ begins.0) c.in_ok-push.ensures.items ∙ append_assoc c.args.branches.now.items (branch ∷ []) begins.0),
+      Branch card below begins.0,
+      branches_read c.args.room c.args.least text card below after begins.0 rest.now first.1 next.0 (rw next.1 at begins.1),
+      begins.2 ∙ (ap (λ list. list ++ branches_row begins.0) first.2
+          ∙ append_assoc before (token.Branch card (length (tree_row below)) ∷ tree_row below) (branches_row begins.0)),
     )))
     c.read_branches.ensures
+
+pub read_branch-returns-in_default : goal.read_branch-returns-in_default
+read_branch-returns-in_default t c = no_branch_card c.args.room c.args.text.now c.in_default.ensures
+
+pub read_branch-returns-in_default-2 : goal.read_branch-returns-in_default-2
+read_branch-returns-in_default-2 t c =
+    no_branch_tree c.args.room c.args.text.now c.in-Some.card c.in-Some.rest.now c.in-Some.ensures (rw c.in_default-2.is at c.in_ok-rest.ensures)
+
+pub read_branch-returns : goal.read_branch-returns
+read_branch-returns t c =
+    let before = c.args.row.now.items in
+    let card = c.in-Some.card in
+    let tree = (rw c.in-Some-2.is at c.in_ok-rest.ensures) in (
+      tree.0,
+      branch_begun c.args.room c.args.text.now card c.in-Some.rest.now tree.0 c.in-Some-2.rest.now c.in-Some.ensures tree.1,
+      c.in_ok-end_branch.ensures
+          ∙ branch_ended before (tree_row tree.0) _ card c.len-place.result (omega (arith, c.len-place.ensures, c.args.row.now.ok.0))
+          (tree.2 ∙ (ap (λ list. list ++ tree_row tree.0) c.in_ok-push.ensures.items ∙ append_assoc before (token.Branch card 0 ∷ []) (tree_row tree.0))),
+    )

@@ -67,7 +67,7 @@ write_tree-returns-in_err-write_all-in-Reply g t c =
 pub write_tree-returns-in_err-write_all-in-Leaf : goal.write_tree-returns-in_err-write_all-in-Leaf
 write_tree-returns-in_err-write_all-in-Leaf g t c =
     let end = c.from_residual-in_err-write_all-in-Leaf in
-    stops_within _ _ end.result _ (children_text c.in-Leaf.children.now []) end.ensures.1 (rw (← c.in-Leaf.ensures) refl) c.in_err-write_all-in-Leaf.ensures
+    stops_within _ _ end.result _ (children_text c.in-Leaf.children []) end.ensures.1 (rw (← c.in-Leaf.ensures) refl) c.in_err-write_all-in-Leaf.ensures
 
 pub write_branches-returns-in_err-write_all-in-Some : goal.write_branches-returns-in_err-write_all-in-Some
 write_branches-returns-in_err-write_all-in-Some g t c =

@@ -7,16 +7,16 @@ use Rattle.certificate_graph.proofs.writing.+write_more_children.Goals as goal
 
 pub returns-in_err-write_child-in-Some : goal.returns-in_err-write_child-in-Some
 returns-in_err-write_child-in-Some g t c =
-    let child = c.in-Some.child.now in
-    let more = c.in-Some.more.now in
+    let child = c.in-Some.child in
+    let more = c.in-Some.more in
     stops_within _ _ c.from_residual-in_err-write_child-in-Some.result _ (more_children_text more []) c.from_residual-in_err-write_child-in-Some.ensures.1
-    (rw c.in-Some.ensures.cases.0 (sym (ap (λ s. 32 ∷ s) (child-cut child [] (more_children_text more [])))))
+    (rw c.in-Some.ensures (sym (ap (λ s. 32 ∷ s) (child-cut child [] (more_children_text more [])))))
     (AddsBeginning-then c.in_ok-write_all-in-Some.ensures c.in_err-write_child-in-Some.ensures)
 
 pub returns-in_ok-write_child-in-Some : goal.returns-in_ok-write_child-in-Some
 returns-in_ok-write_child-in-Some g t c =
-    let child = c.in-Some.child.now in
-    let more = c.in-Some.more.now in
+    let child = c.in-Some.child in
+    let more = c.in-Some.more in
     let done = c.write_more_children.result in
-    writes_same _ _ done (rw c.in-Some.ensures.cases.0 (sym (ap (λ s. 32 ∷ s) (child-cut child [] (more_children_text more [])))))
+    writes_same _ _ done (rw c.in-Some.ensures (sym (ap (λ s. 32 ∷ s) (child-cut child [] (more_children_text more [])))))
     (Writes-then done _ _ c.in_ok-write_all-in-Some.ensures (Writes-then done _ _ c.in_ok-write_child-in-Some.ensures c.write_more_children.ensures))

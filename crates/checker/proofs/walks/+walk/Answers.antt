@@ -34,5 +34,5 @@ check_place-returns-in_ok-check_reply-in-Reply t c =
 
 pub check_place-returns-in-Leaf : goal.check_place-returns-in-Leaf
 check_place-returns-in-Leaf t c =
-    leaf_told c.args.graph.now c.args.node.now c.args.played.now c.in-Leaf.children.now c.args.place.now c.check_leaf.result
+    leaf_told c.args.graph.now c.args.node.now c.args.played.now c.in-Leaf.children c.args.place.now c.check_leaf.result
     c.in-Leaf.ensures c.check_leaf.ensures

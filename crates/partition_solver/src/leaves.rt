@@ -1,0 +1,125 @@
+//! The leaves of a tree in work: the records that go on after its trick.
+
+use crate::plans::{Piece, Plan, TrickStart, Turn, tops_of_runs};
+use crate::search::Search;
+use search_state::blocks::PLACES;
+use search_state::pattern_tricks::Remains;
+use search_state::records::{Slot, list_of, number_of};
+
+/// The records that go on after a trick, by the seat that won it, 0 where none is needed, and what the new nodes cost: one
+/// each, and one for each owner that they name.
+#[derive(Clone, Copy)]
+pub(crate) struct Leaf {
+    lengths: u64,
+    records: [u32; 4],
+    cost: u32,
+}
+
+impl Plan {
+    /// The last card of a trick whose new children cost least, and the children.
+    pub(crate) fn best_last(&self, search: &Search, turn: &Turn<'_>) -> Option<(u64, Leaf)> {
+        let mut waiting = tops_of_runs(turn.legal_cards());
+        let mut least = turn.limit;
+        let mut best = None;
+        for _ in 0..u64::BITS {
+            if waiting == 0 || least == 0 {
+                break;
+            }
+            let card = turn.trick.choose(waiting, 0);
+            waiting &= !card;
+            let after = turn.after(card, search.deal.trumps, least);
+            if let Some(leaf) = self.leaf(search, &after) {
+                least = leaf.cost;
+                best = Some((card, leaf));
+            }
+        }
+        best
+    }
+
+    /// Adds the pieces of a leaf, and answers its cost. None where memory runs out.
+    pub(crate) fn add_leaf(&mut self, search: &mut Search, leaf: &Leaf) -> Option<u32> {
+        for leader in 0..4usize {
+            if leaf.records[leader] != 0 {
+                let child = TrickStart {
+                    lengths: leaf.lengths,
+                    record: leaf.records[leader],
+                    leader,
+                };
+                self.push(search, Piece::Child(child))?;
+            }
+        }
+        Some(leaf.cost)
+    }
+
+    /// The children after a trick. None where what is remembered does not show them for less than the limit.
+    pub(crate) fn leaf(&self, search: &Search, turn: &Turn<'_>) -> Option<Leaf> {
+        let lengths = turn.trick.lengths;
+        let slot = search.records.slot(lengths);
+        let remains = turn.held.remains(&turn.trick);
+        let mut leaf = Leaf {
+            lengths,
+            records: [0; 4],
+            cost: 0,
+        };
+        for seat in 0..4usize {
+            let won = if self.owns(seat) { 1 } else { 0 };
+            let rest = turn.need.wrapping_sub(won);
+            if turn.trick.winners.wrapping_shr(seat as u32) & 1 == 0 || rest <= 0 {
+                continue;
+            }
+            let record = self.child(search, slot?, &remains, seat, rest)?;
+            leaf.cost = leaf.cost.wrapping_add(self.cost_of(search, record));
+            leaf.records[seat] = record;
+        }
+        if leaf.cost < turn.limit {
+            Some(leaf)
+        } else {
+            None
+        }
+    }
+
+    /// What a child of this record costs: nothing where it has a node already.
+    fn cost_of(&self, search: &Search, record: u32) -> u32 {
+        if self.number(record) != 0 {
+            return 0;
+        }
+        u32::from(search.records.record(record).owners_named()) + 1
+    }
+
+    /// A record that goes on after the trick: one that has a node already, else the one that names the fewest owners.
+    fn child(
+        &self,
+        search: &Search,
+        slot: &Slot,
+        remains: &Remains,
+        winner: usize,
+        need: i32,
+    ) -> Option<u32> {
+        let mut number = search.records.first(slot, list_of(winner, self.ours));
+        let mut first = None;
+        for _ in 0..search.records.numbers() {
+            let Some(block) = search.records.block(number) else {
+                break;
+            };
+            if number == 0 {
+                break;
+            }
+            for place in 0..PLACES {
+                if i32::from(block.need[place]) < need
+                    || !search.records.is_known(number, block, place, remains)
+                {
+                    continue;
+                }
+                let record = number_of(number, place);
+                if self.number(record) != 0 {
+                    return Some(record);
+                }
+                if first.is_none() {
+                    first = Some(record);
+                }
+            }
+            number = block.next as usize;
+        }
+        first
+    }
+}

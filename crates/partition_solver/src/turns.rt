@@ -1,0 +1,95 @@
+//! Which card of a turn is tried first.
+
+use crate::search::Search;
+use crate::starts::{Start, is_ours};
+use search_state::moves::{Move, Moves, Runs};
+use search_state::positions::{Trick, Turn};
+
+impl Search {
+    /// The turn of the hand so many places to the left of the leader.
+    fn turn(&self, tricks: u32, start: &Start, places: usize) -> Turn<'_> {
+        let seat = start.leader.wrapping_add(places) & 3;
+        let wanted = start.wanted_by(is_ours(seat), tricks);
+        let is_eager = wanted.wrapping_mul(2) > tricks;
+        Turn::of(&self.deal, &self.held, start.left, seat, is_eager)
+    }
+
+    /// The first lead: the only one, or one that succeeded before, or that of the greatest weight.
+    pub(crate) fn first_lead(
+        &self,
+        tricks: u32,
+        start: &Start,
+        runs: Runs,
+        moves: &mut Moves,
+    ) -> Option<Move> {
+        if runs.is_single() {
+            return Some(moves.only(true));
+        }
+        if let Some(hinted) = moves.of_top(self.hint(start)) {
+            return Some(hinted);
+        }
+        self.next_lead(tricks, start, runs, moves)
+    }
+
+    /// The next lead. Leads have weights from the second on, or where none succeeded before.
+    pub(crate) fn next_lead(
+        &self,
+        tricks: u32,
+        start: &Start,
+        runs: Runs,
+        moves: &mut Moves,
+    ) -> Option<Move> {
+        if moves.are_unsorted() {
+            moves.add_leads(runs, &self.turn(tricks, start, 0));
+        }
+        moves.next()
+    }
+
+    /// The first card of a second hand.
+    pub(crate) fn first_second(
+        &self,
+        tricks: u32,
+        start: &Start,
+        trick: &Trick,
+        runs: Runs,
+        moves: &mut Moves,
+    ) -> Option<Move> {
+        if runs.is_single() {
+            return Some(moves.only(trick.beats(runs.own, self.deal.trumps)));
+        }
+        moves.add_second(runs, &self.turn(tricks, start, 1), trick);
+        moves.next()
+    }
+
+    /// The first card of a third hand.
+    pub(crate) fn first_third(
+        &self,
+        tricks: u32,
+        start: &Start,
+        trick: &Trick,
+        runs: Runs,
+        moves: &mut Moves,
+    ) -> Option<Move> {
+        if runs.is_single() {
+            return Some(moves.only(trick.beats(runs.own, self.deal.trumps)));
+        }
+        moves.add_third(runs, &self.turn(tricks, start, 2), trick);
+        moves.next()
+    }
+
+    /// The first card of a last hand.
+    pub(crate) fn first_last(
+        &self,
+        tricks: u32,
+        start: &Start,
+        trick: &Trick,
+        runs: Runs,
+        moves: &mut Moves,
+    ) -> Option<Move> {
+        if runs.is_single() {
+            return Some(moves.only(trick.beats(runs.own, self.deal.trumps)));
+        }
+        moves.add_last(runs, &self.turn(tricks, start, 3), trick);
+        moves.next()
+    }
+}

@@ -1,0 +1,256 @@
+//! A trick played on a remembered pattern. A card of a pattern is a bit, sixteen a suit: that of a top by its place among the
+//! owners of its suit, the highest lowest, and the last one for any low card.
+
+use crate::blocks::Record;
+use crate::deals::Owners;
+use crate::words::{MOST_CARDS, SUIT, below, highest, lowest, start_of, suit_of};
+
+/// The place of a low card.
+pub const LOW: u32 = 15;
+
+/// The bits of all low cards.
+pub const LOWS: u64 = 0x8000_8000_8000_8000;
+
+/// A pattern before a trick is played on it.
+#[derive(Clone, Copy)]
+pub struct Held {
+    /// Of each suit the owners of its tops, two bits each, the highest first.
+    owners: [u32; 4],
+    depths: [u32; 4],
+    /// The cards that each seat may choose from.
+    cards: [u64; 4],
+    /// What is known of it where no card is gone.
+    whole: Remains,
+    /// The lengths, as the search has them.
+    pub lengths: u64,
+    /// The card that showed it in the search, where the side leads, or no card.
+    pub first_card: u64,
+}
+
+/// A trick in progress.
+#[derive(Clone, Copy)]
+pub struct PatternTrick {
+    /// The tops that were played.
+    gone: u64,
+    /// The lengths, as the search has them.
+    pub lengths: u64,
+    /// All bits of the suit led, 0 before the lead.
+    led: u64,
+    /// The card that wins so far, or no card.
+    best: u64,
+    /// A bit for each seat that may have played it.
+    pub winners: u32,
+    /// How many cards lie on the table.
+    pub on_table: u32,
+    /// The seat to play.
+    pub seat: usize,
+}
+
+/// What a trick leaves: the owners, and the bits of those that are known.
+#[derive(Clone, Copy, Default)]
+pub struct Remains {
+    pub owners: Owners,
+    pub known: Owners,
+}
+
+/// A suit's part of a word.
+fn lane_of(word: u64, lane: usize) -> u32 {
+    (word.wrapping_shr((lane & 3) as u32 * 16) & SUIT) as u32
+}
+
+/// The word with this part for a suit.
+fn with_lane(word: u64, lane: usize, part: u32) -> u64 {
+    let start = (lane & 3) as u32 * 16;
+    word & !SUIT.wrapping_shl(start) | (u64::from(part) & SUIT).wrapping_shl(start)
+}
+
+/// The owners without that in this place.
+fn without(owners: u32, place: u32) -> u32 {
+    let low = 1u32.wrapping_shl(place.wrapping_mul(2)).wrapping_sub(1);
+    owners & low | owners >> 2 & !low
+}
+
+/// The owners without those in these places.
+fn without_all(owners: u32, places: u32) -> u32 {
+    let mut left = owners;
+    let mut gone = places;
+    for _ in 0..4 {
+        if gone == 0 {
+            break;
+        }
+        let place = 31u32.wrapping_sub(gone.leading_zeros());
+        left = without(left, place);
+        gone &= !1u32.wrapping_shl(place);
+    }
+    left
+}
+
+impl Remains {
+    /// Nothing is known.
+    fn new() -> Remains {
+        Remains::default()
+    }
+
+    /// Puts in a suit of which so many owners are known.
+    fn put(&mut self, lane: usize, owners: u32, depth: u32) {
+        let bits = 1u32
+            .wrapping_shl((depth & 15).wrapping_mul(2))
+            .wrapping_sub(1);
+        self.owners.near = with_lane(self.owners.near, lane, owners);
+        self.owners.deep = with_lane(self.owners.deep, lane, owners >> 16);
+        self.known.near = with_lane(self.known.near, lane, bits);
+        self.known.deep = with_lane(self.known.deep, lane, bits >> 16);
+    }
+}
+
+impl Held {
+    /// The pattern of a record of these lengths.
+    pub fn of(record: &Record, lengths: u64) -> Held {
+        let mut held = Held {
+            owners: [0; 4],
+            depths: [0; 4],
+            cards: [0; 4],
+            whole: Remains::new(),
+            lengths,
+            first_card: if record.first_card < 64 {
+                1u64.wrapping_shl(u32::from(record.first_card))
+            } else {
+                0
+            },
+        };
+        for lane in 0..4usize {
+            held.put_suit(record, lane);
+        }
+        held
+    }
+
+    /// Puts in a suit of a record.
+    fn put_suit(&mut self, record: &Record, lane: usize) {
+        let owners = lane_of(record.near, lane) | lane_of(record.deep, lane).wrapping_shl(16);
+        let depth = u32::from(record.depths.wrapping_shr((lane & 3) as u32 * 4) & 15);
+        self.owners[lane & 3] = owners;
+        self.depths[lane & 3] = depth;
+        self.whole.put(lane, owners, depth);
+        for place in 0..depth.min(MOST_CARDS) {
+            self.cards[self.owner(lane, place) & 3] |= bit_of(lane, place);
+        }
+        for seat in 0..4usize {
+            let tops = lane_of(self.cards[seat], lane).count_ones();
+            if tops < u32::from(self.length(lane, seat)) {
+                self.cards[seat] |= bit_of(lane, LOW);
+            }
+        }
+    }
+
+    /// How many cards of a suit the seat has.
+    fn length(&self, lane: usize, seat: usize) -> u8 {
+        let place = (lane & 3) as u32 * 16 + (seat & 3) as u32 * 4;
+        (self.lengths.wrapping_shr(place) & 15) as u8
+    }
+
+    /// Who owns the card in this place of a suit.
+    fn owner(&self, lane: usize, place: u32) -> usize {
+        (self.owners[lane & 3].wrapping_shr(place.wrapping_mul(2)) & 3) as usize
+    }
+
+    /// A suit as the words of a pattern have it: the lengths, how many owners are known, and who they are.
+    pub fn word(&self, lane: usize) -> u64 {
+        u64::from(lane_of(self.lengths, lane))
+            | u64::from(self.depths[lane & 3]).wrapping_shl(16)
+            | u64::from(self.owners[lane & 3]).wrapping_shl(20)
+    }
+
+    /// The cards that the seat to play may play.
+    pub fn legal_cards(&self, trick: &PatternTrick) -> u64 {
+        let cards = self.cards[trick.seat & 3];
+        let follows = cards & trick.led;
+        if follows != 0 { follows } else { cards }
+    }
+
+    /// What a trick leaves.
+    pub fn remains(&self, trick: &PatternTrick) -> Remains {
+        let mut remains = self.whole;
+        for lane in 0..4usize {
+            let gone = lane_of(trick.gone, lane);
+            if gone != 0 {
+                let left = without_all(self.owners[lane], gone);
+                remains.put(
+                    lane,
+                    left,
+                    self.depths[lane].wrapping_sub(gone.count_ones()),
+                );
+            }
+        }
+        remains
+    }
+}
+
+/// The card in this place of a suit.
+fn bit_of(lane: usize, place: u32) -> u64 {
+    1u64.wrapping_shl((lane & 3) as u32 * 16 + (place & 15))
+}
+
+impl PatternTrick {
+    /// The start of a trick, with this seat to lead.
+    pub fn start(lengths: u64, leader: usize) -> PatternTrick {
+        PatternTrick {
+            gone: 0,
+            lengths,
+            led: 0,
+            best: 0,
+            winners: 0,
+            on_table: 0,
+            seat: leader,
+        }
+    }
+
+    /// The trick after the seat to play has played the card.
+    pub fn after(&self, card: u64, trumps: u64) -> PatternTrick {
+        let mut next = *self;
+        let seat = self.seat & 3;
+        let bit = 1u32.wrapping_shl(seat as u32);
+        let suit = suit_of(card);
+        let wins = if self.best & suit == 0 {
+            self.led == 0 || suit & trumps != 0
+        } else {
+            card < self.best
+        };
+        if wins {
+            next.best = card;
+            next.winners = bit;
+        } else if card == self.best {
+            next.winners |= bit;
+        }
+        if self.led == 0 {
+            next.led = suit;
+        }
+        next.gone |= card & !LOWS;
+        let place = start_of(card).wrapping_add(seat as u32 * 4);
+        next.lengths = self.lengths.wrapping_sub(1u64.wrapping_shl(place));
+        next.seat = seat + 1 & 3;
+        next.on_table = self.on_table.wrapping_add(1);
+        next
+    }
+
+    /// Which of the cards is tried next: this one, where it is one of them.
+    pub fn choose(&self, waiting: u64, first: u64) -> u64 {
+        if waiting & first != 0 {
+            return first;
+        }
+        if self.on_table == 0 {
+            return lowest(waiting);
+        }
+        let partner = self.seat.wrapping_add(2) & 3;
+        if self.on_table > 1 && self.winners & 1u32.wrapping_shl(partner as u32) == 0 {
+            let winning = waiting & suit_of(self.best) & below(self.best);
+            if winning != 0 {
+                return if self.on_table == 2 {
+                    lowest(winning)
+                } else {
+                    highest(winning)
+                };
+            }
+        }
+        highest(waiting)
+    }
+}
