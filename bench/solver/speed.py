@@ -92,12 +92,13 @@ def told(name, micros):
 def report(run, theirs):
     """What came of our run beside DDS's times."""
     rows = [[int(word) for word in line.split()] for line in run.splitlines()]
-    entries, tries, wrong, unanswered, refused, nodes = (sum(row[place] for row in rows) for place in range(6))
-    print(f"{entries} entries, {tries} tries: {wrong} wrong, {unanswered} without an answer, {refused} refused, {nodes / entries:.0f} nodes an entry")
+    entries, tries, wrong, unanswered, refused, nodes, size = (sum(row[place] for row in rows) for place in range(7))
+    print(f"{entries} entries, {tries} tries: {wrong} wrong, {unanswered} without an answer, {refused} refused")
+    print(f"{nodes / entries:.0f} nodes an entry; {nodes / len(rows):.0f} nodes a board, in texts of {size / len(rows):.0f} bytes")
     told("DDS", theirs)
-    told("solving", [row[6] for row in rows])
-    told("checking", [row[7] for row in rows])
-    print(f"solving and checking: {sum(row[6] + row[7] for row in rows) / sum(theirs):.2f} times DDS")
+    told("solving", [row[7] for row in rows])
+    told("checking", [row[8] for row in rows])
+    print(f"solving and checking: {sum(row[7] + row[8] for row in rows) / sum(theirs):.2f} times DDS")
 
 
 def printed_table(text):
