@@ -25,6 +25,7 @@ CRATES = (
     "pattern_step",
     "certificate_graph",
     "checker",
+    "pattern_store",
     "search_state",
     "partition_solver",
 )

@@ -19,7 +19,7 @@ from pathlib import Path
 
 ROOT = Path(__file__).resolve().parent.parent.parent
 HERE = Path(__file__).resolve().parent
-CRATES = ("cards", "patterns", "pattern_step", "certificate_graph", "search_state", "partition_solver")
+CRATES = ("cards", "patterns", "pattern_step", "certificate_graph", "pattern_store", "search_state", "partition_solver")
 COUNT = 704
 
 

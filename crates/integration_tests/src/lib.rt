@@ -36,6 +36,8 @@ mod pbn_tests;
 #[cfg(test)]
 mod play_tests;
 #[cfg(test)]
+mod record_tests;
+#[cfg(test)]
 mod request_tests;
 #[cfg(test)]
 mod small_layout_tests;

@@ -7,7 +7,6 @@ use crate::search::Search;
 use arrayvec::ArrayVec;
 use cards::{Seat, Trump};
 use search_state::positions::Holdings;
-use search_state::records::list_of;
 
 /// Where play starts for the declarers of a denomination, each once. A root's number is its place: a graph begins with them.
 type Roots = ArrayVec<TrickStart, 4>;
@@ -93,12 +92,12 @@ fn start_of(search: &Search, leader: usize, ours: bool, need: i32) -> Option<Opt
         return Some(None);
     }
     let lengths = Holdings::of(search.deal.hands).lengths;
-    let slot = search.records.slot(lengths)?;
-    let list = list_of(leader, ours);
-    let first = search.records.first(slot, list);
+    let shape = search.records.shape(lengths);
+    let list = search.records.list(shape, leader, ours)?;
+    let left = search.all_cards();
     let record = search
         .records
-        .find(first, &search.all_cards(), need.cast_unsigned())?;
+        .find(list, left.near, || left.deep(), (need & 15) as u8)?;
     if i32::from(search.records.record(record).need) != need {
         return None;
     }

@@ -2,9 +2,9 @@
 
 use crate::search::Search;
 use crate::starts::{Found, Start, is_ours};
+use pattern_store::List;
 use search_state::moves::{Runs, card_at};
 use search_state::positions::{Trick, one_of};
-use search_state::records::NO_PLACE;
 use search_state::relevant_cards::{needs_fewer, relevant_after};
 use search_state::words::{MOST_CARDS, suit_of};
 
@@ -13,8 +13,8 @@ use search_state::words::{MOST_CARDS, suit_of};
 struct Outcome {
     /// How many tricks the side needs of it.
     need: u32,
-    /// The first block of the records, 0 where there are none.
-    first: usize,
+    /// The records, if there are any.
+    list: Option<List>,
 }
 
 /// What is remembered of the rest after a card of this suit: where it wins the trick, and where it does not.
@@ -28,56 +28,64 @@ struct Outcomes {
 impl Outcome {
     /// Whether nothing is known, whatever the cards.
     fn is_unknown(&self) -> bool {
-        self.need != 0 && self.first == 0
+        self.need != 0 && self.list.is_none()
     }
 }
 
 impl Search {
-    /// The place of the slot of what is left after a last hand that follows suit. It is the same for each card.
-    pub(crate) fn place_in_suit(&self, own: u64, trick: &Trick, seat: usize) -> usize {
-        if own & trick.led == 0 {
-            return NO_PLACE;
+    /// The number of this shape, if it has one: this number where there is one.
+    pub(crate) fn shape_near(&self, shape: Option<u32>, lengths: u64) -> Option<u32> {
+        match shape {
+            Some(_) => shape,
+            None => self.records.shape(lengths),
         }
-        let lengths = self.held.lengths.wrapping_sub(one_of(trick.led, seat));
-        self.records.place_near(NO_PLACE, lengths)
     }
 
-    /// What is remembered for a side where this seat wins the trick, and the slot of what is left is in this place.
+    /// The number of the shape of what is left after a last hand that follows suit. It is the same for each card.
+    pub(crate) fn shape_in_suit(&self, own: u64, trick: &Trick, seat: usize) -> Option<u32> {
+        if own & trick.led == 0 {
+            return None;
+        }
+        let lengths = self.held.lengths.wrapping_sub(one_of(trick.led, seat));
+        self.records.shape(lengths)
+    }
+
+    /// What is remembered for a side where this seat wins the trick, and the shape of what is left has this number.
     fn outcome(
         &self,
         rest: u32,
         start: &Start,
         ours: bool,
         winner: usize,
-        place: usize,
+        shape: Option<u32>,
     ) -> Outcome {
-        let next = start.next(winner, 0, place);
+        let next = start.next(winner, 0, shape);
         let need = next.wanted_by(ours, rest);
-        let first = if need == 0 {
-            0
+        let list = if need == 0 {
+            None
         } else {
-            self.first(&next, ours)
+            self.list(&next, ours)
         };
-        Outcome { need, first }
+        Outcome { need, list }
     }
 
-    /// What is remembered after a card of this suit. The place is that of the slot, if it is known.
+    /// What is remembered after a card of this suit. The number is that of the shape, if it is known.
     fn outcomes(
         &self,
         rest: u32,
         start: &Start,
         trick: &Trick,
         suit: u64,
-        place: usize,
+        shape: Option<u32>,
     ) -> Outcomes {
         let seat = start.leader.wrapping_add(3) & 3;
         let ours = is_ours(seat);
         let lengths = self.held.lengths.wrapping_sub(one_of(suit, seat));
-        let place = self.records.place_near(place, lengths);
+        let shape = self.shape_near(shape, lengths);
         Outcomes {
             suit,
-            won: self.outcome(rest, start, ours, seat, place),
-            lost: self.outcome(rest, start, ours, trick.winner as usize, place),
+            won: self.outcome(rest, start, ours, seat, shape),
+            lost: self.outcome(rest, start, ours, trick.winner as usize, shape),
         }
     }
 
@@ -88,7 +96,7 @@ impl Search {
         start: &Start,
         trick: &Trick,
         runs: Runs,
-        place: usize,
+        shape: Option<u32>,
     ) -> Option<(u64, Found)> {
         let follows = runs.own & trick.led != 0;
         let suit = if follows {
@@ -96,7 +104,7 @@ impl Search {
         } else {
             suit_of(runs.own)
         };
-        let outcomes = self.outcomes(rest, start, trick, suit, place);
+        let outcomes = self.outcomes(rest, start, trick, suit, shape);
         if follows && outcomes.won.is_unknown() && outcomes.lost.is_unknown() {
             return None;
         }
@@ -125,11 +133,11 @@ impl Search {
             let wins = trick.beats(run.highest(), trumps);
             let card = card_at(run.choice(wins));
             if card & outcomes.suit == 0 {
-                outcomes = self.outcomes(rest, start, trick, suit_of(card), NO_PLACE);
+                outcomes = self.outcomes(rest, start, trick, suit_of(card), None);
             }
             let after = if wins { outcomes.won } else { outcomes.lost };
             if let Some(found) = self.known_from(
-                after.first,
+                after.list,
                 all & !card,
                 after.need,
                 is_ours(seat),

@@ -2,9 +2,7 @@
 
 use crate::plans::{Piece, Plan, TrickStart, Turn, tops_of_runs};
 use crate::search::Search;
-use search_state::blocks::PLACES;
 use search_state::pattern_tricks::Remains;
-use search_state::records::{Slot, list_of, number_of};
 
 /// The records that go on after a trick, by the seat that won it, 0 where none is needed, and what the new nodes cost: one
 /// each, and one for each owner that they name.
@@ -54,7 +52,7 @@ impl Plan {
     /// The children after a trick. None where what is remembered does not show them for less than the limit.
     pub(crate) fn leaf(&self, search: &Search, turn: &Turn<'_>) -> Option<Leaf> {
         let lengths = turn.trick.lengths;
-        let slot = search.records.slot(lengths);
+        let shape = search.records.shape(lengths);
         let remains = turn.held.remains(&turn.trick);
         let mut leaf = Leaf {
             lengths,
@@ -67,7 +65,7 @@ impl Plan {
             if turn.trick.winners.wrapping_shr(seat as u32) & 1 == 0 || rest <= 0 {
                 continue;
             }
-            let record = self.child(search, slot?, &remains, seat, rest)?;
+            let record = self.child(search, shape, &remains, seat, rest)?;
             leaf.cost = leaf.cost.wrapping_add(self.cost_of(search, record));
             leaf.records[seat] = record;
         }
@@ -90,36 +88,18 @@ impl Plan {
     fn child(
         &self,
         search: &Search,
-        slot: &Slot,
+        shape: Option<u32>,
         remains: &Remains,
         winner: usize,
         need: i32,
     ) -> Option<u32> {
-        let mut number = search.records.first(slot, list_of(winner, self.ours));
-        let mut first = None;
-        for _ in 0..search.records.numbers() {
-            let Some(block) = search.records.block(number) else {
-                break;
-            };
-            if number == 0 {
-                break;
-            }
-            for place in 0..PLACES {
-                if i32::from(block.need[place]) < need
-                    || !search.records.is_known(number, block, place, remains)
-                {
-                    continue;
-                }
-                let record = number_of(number, place);
-                if self.number(record) != 0 {
-                    return Some(record);
-                }
-                if first.is_none() {
-                    first = Some(record);
-                }
-            }
-            number = block.next as usize;
-        }
-        first
+        let list = search.records.list(shape, winner, self.ours)?;
+        search.records.find_known(
+            list,
+            remains.owners,
+            remains.known,
+            (need & 15) as u8,
+            |record| self.number(record) != 0,
+        )
     }
 }

@@ -2,7 +2,7 @@
 
 use crate::search::Search;
 use cards::{Layout, Trump};
-use search_state::records::MOST_BLOCKS;
+use pattern_store::MOST_BLOCKS;
 use std::alloc::{AllocError, Global};
 use std::sync::atomic::AtomicU32;
 use std::sync::atomic::Ordering::SeqCst;
@@ -119,7 +119,8 @@ impl Memory {
             most = 0;
         }
         let held = self.shrink(most);
-        search.records.room = self.room().saturating_sub(held) / self.threads().max(1);
+        let room = self.room().saturating_sub(held) / self.threads().max(1);
+        search.records.set_room(room);
         Ok(search)
     }
 

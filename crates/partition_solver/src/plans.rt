@@ -114,10 +114,10 @@ impl Plan {
     /// Nothing is proved yet.
     pub(crate) fn new(alloc: Global, search: &Search, ours: bool) -> Result<Plan, AllocError> {
         let suits = search.deal.suits;
-        let short = STEPS_A_BLOCK.saturating_mul(search.records.blocks());
+        let short = STEPS_A_BLOCK.saturating_mul(search.records.blocks() as u64);
         Ok(Plan {
             pieces: Vec::new(alloc),
-            numbers: vec![in alloc; 0; search.records.numbers()]?,
+            numbers: vec![in alloc; 0; search.records.blocks().saturating_mul(4)]?,
             ours,
             is_thrifty: search.steps < short,
             lanes: [

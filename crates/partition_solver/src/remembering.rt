@@ -2,9 +2,8 @@
 
 use crate::search::Search;
 use crate::starts::{Found, Start};
-use search_state::blocks::Record;
+use pattern_store::{List, Record};
 use search_state::deals::CardsLeft;
-use search_state::records::list_of;
 use search_state::relevant_cards::{depths_of, named_card};
 use search_state::words::MIXER;
 
@@ -23,28 +22,31 @@ fn hint_place(lengths: u64, start: &Start) -> usize {
 }
 
 impl Search {
-    /// The first block of what is remembered of the start of a trick for a side, 0 where nothing is.
-    pub(crate) fn first(&self, start: &Start, ours: bool) -> usize {
-        self.records
-            .first_at(start.place, list_of(start.leader, ours))
+    /// What is remembered of the start of a trick for a side, if anything is.
+    pub(crate) fn list(&self, start: &Start, ours: bool) -> Option<List> {
+        self.records.list(start.shape, start.leader, ours)
+    }
+
+    /// The same, unless the side's records were looked through in vain.
+    fn unasked(&self, start: &Start, ours: bool) -> Option<List> {
+        if start.asked == Some(ours) {
+            None
+        } else {
+            self.list(start, ours)
+        }
     }
 
     /// What is known of the start of a trick that is not settled.
     pub(crate) fn known(&self, tricks: u32, start: &Start) -> Option<Found> {
-        let mut ours = self.first(start, true);
-        let mut theirs = self.first(start, false);
-        match start.asked {
-            Some(true) => ours = 0,
-            Some(false) => theirs = 0,
-            None => {}
-        }
-        if ours | theirs == 0 {
+        let ours = self.unasked(start, true);
+        let theirs = self.unasked(start, false);
+        if ours.is_none() && theirs.is_none() {
             return None;
         }
         let left = self.deal.cards_left(start.left);
-        match self.found_from(ours, &left, start.wanted_by(true, tricks), true) {
+        match self.found_in(ours, &left, start.wanted_by(true, tricks), true) {
             Some(found) => Some(found),
-            None => self.found_from(theirs, &left, start.wanted_by(false, tricks), false),
+            None => self.found_in(theirs, &left, start.wanted_by(false, tricks), false),
         }
     }
 
@@ -56,26 +58,33 @@ impl Search {
         }
     }
 
-    /// What is known of these cards left, where this side gets what it needs, by the records from this block on.
+    /// What is known of these cards left, where this side gets what it needs, by these records.
     pub(crate) fn known_from(
         &self,
-        first: usize,
+        list: Option<List>,
         left: u64,
         need: u32,
         ours: bool,
     ) -> Option<Found> {
         if need == 0 {
             Some(Found::nothing_needed(ours))
-        } else if first == 0 {
+        } else if list.is_none() {
             None
         } else {
-            self.found_from(first, &self.deal.cards_left(left), need, ours)
+            self.found_in(list, &self.deal.cards_left(left), need, ours)
         }
     }
 
-    /// What the records say from this block on, where this side gets what it needs.
-    fn found_from(&self, first: usize, left: &CardsLeft, need: u32, ours: bool) -> Option<Found> {
-        let number = self.records.find(first, left, need)?;
+    /// What these records say, where this side gets what it needs.
+    fn found_in(
+        &self,
+        list: Option<List>,
+        left: &CardsLeft,
+        need: u32,
+        ours: bool,
+    ) -> Option<Found> {
+        let need = (need & 15) as u8;
+        let number = self.records.find(list?, left.near, || left.deep(), need)?;
         let record = self.records.record(number);
         Some(Found {
             relevant: self.deal.cards_at(left.cards, record.depths),
@@ -89,13 +98,13 @@ impl Search {
         let depths = depths_of(start.left, found.relevant);
         let named = named_card(start.left, depths, card);
         let left = self.deal.cards_left(start.left);
-        let record = Record::new(&left, depths, (found.bound & 15) as u8, named);
-        let list = list_of(start.leader, found.ours);
+        let need = (found.bound & 15) as u8;
+        let record = Record::new(left.near, || left.deep(), depths, need, named);
         let lengths = self.held.lengths;
         self.adds = self.adds.wrapping_add(1);
         let added = self
             .records
-            .add(self.alloc, start.place, lengths, list, record);
+            .add(start.shape, lengths, start.leader, found.ours, record);
         if added.is_err() {
             self.run_out();
         }

@@ -4,10 +4,10 @@
 use crate::remembering::HINTS;
 use crate::starts::{Found, Start, is_ours, trick_for};
 use cards::{Layout, Trump};
+use pattern_store::Records;
 use search_state::deals::Deal;
 use search_state::moves::{Moves, Runs};
 use search_state::positions::{Holdings, Trick};
-use search_state::records::Records;
 use search_state::relevant_cards::{needs_fewer, relevant_after};
 use search_state::words::{MOST_CARDS, below};
 use std::alloc::{AllocError, Global};
@@ -190,19 +190,19 @@ impl Search {
         let before = self.held.before(seat);
         let own = trick.legal(before.hand);
         let runs = Runs::of(own, start.left);
-        let place = self.place_in_suit(own, trick, seat);
+        let shape = self.shape_in_suit(own, trick, seat);
         if !runs.is_single() {
-            if let Some((card, found)) = self.ask(rest, start, trick, runs, place) {
+            if let Some((card, found)) = self.ask(rest, start, trick, runs, shape) {
                 let after = trick.after(seat, card, self.deal.trumps);
                 self.held.play(seat, card);
-                let place = self.records.place_near(place, self.held.lengths);
-                let next = start.next(after.winner as usize, self.held.all(), place);
+                let shape = self.shape_near(shape, self.held.lengths);
+                let next = start.next(after.winner as usize, self.held.all(), shape);
                 let whole = self.ended(rest, start, &after, &next, found);
                 self.held.put_back(seat, before);
                 return whole;
             }
         }
-        self.try_last(rest, start, trick, runs, place)
+        self.try_last(rest, start, trick, runs, shape)
     }
 
     /// Tries the cards of the last hand, of which none is known to succeed, or there is one run only.
@@ -213,7 +213,7 @@ impl Search {
         start: &Start,
         trick: &Trick,
         runs: Runs,
-        place: usize,
+        shape: Option<u32>,
     ) -> Found {
         let seat = start.leader.wrapping_add(3) & 3;
         let mover = is_ours(seat);
@@ -232,7 +232,7 @@ impl Search {
             let after = trick.after(seat, tried.card, self.deal.trumps);
             let is_asked = !runs.is_single() && self.adds == adds;
             self.held.play(seat, tried.card);
-            let found = self.rest(rest, start, &after, place, is_asked);
+            let found = self.rest(rest, start, &after, shape, is_asked);
             self.held.put_back(seat, before);
             if self.stopped || found.ours == mover {
                 return found;
@@ -244,7 +244,7 @@ impl Search {
         answer
     }
 
-    /// Goes on after a trick. The slot of what is left may be in this place, and the records of the last hand's side may have
+    /// Goes on after a trick. The shape of what is left may have this number, and the records of the last hand's side may have
     /// been asked.
     #[cycle(searching)]
     fn rest(
@@ -252,11 +252,11 @@ impl Search {
         rest: u32,
         start: &Start,
         trick: &Trick,
-        place: usize,
+        shape: Option<u32>,
         is_asked: bool,
     ) -> Found {
-        let place = self.records.place_near(place, self.held.lengths);
-        let mut next = start.next(trick.winner as usize, self.held.all(), place);
+        let shape = self.shape_near(shape, self.held.lengths);
+        let mut next = start.next(trick.winner as usize, self.held.all(), shape);
         if is_asked {
             next.asked = Some(!is_ours(start.leader));
         }

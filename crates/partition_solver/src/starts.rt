@@ -22,8 +22,8 @@ pub(crate) struct Found {
 pub(crate) struct Start {
     /// The cards in all hands.
     pub left: u64,
-    /// Where the slot of the lengths was when it was looked up.
-    pub place: usize,
+    /// The number of the shape, if it had one when it was looked up.
+    pub shape: Option<u32>,
     /// The seat that leads.
     pub leader: usize,
     /// How many of the tricks left North and South want.
@@ -93,10 +93,10 @@ impl Start {
     }
 
     /// The start of the next trick, where this seat has won this one.
-    pub(crate) fn next(&self, winner: usize, left: u64, place: usize) -> Start {
+    pub(crate) fn next(&self, winner: usize, left: u64, shape: Option<u32>) -> Start {
         Start {
             left,
-            place,
+            shape,
             leader: winner & 3,
             want: self.want.wrapping_sub(trick_for(winner, true)),
             asked: None,
@@ -108,7 +108,7 @@ impl Start {
         let before = self.want.wrapping_add(trick_for(self.leader, true));
         Start {
             left: self.left,
-            place: self.place,
+            shape: self.shape,
             leader: seat & 3,
             want: before.wrapping_sub(trick_for(seat, true)),
             asked: None,

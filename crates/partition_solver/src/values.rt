@@ -4,7 +4,6 @@ use crate::search::Search;
 use crate::starts::Start;
 use search_state::deals::CardsLeft;
 use search_state::positions::Holdings;
-use search_state::records::NO_PLACE;
 use search_state::words::MOST_CARDS;
 
 /// How many cards a set has.
@@ -78,7 +77,7 @@ impl Search {
     fn start(&self, leader: usize, want: u32) -> Start {
         Start {
             left: self.held.all(),
-            place: self.records.place_near(NO_PLACE, self.held.lengths),
+            shape: self.records.shape(self.held.lengths),
             leader: leader & 3,
             want,
             asked: None,

@@ -9,14 +9,6 @@ const SETS: usize = 8192;
 /// How many sets of ranks four suits have.
 const ALL_SETS: usize = 4 * SETS;
 
-/// Owners of cards, two bits each, in every suit the highest card first: `near` has the first eight of each suit, `deep` the
-/// others.
-#[derive(Clone, Copy, Default)]
-pub struct Owners {
-    pub near: u64,
-    pub deep: u64,
-}
-
 /// A deal in one denomination.
 #[derive(Drop)]
 pub struct Deal {
@@ -38,7 +30,7 @@ pub struct Deal {
 pub struct CardsLeft<'a> {
     deal: &'a Deal,
     pub cards: u64,
-    pub(crate) near: u64,
+    pub near: u64,
 }
 
 /// The suits in the order of a word: the trump suit last.
@@ -109,7 +101,7 @@ fn owners_by(table: &[u16], left: u64) -> u64 {
 
 impl CardsLeft<'_> {
     /// The owners after the eighth of each suit.
-    pub(crate) fn deep(&self) -> u64 {
+    pub fn deep(&self) -> u64 {
         owners_by(self.deal.deep.as_slice(), self.cards)
     }
 }

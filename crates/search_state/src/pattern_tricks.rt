@@ -1,9 +1,8 @@
 //! A trick played on a remembered pattern. A card of a pattern is a bit, sixteen a suit: that of a top by its place among the
 //! owners of its suit, the highest lowest, and the last one for any low card.
 
-use crate::blocks::Record;
-use crate::deals::Owners;
 use crate::words::{MOST_CARDS, SUIT, below, highest, lowest, start_of, suit_of};
+use pattern_store::{Owners, Record};
 
 /// The place of a low card.
 pub const LOW: u32 = 15;

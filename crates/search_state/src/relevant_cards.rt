@@ -1,10 +1,10 @@
 //! Which cards were relevant: those whose rank an answer needed. The lowest of a suit tells how deep it has to be known.
 
-use crate::blocks::NO_CARD;
 use crate::moves::Move;
 use crate::pattern_tricks::LOW;
 use crate::positions::Trick;
 use crate::words::{SUIT, below, lowest, start_of, suit_of};
+use pattern_store::NO_CARD;
 
 /// How deep the lowest relevant card of the suit that starts here lies.
 fn depth_of(left: u64, relevant: u64, start: u32) -> u16 {

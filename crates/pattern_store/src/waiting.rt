@@ -1,0 +1,98 @@
+//! How a record comes to its place in a list.
+
+ghost use Rattle.std.specs.Prelude.{◌≡◌, ◌<◌};
+ghost use Rattle.pattern_store.specs.Blocks.{SetsPlace, Passes};
+
+use crate::blocks::{Block, PLACES};
+use crate::records::Record;
+
+/// A record on its way into a list.
+#[derive(Clone, Copy)]
+pub(crate) struct Waiting {
+    /// The record itself.
+    told: Record,
+    /// What has to find a place now: the record, or the one that it has moved.
+    pub moved: Record,
+    /// Whether the record has its place.
+    pub stands: bool,
+    /// Whether something still has to find a place.
+    pub waits: bool,
+}
+
+impl Waiting {
+    /// A record before the first block of its list.
+    pub(crate) fn of(told: Record) -> Waiting
+        ensures { result.moved ≡ told }
+    {
+        Waiting {
+            told,
+            moved: told,
+            stands: false,
+            waits: true,
+        }
+    }
+
+    /// Lays what waits down in a place that is free.
+    fn lie_down(&mut self, block: &mut Block, place: usize)
+        requires { place < 3 }
+        ensures block { SetsPlace block.old block.new place self.old.moved }
+        ensures moved { self.new.moved ≡ self.old.moved }
+    {
+        block.set(place, self.moved);
+        self.waits = false;
+    }
+
+    /// Goes past a place of a block: it may be taken, and what lies there may have to go on, or be dropped.
+    fn pass(&mut self, block: &mut Block, place: usize)
+        requires { place < 3 }
+        ensures { Passes block.old block.new self.old.moved self.new.moved }
+    {
+        let other = block.record(place);
+        if other.need == 0 {
+            if self.waits && self.stands {
+                self.lie_down(block, place);
+            }
+            return;
+        }
+        let is_served = self.told.serves(&other);
+        if self.waits && (self.stands || other.owners_named() > self.told.owners_named()) {
+            self.lie_down(block, place);
+            self.stands = true;
+            self.moved = other;
+            self.waits = !is_served;
+        } else if is_served {
+            block.set(place, Record::default());
+        }
+    }
+
+    /// Goes past a block. At the end of its list what waits takes the first free place.
+    pub(crate) fn pass_block(&mut self, block: &mut Block)
+        ensures { Passes block.old block.new self.old.moved self.new.moved }
+    {
+        for place in 0..PLACES {
+            self.pass(block, place);
+        }
+        if block.next == 0 && !self.stands {
+            self.end(block);
+        }
+    }
+
+    /// Takes a place, if it is free and something waits.
+    fn take_free(&mut self, block: &mut Block, place: usize)
+        requires { place < 3 }
+        ensures { Passes block.old block.new self.old.moved self.new.moved }
+    {
+        if self.waits && block.need(place) == 0 {
+            self.lie_down(block, place);
+        }
+    }
+
+    /// Takes the first free place of a list's last block.
+    fn end(&mut self, block: &mut Block)
+        ensures { Passes block.old block.new self.old.moved self.new.moved }
+    {
+        for place in 0..PLACES {
+            self.take_free(block, place);
+        }
+    }
+}
