@@ -52,19 +52,21 @@ fn told_and_found(rt: HostRuntime) -> Result<(), Fail> {
 #[test]
 fn the_most_general_first(rt: HostRuntime) -> Result<(), Fail> {
     let mut records = Records::new(rt.alloc())?;
-    for (depth, need) in [(4, 3), (3, 1), (2, 2), (9, 4)] {
+    for (depth, need) in [(4, 3), (3, 1), (2, 2), (9, 4), (10, 5)] {
         records.add(None, ONE_EACH, 0, false, naming(depth, need))?;
     }
     let Some(list) = records.list(records.shape(ONE_EACH), 0, false) else {
         return Err(Fail::new("the list is there"));
     };
-    // That of three owners says less than that of two, so one block has room for the others. The ninth owner has to agree too.
+    // That of three owners says less than that of two, so one block has room for the others. The ninth owner has to agree too,
+    // and the tenth.
     expect_eq(&rt, &records.blocks(), &2);
     for (owners, ninth, need, depth) in [
         (OWNERS, NINTH, 1, 2),
         (OTHERS, NINTH, 1, 2),
         (OWNERS, NINTH, 3, 4),
         (OWNERS, NINTH, 4, 9),
+        (OWNERS, NINTH, 5, 10),
         (OWNERS, 0, 4, 0),
         (OTHERS, NINTH, 3, 0),
     ] {
@@ -110,5 +112,73 @@ fn by_what_is_known(rt: HostRuntime) -> Result<(), Fail> {
         };
         expect_eq(&rt, &named, &depth);
     }
+    Ok(())
+}
+
+/// A record that names four owners of the first suit: these.
+fn of_owners(owners: u64) -> Record {
+    Record::new(owners, || 0, 4, 1, 0)
+}
+
+/// How many of so many records that name different owners are found in the list of a leader.
+fn found_of(records: &Records, leader: usize, count: u64) -> u64 {
+    let Some(list) = records.list(records.shape(ONE_EACH), leader, true) else {
+        return 0;
+    };
+    let mut found = 0u64;
+    for owners in 0..count {
+        let number = records.find(list, owners, || 0, 1);
+        if number.is_some_and(|number| records.record(number).near == owners) {
+            found = found.saturating_add(1);
+        }
+    }
+    found
+}
+
+/// A list of nine records has moved from a run of one block to one of two, and to one of four. Others take what it left.
+#[test]
+fn a_list_grows_and_leaves_room(rt: HostRuntime) -> Result<(), Fail> {
+    let mut records = Records::new(rt.alloc())?;
+    for (leader, count, blocks) in [
+        (0, 4, 2),
+        (0, 5, 4),
+        (0, 9, 8),
+        (1, 1, 8),
+        (1, 5, 8),
+        (2, 1, 8),
+        (2, 4, 8),
+        (3, 1, 9),
+    ] {
+        for owners in found_of(&records, leader, count)..count {
+            records.add(None, ONE_EACH, leader, true, of_owners(owners))?;
+        }
+        expect_eq(&rt, &found_of(&records, leader, count), &count);
+        expect_eq(
+            &rt,
+            &found_of(&records, 0, 9),
+            &if records.blocks() < 8 { count } else { 9 },
+        );
+        expect_eq(&rt, &records.blocks(), &blocks);
+    }
+    Ok(())
+}
+
+/// Where there is no room a record is lost, and the others stay.
+#[test]
+fn no_more_than_there_is_room_for(rt: HostRuntime) -> Result<(), Fail> {
+    let mut records = Records::new(rt.alloc())?;
+    records.set_room(3);
+    expect(&rt, !records.is_full());
+    for owners in 0..5 {
+        records.add(None, ONE_EACH, 0, true, of_owners(owners))?;
+    }
+    // A run of two blocks has no room beside that of one.
+    expect_eq(&rt, &records.blocks(), &2);
+    expect_eq(&rt, &found_of(&records, 0, 5), &4);
+    records.add(None, ONE_EACH, 1, true, of_owners(0))?;
+    expect_eq(&rt, &records.blocks(), &3);
+    // The shape counts too.
+    expect_eq(&rt, &records.size(), &4);
+    expect(&rt, records.is_full());
     Ok(())
 }

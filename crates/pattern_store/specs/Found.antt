@@ -1,32 +1,27 @@
 -- The records that are kept, by list, and what a look-up and an add say of them.
-use Rattle.std.specs.Prelude.{◌≡◌, ℕ, ◌+◌, ◌*◌, ◌/◌, ◌%◌, ◌<◌, ◌≤◌, ◌⊎◌, min, Bool, if◌then◌else◌, Some, slice_get}
+use Rattle.std.specs.Prelude.{◌≡◌, ℕ, ◌+◌, ◌*◌, ◌/◌, ◌%◌, ◌<◌, ◌≤◌, ◌⊎◌, Bool, if◌then◌else◌, Some, slice_get, length}
 use Rattle.std.specs.Prelude as std
 use Rattle.std.specs.Option.{option_map_or}
 use Rattle.pattern_store.specs.declared.records.Record.{Record}
 use Rattle.pattern_store.specs.declared.blocks.List.{List}
 use Rattle.pattern_store.specs.declared.blocks.Block.{Block}
 use Rattle.pattern_store.specs.Blocks.{record_at, Has}
-use Rattle.pattern_store.specs.Shapes.{Shapes, ShapeIs, IsHead, KeepsShapes}
+use Rattle.pattern_store.specs.Shapes.{Shapes, ShapeIs, KeepsShapes}
 
--- what is kept: the shapes by number, and the blocks
+-- what is kept: the shapes by number, the blocks, and how many of these there may be
 pub record Kept : Type 0 where
   pub shapes : Shapes
   pub blocks : std.List Block
+  pub room : ℕ
 
 -- the number of a list of its shape: that of the seat that leads and of the side that wins, North's and South's first
 abbrev pub list_number : ℕ → Bool → ℕ
 list_number leader ours = leader % 4 * 2 + (if ours then 0 else 1)
 
 -- the block with this number is one of the list
-pub record IsBlockIn (blocks : std.List Block) (list : List) (number : ℕ) : Type 0 where
-  pub block : Block
+pub record IsBlockIn (blocks : std.List Block) (list : List) (number : ℕ) (block : Block) : Type 0 where
   pub is : slice_get blocks number ≡ Some block
   pub of_list : block.list ≡ list
-
--- the block with this number, of whose list the next one is
-pub record IsBlockAt (blocks : std.List Block) (number : ℕ) (block : Block) : Type 0 where
-  pub is : slice_get blocks number ≡ Some block
-  pub next : (block.next ≡ 0) ⊎ IsBlockIn blocks block.list block.next
 
 -- the list has the record
 pub record Holds (blocks : std.List Block) (list : List) (r : Record) : Type 0 where
@@ -36,30 +31,20 @@ pub record Holds (blocks : std.List Block) (list : List) (r : Record) : Type 0 w
   pub of_list : block.list ≡ list
   pub has : Has block r
 
--- each list begins with one of its blocks, or has none
-abbrev pub HeadsLinked : Shapes → std.List Block → Type 0
-HeadsLinked shapes blocks = (list : List) (head : ℕ) → IsHead shapes list head → (head ≡ 0) ⊎ IsBlockIn blocks list head
-
--- each block is followed by one of its list, or is the last
-abbrev pub BlocksLinked : std.List Block → Type 0
-BlocksLinked blocks = (number : ℕ) (block : Block) → slice_get blocks number ≡ Some block → (block.next ≡ 0) ⊎ IsBlockIn blocks block.list block.next
-
--- lists are of their own blocks
-pub record IsLinked (shapes : Shapes) (blocks : std.List Block) : Type 0 where
-  pub heads : HeadsLinked shapes blocks
-  pub nexts : BlocksLinked blocks
+-- no list has a record
+abbrev pub HoldNothing : std.List Block → Type 0
+HoldNothing blocks = (list : List) (r : Record) → Holds blocks list r → ⊥
 
 -- nothing is remembered
 abbrev pub HoldsNothing : Kept → Type 0
-HoldsNothing kept = (list : List) (r : Record) → Holds kept.blocks list r → ⊥
+HoldsNothing kept = HoldNothing kept.blocks
 
--- the record with this number, with a need of 0 where there is none. A block has no fourth place: its number is one more of the
--- third.
+-- the record with this number, with a need of 0 where there is none
 abbrev pub nothing : Record
 nothing = record { near = 0; mask = 0; deep = 0; depths = 0; need = 0; first_card = 0 }
 
 abbrev pub record_of : std.List Block → ℕ → Record
-record_of blocks number = option_map_or (λ block. record_at block (min (number % 4) 2)) (slice_get blocks (number / 4)) nothing
+record_of blocks number = option_map_or (λ block. record_at block (number % 4)) (slice_get blocks (number / 4)) nothing
 
 -- the record with this number is one of the list, with which the side gets as many tricks, and of which this can be said
 pub record Finds (kept : Kept) (list : List) (need : ℕ) (Agrees : Record → Type 0) (number : ℕ) : Type 0 where
@@ -67,25 +52,45 @@ pub record Finds (kept : Kept) (list : List) (need : ℕ) (Agrees : Record → T
   pub enough : need ≤ (record_of kept.blocks number).need
   pub agrees : Agrees (record_of kept.blocks number)
 
+-- there are no more blocks than before, or than there is room for
+abbrev pub Within : std.List Block → std.List Block → ℕ → Type 0
+Within old new room = (length new ≤ length old) ⊎ (length new ≤ room)
+
+-- what a list has then it had before
+pub record Keeps (old new : std.List Block) (room : ℕ) : Type 0 where
+  pub stays : (list : List) (r : Record) → Holds new list r → Holds old list r
+  pub within : Within old new room
+
+-- what a list has then it had before, or it is the record told, in this list
+abbrev pub HoldsToo : std.List Block → std.List Block → List → Record → Type 0
+HoldsToo old new list told = (other : List) (r : Record) → Holds new other r → Holds old other r ⊎ ((other ≡ list) × (r ≡ told))
+
+-- a record is put into a block of a list
+pub record Puts (old new : std.List Block) (list : List) (told : Record) : Type 0 where
+  pub stays : HoldsToo old new list told
+  pub count : length new ≡ length old
+
 -- What a list has then it had before, or it is the record told, in the list of the lengths told and of this number. Shapes keep
--- their numbers.
+-- their numbers. There are no more blocks than before, or than there is room for.
 pub record Adds (old new : Kept) (lengths number : ℕ) (told : Record) : Type 0 where
   pub keeps : KeepsShapes old.shapes new.shapes
-  pub told_only : (list : List) (r : Record) → Holds new.blocks list r → Holds old.blocks list r ⊎ (ShapeIs new.shapes list.shape lengths × ((list.number ≡ number) × (r ≡ told)))
+  pub told_only : (list : List) (r : Record) → Holds new.blocks list r → Holds old.blocks list r
+      ⊎ (ShapeIs new.shapes list.shape lengths × ((list.number ≡ number) × (r ≡ told)))
+  pub within : Within old.blocks new.blocks old.room
+  pub room : new.room ≡ old.room
 
 -- A record goes along a list, and one goes on. What the list has then it had before, or it is the one that came; so is what goes
 -- on. All else stays.
 pub record Goes (old new : Kept) (list : List) (came goes : Record) : Type 0 where
   pub shapes : new.shapes ≡ old.shapes
-  pub stays : (other : List) (r : Record) → Holds new.blocks other r → Holds old.blocks other r ⊎ ((other ≡ list) × (r ≡ came))
+  pub stays : HoldsToo old.blocks new.blocks list came
   pub moved : Holds old.blocks list goes ⊎ (goes ≡ came)
+  pub count : length new.blocks ≡ length old.blocks
+  pub room : new.room ≡ old.room
 
 -- a record is added to a list, or nothing is
 pub record Appends (old new : Kept) (list : List) (added : Record) : Type 0 where
   pub keeps : KeepsShapes old.shapes new.shapes
-  pub stays : (other : List) (r : Record) → Holds new.blocks other r → Holds old.blocks other r ⊎ ((other ≡ list) × (r ≡ added))
-
--- what lists have stays, though they may go on elsewhere
-pub record Links (old new : Kept) : Type 0 where
-  pub keeps : KeepsShapes old.shapes new.shapes
-  pub stays : (other : List) (r : Record) → Holds new.blocks other r → Holds old.blocks other r
+  pub stays : HoldsToo old.blocks new.blocks list added
+  pub within : Within old.blocks new.blocks old.room
+  pub room : new.room ≡ old.room

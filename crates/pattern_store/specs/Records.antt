@@ -25,7 +25,8 @@ AgreesDeep r may_tell = (deep_mask r.depths ≡ 0) ⊎ ((deep : ℕ) × may_tell
 pub record IsKnown (r : Record) (owners known : Owners) : Type 0 where
   pub near : AgreesNear r owners.near
   pub near_known : bit_and r.mask known.near ≡ r.mask
-  pub deep : (deep_mask r.depths ≡ 0) ⊎ ((bit_and (bit_xor r.deep owners.deep) (deep_mask r.depths) ≡ 0) × (bit_and (deep_mask r.depths) known.deep ≡ deep_mask r.depths))
+  pub deep : (deep_mask r.depths ≡ 0)
+      ⊎ ((bit_and (bit_xor r.deep owners.deep) (deep_mask r.depths) ≡ 0) × (bit_and (deep_mask r.depths) known.deep ≡ deep_mask r.depths))
 
 -- of the owners after the eighth a record keeps those that it names, if any, of owners that may be told
 abbrev pub OwnersKept : Record → (ℕ → Type 0) → Type 0

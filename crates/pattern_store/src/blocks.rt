@@ -1,20 +1,13 @@
-//! How records are kept: three in a block.
+//! How records are kept: four in a block.
 
 ghost use Rattle.std.specs.Prelude.{◌≡◌, ◌<◌, ◌≤◌, IsTrue};
 ghost use Rattle.pattern_store.specs.Blocks.{record_at, IsBlockOf, SetsPlace};
 ghost use Rattle.pattern_store.specs.Records.{AgreesNear, AgreesDeep, IsKnown};
 
-use crate::records::{Owners, Record, deep_mask};
+use crate::records::{FREE, Owners, Record, deep_mask};
 
 /// How many records a block has.
-pub(crate) const PLACES: usize = 3;
-
-/// The owners of a record of the first eight cards of each suit, and the bits of those that are named.
-#[derive(Clone, Copy)]
-pub struct Near {
-    owners: u64,
-    mask: u64,
-}
+pub(crate) const PLACES: usize = 4;
 
 /// What else a look-up reads of a record.
 #[derive(Clone, Copy)]
@@ -28,21 +21,19 @@ pub struct Facts {
 #[derive(Clone, Copy)]
 pub struct List {
     pub(crate) shape: u32,
-    pub(crate) number: u8,
+    pub(crate) number: u32,
 }
 
-/// Records of a list, those that name the fewest owners first, and the block that goes on. A need of 0 is a free place.
+/// Records of a list, those that name the fewest owners first. A need of 0 is a free place.
 #[derive(Clone, Copy)]
 pub struct Block {
-    near: [Near; 3],
-    facts: [Facts; 3],
-    /// The number of the next block of the list, 0 after the last.
-    pub(crate) next: u32,
-    deep: [u64; 3],
-    pub(crate) list: List,
+    /// The owners of the first eight cards of each suit, and the bits of those that are named: what a look-up reads of each.
+    near: [u64; 4],
+    masks: [u64; 4],
+    list: List,
+    facts: [Facts; 4],
+    deep: [u64; 4],
 }
-
-const NO_NEAR: Near = Near { owners: 0, mask: 0 };
 
 const NO_FACTS: Facts = Facts {
     depths: 0,
@@ -50,30 +41,51 @@ const NO_FACTS: Facts = Facts {
     first_card: 0,
 };
 
+impl List {
+    /// Whether both are the same list.
+    fn is(&self, other: List) -> bool
+        ensures { IsTrue result → self.now ≡ other }
+    {
+        self.shape == other.shape && self.number == other.number
+    }
+}
+
 impl Block {
     /// A block of a list, with this record in its first place.
     pub(crate) fn new(list: List, first: Record) -> Block
         ensures { IsBlockOf result list first }
     {
         let mut block = Block {
-            near: [NO_NEAR; 3],
-            facts: [NO_FACTS; 3],
-            next: 0,
-            deep: [0; 3],
+            near: [FREE.near; 4],
+            masks: [FREE.mask; 4],
             list,
+            facts: [NO_FACTS; 4],
+            deep: [0; 4],
         };
         block.set(0, first);
         block
     }
 
+    /// Whether it is of this list.
+    pub(crate) fn is_of(&self, list: List) -> bool
+        ensures { IsTrue result → self.now.list ≡ list }
+    {
+        self.list.is(list)
+    }
+
+    /// The shape of its list.
+    pub(crate) fn shape(&self) -> u32 {
+        self.list.shape
+    }
+
     /// The record in a place.
     pub(crate) fn record(&self, place: usize) -> Record
-        requires { place < 3 }
+        requires { place < 4 }
         ensures { result ≡ record_at self.now place }
     {
         Record {
-            near: self.near[place].owners,
-            mask: self.near[place].mask,
+            near: self.near[place],
+            mask: self.masks[place],
             deep: self.deep[place],
             depths: self.facts[place].depths,
             need: self.facts[place].need,
@@ -83,7 +95,7 @@ impl Block {
 
     /// How many tricks the side can win by the record in a place.
     pub(crate) fn need(&self, place: usize) -> u8
-        requires { place < 3 }
+        requires { place < 4 }
         ensures { result ≡ (record_at self.now place).need }
     {
         self.facts[place].need
@@ -91,13 +103,11 @@ impl Block {
 
     /// Puts a record into a place.
     pub(crate) fn set(&mut self, place: usize, told: Record)
-        requires { place < 3 }
+        requires { place < 4 }
         ensures { SetsPlace self.old self.new place told }
     {
-        self.near[place] = Near {
-            owners: told.near,
-            mask: told.mask,
-        };
+        self.near[place] = told.near;
+        self.masks[place] = told.mask;
         self.facts[place] = Facts {
             depths: told.depths,
             need: told.need,
@@ -106,14 +116,24 @@ impl Block {
         self.deep[place] = told.deep;
     }
 
+    /// Whether the owners of the first eight cards of each suit may be those that some record names. All are looked at, without
+    /// a jump for each.
+    pub(crate) fn may_agree(&self, near: u64) -> bool {
+        let mut agrees = false;
+        for place in 0..PLACES {
+            agrees |= (self.near[place] ^ near) & self.masks[place] == 0;
+        }
+        agrees
+    }
+
     /// Whether these are the owners that the record in a place names. Those after the eighth of a suit are asked for where it
     /// names some.
     pub(crate) fn agrees<F: Fn() -> u64>(&self, place: usize, near: u64, deep: &F) -> bool
-        requires is_place { place < 3 }
+        requires is_place { place < 4 }
         requires asks { F.IsAlwaysCallable deep.now }
         ensures { IsTrue result → AgreesNear (record_at self.now place) near × AgreesDeep (record_at self.now place) (F.post deep.now) }
     {
-        if (self.near[place].owners ^ near) & self.near[place].mask != 0 {
+        if (self.near[place] ^ near) & self.masks[place] != 0 {
             return false;
         }
         let mask = deep_mask(self.facts[place].depths);
@@ -122,11 +142,11 @@ impl Block {
 
     /// Whether the record in a place names only owners that are known, and those as they are.
     pub(crate) fn is_known(&self, place: usize, owners: Owners, known: Owners) -> bool
-        requires { place < 3 }
+        requires { place < 4 }
         ensures { IsTrue result → IsKnown (record_at self.now place) owners known }
     {
-        let near = self.near[place];
-        if (near.owners ^ owners.near) & near.mask != 0 || near.mask & known.near != near.mask {
+        let named = self.masks[place];
+        if (self.near[place] ^ owners.near) & named != 0 || named & known.near != named {
             return false;
         }
         let mask = deep_mask(self.facts[place].depths);

@@ -1,50 +1,48 @@
 //! What a search remembers: for each shape, leader and side the records found, those that name the fewest owners first.
 
-ghost use Rattle.std.specs.Prelude.{◌≡◌, ◌<◌, ◌≤◌, ◌⊎◌, ◌+◌, ◌*◌, IfOk, IfSome, Some, length};
+ghost use Rattle.std.specs.Prelude.{◌≡◌, ◌↔◌, ◌<◌, ◌≤◌, ◌⊎◌, ◌+◌, ◌-◌, ◌*◌, ◌^◌, ℕ, IfOk, IfSome, IsTrue, Some, length, min, max};
 ghost use Rattle.pattern_store.specs.Blocks.{record_at};
 ghost use Rattle.pattern_store.specs.Records.{AgreesNear, AgreesDeep, IsKnown};
 ghost use Rattle.pattern_store.specs.Shapes.{ShapeIs, KeepsShapes};
-ghost use Rattle.pattern_store.specs.Found.{Kept, HoldsNothing, Finds, Adds, Goes, Appends, Links, IsBlockIn, IsBlockAt, list_number, record_of};
+ghost use Rattle.pattern_store.specs.Found.{HoldsNothing, Finds, Adds, Goes, Appends, IsBlockIn, list_number, record_of};
 
 use crate::blocks::{Block, List, PLACES};
 use crate::records::{Owners, Record};
+use crate::runs::Runs;
 use crate::shapes::{MOST_SHAPES, Shapes};
+use crate::spans::Span;
 use crate::waiting::Waiting;
 use std::alloc::{AllocError, Global};
 use std::marker::Model;
 
-/// How many blocks are kept at most. A block takes 96 bytes.
-pub const MOST_BLOCKS: usize = 1 << 20;
+/// How many blocks are kept at most. A block takes 120 bytes.
+pub const MOST_BLOCKS: usize = 800_000;
 
 /// The records by shape, leader and side. A record's number is that of its block times four, and its place in it.
 #[derive(Drop)]
 pub struct Records {
     shapes: Shapes,
-    blocks: Vec<Block>,
-    /// How many blocks there may be.
-    room: usize,
+    runs: Runs,
 }
 
 impl Model for Records {
-    ghost use Rattle.pattern_store.specs.Found.{Kept, IsLinked};
+    ghost use Rattle.pattern_store.specs.Found.{Kept};
 
     ghost Value = { Kept };
 
-    ghost view = { λ s. record { shapes = s.shapes.map.entries; blocks = s.blocks.items } };
-
-    ghost invariant = { λ s. IsLinked s.shapes.map.entries s.blocks.items };
+    ghost view = { λ s. record { shapes = s.shapes.map.entries; blocks = s.runs.blocks.items; room = s.runs.room } };
 }
 
 /// The number of a list of its shape.
-fn number_in_shape(leader: usize, ours: bool) -> u8
+fn number_in_shape(leader: usize, ours: bool) -> u32
     ensures { result ≡ list_number leader ours }
 {
-    (leader % 4) as u8 * 2 + if ours { 0 } else { 1 }
+    (leader % 4) as u32 * 2 + if ours { 0 } else { 1 }
 }
 
 /// The number of the record in a place of a block.
 fn number_of(block: u32, place: usize) -> Option<u32>
-    requires { place < 3 }
+    requires { place < 4 }
     ensures { IfSome result (λ number. number ≡ block * 4 + place) }
 {
     u32::try_from(block as usize * 4 + place).ok()
@@ -53,9 +51,12 @@ fn number_of(block: u32, place: usize) -> Option<u32>
 /// The first place of a block whose record names these owners and lets the side win as much.
 fn place_of<F: Fn() -> u64>(block: &Block, near: u64, deep: &F, need: u8) -> Option<usize>
     requires { F.IsAlwaysCallable deep.now }
-    ensures { IfSome result (λ place. (place < 3) × (need ≤ (record_at block.now place).need)
+    ensures { IfSome result (λ place. (place < 4) × (need ≤ (record_at block.now place).need)
         × AgreesNear (record_at block.now place) near × AgreesDeep (record_at block.now place) (F.post deep.now)) }
 {
+    if !block.may_agree(near) {
+        return None;
+    }
     for place in 0..PLACES {
         if block.need(place) >= need && block.agrees(place, near, deep) {
             return Some(place);
@@ -69,19 +70,9 @@ impl Records {
     pub fn new(alloc: Global) -> Result<Records, AllocError>
         ensures { IfOk result HoldsNothing }
     {
-        let mut blocks = Vec::new(alloc);
-        // The block 0 is in no list, since the number 0 ends one.
-        blocks.push(Block::new(
-            List {
-                shape: 0,
-                number: 0,
-            },
-            Record::default(),
-        ))?;
         Ok(Records {
             shapes: Shapes::new(alloc),
-            blocks,
-            room: MOST_BLOCKS,
+            runs: Runs::new(alloc, MOST_BLOCKS)?,
         })
     }
 
@@ -89,24 +80,28 @@ impl Records {
     pub fn blocks(&self) -> usize
         ensures { result ≡ length self.now.blocks }
     {
-        self.blocks.len()
+        self.runs.blocks.len()
     }
 
     /// How much memory is taken, in blocks. A shape counts as one.
-    pub fn size(&self) -> usize {
-        self.blocks.len().saturating_add(self.shapes.len())
+    pub fn size(&self) -> usize
+        ensures { result ≡ min (length self.now.blocks + length self.now.shapes) (2 ^ 64 - 1) }
+    {
+        self.blocks().saturating_add(self.shapes.len())
     }
 
-    /// Has no more blocks than these.
+    /// Has no more blocks than these, if it does not have more now.
     pub fn set_room(&mut self, room: usize)
-        ensures { self.new ≡ self.old }
+        ensures { self.new ≡ record self.old { room = min room 800000 } }
     {
-        self.room = room.min(MOST_BLOCKS);
+        self.runs.room = room.min(MOST_BLOCKS);
     }
 
     /// Whether something may not have been remembered since there was no room.
-    pub fn is_full(&self) -> bool {
-        self.blocks.len() >= self.room || self.shapes.len() >= MOST_SHAPES
+    pub fn is_full(&self) -> bool
+        ensures { IsTrue result ↔ (self.now.room ≤ length self.now.blocks) ⊎ (2 ^ 18 ≤ length self.now.shapes) }
+    {
+        self.blocks() >= self.runs.room || self.shapes.len() >= MOST_SHAPES
     }
 
     /// The number of the shape with these lengths, if something may be remembered of it. It keeps its number.
@@ -124,7 +119,7 @@ impl Records {
             shape: shape?,
             number: number_in_shape(leader, ours),
         };
-        if self.head(list) == 0 {
+        if self.shapes.span(list).is_empty() {
             return None;
         }
         Some(list)
@@ -136,16 +131,12 @@ impl Records {
         requires { F.IsAlwaysCallable deep }
         ensures { IfSome result (Finds self.now list need (λ r. AgreesNear r near × AgreesDeep r (F.post deep))) }
     {
-        let mut number = self.head(list);
-        for _ in 0..self.blocks.len() {
-            if number == 0 {
-                return None;
-            }
-            let block = self.block(number)?;
+        let span = self.shapes.span(list);
+        for number in span.first()..span.end() {
+            let block = self.block(list, number)?;
             if let Some(place) = place_of(block, near, &deep, need.max(1)) {
                 return number_of(number, place);
             }
-            number = block.next;
         }
         None
     }
@@ -164,12 +155,14 @@ impl Records {
         ensures { IfSome result (Finds self.now list need (λ r. IsKnown r owners known)) }
     {
         let mut first = None;
-        let mut number = self.head(list);
-        for _ in 0..self.blocks.len() {
-            if number == 0 {
+        let span = self.shapes.span(list);
+        for number in span.first()..span.end() {
+            let Some(block) = self.block(list, number) else {
                 break;
+            };
+            if !block.may_agree(owners.near) {
+                continue;
             }
-            let block = self.block(number)?;
             for place in 0..PLACES {
                 if block.need(place) < need.max(1) || !block.is_known(place, owners, known) {
                     continue;
@@ -182,31 +175,26 @@ impl Records {
                     first = Some(found);
                 }
             }
-            number = block.next;
         }
         first
     }
 
-    /// The first block of a list, 0 where there is none.
-    fn head(&self, list: List) -> u32
-        ensures { (result ≡ 0) ⊎ IsBlockIn self.now.blocks list result }
+    /// The block with this number, if it is one of the list.
+    fn block(&self, list: List, number: u32) -> Option<&Block>
+        ensures { IfSome result (λ block. IsBlockIn self.now.blocks list number block.now) }
     {
-        self.shapes.head(list)
-    }
-
-    /// The block with this number.
-    fn block(&self, number: u32) -> Option<&Block>
-        ensures { IfSome result (λ block. IsBlockAt self.now.blocks number block.now) }
-    {
-        self.blocks.get(number as usize)
+        match self.runs.blocks.get(number as usize) {
+            Some(block) if block.is_of(list) => Some(block),
+            _ => None,
+        }
     }
 
     /// The record with this number. It has a need of 0 where there is none.
     pub fn record(&self, number: u32) -> Record
         ensures { result ≡ record_of self.now.blocks number }
     {
-        match self.blocks.get((number / 4) as usize) {
-            Some(block) => block.record((number % 4).min(2) as usize),
+        match self.runs.blocks.get((number / 4) as usize) {
+            Some(block) => block.record((number % 4) as usize),
             None => Record::default(),
         }
     }
@@ -231,10 +219,11 @@ impl Records {
             shape,
             number: number_in_shape(leader, ours),
         };
+        let span = self.shapes.span(list);
         let mut waiting = Waiting::of(told);
-        let last = self.pass_list(list, &mut waiting);
+        self.pass_list(list, span, &mut waiting);
         if waiting.waits {
-            self.append(list, last, waiting.moved)
+            self.append(list, span, waiting.moved)
         } else {
             Ok(())
         }
@@ -243,66 +232,44 @@ impl Records {
     /// The number of a shape, which gets one where it has none.
     fn make(&mut self, shape: Option<u32>, lengths: u64) -> Result<Option<u32>, AllocError>
         ensures keeps { KeepsShapes self.old.shapes self.new.shapes }
-        ensures blocks { self.new.blocks ≡ self.old.blocks }
+        ensures blocks { (self.new.blocks ≡ self.old.blocks) × (self.new.room ≡ self.old.room) }
         ensures made { IfOk result (λ shape. IfSome shape (λ shape. ShapeIs self.new.shapes shape lengths)) }
     {
         self.shapes.make(shape, lengths)
     }
 
-    /// Leads a record along a list, and answers its last block, 0 where there is none.
-    fn pass_list(&mut self, list: List, waiting: &mut Waiting) -> u32
-        ensures goes { Goes self.old self.new list waiting.old.moved waiting.new.moved }
-        ensures last { (result ≡ 0) ⊎ IsBlockIn self.new.blocks list result }
+    /// Leads a record along a list.
+    fn pass_list(&mut self, list: List, span: Span, waiting: &mut Waiting)
+        ensures { Goes self.old self.new list waiting.old.moved waiting.new.moved }
     {
-        let mut last = 0;
-        let mut number = self.head(list);
-        for _ in 0..self.blocks.len() {
-            if number == 0 {
-                break;
-            }
-            last = number;
-            number = self.pass_block(number, waiting);
+        let end = span.end();
+        for number in span.first()..end {
+            self.pass_block(list, number, end - number == 1, waiting);
         }
-        last
     }
 
-    /// Leads a record past a block, and answers the number of the next.
-    fn pass_block(&mut self, number: u32, waiting: &mut Waiting) -> u32
-        ensures { (list : List) → IsBlockIn self.old.blocks list number → Goes self.old self.new list waiting.old.moved waiting.new.moved × IsBlockIn self.new.blocks list number × ((result ≡ 0) ⊎ IsBlockIn self.new.blocks list result) }
+    /// Leads a record past a block, if it is one of the list.
+    fn pass_block(&mut self, list: List, number: u32, is_last: bool, waiting: &mut Waiting)
+        ensures { Goes self.old self.new list waiting.old.moved waiting.new.moved }
     {
-        let Some(block) = self.blocks.get_mut(number as usize) else {
-            return 0;
+        let Some(block) = self.runs.blocks.get_mut(number as usize) else {
+            return;
         };
-        waiting.pass_block(block);
-        block.next
+        if !block.is_of(list) {
+            return;
+        }
+        waiting.pass_block(block, is_last);
     }
 
-    /// Adds a block with a record after the last one of a list. Nothing is added where there are too many.
-    fn append(&mut self, list: List, last: u32, told: Record) -> Result<(), AllocError>
-        requires { (last ≡ 0) ⊎ IsBlockIn self.old.blocks list last }
+    /// Adds a block with a record to a list. Nothing is added where there are too many.
+    fn append(&mut self, list: List, span: Span, told: Record) -> Result<(), AllocError>
         ensures { Appends self.old self.new list told }
     {
-        let Ok(number) = u32::try_from(self.blocks.len()) else {
+        let Some(span) = self.runs.with_room(span)? else {
             return Ok(());
         };
-        if self.blocks.len() >= self.room {
-            return Ok(());
-        }
-        self.blocks.push(Block::new(list, told))?;
-        self.link(list, last, number);
+        self.runs.put(span.end(), list, told);
+        self.shapes.set_span(list, span.with_one_more());
         Ok(())
-    }
-
-    /// Has a block follow the last one of its list.
-    fn link(&mut self, list: List, last: u32, next: u32)
-        requires last { (last ≡ 0) ⊎ IsBlockIn self.old.blocks list last }
-        requires next { IsBlockIn self.old.blocks list next }
-        ensures { Links self.old self.new }
-    {
-        if last == 0 {
-            self.shapes.set_head(list, next);
-        } else if let Some(block) = self.blocks.get_mut(last as usize) {
-            block.next = next;
-        }
     }
 }

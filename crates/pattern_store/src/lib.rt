@@ -10,7 +10,9 @@ mod found;
 mod keys;
 mod laws;
 mod records;
+mod runs;
 mod shapes;
+mod spans;
 mod stores;
 mod waiting;
 

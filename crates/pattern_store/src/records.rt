@@ -31,6 +31,16 @@ pub struct Record {
     pub first_card: u8,
 }
 
+/// What a free place has. It names owners of all cards that no deal has.
+pub(crate) const FREE: Record = Record {
+    near: u64::MAX,
+    mask: u64::MAX,
+    deep: 0,
+    depths: 0,
+    need: 0,
+    first_card: NO_CARD,
+};
+
 /// The bits of the first owners of a suit, up to eight, down to this depth.
 fn near_bits(depth: u16) -> u64 {
     1u64.wrapping_shl(u32::from(depth.min(8)) * 2)

@@ -1,40 +1,20 @@
 //! The shapes of which something is remembered, each with its eight lists.
 
-ghost use Rattle.std.specs.Prelude.{◌≡◌, ◌⊎◌, [], IfSome, Some, IfOk, IsTrue, slice_get, slice_set};
-ghost use Rattle.pattern_store.specs.Shapes.{ShapeIs, BeginsWith, SetsHead, MakesShape};
+ghost use Rattle.std.specs.Prelude.{◌≡◌, [], IfSome, IfOk, IsTrue, length};
+ghost use Rattle.pattern_store.specs.Shapes.{ShapeIs, KeepsShapes};
 
 use crate::blocks::List;
+use crate::spans::{EMPTY, Span};
 use indexmap::IndexMap;
 use std::alloc::{AllocError, Global};
 
-/// How many shapes are kept at most. A shape takes 56 bytes, and tables grow to twice their size.
+/// How many shapes are kept at most. A shape takes 88 bytes, and tables grow to twice their size.
 pub(crate) const MOST_SHAPES: usize = 1 << 18;
 
-/// By the lengths of a shape the first block of each of its lists, 0 where there is none. A shape keeps its number.
+/// By the lengths of a shape where the blocks of each of its lists lie. A shape keeps its number.
 #[derive(Drop)]
 pub(crate) struct Shapes {
-    map: IndexMap<u64, [u32; 8]>,
-}
-
-/// The first block of a list of a shape.
-fn head_in(heads: &[u32; 8], number: u8) -> u32
-    ensures { (result ≡ 0) ⊎ (slice_get heads.now number ≡ Some result) }
-{
-    match heads.get(number as usize) {
-        Some(head) => *head,
-        None => 0,
-    }
-}
-
-/// The first blocks of a shape's lists, with this one for a list.
-fn with_head(heads: [u32; 8], number: u8, head: u32) -> [u32; 8]
-    ensures { result ≡ slice_set heads number head }
-{
-    let mut changed = heads;
-    if (number as usize) < changed.len() {
-        changed[number as usize] = head;
-    }
-    changed
+    map: IndexMap<u64, [Span; 8]>,
 }
 
 impl Shapes {
@@ -48,7 +28,9 @@ impl Shapes {
     }
 
     /// How many shapes there are.
-    pub(crate) fn len(&self) -> usize {
+    pub(crate) fn len(&self) -> usize
+        ensures { result ≡ length self.now.map.entries }
+    {
         self.map.len()
     }
 
@@ -73,22 +55,22 @@ impl Shapes {
         }
     }
 
-    /// The first block of a list, 0 where there is none.
-    pub(crate) fn head(&self, list: List) -> u32
-        ensures { BeginsWith self.now.map.entries list result }
-    {
+    /// Where the blocks of a list lie.
+    pub(crate) fn span(&self, list: List) -> Span {
         match self.map.get_index(list.shape as usize) {
-            Some((_, heads)) => head_in(heads, list.number),
-            None => 0,
+            Some((_, spans)) => spans.get(list.number as usize).copied().unwrap_or(EMPTY),
+            None => EMPTY,
         }
     }
 
-    /// Has a list begin with this block.
-    pub(crate) fn set_head(&mut self, list: List, head: u32)
-        ensures { SetsHead self.old.map.entries self.new.map.entries list head }
+    /// Has the blocks of a list lie there.
+    pub(crate) fn set_span(&mut self, list: List, span: Span)
+        ensures { KeepsShapes self.old.map.entries self.new.map.entries }
     {
-        if let Some(heads) = self.map.get_index_mut(list.shape as usize) {
-            *heads = with_head(*heads, list.number, head);
+        if let Some(spans) = self.map.get_index_mut(list.shape as usize) {
+            if let Some(old) = spans.get_mut(list.number as usize) {
+                *old = span;
+            }
         }
     }
 
@@ -99,7 +81,7 @@ impl Shapes {
         shape: Option<u32>,
         lengths: u64,
     ) -> Result<Option<u32>, AllocError>
-        ensures makes { MakesShape self.old.map.entries self.new.map.entries }
+        ensures keeps { KeepsShapes self.old.map.entries self.new.map.entries }
         ensures made { IfOk result (λ shape. IfSome shape (λ shape. ShapeIs self.new.map.entries shape lengths)) }
     {
         if let Some(shape) = shape {
@@ -113,12 +95,12 @@ impl Shapes {
 
     /// Adds a shape that is not there, if there are not too many.
     fn insert_new(&mut self, lengths: u64) -> Result<(), AllocError>
-        ensures { MakesShape self.old.map.entries self.new.map.entries }
+        ensures { KeepsShapes self.old.map.entries self.new.map.entries }
     {
         if self.map.len() >= MOST_SHAPES || self.map.contains_key(&lengths) {
             return Ok(());
         }
-        self.map.insert(lengths, [0; 8])?;
+        self.map.insert(lengths, [EMPTY; 8])?;
         Ok(())
     }
 }

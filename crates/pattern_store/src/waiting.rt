@@ -4,7 +4,7 @@ ghost use Rattle.std.specs.Prelude.{◌≡◌, ◌<◌};
 ghost use Rattle.pattern_store.specs.Blocks.{SetsPlace, Passes};
 
 use crate::blocks::{Block, PLACES};
-use crate::records::Record;
+use crate::records::{FREE, Record};
 
 /// A record on its way into a list.
 #[derive(Clone, Copy)]
@@ -34,7 +34,7 @@ impl Waiting {
 
     /// Lays what waits down in a place that is free.
     fn lie_down(&mut self, block: &mut Block, place: usize)
-        requires { place < 3 }
+        requires { place < 4 }
         ensures block { SetsPlace block.old block.new place self.old.moved }
         ensures moved { self.new.moved ≡ self.old.moved }
     {
@@ -44,7 +44,7 @@ impl Waiting {
 
     /// Goes past a place of a block: it may be taken, and what lies there may have to go on, or be dropped.
     fn pass(&mut self, block: &mut Block, place: usize)
-        requires { place < 3 }
+        requires { place < 4 }
         ensures { Passes block.old block.new self.old.moved self.new.moved }
     {
         let other = block.record(place);
@@ -61,25 +61,25 @@ impl Waiting {
             self.moved = other;
             self.waits = !is_served;
         } else if is_served {
-            block.set(place, Record::default());
+            block.set(place, FREE);
         }
     }
 
-    /// Goes past a block. At the end of its list what waits takes the first free place.
-    pub(crate) fn pass_block(&mut self, block: &mut Block)
+    /// Goes past a block. In the last one of its list what waits takes the first free place.
+    pub(crate) fn pass_block(&mut self, block: &mut Block, is_last: bool)
         ensures { Passes block.old block.new self.old.moved self.new.moved }
     {
         for place in 0..PLACES {
             self.pass(block, place);
         }
-        if block.next == 0 && !self.stands {
+        if is_last && !self.stands {
             self.end(block);
         }
     }
 
     /// Takes a place, if it is free and something waits.
     fn take_free(&mut self, block: &mut Block, place: usize)
-        requires { place < 3 }
+        requires { place < 4 }
         ensures { Passes block.old block.new self.old.moved self.new.moved }
     {
         if self.waits && block.need(place) == 0 {
@@ -87,7 +87,7 @@ impl Waiting {
         }
     }
 
-    /// Takes the first free place of a list's last block.
+    /// Takes the first free place of a block.
     fn end(&mut self, block: &mut Block)
         ensures { Passes block.old block.new self.old.moved self.new.moved }
     {

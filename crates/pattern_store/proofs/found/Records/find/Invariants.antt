@@ -1,7 +1,6 @@
--- The next block is of the list.
-use Rattle.std.proofs.Common.{◌≡◌, ◌⊎◌}
-use Rattle.pattern_store.specs.Found.{IsBlockIn}
+-- Nothing changes.
+use Rattle.std.specs.Prelude.{⊤}
 use Rattle.pattern_store.proofs.found.Records.find.Given as goal
 
-abbrev pub invariant-loop : goal.invariant-loop
-invariant-loop g l = (l.number ≡ 0) ⊎ IsBlockIn l.fn.self.blocks l.fn.list l.number
+abbrev pub invariant-loop-number : goal.invariant-loop-number
+invariant-loop-number g l = ⊤

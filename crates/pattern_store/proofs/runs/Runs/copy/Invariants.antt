@@ -1,0 +1,10 @@
+-- What lists have they had.
+use Rattle.std.proofs.Common.{◌≡◌}
+use Rattle.pattern_store.specs.Found.{Keeps}
+use Rattle.pattern_store.proofs.runs.Runs.copy.Given as goal
+
+abbrev pub invariant-loop-place : goal.invariant-loop-place
+invariant-loop-place l = record {
+  keeps : Keeps l.fn.self.blocks.items l.self.blocks.items l.fn.self.room;
+  room : l.self.room ≡ l.fn.self.room;
+}
