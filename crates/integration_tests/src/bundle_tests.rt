@@ -169,3 +169,14 @@ fn parts_of_a_denomination(rt: HostRuntime) -> Result<(), Fail> {
     expect_eq(&rt, &count, &4);
     Ok(())
 }
+
+/// Where its steps are too few for one declarer, it has some of those that the others leave.
+#[test]
+fn one_takes_what_others_leave(rt: HostRuntime) -> Result<(), Fail> {
+    let layout = read_layout(NINE.0.as_bytes())?;
+    let alone = Partition::new().solve(rt.alloc(), &layout, &[Seat::North], TRUMPS[3], 8_000)?;
+    expect_eq(&rt, &alone.is_some(), &false);
+    let found = Partition::new().solve(rt.alloc(), &layout, &Seat::ALL, TRUMPS[3], 8_000)?;
+    let bundle = found.ok_or("nothing found")?;
+    expect_claims(&rt, rt.alloc(), NINE, 3, &bundle, 4)
+}

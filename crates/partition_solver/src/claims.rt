@@ -24,8 +24,8 @@ struct Claims {
 }
 
 /// The claims for these declarers of a deal of so many tricks, with their graphs. None where a graph can't be finished,
-/// nothing is claimed or memory ran out. Each declarer's tricks are searched with so many steps, and the graphs written with
-/// those that are left.
+/// nothing is claimed or memory ran out. Each declarer's tricks are searched with so many steps. Where that was not enough for
+/// all, half of what the others have left is searched with too, and the graphs are written with the rest.
 pub(crate) fn bundle_of(
     search: &mut Search,
     tricks: i32,
@@ -34,19 +34,15 @@ pub(crate) fn bundle_of(
     budget: u64,
 ) -> Option<Bundle> {
     let mut found = Claims::new();
-    let mut left = 0u64;
-    for declarer in declarers {
-        search.steps = budget;
-        found.add(search, tricks, *declarer);
-        left = left.saturating_add(search.steps);
-        if search.memory_ran_out || found.claims.is_full() {
-            break;
-        }
-    }
+    let left = found.add_each(search, tricks, declarers, budget);
+    let spare = left / 2;
+    let left = left.wrapping_sub(spare);
+    search.steps = spare;
+    found.add_missing(search, tricks, declarers);
     if search.memory_ran_out || found.claims.is_empty() {
         return None;
     }
-    search.steps = left;
+    search.steps = left.saturating_add(search.steps);
     Some(Bundle {
         ns: write_graph(search, trump, true, found.ours.as_slice())?,
         ew: write_graph(search, trump, false, found.theirs.as_slice())?,
@@ -63,6 +59,42 @@ impl Claims {
             theirs: Roots::new(),
             last: [None; 2],
         }
+    }
+
+    /// Adds the claims for declarers, each with so many steps, and answers how many they leave.
+    fn add_each(
+        &mut self,
+        search: &mut Search,
+        tricks: i32,
+        declarers: &[Seat],
+        budget: u64,
+    ) -> u64 {
+        let mut left = 0u64;
+        for declarer in declarers {
+            if search.memory_ran_out || self.claims.is_full() {
+                break;
+            }
+            search.steps = budget;
+            self.add(search, tricks, *declarer);
+            left = left.saturating_add(search.steps);
+        }
+        left
+    }
+
+    /// Adds the claims that are missing for declarers, as far as the steps of the search go.
+    fn add_missing(&mut self, search: &mut Search, tricks: i32, declarers: &[Seat]) {
+        for declarer in declarers {
+            if search.steps > 0 && !self.has(*declarer) {
+                self.add(search, tricks, *declarer);
+            }
+        }
+    }
+
+    /// Whether there is a claim for a declarer.
+    fn has(&self, declarer: Seat) -> bool {
+        self.claims
+            .iter()
+            .any(|claim| claim.declarer.number() == declarer.number())
     }
 
     /// Adds the claim for a declarer, if its value is found and what shows it is remembered.

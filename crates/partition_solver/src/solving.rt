@@ -35,18 +35,18 @@ pub trait Solver {
 }
 
 /// A partition search. A step of its budget is one card tried, in the search or for a tree of a graph; where the last hand
-/// of a trick has a choice, its card is free if it is only looked up. The tricks of a declarer are found within the budget,
-/// and the graphs of all are written with what they leave of it. What it finds is remembered for later calls, unless each seat
-/// has a claim: a call that ran out of steps can be made again, and declarers can be asked for one by one. Threads may call it
-/// at once: none waits.
+/// of a trick has a choice, its card is free if it is only looked up. Each declarer's tricks are searched within the budget;
+/// where that is not enough for all, half of what the others leave of it is searched with too. With the rest the graphs are
+/// written. What it finds is remembered for later calls, unless each seat has a claim: a call that ran out of steps can be
+/// made again, and declarers can be asked for one by one. Threads may call it at once: none waits.
 #[derive(Drop)]
 pub struct Partition {
     memory: Memory,
 }
 
 impl Partition {
-    /// A solver that remembers nothing yet. It takes no memory. What it remembers later takes 120 MB at most where one thread
-    /// calls it, 170 where two call at once, and 100 more for each further one; 56 more while a call goes on that began when
+    /// A solver that remembers nothing yet. It takes no memory. What it remembers later takes 130 MB at most where one thread
+    /// calls it, 160 where two call at once, and 80 more for each further one; 50 more while a call goes on that began when
     /// it was the only one.
     pub const fn new() -> Partition {
         Partition {
