@@ -39,14 +39,15 @@ def below(names, lines):
     return found
 
 
-def build(folder):
+def build(folder, source=HERE / "speed.rt.txt"):
     crate = folder / "crates" / "answer_speed"
     lines = (ROOT / "crates.txt").read_text().splitlines()
     names = below(list(CRATES), lines)
     for name in names:
         shutil.copytree(ROOT / "crates" / name, folder / "crates" / name, ignore=shutil.ignore_patterns("must-fail"))
     (crate / "src").mkdir(parents=True)
-    shutil.copy(HERE / "speed.rt.txt", crate / "src" / "main.rt")
+    shutil.copy(source, crate / "src" / "main.rt")
+    shutil.copy(ROOT / "HANDLES", folder)
     kept = [line for line in lines if line.split(":")[0] in names]
     (folder / "crates.txt").write_text("\n".join(kept + ["answer_speed: " + " ".join(CRATES)]) + "\n")
     subprocess.run(["git", "init", "-q", "."], cwd=folder, check=True)

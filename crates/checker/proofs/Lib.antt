@@ -13,6 +13,7 @@ pub mod PartLaws
 pub mod EntryLaws
 pub mod PartAnswers
 pub mod OneAnswer
+pub mod ToldLaws
 pub mod TrickCards
 pub mod TrickWinner
 pub mod TrickRest

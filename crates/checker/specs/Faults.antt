@@ -1,5 +1,5 @@
 -- The first fault of a graph, in the order in which its text is read.
-use Rattle.std.specs.Prelude.{◌≡◌, ◌≢◌, ℕ, ◌<◌, List, [], ◌∷◌, ◌++◌, length, Some, ◌⊎◌, slice_get}
+use Rattle.std.specs.Prelude.{◌≡◌, ◌≢◌, ℕ, ◌<◌, List, [], ◌∷◌, ◌++◌, length, Option, Some, MatchOption, ◌⊎◌, slice_get}
 use Rattle.cards.specs.declared.seats.Side.{Side}
 use Rattle.pattern_step.specs.declared.pat_cards.PatCard.{PatCard}
 use Rattle.certificate_graph.specs.declared.children.Child.{Child}
@@ -110,3 +110,9 @@ pub record IsGraphFault (graph : GraphShape) (fault : NodeFault) : Type 0 where
   pub before :
       (number : ℕ) (earlier : Node) → number < fault.number → slice_get graph.nodes number ≡ Some earlier
       → HoldsFrom graph earlier [] earlier.tree
+
+-- what is told of the node with a number: no fault where its step holds, else the first of its tree
+abbrev pub NodeTells : GraphShape → ℕ → Option NodeFault → Type 0
+NodeTells graph number told = MatchOption told
+    ((node : Node) → slice_get graph.nodes number ≡ Some node → HoldsFrom graph node [] node.tree)
+    (λ fault. (fault.number ≡ number) × ((node : Node) → slice_get graph.nodes number ≡ Some node → IsFirstFault graph node [] node.tree fault.fault))

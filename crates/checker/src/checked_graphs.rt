@@ -6,9 +6,14 @@ ghost use Rattle.checker.specs.Faults.{IsGraphFault};
 
 use crate::faults::NodeFault;
 use crate::graphs::check_graph;
+use crate::wide::check_graph_wide;
 use certificate_graph::Graph;
 use std::marker::Model;
 use std::sync::Arc;
+use std::thread::Threads;
+
+/// From so many nodes on several threads gain something.
+const WIDE: usize = 2_048;
 
 /// A graph, and what [`check_graph`] found of it: one check serves all that is shown by the graph's nodes, and whoever
 /// holds the value, in any thread, knows that it was made. To contracts it is the graph alone, from which the verdict
@@ -43,6 +48,20 @@ impl CheckedGraph {
     {
         let verdict = check_graph(&graph);
         CheckedGraph { graph, verdict }
+    }
+
+    /// Checks the graph, once, with as many threads as there are processors where it has 2,048 nodes or more and is not refused
+    /// memory for it.
+    pub fn of_wide(graph: Arc<Graph>, rt: &(impl Threads + Sync)) -> CheckedGraph
+        ensures { result ≡ graph.value }
+    {
+        if graph.nodes().len() < WIDE {
+            return CheckedGraph::of(graph);
+        }
+        match check_graph_wide(&graph, rt) {
+            Ok(verdict) => CheckedGraph { graph, verdict },
+            Err(_) => CheckedGraph::of(graph),
+        }
     }
 
     /// The graph.

@@ -1,9 +1,9 @@
 //! Whether a graph is right.
 
-ghost use Rattle.std.specs.Prelude.{[], MatchResult, length};
+ghost use Rattle.std.specs.Prelude.{[], MatchResult, length, ◌<◌};
 ghost use Rattle.certificate_graph.specs.Graphs.{NamesBelow};
 ghost use Rattle.checker.specs.Steps.{StepHolds, StepsHold};
-ghost use Rattle.checker.specs.Faults.{IsFirstFault, IsGraphFault};
+ghost use Rattle.checker.specs.Faults.{IsFirstFault, IsGraphFault, NodeTells};
 
 use crate::faults::{NodeFault, StepFault};
 use crate::played::Played;
@@ -18,6 +18,22 @@ fn check_node(graph: &Graph, node: &Node) -> Result<(), StepFault>
         (IsFirstFault graph.now node.now [] node.now.tree) }
 {
     check_place(graph, node, &Played::none(), &node.tree.root())
+}
+
+/// The fault of the node with this number, if its step does not hold.
+pub(crate) fn fault_of(graph: &Graph, number: usize) -> Option<NodeFault>
+    requires { number < length graph.now.nodes }
+    ensures { NodeTells graph.now number result }
+{
+    graph.invariant();
+    let node = &graph.nodes()[number];
+    match check_node(graph, node) {
+        Ok(()) => None,
+        Err(fault) => Some(NodeFault {
+            number: number as u32,
+            fault,
+        }),
+    }
 }
 
 /// Checks that the steps of all nodes hold. Else the answer is the first fault: of the least node that has one, the

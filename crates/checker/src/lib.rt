@@ -21,6 +21,7 @@ mod played;
 mod soundness;
 mod turns;
 mod walks;
+mod wide;
 mod witnesses;
 
 pub use checked_graphs::CheckedGraph;
@@ -37,3 +38,4 @@ pub use laws::{
     texts_have_one_verdict,
 };
 pub use soundness::{entries_are_sound, graphs_are_sound, one_step_is_sound};
+pub use wide::check_graph_wide;

@@ -9,6 +9,7 @@ use lease_desk::Gate;
 use partition_solver::{Bundle, Claim};
 use std::alloc::{AllocError, Global};
 use std::sync::{Arc, Wait};
+use std::thread::Threads;
 
 /// The graphs of a bundle, each checked once.
 #[derive(Drop)]
@@ -17,18 +18,22 @@ struct Pair {
     ew: Arc<CheckedGraph>,
 }
 
-/// Checks a graph, once.
-fn checked(alloc: Global, graph: &Arc<Graph>) -> Result<Arc<CheckedGraph>, AllocError> {
+/// Checks a graph, once: a large one with as many threads as there are processors.
+fn checked<R: Threads + Sync>(
+    rt: &R,
+    alloc: Global,
+    graph: &Arc<Graph>,
+) -> Result<Arc<CheckedGraph>, AllocError> {
     let graph = graph.clone()?;
-    Ok(Arc::new(alloc, CheckedGraph::of(graph))?)
+    Ok(Arc::new(alloc, CheckedGraph::of_wide(graph, rt))?)
 }
 
 impl Pair {
     /// Checks both graphs.
-    fn of(alloc: Global, bundle: &Bundle) -> Result<Pair, AllocError> {
+    fn of<R: Threads + Sync>(rt: &R, alloc: Global, bundle: &Bundle) -> Result<Pair, AllocError> {
         Ok(Pair {
-            ns: checked(alloc, &bundle.ns)?,
-            ew: checked(alloc, &bundle.ew)?,
+            ns: checked(rt, alloc, &bundle.ns)?,
+            ew: checked(rt, alloc, &bundle.ew)?,
         })
     }
 
@@ -59,7 +64,7 @@ impl Pair {
 
 /// Tells the gate of the leases of a message, checks its graphs, and sends each claim on. A claim that is handed back is
 /// dropped; its lease stays.
-fn check_found<G: Gate, R: Wait>(
+fn check_found<G: Gate, R: Threads + Wait + Sync>(
     rt: &R,
     alloc: Global,
     gate: &G,
@@ -70,7 +75,7 @@ fn check_found<G: Gate, R: Wait>(
     for task in tasks.iter() {
         gate.before_graphs(task.lease);
     }
-    let pair = Pair::of(alloc, &bundle)?;
+    let pair = Pair::of(rt, alloc, &bundle)?;
     for task in tasks.iter() {
         if let Some(claim) = bundle.claim_for(task.entry.declarer) {
             let claimed = pair.claimed(claim)?;
@@ -88,7 +93,7 @@ fn check_found<G: Gate, R: Wait>(
 
 /// Takes what was found until the channel is closed and empty, checks the graphs, and sends the claims on. What is refused for
 /// memory is dropped; its leases stay.
-pub(crate) fn check_all<G: Gate, R: Wait>(
+pub(crate) fn check_all<G: Gate, R: Threads + Wait + Sync>(
     rt: &R,
     alloc: Global,
     gate: &G,

@@ -15,7 +15,7 @@ use lease_desk::{Chair, Gate};
 use partition_solver::Solver;
 use std::alloc::{AllocError, Global};
 use std::sync::Wait;
-use std::thread::Scope;
+use std::thread::{Scope, Threads};
 
 /// How many messages may be on their way to the checkers, and how many claims to the clerks.
 const PLACES: usize = 64;
@@ -65,7 +65,7 @@ fn start<'s, E, S: Solver + Sync, G: Gate + Sync, C: Clock + Sync, R: Wait + Syn
 }
 
 /// Starts so many checkers.
-fn start_checkers<'s, E, S, G: Gate + Sync, C, R: Wait + Sync>(
+fn start_checkers<'s, E, S, G: Gate + Sync, C, R: Threads + Wait + Sync>(
     rt: &'s R,
     scope: &Scope<'s, E>,
     crew: &Crew<'s, S, G, C>,
@@ -84,7 +84,14 @@ fn start_checkers<'s, E, S, G: Gate + Sync, C, R: Wait + Sync>(
 /// Starts the thread of each chair, in their order, and those of the checkers. Its own ends of the channels are let go here: so
 /// the first is closed when all solvers have ended, the second when all checkers have, and each hands back what is sent where
 /// nobody is left to take it.
-pub(crate) fn start_all<'s, E, S: Solver + Sync, G: Gate + Sync, C: Clock + Sync, R: Wait + Sync>(
+pub(crate) fn start_all<
+    's,
+    E,
+    S: Solver + Sync,
+    G: Gate + Sync,
+    C: Clock + Sync,
+    R: Threads + Wait + Sync,
+>(
     rt: &'s R,
     scope: &Scope<'s, E>,
     crew: &Crew<'s, S, G, C>,

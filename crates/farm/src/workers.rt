@@ -19,7 +19,7 @@ use std::alloc::Global;
 use std::snapshot::Snapshot;
 use std::sync::Wait;
 use std::sync::atomic::AtomicBool;
-use std::thread::{Promise, PromisedHandle, Scope};
+use std::thread::{Promise, PromisedHandle, Scope, Threads};
 
 /// What a thread ends with: its chair, unless the run has failed.
 pub(crate) type Outcome = Result<Chair, Halt>;
@@ -178,7 +178,7 @@ pub(crate) fn start_clerk<'s, E, S, G: Gate + Sync, C: Clock, R: Wait + Sync>(
 
 /// Starts the thread of a checker, where one can be started, and says whether it was. It ends by itself, and the scope waits
 /// for it.
-pub(crate) fn starts_checker<'s, E, S, G: Gate + Sync, C, R: Wait + Sync>(
+pub(crate) fn starts_checker<'s, E, S, G: Gate + Sync, C, R: Threads + Wait + Sync>(
     rt: &'s R,
     scope: &Scope<'s, E>,
     crew: &Crew<'s, S, G, C>,

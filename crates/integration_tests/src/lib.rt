@@ -53,3 +53,5 @@ mod table_tests;
 mod tournament_tests;
 #[cfg(test)]
 mod trick_tests;
+#[cfg(test)]
+mod wide_tests;
