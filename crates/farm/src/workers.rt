@@ -12,6 +12,7 @@ use crate::halts::Halt;
 use crate::solving::solve_all;
 use crate::tasks::{Answered, Found};
 use cards::Layout;
+use core::thread::{Anything, Stack};
 use crossbeam_channel::{Receiver, Sender};
 use lease_desk::{Chair, Desk, Gate};
 use partition_solver::Solver;
@@ -20,6 +21,10 @@ use std::snapshot::Snapshot;
 use std::sync::Wait;
 use std::sync::atomic::AtomicBool;
 use std::thread::{Promise, PromisedHandle, Scope, Threads};
+
+/// How many bytes of stack a thread gets, whatever the process's limit is. What a search needs most of is a call for each card of
+/// the deal that was played.
+const STACK: usize = 1 << 20;
 
 /// What a thread ends with: its chair, unless the run has failed.
 pub(crate) type Outcome = Result<Chair, Halt>;
@@ -144,8 +149,9 @@ pub(crate) fn start_solver<
     let (solver, batch, budget) = (crew.solver, crew.batch, crew.budget);
     let (gate, clock, stop) = (crew.gate, crew.clock, crew.stop);
     let works = works_of(desk, clock, solvers, &chair);
-    scope
-        .spawn_with(works, move || {
+    Stack::new()
+        .stack_size(STACK)
+        .spawn_scoped_with(scope, works, move || {
             solve_at(
                 rt, alloc, desk, deals, solver, batch, budget, gate, clock, stop, chair, found,
             )
@@ -171,8 +177,13 @@ pub(crate) fn start_clerk<'s, E, S, G: Gate + Sync, C: Clock, R: Wait + Sync>(
 {
     let (desk, gate) = (crew.desk, crew.gate);
     let works = works_of(desk, crew.clock, solvers, &chair);
-    scope
-        .spawn_with(works, move || settle_at(rt, desk, gate, chair, answered))
+    Stack::new()
+        .stack_size(STACK)
+        .spawn_scoped_with(
+            scope,
+            works,
+            move || settle_at(rt, desk, gate, chair, answered),
+        )
         .ok()
 }
 
@@ -186,7 +197,12 @@ pub(crate) fn starts_checker<'s, E, S, G: Gate + Sync, C, R: Threads + Wait + Sy
     answered: Sender<Answered>,
 ) -> bool {
     let (alloc, gate) = (crew.alloc, crew.gate);
-    scope
-        .spawn(move || check_all(rt, alloc, gate, &found, &answered))
+    Stack::new()
+        .stack_size(STACK)
+        .spawn_scoped_with(
+            scope,
+            Anything,
+            move || check_all(rt, alloc, gate, &found, &answered),
+        )
         .is_ok()
 }
