@@ -1,5 +1,5 @@
-//! Eight threads at one desk, each with a chair: the receipts are one history, and its replies are those that a plain search
-//! finds.
+//! Four and eight threads at one desk, each with a chair: the receipts are one history, and its replies are those that a plain
+//! search finds.
 
 ghost use Rattle.std.specs.Prelude.{◌≡◌};
 ghost use Rattle.lease_desk.specs.Desks.{IsChairOf, number_of};
@@ -19,8 +19,8 @@ use std::process::Abort;
 use std::sync::Wait;
 use std::test::Fail;
 
-/// How many chairs there are.
-const CHAIRS: usize = 8;
+/// How many chairs there are, and how many calls are made from all of them.
+const DESKS: [(usize, usize); 2] = [(4, 8_000), (8, 16_000)];
 
 /// How many calls are made from each.
 const CALLS: u64 = 2_000;
@@ -68,17 +68,19 @@ fn expect_plain_replies<R: Abort>(
 }
 
 #[test]
-fn eight_threads_make_one_history(rt: HostRuntime) -> Result<(), Fail> {
+fn threads_make_one_history(rt: HostRuntime) -> Result<(), Fail> {
     let alloc = rt.alloc();
     let boards = boards(alloc, &LAYOUTS)?;
     let shift = Drawn {
         boards: boards.as_slice(),
     };
-    let closed = closed_after(&rt, alloc, (&LAYOUTS, TERM, TRIES), CHAIRS, &shift)?;
-    expect_eq(&rt, &closed.book.history().len(), &16_000);
-    let kinds = expect_plain_replies(&rt, alloc, closed.book.history())?;
-    for count in kinds {
-        assert!(rt; count >= 10, "{kinds:?}");
+    for (chairs, calls) in DESKS {
+        let closed = closed_after(&rt, alloc, (&LAYOUTS, TERM, TRIES), chairs, &shift)?;
+        expect_eq(&rt, &closed.book.history().len(), &calls);
+        let kinds = expect_plain_replies(&rt, alloc, closed.book.history())?;
+        for count in kinds {
+            assert!(rt; count >= 10, "{kinds:?}");
+        }
     }
     Ok(())
 }

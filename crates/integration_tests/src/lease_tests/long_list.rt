@@ -174,11 +174,11 @@ fn same_publications<R: Abort>(rt: &R, book: &Book, past: &[Past]) {
     }
 }
 
-/// A list of 800 requests. Counts its replies by their kinds.
+/// A list of so many requests. Counts its replies by their kinds.
 fn compare_list<R: Abort>(
     rt: &R,
     alloc: Global,
-    seed: u64,
+    (seed, count): (u64, usize),
     kinds: &mut [u64; 10],
 ) -> Result<(), Fail> {
     let rules = Rules {
@@ -190,7 +190,7 @@ fn compare_list<R: Abort>(
     let mut past = Vec::new(alloc);
     let mut requests = Vec::new(alloc);
     let mut number = seed;
-    for _ in 0..800 {
+    for _ in 0..count {
         number = next(number);
         let request = some_request(alloc, past.as_slice(), number)?;
         let ask = asked(alloc, known.as_slice(), &request)?;
@@ -210,11 +210,14 @@ fn compare_list<R: Abort>(
     Ok(())
 }
 
+/// The first number of a list, and how many requests it has.
+const LISTS: [(u64, usize); 3] = [(11, 2_000), (22, 800), (33, 800)];
+
 #[test]
 fn replies_are_those_of_a_slow_search(rt: HostRuntime) -> Result<(), Fail> {
     let mut kinds = [0u64; 10];
-    for seed in [11, 22, 33, 44] {
-        compare_list(&rt, rt.alloc(), seed, &mut kinds)?;
+    for list in LISTS {
+        compare_list(&rt, rt.alloc(), list, &mut kinds)?;
     }
     for count in kinds {
         assert!(rt; count >= 20, "{kinds:?}");

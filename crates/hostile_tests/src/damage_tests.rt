@@ -1,0 +1,225 @@
+//! A certificate with one byte changed, for each place and each byte, and the beginnings of an answer.
+
+use crate::expect::{Open, Stopped, expect_bytes, expect_eq, joined};
+use cards::{Buffer, Bytes, Seat, Trump};
+use certificate_graph::{Graph, TextFault};
+use partition_solver::Partition;
+use std::alloc::{AllocError, Global};
+use std::process::Abort;
+use std::sync::Wait;
+use std::test::Fail;
+use std::thread::Threads;
+use subcommands::{Status, Subcommand, run_subcommand};
+
+/// A finesse: South leads, North covers West's card, and wins two tricks.
+const FINESSE: &[u8] = b"DDC 1
+trump NT
+side NS
+nodes 2
+S 2 2.2.2.2/NWN 0.0.0.0/ 0.0.0.0/ 0.0.0.0/ Sx(SbSa(Sx{N1})SxSc(Sx{N1}))
+N 1 1.1.1.1/N 0.0.0.0/ 0.0.0.0/ 0.0.0.0/ Sa(SxSx(Sx{}))
+";
+
+/// What stands before it in the answer to East's no-trump: East's side needs no trick.
+const NONE_FOR_EAST: &[u8] = b"result 0
+DDC 1
+trump NT
+side EW
+nodes 0
+
+";
+
+/// The pieces of the finesse, and how many texts with another byte in a piece are those of a graph.
+///
+/// A seat has three others, but none owns more cards than it has. A need may be 1 to 13. The suit of a card has three others, its
+/// letter thirteen, but a branch has to come after the one before it. A child may be node 0 too. Each other change breaks a form
+/// or gives a hand another size.
+const PIECES: [(&[u8], u64); 27] = [
+    (b"DDC 1\ntrump NT\nside NS\nnodes 2\n", 0),
+    (b"S", 3),
+    (b" ", 0),
+    (b"2", 8),
+    (b" 2.2.2.2/", 0),
+    (b"N", 3),
+    (b"W", 2),
+    (b"N", 3),
+    (b" 0.0.0.0/ 0.0.0.0/ 0.0.0.0/ ", 0),
+    (b"Sx", 16),
+    (b"(Sb", 12),
+    (b"Sa", 16),
+    (b"(Sx", 16),
+    (b"{N1", 4),
+    (b"})Sx", 14),
+    (b"Sc", 16),
+    (b"(Sx", 16),
+    (b"{N1", 4),
+    (b"}))\n", 0),
+    (b"N", 3),
+    (b" 1", 8),
+    (b" 1.1.1.1/N", 3),
+    (b" 0.0.0.0/ 0.0.0.0/ 0.0.0.0/ Sa", 16),
+    (b"(Sx", 16),
+    (b"Sx", 16),
+    (b"(Sx", 16),
+    (b"{}))\n", 0),
+];
+
+/// The finesse with this byte in this place.
+fn damaged(alloc: Global, place: usize, byte: u8) -> Result<Vec<u8>, AllocError> {
+    let mut text = Vec::from_slice(alloc, FINESSE)?;
+    if let Some(spot) = text.get_mut(place) {
+        *spot = byte;
+    }
+    Ok(text)
+}
+
+/// Whether the text is that of a graph. The graph is written as it was read.
+fn is_graph(rt: &impl Abort, alloc: Global, text: &[u8]) -> Result<bool, Fail> {
+    match Graph::read(alloc, text) {
+        Ok(graph) => {
+            let mut sink = Buffer::new(alloc, 200, 200)?;
+            expect_eq(rt, &graph.write(&mut sink), &Ok(()));
+            expect_bytes(rt, sink.bytes(), text);
+            Ok(true)
+        }
+        Err(TextFault::OutOfMemory) => Err(Fail::new("out of memory")),
+        Err(_) => Ok(false),
+    }
+}
+
+/// How many texts with another byte in this place are those of a graph.
+fn graphs_at(rt: &impl Abort, alloc: Global, place: usize) -> Result<u64, Fail> {
+    let mut graphs = 0u64;
+    for byte in 0..=u8::MAX {
+        let text = damaged(alloc, place, byte)?;
+        if text.as_slice() != FINESSE && is_graph(rt, alloc, text.as_slice())? {
+            graphs = graphs.saturating_add(1);
+        }
+    }
+    Ok(graphs)
+}
+
+/// A text with one byte changed is refused, or is that of another graph: 211 are of 40,545.
+#[test]
+fn texts_with_one_byte_changed(rt: HostRuntime) -> Result<(), Fail> {
+    let mut place = 0usize;
+    for (piece, wanted) in PIECES {
+        let mut graphs = 0u64;
+        for byte in piece {
+            expect_eq(&rt, &FINESSE.get(place), &Some(byte));
+            graphs = graphs.saturating_add(graphs_at(&rt, rt.alloc(), place)?);
+            place = place.saturating_add(1);
+        }
+        expect_eq(&rt, &graphs, &wanted);
+    }
+    expect_eq(&rt, &place, &FINESSE.len());
+    Ok(())
+}
+
+/// How `check` ends on an answer to East's no-trump where the finesse wins, with these outputs.
+fn check<R: Threads + Wait + Sync>(
+    rt: &R,
+    alloc: Global,
+    text: &[u8],
+    output: &mut Buffer,
+    errors: &mut Buffer,
+) -> Status {
+    let asked = Subcommand::Check {
+        layout: "N:AQ... 65... 32... K4...",
+        declarer: Seat::East,
+        trump: Trump::Nt,
+    };
+    let mut input = Bytes::new(text, 100);
+    run_subcommand(
+        rt,
+        alloc,
+        asked,
+        &Partition::new(),
+        &Open,
+        &Stopped,
+        &mut input,
+        output,
+        errors,
+    )
+}
+
+/// Whether `check` accepts the finesse with this byte in this place. It says so, or refuses it, in one line.
+fn is_accepted<R: Abort + Threads + Wait + Sync>(
+    rt: &R,
+    alloc: Global,
+    place: usize,
+    byte: u8,
+) -> Result<bool, Fail> {
+    let text = damaged(alloc, place, byte)?;
+    let answer = joined(alloc, &[NONE_FOR_EAST, text.as_slice()])?;
+    let mut output = Buffer::new(alloc, 100, 100)?;
+    let mut errors = Buffer::new(alloc, 100, 100)?;
+    let status = check(rt, alloc, answer.as_slice(), &mut output, &mut errors);
+    expect_bytes(rt, errors.bytes(), b"");
+    let printed = str::from_utf8(output.bytes())?;
+    let is_refused = printed.starts_with("refused ");
+    if is_refused {
+        expect_eq(rt, &status, &Status::Rejected);
+        expect_eq(
+            rt,
+            &printed.find('\n'),
+            &Some(printed.len().saturating_sub(1)),
+        );
+    } else {
+        expect_eq(rt, &(status, printed), &(Status::Done, "accepted 0\n"));
+    }
+    Ok(!is_refused)
+}
+
+/// No byte can be changed: two rounds of the finesse are told with no card, seat or number to spare.
+#[test]
+fn answers_with_one_byte_changed(rt: HostRuntime) -> Result<(), Fail> {
+    for (place, old) in FINESSE.iter().enumerate() {
+        for byte in 0..=u8::MAX {
+            let accepted = is_accepted(&rt, rt.alloc(), place, byte)?;
+            expect_eq(&rt, &accepted, &(byte == *old));
+        }
+    }
+    Ok(())
+}
+
+/// How `check` ends on the first so many bytes of the answer, what it prints, and what it tells.
+fn end_of_beginning(count: usize) -> (Status, &'static str, &'static str) {
+    let printed = match count {
+        0..9 => {
+            let told = "ddfarm: first line is not a result line\n";
+            return (Status::Refused, "", told);
+        }
+        9..15 => "refused declarer 10 Text 1 Head line 1\n",
+        15..24 => "refused declarer 10 Text 1 Head line 2\n",
+        24..32 => "refused declarer 10 Text 1 Head line 3\n",
+        32..40 => "refused declarer 10 Text 1 Head line 4\n",
+        40..47 => "refused defenders 10 Text 1 Head line 1\n",
+        47..56 => "refused defenders 10 Text 1 Head line 2\n",
+        56..64 => "refused defenders 10 Text 1 Head line 3\n",
+        64..72 => "refused defenders 10 Text 1 Head line 4\n",
+        72 => "refused defenders 10 Text 5 Count line 5\n",
+        73..144 => "refused defenders 10 Text 2 NodeForm line 5\n",
+        144 => "refused defenders 10 Text 5 Count line 6\n",
+        145..200 => "refused defenders 10 Text 2 NodeForm line 6\n",
+        _ => return (Status::Done, "accepted 0\n", ""),
+    };
+    (Status::Rejected, printed, "")
+}
+
+#[test]
+fn beginnings_of_the_answer(rt: HostRuntime) -> Result<(), Fail> {
+    let alloc = rt.alloc();
+    let answer = joined(alloc, &[NONE_FOR_EAST, FINESSE])?;
+    expect_eq(&rt, &answer.len(), &200);
+    for count in 0..=answer.len() {
+        let text = answer.get(..count).ok_or("a shorter answer")?;
+        let mut output = Buffer::new(alloc, 100, 3)?;
+        let mut errors = Buffer::new(alloc, 100, 3)?;
+        let status = check(&rt, alloc, text, &mut output, &mut errors);
+        let printed = str::from_utf8(output.bytes())?;
+        let told = str::from_utf8(errors.bytes())?;
+        expect_eq(&rt, &(status, printed, told), &end_of_beginning(count));
+    }
+    Ok(())
+}
