@@ -1,0 +1,115 @@
+//! A book, and a list of requests whose replies were worked out by hand.
+
+use crate::outcomes::{Outcome, Told};
+use crate::spending::Spending;
+use crate::texts::{ACE, NORTH_HIGH, NOTHING};
+use cards::{Seat, Suit, Trump};
+use lease_book::{Book, BookFault, Entry, GraphText, Reply, Request, replay};
+use pbn_deals::{Board, BoardName, read_layout};
+use std::alloc::{AllocError, Global};
+
+/// North declares no-trump on the board: the first entry.
+pub const NT: Entry = Entry {
+    board: 0,
+    declarer: Seat::North,
+    trump: Trump::Nt,
+};
+
+/// The second entry.
+const SPADES: Entry = Entry {
+    trump: Trump::Suit(Suit::Spades),
+    ..NT
+};
+
+/// The replies to the list, where a lease has ten moments and an entry two tries.
+pub const REPLIES: [Reply; 7] = [
+    Reply::Given {
+        lease: 1,
+        entry: NT,
+        deadline: 10,
+    },
+    Reply::Freed(0),
+    Reply::Freed(1),
+    Reply::Given {
+        lease: 2,
+        entry: NT,
+        deadline: 20,
+    },
+    Reply::Published(1),
+    Reply::AlreadyPublished,
+    Reply::Given {
+        lease: 3,
+        entry: SPADES,
+        deadline: 21,
+    },
+];
+
+/// The board on which North has the ace.
+pub fn board(alloc: Global) -> Result<Vec<Board>, AllocError> {
+    let mut boards = Vec::new(alloc);
+    boards.push(Board {
+        name: BoardName::new(Vec::new(alloc)),
+        deal: read_layout(NORTH_HIGH).ok(),
+    })?;
+    Ok(boards)
+}
+
+/// Hands in what shows North's trick.
+fn hand_in(alloc: Global, lease: u64) -> Result<Request, AllocError> {
+    Ok(Request::HandIn {
+        lease,
+        entry: NT,
+        k: 1,
+        declarer: GraphText::new(Vec::from_slice(alloc, ACE)?),
+        defenders: GraphText::new(Vec::from_slice(alloc, NOTHING)?),
+    })
+}
+
+/// The list: both leases of the first entry hand in what shows its trick.
+fn requests(alloc: Global) -> Result<Vec<Request>, AllocError> {
+    let mut requests = Vec::with_capacity(alloc, 7)?;
+    requests.push(Request::Lease { now: 0 })?;
+    requests.push(Request::Expire { now: 9 })?;
+    requests.push(Request::Expire { now: 10 })?;
+    requests.push(Request::Lease { now: 10 })?;
+    requests.push(hand_in(alloc, 1)?)?;
+    requests.push(hand_in(alloc, 2)?)?;
+    requests.push(Request::Lease { now: 11 })?;
+    Ok(requests)
+}
+
+/// `Book::new`.
+pub fn new_book(alloc: Global, spending: Spending) -> Result<Told, AllocError> {
+    let boards = board(alloc)?;
+    spending.spend(alloc)?;
+    let made = Book::new(alloc, boards, 10, 2);
+    let left = spending.left(alloc);
+    let outcome = match made {
+        Ok(book) if book.history().is_empty() && book.boards().len() == 1 => Outcome::Answer,
+        Err(BookFault::OutOfMemory) => Outcome::OutOfMemory,
+        _ => Outcome::Wrong,
+    };
+    Ok(Told::Called(outcome, left))
+}
+
+/// Whether these are the replies to the list.
+fn are_replies(replies: &[Reply]) -> bool {
+    replies == REPLIES.as_slice()
+}
+
+/// `replay`.
+pub fn replayed(alloc: Global, spending: Spending) -> Result<Told, AllocError> {
+    let boards = board(alloc)?;
+    let requests = requests(alloc)?;
+    spending.spend(alloc)?;
+    let replayed = replay(alloc, boards, 10, 2, requests.as_slice());
+    let left = spending.left(alloc);
+    let outcome = match replayed {
+        Ok((book, replies)) if are_replies(replies.as_slice()) && book.published(NT) == Some(1) => {
+            Outcome::Answer
+        }
+        Err(BookFault::OutOfMemory) => Outcome::OutOfMemory,
+        _ => Outcome::Wrong,
+    };
+    Ok(Told::Called(outcome, left))
+}

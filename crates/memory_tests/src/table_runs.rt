@@ -1,0 +1,123 @@
+//! Tables with a solver and a checker, whose memory runs out.
+
+use crate::idle::{LetsPass, StandsStill};
+use crate::outcomes::{Outcome, Told};
+use crate::spending::Spending;
+use crate::texts::{HEAD, ONE_SUIT_EACH, TABLE};
+use cards::{Buffer, Bytes, Seat, Side, Suit, Trump};
+use farm::Settings;
+use lease_book::{Book, Entry};
+use partition_solver::Partition;
+use std::alloc::{AllocError, Global};
+use std::sync::Wait;
+use std::thread::Threads;
+use tables::Report;
+use tournaments::{MakeFault, make_tables};
+
+/// How many steps the search has.
+const BUDGET: u64 = 10_000_000;
+
+/// The tricks of the four hands of one suit each: all thirteen for the side that has the trumps.
+fn tricks(declarer: Seat, trump: Trump) -> u8 {
+    let holder = match trump {
+        Trump::Suit(Suit::Spades | Suit::Diamonds) => Side::NorthSouth,
+        Trump::Suit(_) => Side::EastWest,
+        Trump::Nt => return 0,
+    };
+    if declarer.side() == holder { 13 } else { 0 }
+}
+
+/// How many numbers are published, and whether each of them is right.
+fn count(book: &Book) -> (usize, bool) {
+    let (mut known, mut are_right) = (0usize, true);
+    for declarer in Seat::ALL {
+        for trump in Trump::ALL {
+            let entry = Entry {
+                board: 0,
+                declarer,
+                trump,
+            };
+            if let Some(k) = book.published(entry) {
+                known = known.wrapping_add(1);
+                are_right = are_right && k == tricks(declarer, trump);
+            }
+        }
+    }
+    (known, are_right)
+}
+
+/// Whether what is written is the table with these numbers.
+fn written(
+    alloc: Global,
+    report: Report,
+    book: &Book,
+    bytes: &[u8],
+) -> Result<Outcome, AllocError> {
+    let (known, are_right) = count(book);
+    let complete = usize::from(known == 20);
+    if !are_right
+        || report
+            != (Report {
+                boards: 1,
+                complete,
+            })
+    {
+        return Ok(Outcome::Wrong);
+    }
+    if known == 20 {
+        let outcome = if bytes == TABLE {
+            Outcome::Answer
+        } else {
+            Outcome::Wrong
+        };
+        return Ok(outcome);
+    }
+    let line = format!(in alloc; "; table incomplete: {known} of 20\n\n")?;
+    let is_written = bytes.strip_prefix(HEAD) == Some(line.as_bytes());
+    Ok(if is_written {
+        Outcome::Incomplete
+    } else {
+        Outcome::Wrong
+    })
+}
+
+/// What comes of a refusal, after which nothing may be written.
+fn refused(fault: MakeFault, bytes: &[u8]) -> Outcome {
+    match fault {
+        _ if !bytes.is_empty() => Outcome::Wrong,
+        MakeFault::OutOfMemory => Outcome::OutOfMemory,
+        MakeFault::NoThread => Outcome::NoThread,
+        _ => Outcome::Wrong,
+    }
+}
+
+/// `make_tables` with a solver and a checker on the four hands of one suit each.
+pub fn tables<R: Threads + Wait + Sync>(
+    rt: &R,
+    alloc: Global,
+    spending: Spending,
+) -> Result<Told, AllocError> {
+    let mut sink = Buffer::new(alloc, TABLE.len(), TABLE.len())?;
+    let mut source = Bytes::new(ONE_SUIT_EACH, 7);
+    let Ok(settings) = Settings::new(1, 1, 600, 3, BUDGET, 20) else {
+        return Ok(Told::Called(Outcome::Wrong, None));
+    };
+    let solver = Partition::new();
+    spending.spend(alloc)?;
+    let made = make_tables(
+        rt,
+        alloc,
+        &mut source,
+        &mut sink,
+        settings,
+        &solver,
+        &LetsPass,
+        &StandsStill,
+    );
+    let left = spending.left(alloc);
+    let outcome = match made {
+        Ok((report, book)) => written(alloc, report, &book, sink.bytes())?,
+        Err(fault) => refused(fault, sink.bytes()),
+    };
+    Ok(Told::Called(outcome, left))
+}
