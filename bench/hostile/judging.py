@@ -1,0 +1,94 @@
+"""What a run of the soak may end with, by docs/FORMATS.md. Each judge answers what is wrong, or None."""
+import re
+
+from running import BETWEEN, LACKS, TABLE, module_of
+
+import checker
+
+reader = module_of("reading", "reader")
+COUNTS = rb"ddfarm: \d+ of \d+ results, \d+ of \d+ boards, \d+ s"
+PROGRESS = re.compile(rb"(?:" + COUNTS + rb"\n)*" + COUNTS + rb", (\d+) tables incomplete\n")
+REFUSED = re.compile(
+    rb"refused (?:9 KTooLarge|(?:declarer|defenders) (?:10 Text [1-6] [A-Za-z]+ line \d+|1 RootMissing|2 RootNeedless|3 RootTrump"
+    rb"|4 RootSide|5 RootLead|6 RootNeed|7 RootPattern|8 Node \d+ [1-8] [A-Za-z]+))\n")
+# Longer answers are not given to the slow checker too.
+SHORT = 20_000
+WRITING_FAILED = (1, b"ddfarm: writing failed\n")
+
+
+def progress_fault(told, lacking):
+    """What is wrong with what was told of the work, of which so many tables lack a number."""
+    match = PROGRESS.fullmatch(told)
+    if match is None:
+        return "progress has another form"
+    return None if int(match[1]) == lacking else "progress tells another number of incomplete tables"
+
+
+def game_fault(game, predicted, numbers):
+    """What is wrong with a board and its table, of which the lines of the board are predicted."""
+    lines, _, _ = predicted.rpartition(b"\n")
+    table = game[len(lines) + 1:]
+    if not game.startswith(lines + b"\n"):
+        return "another board"
+    if LACKS.fullmatch(table):
+        return None
+    if not TABLE.fullmatch(table):
+        return "no table"
+    return None if table == numbers.of(lines.splitlines()[-1]) else "a number is not DDS's"
+
+
+def tables_fault(written, predicted, numbers):
+    """What is wrong with the text of tables whose boards are predicted, without a result."""
+    games, wanted = written.split(BETWEEN), predicted.split(BETWEEN)
+    if len(games) != len(wanted) or games[-1] != wanted[-1]:
+        return "another number of boards, or another end"
+    return next(filter(None, (game_fault(game, want, numbers) for game, want in zip(games[:-1], wanted))), None)
+
+
+def lacking_in(written):
+    """How many tables lack a number."""
+    return sum(LACKS.fullmatch(game.rpartition(b"\n")[2]) is not None for game in written.split(BETWEEN))
+
+
+def table_fault(outcome, text, numbers, progress):
+    """What is wrong with an outcome of `table` on a text."""
+    status, written, told = reader.predict(text)
+    if status == 2:
+        return None if outcome == (status, written, told) else f"not refused with {told}"
+    fault = tables_fault(outcome.out, written, numbers)
+    if fault:
+        return fault
+    lacking = lacking_in(outcome.out)
+    if outcome.status != (3 if lacking else 0):
+        return f"another status with {lacking} incomplete tables"
+    if progress:
+        return progress_fault(outcome.err, lacking)
+    return "something is told" if outcome.err else None
+
+
+def check_fault(outcome, words, text, tricks):
+    """What is wrong with an outcome of `check` on an answer, where DDS says so many tricks."""
+    if len(text) <= SHORT:
+        said, status = checker.predict(*words, text)
+        line = said.encode() + b"\n"
+        if outcome != ((status, b"", line) if status == 2 else (status, line, b"")):
+            return f"not {said} with status {status}"
+    if outcome.status == 2:
+        return None if outcome[1:] == (b"", checker.NOT_AN_ANSWER.encode() + b"\n") else "refused with another line"
+    if outcome.err:
+        return "something is told"
+    if outcome.status == 0:
+        return None if outcome.out == b"accepted %d\n" % tricks else "a number is not DDS's"
+    return None if outcome.status == 4 and REFUSED.fullmatch(outcome.out) else "another status or line"
+
+
+def unread_fault(outcome, whole, room):
+    """What is wrong with an outcome whose output was closed, of a run that ends as `whole` does where it is read to its end. What
+    was not read of it but written lies in the pipe, that has so much room."""
+    if not whole.out.startswith(outcome.out):
+        return "other bytes were written"
+    if (outcome.status, outcome.err) == WRITING_FAILED:
+        return None
+    if (outcome.status, outcome.err) != (whole.status, whole.err):
+        return "another end"
+    return None if len(whole.out) <= len(outcome.out) + room else "not told that writing failed"
