@@ -10,3 +10,5 @@ pub mod ShapeWordLaws
 pub mod Removals
 pub mod OwnedPlaces
 pub mod PackedLaws
+pub mod CompletionLaws
+pub mod MoreOwners

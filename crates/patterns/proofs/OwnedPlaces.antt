@@ -14,7 +14,7 @@ abbrev pub each_place : ℕ → ℕ
 each_place zero = 0
 each_place (suc k) = 1 + 4 * each_place k
 
-each_place-mod : (j k : ℕ) → k ≤ j → each_place j % 2 ^ (2 * k) ≡ each_place k
+pub each_place-mod : (j k : ℕ) → k ≤ j → each_place j % 2 ^ (2 * k) ≡ each_place k
 each_place-mod j zero h = omega arith
 each_place-mod zero (suc k) h = absurd (omega arith)
 each_place-mod (suc j) (suc k) h =

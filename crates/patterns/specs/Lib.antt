@@ -5,3 +5,4 @@ pub mod Words
 pub mod Holdings
 pub mod WordLaws
 pub mod Removals
+pub mod Completions

@@ -3,7 +3,10 @@
 ghost use Rattle.std.specs.Prelude.{◌≡◌, ◌↔◌, Result, Ok};
 ghost use Rattle.std.specs.Bool.{Decides};
 ghost use Rattle.cards.specs.Orders.{SaysSame};
-ghost use Rattle.patterns.specs.Shapes.{Shape, IsPattern, IsRest};
+ghost use Rattle.cards.specs.Deal.{Deal};
+ghost use Rattle.patterns.specs.Shapes.{Shape, IsPattern, IsRest, Covers};
+ghost use Rattle.patterns.specs.Holders.{Matches};
+ghost use Rattle.patterns.specs.Completions.{completed};
 ghost use Rattle.patterns.specs.Parts.{suit_shape};
 ghost use Rattle.patterns.specs.Words.{words_of, MeetsWords};
 ghost use Rattle.patterns.specs.declared.faults.PatternFault.{PatternFault};
@@ -52,4 +55,14 @@ pub fn words_make_their_pattern()
 /// What `from_words` may answer for the words of a rest is that rest alone.
 pub fn words_make_their_rest()
     ensures { (shape : Shape) (answer : Result Shape PatternFault) → IsRest shape → MeetsWords 0 12 (words_of shape) answer → answer ≡ Ok shape }
+{}
+
+/// A layout that matches a rest matches the rest completed.
+pub fn completed_rests_match()
+    ensures { (rest : Shape) (deal : Deal) → Matches rest deal → Matches (completed rest) deal }
+{}
+
+/// A pattern that covers a rest covers the rest completed.
+pub fn completed_rests_are_covered()
+    ensures { (pattern rest : Shape) → Covers pattern rest → Covers pattern (completed rest) }
 {}

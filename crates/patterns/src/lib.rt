@@ -20,9 +20,9 @@ mod suit_words;
 
 pub use faults::PatternFault;
 pub use laws::{
-    equal_faults_are_one, equal_parts_are_one, equal_patterns_are_one, equal_rests_are_one,
-    equal_words_are_one_pattern, equal_words_are_one_rest, words_make_their_pattern,
-    words_make_their_rest,
+    completed_rests_are_covered, completed_rests_match, equal_faults_are_one, equal_parts_are_one,
+    equal_patterns_are_one, equal_rests_are_one, equal_words_are_one_pattern,
+    equal_words_are_one_rest, words_make_their_pattern, words_make_their_rest,
 };
 pub use layout_patterns::Pattern;
 pub use packed_layouts::PackedLayout;

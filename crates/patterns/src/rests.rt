@@ -4,6 +4,7 @@ ghost use Rattle.std.specs.Prelude.{◌≡◌};
 ghost use Rattle.patterns.specs.Shapes.{suit_of, IsRest};
 ghost use Rattle.patterns.specs.Parts.{suit_shape, shape_of_parts, MeetsParts};
 ghost use Rattle.patterns.specs.Words.{shape_with, shape_in, words_of, AreWords, MeetsWords};
+ghost use Rattle.patterns.specs.Completions.{completed_suit, completed};
 
 use crate::faults::PatternFault;
 use crate::shape_words::ShapeWords;
@@ -87,6 +88,30 @@ impl Rest {
         ensures { IsRest self.now }
     {
         let _held = &self.held;
+    }
+
+    /// The rest with the owners lengthened in each suit in which one seat alone has low cards, by that seat, once for each
+    /// of them: so its low cards in that suit get a rank, below those of the owners before. The other suits stay.
+    pub fn completed(&self) -> Rest
+        ensures { result ≡ completed self.now }
+    {
+        self.invariant();
+        Rest {
+            held: ShapeWords::of_suits(
+                self.completed_suit(Suit::Spades),
+                self.completed_suit(Suit::Hearts),
+                self.completed_suit(Suit::Diamonds),
+                self.completed_suit(Suit::Clubs),
+            ),
+        }
+    }
+
+    /// One suit, completed.
+    fn completed_suit(&self, suit: Suit) -> SuitWord
+        ensures { result ≡ completed_suit (suit_of self.now suit) }
+    {
+        self.invariant();
+        self.held.suit(suit).completed()
     }
 
     /// One suit of the rest.

@@ -3,7 +3,7 @@
 ghost use Rattle.std.specs.Prelude.{◌≡◌, ◌≢◌, ◌↔◌, ◌≤◌, ◌<◌, ◌+◌, ◌-◌, ◌*◌, ◌/◌, ◌%◌};
 ghost use Rattle.std.specs.Prelude.{◌^◌, IsTrue, MatchBool, length, min, slice_get};
 ghost use Rattle.patterns.specs.Shapes.{len_of, tops_of, suit_size, BeginsWith, CoversSuit};
-ghost use Rattle.std.specs.Prelude.{count_ones, slice_index, slice_index_or};
+ghost use Rattle.std.specs.Prelude.{◌++◌, MatchOption, count_ones, replicate, slice_index, slice_index_or};
 ghost use Rattle.cards.specs.declared.seats.Seat.TheVariants.{North};
 ghost use Rattle.cards.specs.declared.seats.Seat.{Seat};
 ghost use Rattle.cards.specs.Seats.{seat_number};
@@ -12,6 +12,7 @@ ghost use Rattle.patterns.specs.Holdings.{holders_in};
 ghost use Rattle.patterns.specs.Parts.{suit_shape, HasItsOwners, HasExcessOwner};
 ghost use Rattle.patterns.specs.Words.{suit_in, seat_at, owner_count, places_of, HasWord, IsSuitWord, IsWrongWord};
 ghost use Rattle.patterns.specs.Removals.{owners_but};
+ghost use Rattle.patterns.specs.Completions.{lows_of, completed_suit};
 
 use crate::holdings::{holder, holdings};
 use crate::suit_parts::SuitPart;
@@ -220,6 +221,64 @@ impl SuitWord {
             && self.tops(Seat::East) <= self.len(Seat::East)
             && self.tops(Seat::South) <= self.len(Seat::South)
             && self.tops(Seat::West) <= self.len(Seat::West)
+    }
+
+    /// The suit with its owners lengthened, where one seat alone has low cards, by that seat, once for each of them.
+    pub(crate) fn completed(self) -> SuitWord
+        requires owned { HasItsOwners self }
+        requires fits { suit_size self ≤ 13 }
+        ensures { result ≡ completed_suit self }
+    {
+        let lows = u64::from(self.size()) - self.owner_count() as u64;
+        if lows == 0 {
+            return self;
+        }
+        match self.lone_holder(lows) {
+            Some(seat) => self.with_owners(seat, lows),
+            None => self,
+        }
+    }
+
+    /// The seat that has so many low cards, if one has. These are all low cards of the suit.
+    fn lone_holder(&self, lows: u64) -> Option<Seat>
+        requires owned { HasItsOwners self.now }
+        requires some { 0 < lows }
+        ensures { MatchOption result ((seat : Seat) → lows ≢ lows_of self.now seat) (λ seat. lows ≡ lows_of self.now seat) }
+    {
+        if self.has_lows(Seat::North, lows) {
+            Some(Seat::North)
+        } else if self.has_lows(Seat::East, lows) {
+            Some(Seat::East)
+        } else if self.has_lows(Seat::South, lows) {
+            Some(Seat::South)
+        } else if self.has_lows(Seat::West, lows) {
+            Some(Seat::West)
+        } else {
+            None
+        }
+    }
+
+    /// Whether the seat has so many low cards. It hasn't where it has fewer cards, so its owners are seldom counted.
+    fn has_lows(&self, seat: Seat, lows: u64) -> bool
+        requires owned { HasItsOwners self.now }
+        requires some { 0 < lows }
+        ensures { IsTrue result ↔ (lows ≡ lows_of self.now seat) }
+    {
+        let len = u64::from(self.len(seat));
+        len >= lows && len - u64::from(self.tops(seat)) == lows
+    }
+
+    /// The suit with so many owners more, all this seat.
+    fn with_owners(self, seat: Seat, count: u64) -> SuitWord
+        requires { length self.owners + count ≤ 13 }
+        ensures lens { result.lens ≡ self.lens }
+        ensures owners { result.owners ≡ self.owners ++ replicate count seat }
+    {
+        let each = EACH_PLACE & ((1 << (2 * count)) - 1);
+        let from = OWNERS as u64 + 2 * nibble(self.word, COUNT);
+        SuitWord {
+            word: self.word + (count << COUNT) + ((each * seat.number() as u64) << from),
+        }
     }
 
     /// Whether the lengths are those of the rest, and these owners are a beginning of its.
