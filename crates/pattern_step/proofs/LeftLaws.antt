@@ -28,7 +28,7 @@ use Rattle.pattern_step.specs.LayoutCards.{place_in_suit, StandsFor, real_by, Ar
 use Rattle.pattern_step.proofs.LayoutLaws.{rank_there, there_rank, more_above, holder_at_place, stands_suit}
 
 -- whether a test holds of some seat
-any_seat : (Seat → Bool) → Bool
+unfoldable pub any_seat : (Seat → Bool) → Bool
 any_seat test = test North || test East || test South || test West
 
 any-yes : (a b c d : Bool) (s : Seat) → (test : Seat → Bool) → test North ≡ a → test East ≡ b → test South ≡ c → test West ≡ d → test s ≡ true → a || b || c || d ≡ true
@@ -41,15 +41,15 @@ any-yes false false false false East test n e so w h = absurd (false≢true (sym
 any-yes false false false false South test n e so w h = absurd (false≢true (sym so ∙ h))
 any-yes false false false false West test n e so w h = absurd (false≢true (sym w ∙ h))
 
-any_seat-yes : (test : Seat → Bool) (s : Seat) → test s ≡ true → any_seat test ≡ true
+pub any_seat-yes : (test : Seat → Bool) (s : Seat) → test s ≡ true → any_seat test ≡ true
 unfolding any_seat
 any_seat-yes test s h = any-yes (test North) (test East) (test South) (test West) s test refl refl refl refl h
 
-any_seat-no : (test : Seat → Bool) → ((s : Seat) → test s ≡ false) → any_seat test ≡ false
+pub any_seat-no : (test : Seat → Bool) → ((s : Seat) → test s ≡ false) → any_seat test ≡ false
 unfolding any_seat
 any_seat-no test h = rw (h North, h East, h South, h West) refl
 
-to_false : (b : Bool) → (b ≡ true → ⊥) → b ≡ false
+pub to_false : (b : Bool) → (b ≡ true → ⊥) → b ≡ false
 to_false true h = absurd (h refl)
 to_false false h = refl
 
@@ -126,7 +126,7 @@ turned_west true true false true = refl
 turned_west true true true false = refl
 turned_west true true true true = refl
 
-any_card : (leader : Seat) (cards : List PatCard) (test : PatCard → Bool) → length cards ≡ 4 → list_any test cards ≡ any_seat (λ s. test (played_by leader cards s))
+pub any_card : (leader : Seat) (cards : List PatCard) (test : PatCard → Bool) → length cards ≡ 4 → list_any test cards ≡ any_seat (λ s. test (played_by leader cards s))
 unfolding any_seat
 any_card leader [] test four = absurd (omega arith)
 any_card leader (a ∷ []) test four = absurd (omega arith)
@@ -150,7 +150,7 @@ left_from-append keep a (x ∷ xs) ys =
     go true e = ap (λ zs. x ∷ zs) e
     go false e = e
 
-left_from-same : {X : Type 0} (keep keep' : ℕ → Bool) (a : ℕ) (xs : List X) → ((n : ℕ) → n < length xs → keep (a + n) ≡ keep' (a + n)) → left_from keep a xs ≡ left_from keep' a xs
+pub left_from-same : {X : Type 0} (keep keep' : ℕ → Bool) (a : ℕ) (xs : List X) → ((n : ℕ) → n < length xs → keep (a + n) ≡ keep' (a + n)) → left_from keep a xs ≡ left_from keep' a xs
 unfolding left_from
 left_from-same keep keep' a [] same = refl
 left_from-same keep keep' a (x ∷ xs) same =

@@ -7,3 +7,4 @@ pub mod TurnLaws
 pub mod PlaceLaws
 pub mod TopPlaces
 pub mod TrickBitLaws
+pub mod RunLaws

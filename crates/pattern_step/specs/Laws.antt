@@ -1,5 +1,6 @@
 -- What follows from the definitions, for all patterns and deals.
 use Rattle.std.specs.Prelude.{◌≡◌, ℕ, ◌+◌, ◌<◌, ◌↔◌, List, length, Some}
+use Rattle.cards.specs.declared.suits.Trump.{Trump}
 use Rattle.cards.specs.declared.pack.Card.{Card}
 use Rattle.cards.specs.declared.suits.Suit.{Suit}
 use Rattle.cards.specs.declared.seats.Seat.{Seat}
@@ -10,7 +11,8 @@ use Rattle.patterns.specs.Holders.{Matches}
 use Rattle.pattern_step.specs.declared.pat_cards.PatCard.{PatCard}
 use Rattle.pattern_step.specs.declared.pat_cards.PatCard.TheVariants.{Top}
 use Rattle.pattern_step.specs.PatCards.{suit_of_card, HasCard}
-use Rattle.pattern_step.specs.Tricks.{AreLegalInTurn, IsLeft}
+use Rattle.pattern_step.specs.Tricks.{AreLegalInTurn, MayWin, IsLeft}
+use Rattle.pattern_step.specs.Runs.{IsAlikeIn}
 use Rattle.pattern_step.specs.LayoutCards.{StandsFor, IsOnePatCard, IsSomeCard}
 use Rattle.pattern_step.specs.LayoutCards.{HoldsSuit, IsBelowTop, ArePlayed, IsWithout}
 
@@ -80,3 +82,13 @@ EachHandHasOneLess =
     (shape : Shape) (leader : Seat) (cards : List PatCard) (left : Shape)
     → IsPattern shape → AreLegalInTurn shape leader cards → IsLeft shape leader cards left
     → (seat : Seat) → hand_size left seat + 1 ≡ hand_size shape seat
+
+-- Two lines that have, in each place, the same card or a card and a higher one in a run of its seat: who may win with the
+-- cards may with the higher ones, and what the higher ones leave the cards leave.
+abbrev pub LinesAreAlike : Type 0
+LinesAreAlike =
+    (shape : Shape) (trump : Trump) (leader : Seat) (cards higher : List PatCard)
+    → length cards ≡ 4 → length higher ≡ 4 → AreLegalInTurn shape leader cards → AreLegalInTurn shape leader higher
+    → ((place : ℕ) → place < 4 → IsAlikeIn shape leader cards higher place)
+    → ((seat : Seat) → MayWin shape trump leader cards seat → MayWin shape trump leader higher seat)
+    × ((left : Shape) → IsLeft shape leader higher left → IsLeft shape leader cards left)

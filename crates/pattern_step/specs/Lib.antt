@@ -6,3 +6,4 @@ pub mod HighestTops
 pub mod LayoutCards
 pub mod Laws
 pub mod TrickBits
+pub mod Runs

@@ -7,7 +7,7 @@ ghost use Rattle.pattern_step.specs.declared.pat_cards.PatCard.{PatCard};
 ghost use Rattle.pattern_step.specs.SeatSets.{Seats};
 ghost use Rattle.pattern_step.specs.Laws.{EachCardIsOne, EachPatCardIsSome, TopsRankAbove};
 ghost use Rattle.pattern_step.specs.Laws.{WhatIsLeftMatches, StandsForItsSuit, LengthsAreHeld, HandsAreAsLarge};
-ghost use Rattle.pattern_step.specs.Laws.{CoveredHandsAreAsLarge, OneIsLeft, EachHandHasOneLess};
+ghost use Rattle.pattern_step.specs.Laws.{CoveredHandsAreAsLarge, OneIsLeft, EachHandHasOneLess, LinesAreAlike};
 
 use crate::pat_cards::PatCard;
 use crate::seat_sets::SeatSet;
@@ -61,6 +61,12 @@ pub fn one_is_left()
 /// Four cards that are legal in turn leave each hand of a pattern one card less.
 pub fn each_hand_has_one_less()
     ensures { EachHandHasOneLess }
+{}
+
+/// It does not matter which of several tops that follow one another, all a seat's, that seat plays: four cards and others
+/// that are higher in such runs are won by the same seats, as far as may be told, and leave the same.
+pub fn lines_are_alike()
+    ensures { LinesAreAlike }
 {}
 
 /// `==` of two pattern cards says whether they are the same.

@@ -16,7 +16,7 @@ mod trick_winners;
 pub use laws::{
     covered_hands_are_as_large, each_card_is_one, each_hand_has_one_less, each_pat_card_is_some,
     equal_pat_cards_are_one, equal_seat_sets_are_one, hands_are_as_large, lengths_are_held,
-    one_is_left, stands_for_its_suit, tops_rank_above, what_is_left_matches,
+    lines_are_alike, one_is_left, stands_for_its_suit, tops_rank_above, what_is_left_matches,
 };
 pub use legal_cards::legal;
 pub use legality::{are_legal, is_legal};
