@@ -9,11 +9,21 @@ use Rattle.cards.specs.declared.seats.Side.TheVariants.{NorthSouth, EastWest}
 use Rattle.cards.specs.declared.suits.Trump.{Trump}
 use Rattle.cards.specs.declared.suits.Trump.TheVariants as trump
 use Rattle.cards.specs.declared.suits.Suit.TheVariants.{Spades, Hearts, Diamonds, Clubs}
-use Rattle.certificate_graph.specs.Texts.{trump_text, side_text}
+use Rattle.certificate_graph.specs.declared.versions.Version.{Version}
+use Rattle.certificate_graph.specs.declared.versions.Version.TheVariants.{One, Two}
+use Rattle.certificate_graph.specs.Texts.{title_text, trump_text, side_text}
 use Rattle.certificate_graph.specs.TextFaults.{IsNumber}
 use Rattle.certificate_graph.specs.Readings.{StopsDigits, LacksDigits}
 use Rattle.certificate_graph.proofs.OneSpelling.{one_digits}
 use Rattle.certificate_graph.proofs.LeafLemmas.{LacksByte}
+
+-- ---- titles
+pub title_line-cut : (v : Version) (rest : List ℕ) → title_text v rest ≡ title_text v [] ++ rest
+title_line-cut v rest = simp append_assoc
+
+pub no_title : (text : List ℕ) → ((rest : List ℕ) → text ≢ title_text One [] ++ rest) → ((rest : List ℕ) → text ≢ title_text Two [] ++ rest) → (version : Version) (rest : List ℕ) → text ≢ title_text version rest
+no_title text a b One rest e = a rest (e ∙ title_line-cut One rest)
+no_title text a b Two rest e = b rest (e ∙ title_line-cut Two rest)
 
 -- ---- trumps and sides
 abbrev pub trump_place : Trump → ℕ

@@ -17,12 +17,14 @@ use Rattle.cards.specs.Pack.{trump_letters}
 use Rattle.patterns.specs.Shapes.{Shape, suit_of, IsPattern}
 use Rattle.certificate_graph.specs.declared.children.Child.{Child}
 use Rattle.certificate_graph.specs.declared.nodes.Node.{Node}
+use Rattle.certificate_graph.specs.declared.versions.Version.{Version}
+use Rattle.certificate_graph.specs.declared.versions.Version.TheVariants.{One, Two}
 use Rattle.certificate_graph.specs.declared.faults.TextFault.{TextFault}
 use Rattle.certificate_graph.specs.declared.faults.TextFault.TheVariants.{Head, NodeForm, BadPattern, ChildNumber, Count, TooLarge, OutOfMemory}
 use Rattle.certificate_graph.specs.Trees.{TrickTree, Own, Reply, Leaf, Branches, NoBranch, Branch}
 use Rattle.certificate_graph.specs.Graphs.{GraphShape, IsGraph, IsNode, NamesBelow, NameBelow, greatest_count}
 use Rattle.certificate_graph.specs.LineForms.{IsPatternForm, IsNodeForm}
-use Rattle.certificate_graph.specs.Texts.{title_text, trump_text, side_text, count_text, node_text, nodes_text, graph_text}
+use Rattle.certificate_graph.specs.Texts.{version_digit, title_text, trump_text, side_text, count_text, node_text, nodes_text, graph_text}
 use Rattle.certificate_graph.specs.TextFaults.{IsNumber, BeginsNode, IsLineFault, IsEndFault, StopsAt, IsCountFault, IsSideFault, IsTrumpFault, IsTextFault, TextAnswers}
 use Rattle.certificate_graph.proofs.OneSpelling.{heads, tails, one_suit, one_digits}
 use Rattle.certificate_graph.proofs.OneNode.{one_node}
@@ -189,8 +191,16 @@ one_ending count seen (m ∷ ms) (n ∷ ns) a b o p few all also e x y =
     (ap (λ (k : Node). k ∷ ms) first.0 ∙ ap (λ (ks : List Node). n ∷ ks) more.0, more.1)
 
 -- ---- the first four lines
-one_title : (a b : List ℕ) → title_text a ≡ title_text b → a ≡ b
-one_title a b h = cc
+one_digit : (v w : Version) (a b : List ℕ) → version_digit v ++ (10 ∷ a) ≡ version_digit w ++ (10 ∷ b) → (v ≡ w) × (a ≡ b)
+one_digit One One a b h = (refl, cc)
+one_digit Two Two a b h = (refl, cc)
+one_digit One Two a b h = let e = heads _ _ _ _ h in absurd (omega arith)
+one_digit Two One a b h = let e = heads _ _ _ _ h in absurd (omega arith)
+
+one_title : (v w : Version) (a b : List ℕ) → title_text v a ≡ title_text w b → (v ≡ w) × (a ≡ b)
+one_title v w a b h =
+    let digit : version_digit v ++ (10 ∷ a) ≡ version_digit w ++ (10 ∷ b) = cc in
+    one_digit v w a b digit
 
 one_trump_letters : (t u : Trump) (a b : List ℕ) → trump_letters t ++ (10 ∷ a) ≡ trump_letters u ++ (10 ∷ b) → (t ≡ u) × (a ≡ b)
 one_trump_letters trump.Nt trump.Nt a b h = (refl, cc)
@@ -286,10 +296,11 @@ one_trump_fault text f g (inr p) (inr q) =
 
 one_text_fault : (text : List ℕ) (f g : TextFault) → IsTextFault text f → IsTextFault text g → f ≡ g
 one_text_fault text f g (inl p) (inl q) = p.0 ∙ sym q.0
-one_text_fault text f g (inl p) (inr q) = absurd (p.1 q.0 q.1)
-one_text_fault text f g (inr p) (inl q) = absurd (q.1 p.0 p.1)
+one_text_fault text f g (inl p) (inr q) = absurd (p.1 q.0 q.1 q.2)
+one_text_fault text f g (inr p) (inl q) = absurd (q.1 p.0 p.1 p.2)
 one_text_fault text f g (inr p) (inr q) =
-    one_trump_fault p.0 f g p.2 (subst (λ t. IsTrumpFault t g) (sym (one_title p.0 q.0 (sym p.1 ∙ q.1))) q.2)
+    let same = one_title p.0 q.0 p.1 q.1 (sym p.2 ∙ q.2) in
+    one_trump_fault p.1 f g p.3 (subst (λ t. IsTrumpFault t g) (sym same.1) q.3)
 
 -- ---- the text of a graph has no fault
 small_number : (n : ℕ) → n ≤ greatest_count → n < 2 ^ 64
@@ -319,15 +330,15 @@ no_trump_fault t side nodes f few all (inr p) =
     no_side_fault side nodes f few all (subst (λ u. IsSideFault u f) (sym (one_trump t p.0 _ p.1 p.2).1) p.3)
 
 no_text_fault : (graph : GraphShape) (f : TextFault) → IsGraph graph → IsTextFault (graph_text graph) f → ⊥
-no_text_fault graph f is (inl p) = p.1 _ refl
+no_text_fault graph f is (inl p) = p.1 graph.version _ refl
 no_text_fault graph f is (inr p) =
-    no_trump_fault graph.trump graph.side graph.nodes f is.size is.each (subst (λ u. IsTrumpFault u f) (sym (one_title _ p.0 p.1)) p.2)
+    no_trump_fault graph.trump graph.side graph.nodes f is.size is.each (subst (λ u. IsTrumpFault u f) (sym (one_title graph.version p.0 _ p.1 p.2).1) p.3)
 
 -- ---- the laws
 pub one_graph_of : (text : List ℕ) (one other : GraphShape) → IsGraph one × (text ≡ graph_text one) → IsGraph other × (text ≡ graph_text other) → one ≡ other
 one_graph_of text one other p q =
-    let title = one_title _ _ (sym p.1 ∙ q.1) in
-    let of_trump = one_trump one.trump other.trump _ _ title in
+    let title = one_title one.version other.version _ _ (sym p.1 ∙ q.1) in
+    let of_trump = one_trump one.trump other.trump _ _ title.1 in
     let of_side = one_side one.side other.side _ _ of_trump.1 in
     let fits = small_number (length one.nodes) p.0.size in
     let fits' = small_number (length other.nodes) q.0.size in
@@ -335,9 +346,10 @@ one_graph_of text one other p q =
     let len : length one.nodes ≡ length other.nodes =
     sym (value_of_decimal (length one.nodes) fits) ∙ (ap (digits_value 10) count.0 ∙ value_of_decimal (length other.nodes) fits') in
     let nodes = one_nodes one.nodes other.nodes p.0.size p.0.each q.0.each len count.1 in
-    ap (λ (t : Trump). record { trump = t; side = one.side; nodes = one.nodes }) of_trump.0
-    ∙ (ap (λ (s : Side). record { trump = other.trump; side = s; nodes = one.nodes }) of_side.0
-    ∙ ap (λ (list : List Node). record { trump = other.trump; side = other.side; nodes = list }) nodes)
+    ap (λ (v : Version). record { version = v; trump = one.trump; side = one.side; nodes = one.nodes }) title.0
+    ∙ (ap (λ (t : Trump). record { version = other.version; trump = t; side = one.side; nodes = one.nodes }) of_trump.0
+    ∙ (ap (λ (s : Side). record { version = other.version; trump = other.trump; side = s; nodes = one.nodes }) of_side.0
+    ∙ ap (λ (list : List Node). record { version = other.version; trump = other.trump; side = other.side; nodes = list }) nodes))
 
 pub one_answer_of : (text : List ℕ) (one other : Result GraphShape TextFault) → TextAnswers text one → TextAnswers text other → one ≡ other
 one_answer_of text (Ok g) (Ok h) p q = ap Ok (one_graph_of text g h p q)

@@ -6,6 +6,7 @@ use Rattle.std.specs.Str.Parse.{digits_value}
 use Rattle.cards.specs.declared.seats.Side.{Side}
 use Rattle.cards.specs.declared.suits.Trump.{Trump}
 use Rattle.certificate_graph.specs.declared.nodes.Node.{Node}
+use Rattle.certificate_graph.specs.declared.versions.Version.{Version}
 use Rattle.certificate_graph.specs.declared.faults.TextFault.{TextFault}
 use Rattle.certificate_graph.specs.declared.faults.TextFault.TheVariants.{OutOfMemory}
 use Rattle.certificate_graph.specs.Graphs.{GraphShape, IsNode}
@@ -15,19 +16,19 @@ use Rattle.certificate_graph.specs.Readings.{MayFail, AreAllNodes, ReadsCount, I
 use Rattle.certificate_graph.proofs.NumberLemmas.{decimal_of_value}
 
 -- three lines that are right
-pub record Heads (text : List ℕ) (trump : Trump) (side : Side) (rest : List ℕ) : Type 0 where
+pub record Heads (text : List ℕ) (version : Version) (trump : Trump) (side : Side) (rest : List ℕ) : Type 0 where
   pub second : List ℕ
   pub third : List ℕ
-  pub title : text ≡ title_text second
+  pub title : text ≡ title_text version second
   pub of_trump : second ≡ trump_text trump third
   pub of_side : third ≡ side_text side rest
 
-pub heads_are : (text second third : List ℕ) (trump : Trump) (side : Side) (rest : List ℕ) → text ≡ title_text second → second ≡ trump_text trump third → third ≡ side_text side rest → Heads text trump side rest
-heads_are text second third trump side rest a b c = record { second = second; third = third; title = a; of_trump = b; of_side = c }
+pub heads_are : (text second third : List ℕ) (version : Version) (trump : Trump) (side : Side) (rest : List ℕ) → text ≡ title_text version second → second ≡ trump_text trump third → third ≡ side_text side rest → Heads text version trump side rest
+heads_are text second third version trump side rest a b c = record { second = second; third = third; title = a; of_trump = b; of_side = c }
 
-pub fault_after : (text : List ℕ) (trump : Trump) (side : Side) (rest : List ℕ) (fault : TextFault) → Heads text trump side rest → IsCountFault rest fault → IsTextFault text fault
-fault_after text trump side rest fault heads wrong =
-    inr (heads.second, heads.title, inr (trump, heads.third, heads.of_trump, inr (side, rest, heads.of_side, wrong)))
+pub fault_after : (text : List ℕ) (version : Version) (trump : Trump) (side : Side) (rest : List ℕ) (fault : TextFault) → Heads text version trump side rest → IsCountFault rest fault → IsTextFault text fault
+fault_after text version trump side rest fault heads wrong =
+    inr (version, heads.second, heads.title, inr (trump, heads.third, heads.of_trump, inr (side, rest, heads.of_side, wrong)))
 
 pub count_fault : (text : List ℕ) (fault : TextFault) → IsCountLineFault text fault → IsCountFault text fault
 count_fault text fault (inl wrong) = inl (wrong.0, λ digits rest number e. wrong.1 digits rest (record { number = number; is = e }))
@@ -44,9 +45,9 @@ nodes_fault text count rest fault read stops =
     )
 
 -- the nodes' fault, or memory ran out
-pub nodes_answer : (text : List ℕ) (trump : Trump) (side : Side) (third : List ℕ) (count : ℕ) (rest : List ℕ) (fault : TextFault) → Heads text trump side third → ReadsCount third count rest → MayFail (StopsAt count rest) fault → MayFail (IsTextFault text) fault
-nodes_answer text trump side third count rest fault heads read (inl none) = inl none
-nodes_answer text trump side third count rest fault heads read (inr stops) = inr (fault_after text trump side third fault heads (nodes_fault third count rest fault read stops))
+pub nodes_answer : (text : List ℕ) (version : Version) (trump : Trump) (side : Side) (third : List ℕ) (count : ℕ) (rest : List ℕ) (fault : TextFault) → Heads text version trump side third → ReadsCount third count rest → MayFail (StopsAt count rest) fault → MayFail (IsTextFault text) fault
+nodes_answer text version trump side third count rest fault heads read (inl none) = inl none
+nodes_answer text version trump side third count rest fault heads read (inr stops) = inr (fault_after text version trump side third fault heads (nodes_fault third count rest fault read stops))
 
 -- the exit of a `?`
 pub answer_fault : (text : List ℕ) (r : Result GraphShape TextFault) (told : TextFault) → IsErrAnd r (λ fault. fault ≡ told) → MayFail (IsTextFault text) told → (r ≡ Err OutOfMemory) ⊎ TextAnswers text r
@@ -54,8 +55,8 @@ answer_fault text (Ok graph) told e f = absurd e
 answer_fault text (Err fault) told e (inl none) = inl (ap Err (e ∙ none))
 answer_fault text (Err fault) told e (inr wrong) = inr (subst (IsTextFault text) (sym e) wrong)
 
-pub graph_read : (text : List ℕ) (trump : Trump) (side : Side) (third : List ℕ) (count : ℕ) (rest : List ℕ) (nodes : List Node) → Heads text trump side third → ReadsCount third count rest → AreAllNodes count rest nodes → TextAnswers text (Ok (record { trump = trump; side = side; nodes = nodes }))
-graph_read text trump side third count rest nodes heads read all =
+pub graph_read : (text : List ℕ) (version : Version) (trump : Trump) (side : Side) (third : List ℕ) (count : ℕ) (rest : List ℕ) (nodes : List Node) → Heads text version trump side third → ReadsCount third count rest → AreAllNodes count rest nodes → TextAnswers text (Ok (record { version = version; trump = trump; side = side; nodes = nodes }))
+graph_read text version trump side third count rest nodes heads read all =
     let value : digits_value 10 read.digits ≡ length nodes = read.value ∙ sym all.all in
     let small = read.within in
     let digits : read.digits ≡ decimal (length nodes) =
@@ -63,5 +64,5 @@ graph_read text trump side third count rest nodes heads read all =
     let line : third ≡ count_text (decimal (length nodes)) (nodes_text nodes []) =
     read.begins.is ∙ (ap (λ ds. count_text ds rest) digits ∙ ap (count_text (decimal (length nodes))) all.is) in (
       record { size = (let e = all.all in omega arith); each = subst (λ n. All (IsNode n) nodes) (sym all.all) all.each },
-      heads.title ∙ ap title_text (heads.of_trump ∙ ap (trump_text trump) (heads.of_side ∙ ap (side_text side) line)),
+      heads.title ∙ ap (title_text version) (heads.of_trump ∙ ap (trump_text trump) (heads.of_side ∙ ap (side_text side) line)),
     )

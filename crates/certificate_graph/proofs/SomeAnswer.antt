@@ -15,6 +15,8 @@ use Rattle.cards.specs.declared.suits.Trump.TheVariants as trump
 use Rattle.patterns.specs.Shapes.{Shape, suit_of, len_of, tops_of, suit_size, hand_size, IsPattern}
 use Rattle.certificate_graph.specs.declared.children.Child.{Child}
 use Rattle.certificate_graph.specs.declared.nodes.Node.{Node}
+use Rattle.certificate_graph.specs.declared.versions.Version.{Version}
+use Rattle.certificate_graph.specs.declared.versions.Version.TheVariants.{One, Two}
 use Rattle.certificate_graph.specs.declared.faults.TextFault.{TextFault}
 use Rattle.certificate_graph.specs.declared.faults.TextFault.TheVariants.{Head, NodeForm, BadPattern, ChildNumber, Count, TooLarge}
 use Rattle.certificate_graph.specs.Trees.{TrickTree, Own, Reply, Leaf, Branches, NoBranch, Branch}
@@ -24,7 +26,7 @@ use Rattle.certificate_graph.specs.Texts.{title_text, trump_text, side_text, nod
 use Rattle.certificate_graph.specs.TextFaults.{IsLineFault, StopsAt, IsCountFault, TextAnswers}
 use Rattle.certificate_graph.specs.Readings.{AreAllNodes, ReadsCount, BeginsDigits, LacksDigits}
 use Rattle.certificate_graph.proofs.TextParts.{nodes-more}
-use Rattle.certificate_graph.proofs.HeadLemmas.{trump_line-cut, no_side, digits_by_end, digits_by_number}
+use Rattle.certificate_graph.proofs.HeadLemmas.{no_title, trump_line-cut, no_side, digits_by_end, digits_by_number}
 use Rattle.certificate_graph.proofs.ReadLemmas.{heads_are, fault_after, nodes_fault, graph_read}
 use Rattle.certificate_graph.proofs.SomeForm.{same_or_not, some_byte, split, number_or_not}
 use Rattle.certificate_graph.proofs.SomeTree.{some_node}
@@ -141,6 +143,12 @@ some_front (byte ∷ front) text = elim (some_byte byte text) [
   ]
 ]
 
+some_title : (text : List ℕ) → ((v : Version) (rest : List ℕ) → text ≢ title_text v rest) ⊎ ((v : Version) × (rest : List ℕ) × (text ≡ title_text v rest))
+some_title text = elim (some_front (title_text One []) text) [
+  | inr f ↦ inr (One, f.0, f.1)
+  | inl a ↦ elim (some_front (title_text Two []) text) [ inr f ↦ inr (Two, f.0, f.1) | inl b ↦ inl (no_title text a b) ]
+]
+
 no_trump : (text : List ℕ) → ((rest : List ℕ) → text ≢ trump_text trump.Nt [] ++ rest) → ((rest : List ℕ) → text ≢ trump_text (trump.Suit Spades) [] ++ rest)
     → ((rest : List ℕ) → text ≢ trump_text (trump.Suit Hearts) [] ++ rest) → ((rest : List ℕ) → text ≢ trump_text (trump.Suit Diamonds) [] ++ rest)
     → ((rest : List ℕ) → text ≢ trump_text (trump.Suit Clubs) [] ++ rest) → (t : Trump) (rest : List ℕ) → text ≢ trump_text t rest
@@ -212,17 +220,17 @@ some_end text = elim (some_digits text) [
 ]
 
 pub some_answer : (text : List ℕ) → (answer : Result GraphShape TextFault) × TextAnswers text answer
-some_answer text = elim (some_front (title_text []) text) [
+some_answer text = elim (some_title text) [
   | inl lacks ↦ (Err (Head 1), inl (refl, lacks))
-  | inr title ↦ elim (some_trump title.0) [
-    | inl lacks ↦ (Err (Head 2), inr (title.0, title.1, inl (refl, lacks)))
+  | inr title ↦ elim (some_trump title.1) [
+    | inl lacks ↦ (Err (Head 2), inr (title.0, title.1, title.2, inl (refl, lacks)))
     | inr of_trump ↦ elim (some_side of_trump.1) [
-      | inl lacks ↦ (Err (Head 3), inr (title.0, title.1, inr (of_trump.0, of_trump.1, of_trump.2, inl (refl, lacks))))
+      | inl lacks ↦ (Err (Head 3), inr (title.0, title.1, title.2, inr (of_trump.0, of_trump.1, of_trump.2, inl (refl, lacks))))
       | inr of_side ↦
-          let heads = heads_are text title.0 of_trump.1 of_trump.0 of_side.0 of_side.1 title.1 of_trump.2 of_side.2 in
+          let heads = heads_are text title.1 of_trump.1 title.0 of_trump.0 of_side.0 of_side.1 title.2 of_trump.2 of_side.2 in
           elim (some_end of_side.1) [
-            | inl wrong ↦ (Err wrong.0, fault_after text of_trump.0 of_side.0 of_side.1 wrong.0 heads wrong.1)
-            | inr all ↦ (Ok (record { trump = of_trump.0; side = of_side.0; nodes = all.2 }), graph_read text of_trump.0 of_side.0 of_side.1 all.0 all.1 all.2 heads all.3 all.4)
+            | inl wrong ↦ (Err wrong.0, fault_after text title.0 of_trump.0 of_side.0 of_side.1 wrong.0 heads wrong.1)
+            | inr all ↦ (Ok (record { version = title.0; trump = of_trump.0; side = of_side.0; nodes = all.2 }), graph_read text title.0 of_trump.0 of_side.0 of_side.1 all.0 all.1 all.2 heads all.3 all.4)
           ]
     ]
   ]

@@ -13,6 +13,7 @@ use Rattle.pattern_step.specs.declared.pat_cards.PatCard.TheVariants.{Top, Low}
 use Rattle.certificate_graph.specs.declared.children.Child.{Child}
 use Rattle.certificate_graph.specs.declared.nodes.Node.{Node}
 use Rattle.certificate_graph.specs.Trees.{TrickTree, Own, Reply, Leaf, Branches, NoBranch, Branch}
+use Rattle.certificate_graph.specs.declared.versions.Version.{Version}
 use Rattle.certificate_graph.specs.Graphs.{GraphShape}
 use Rattle.certificate_graph.specs.Texts.{card_text, child_text, more_children_text, children_text, tree_text, branches_text, owners_text, suit_text, pattern_text, claim_text, node_text, nodes_text, title_text, trump_text, side_text, count_text, graph_text}
 
@@ -102,11 +103,11 @@ nodes-cut [] front rest = refl
 nodes-cut (node ∷ more) front rest = ap (node_text node) (nodes-cut more front rest) ∙ node-cut node (nodes_text more front) rest
 
 -- the pieces of three lines
-pub heading-parts : (trump : Trump) (side : Side) (rest : List ℕ) → title_text [] ++ (trump_text trump [] ++ (side_text side [] ++ rest)) ≡ title_text (trump_text trump (side_text side rest))
-heading-parts trump side rest = simp append_assoc
+pub heading-parts : (version : Version) (trump : Trump) (side : Side) (rest : List ℕ) → title_text version [] ++ (trump_text trump [] ++ (side_text side [] ++ rest)) ≡ title_text version (trump_text trump (side_text side rest))
+heading-parts version trump side rest = simp append_assoc
 
-pub heading-cut : (trump : Trump) (side : Side) (rest : List ℕ) → title_text (trump_text trump (side_text side rest)) ≡ title_text (trump_text trump (side_text side [])) ++ rest
-heading-cut trump side rest = simp append_assoc
+pub heading-cut : (version : Version) (trump : Trump) (side : Side) (rest : List ℕ) → title_text version (trump_text trump (side_text side rest)) ≡ title_text version (trump_text trump (side_text side [])) ++ rest
+heading-cut version trump side rest = simp append_assoc
 
 pub count-cut : (digits rest : List ℕ) → count_text digits rest ≡ count_text digits [] ++ rest
 count-cut digits rest = simp append_assoc
@@ -117,16 +118,16 @@ nodes-from nodes i node within here =
     let at : drop i nodes ≡ node ∷ drop (i + 1) nodes = rw add-one (drop-cons nodes i node within ∙ ap (λ (n : Node). n ∷ drop (suc i) nodes) (sym here)) in
     sym (ap (λ (list : List Node). nodes_text list []) at ∙ node-cut node [] (nodes_text (drop (i + 1) nodes) []))
 
-pub heading-whole : (trump : Trump) (side : Side) → title_text [] ++ (trump_text trump [] ++ side_text side []) ≡ title_text (trump_text trump (side_text side []))
-heading-whole trump side = simp append_assoc
+pub heading-whole : (version : Version) (trump : Trump) (side : Side) → title_text version [] ++ (trump_text trump [] ++ side_text side []) ≡ title_text version (trump_text trump (side_text side []))
+heading-whole version trump side = simp append_assoc
 
 -- the pieces of a graph
-pub graph-parts : (graph : GraphShape) → title_text (trump_text graph.trump (side_text graph.side [])) ++ (count_text (decimal (length graph.nodes)) [] ++ nodes_text graph.nodes []) ≡ graph_text graph
+pub graph-parts : (graph : GraphShape) → title_text graph.version (trump_text graph.trump (side_text graph.side [])) ++ (count_text (decimal (length graph.nodes)) [] ++ nodes_text graph.nodes []) ≡ graph_text graph
 graph-parts graph =
     let count = decimal (length graph.nodes) in
     let nodes = nodes_text graph.nodes [] in
-    sym (heading-cut graph.trump graph.side (count_text count [] ++ nodes))
-    ∙ ap (λ t. title_text (trump_text graph.trump (side_text graph.side t))) (sym (count-cut count nodes))
+    sym (heading-cut graph.version graph.trump graph.side (count_text count [] ++ nodes))
+    ∙ ap (λ t. title_text graph.version (trump_text graph.trump (side_text graph.side t))) (sym (count-cut count nodes))
 
 -- a node after others
 pub nodes-more : (nodes : List Node) (node : Node) (rest : List ℕ) → nodes_text nodes (node_text node rest) ≡ nodes_text (nodes ++ (node ∷ [])) rest

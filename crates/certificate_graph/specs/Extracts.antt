@@ -44,6 +44,7 @@ IsRootIn nodes None = ⊤
 IsRootIn nodes (Some root) = root < length nodes
 
 pub record IsExtract (graph : GraphShape) (root : Option ℕ) (other : GraphShape) : Type 0 where
+  pub version_is : other.version ≡ graph.version
   pub trump_is : other.trump ≡ graph.trump
   pub side_is : other.side ≡ graph.side
   pub nodes : BeginWith root graph.nodes other.nodes

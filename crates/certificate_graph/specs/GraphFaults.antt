@@ -3,6 +3,7 @@ use Rattle.std.specs.Prelude.{◌≡◌, ℕ, ◌<◌, ◌≤◌, List, length, 
 use Rattle.cards.specs.declared.suits.Trump.{Trump}
 use Rattle.cards.specs.declared.seats.Side.{Side}
 use Rattle.certificate_graph.specs.declared.nodes.Node.{Node}
+use Rattle.certificate_graph.specs.declared.versions.Version.{Version}
 use Rattle.certificate_graph.specs.declared.faults.GraphFault.{GraphFault}
 use Rattle.certificate_graph.specs.declared.faults.GraphFault.TheVariants.{TooLarge, Need, TreeForm, ChildNumber}
 use Rattle.certificate_graph.specs.Graphs.{GraphShape, IsGraph, IsNode, IsNeed, HasForm, NamesBelow, greatest_count}
@@ -28,6 +29,7 @@ IsGraphFault nodes TooLarge = greatest_count < length nodes
 IsGraphFault nodes fault = (length nodes ≤ greatest_count) × IsFirstFault nodes fault
 
 -- the answer for these nodes
-abbrev pub MakesGraph : Trump → Side → List Node → Result GraphShape GraphFault → Type 0
-MakesGraph trump side nodes (Ok graph) = (graph ≡ record { trump = trump; side = side; nodes = nodes }) × IsGraph graph
-MakesGraph trump side nodes (Err fault) = IsGraphFault nodes fault
+abbrev pub MakesGraph : Version → Trump → Side → List Node → Result GraphShape GraphFault → Type 0
+MakesGraph version trump side nodes (Ok graph) =
+    (graph ≡ record { version = version; trump = trump; side = side; nodes = nodes }) × IsGraph graph
+MakesGraph version trump side nodes (Err fault) = IsGraphFault nodes fault

@@ -1,4 +1,4 @@
--- What a graph is to every contract: the trump, the side, and the nodes by their numbers.
+-- What a graph is to every contract: the version, the trump, the side, and the nodes by their numbers.
 use Rattle.std.specs.Prelude.{ℕ, ◌+◌, ◌-◌, ◌*◌, ◌<◌, ◌≤◌, List, [], ◌∷◌, length, All, ⊤}
 use Rattle.std.specs.List.{AllByRecursion}
 use Rattle.cards.specs.declared.suits.Trump.{Trump}
@@ -10,10 +10,12 @@ use Rattle.pattern_step.specs.declared.pat_cards.PatCard.{PatCard}
 use Rattle.pattern_step.specs.declared.pat_cards.PatCard.TheVariants.{Top, Low}
 use Rattle.certificate_graph.specs.declared.children.Child.{Child}
 use Rattle.certificate_graph.specs.declared.nodes.Node.{Node}
+use Rattle.certificate_graph.specs.declared.versions.Version.{Version}
 use Rattle.certificate_graph.specs.Trees.{TrickTree, Own, Reply, Leaf, Branches, NoBranch, Branch}
 
--- a graph of at most a million nodes, of a side with a trump
+-- a graph of at most a million nodes, of a version, and of a side with a trump
 pub record GraphShape : Type 0 where
+  pub version : Version
   pub trump : Trump
   pub side : Side
   pub nodes : List Node

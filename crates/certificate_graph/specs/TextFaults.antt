@@ -6,6 +6,7 @@ use Rattle.cards.specs.declared.seats.Side.{Side}
 use Rattle.cards.specs.declared.suits.Trump.{Trump}
 use Rattle.patterns.specs.Shapes.{IsPattern}
 use Rattle.certificate_graph.specs.declared.nodes.Node.{Node}
+use Rattle.certificate_graph.specs.declared.versions.Version.{Version}
 use Rattle.certificate_graph.specs.declared.faults.TextFault.{TextFault}
 use Rattle.certificate_graph.specs.declared.faults.TextFault.TheVariants.{Head, NodeForm, BadPattern, ChildNumber}
 use Rattle.certificate_graph.specs.declared.faults.TextFault.TheVariants.{Count, TooLarge}
@@ -78,8 +79,8 @@ IsTrumpFault text fault =
 
 abbrev pub IsTextFault : List ℕ → TextFault → Type 0
 IsTextFault text fault =
-    ((fault ≡ Head 1) × ((rest : List ℕ) → text ≢ title_text rest)) ⊎
-    ((rest : List ℕ) × (text ≡ title_text rest) × IsTrumpFault rest fault)
+    ((fault ≡ Head 1) × ((version : Version) (rest : List ℕ) → text ≢ title_text version rest)) ⊎
+    ((version : Version) × (rest : List ℕ) × (text ≡ title_text version rest) × IsTrumpFault rest fault)
 
 -- ---- the answer
 abbrev pub TextAnswers : List ℕ → Result GraphShape TextFault → Type 0

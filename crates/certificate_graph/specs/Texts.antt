@@ -13,6 +13,8 @@ use Rattle.pattern_step.specs.declared.pat_cards.PatCard.{PatCard}
 use Rattle.pattern_step.specs.declared.pat_cards.PatCard.TheVariants.{Top, Low}
 use Rattle.certificate_graph.specs.declared.children.Child.{Child}
 use Rattle.certificate_graph.specs.declared.nodes.Node.{Node}
+use Rattle.certificate_graph.specs.declared.versions.Version.{Version}
+use Rattle.certificate_graph.specs.declared.versions.Version.TheVariants.{One, Two}
 use Rattle.certificate_graph.specs.Trees.{TrickTree, Own, Reply, Leaf, Branches, NoBranch, Branch}
 use Rattle.certificate_graph.specs.Graphs.{GraphShape}
 
@@ -77,9 +79,14 @@ abbrev pub nodes_text : List Node → List ℕ → List ℕ
 nodes_text [] rest = rest
 nodes_text (node ∷ more) rest = node_text node (nodes_text more rest)
 
+-- the digit of a version
+abbrev pub version_digit : Version → List ℕ
+version_digit One = codes "1"
+version_digit Two = codes "2"
+
 -- the first four lines
-abbrev pub title_text : List ℕ → List ℕ
-title_text rest = codes "DDC 1" ++ (10 ∷ rest)
+abbrev pub title_text : Version → List ℕ → List ℕ
+title_text version rest = codes "DDC " ++ (version_digit version ++ (10 ∷ rest))
 
 abbrev pub trump_text : Trump → List ℕ → List ℕ
 trump_text trump rest = codes "trump " ++ (trump_letters trump ++ (10 ∷ rest))
@@ -90,8 +97,8 @@ side_text side rest = codes "side " ++ (side_letters side ++ (10 ∷ rest))
 abbrev pub count_text : List ℕ → List ℕ → List ℕ
 count_text digits rest = codes "nodes " ++ (digits ++ (10 ∷ rest))
 
--- a graph: the title, the trump, the side, the number of nodes, and the nodes
+-- a graph: the title with its version, the trump, the side, the number of nodes, and the nodes
 abbrev pub graph_text : GraphShape → List ℕ
 graph_text graph =
-    title_text (trump_text graph.trump (side_text graph.side
+    title_text graph.version (trump_text graph.trump (side_text graph.side
     (count_text (decimal (length graph.nodes)) (nodes_text graph.nodes []))))

@@ -16,13 +16,15 @@ use crate::line_writing::{write_count, write_heading, write_nodes};
 use crate::node_reading::read_nodes;
 use crate::nodes::Node;
 use crate::reading::{read_count, read_side, read_title, read_trump};
+use crate::versions::Version;
 use cards::{DeviceFault, Side, Sink, Trump};
 use std::alloc::{AllocError, Global};
 use std::marker::Model;
 
-/// A graph of a side, with a trump: at most 1,000,000 nodes, each named by its place.
+/// A graph of a version and of a side, with a trump: at most 1,000,000 nodes, each named by its place.
 #[derive(Drop)]
 pub struct Graph {
+    version: Version,
     trump: Trump,
     side: Side,
     nodes: Vec<Node>,
@@ -37,19 +39,36 @@ impl Model for Graph {
 
     ghost coded = { Prim.hlevel (codes, tree_code) };
 
-    ghost view = { λ graph. record { trump = graph.trump; side = graph.side; nodes = graph.nodes.items } };
+    ghost view = { λ graph. record { version = graph.version; trump = graph.trump; side = graph.side; nodes = graph.nodes.items } };
 
-    ghost invariant = { λ graph. IsGraph (record { trump = graph.trump; side = graph.side; nodes = graph.nodes.items }) };
+    ghost invariant = { λ graph. IsGraph (record { version = graph.version; trump = graph.trump; side = graph.side; nodes = graph.nodes.items }) };
 }
 
 impl Graph {
     /// The graph of these nodes; else `TooLarge`, or the first fault, in the order of their numbers, of the first node
     /// that has one. Takes no memory.
-    pub fn new(trump: Trump, side: Side, nodes: Vec<Node>) -> Result<Graph, GraphFault>
-        ensures { MakesGraph trump side nodes.items result }
+    pub fn new(
+        version: Version,
+        trump: Trump,
+        side: Side,
+        nodes: Vec<Node>,
+    ) -> Result<Graph, GraphFault>
+        ensures { MakesGraph version trump side nodes.items result }
     {
         check_nodes(nodes.as_slice())?;
-        Ok(Graph { trump, side, nodes })
+        Ok(Graph {
+            version,
+            trump,
+            side,
+            nodes,
+        })
+    }
+
+    /// The version of the rules by which it is checked.
+    pub fn version(&self) -> Version
+        ensures { result ≡ self.now.version }
+    {
+        self.version
     }
 
     /// The trump.
@@ -78,7 +97,7 @@ impl Graph {
     pub fn read(alloc: Global, text: &[u8]) -> Result<Graph, TextFault>
         ensures { (result ≡ Err OutOfMemory) ⊎ TextAnswers text.now result }
     {
-        let Some(rest) = read_title(text) else {
+        let Some((version, rest)) = read_title(text) else {
             return Err(TextFault::Head { line: 1 });
         };
         let Some((trump, rest)) = read_trump(rest) else {
@@ -89,7 +108,12 @@ impl Graph {
         };
         let (count, rest) = read_count(rest)?;
         let nodes = read_nodes(alloc, count, rest)?;
-        Ok(Graph { trump, side, nodes })
+        Ok(Graph {
+            version,
+            trump,
+            side,
+            nodes,
+        })
     }
 
     /// Writes the text of the graph. After a fault of the sink a beginning of it has gone out. Takes no memory.
@@ -98,7 +122,7 @@ impl Graph {
     {
         self.invariant();
         let nodes = self.nodes();
-        write_heading(sink, self.trump(), self.side())?;
+        write_heading(sink, self.version(), self.trump(), self.side())?;
         write_count(sink, nodes.len() as u32)?;
         write_nodes(sink, nodes)
     }
@@ -114,6 +138,7 @@ impl Graph {
             None => Vec::new(alloc),
         };
         Ok(Graph {
+            version: self.version,
             trump: self.trump,
             side: self.side,
             nodes,

@@ -1,6 +1,9 @@
 //! What holds of graphs and texts alone.
 
+ghost use Rattle.cards.specs.Orders.{SaysSame};
 ghost use Rattle.certificate_graph.specs.Laws.{EachGraphHasOneText, NoTextHasTwoGraphs, GraphsAreReadBack, EachTextHasOneAnswer};
+
+use crate::versions::Version;
 
 /// Each graph has exactly one text.
 pub fn one_text()
@@ -21,4 +24,9 @@ pub fn graphs_are_read_back()
 /// Each text has exactly one answer: its graph, or its fault.
 pub fn one_answer()
     ensures { EachTextHasOneAnswer }
+{}
+
+/// `==` of two versions says whether they are the same.
+pub fn equal_versions_are_one()
+    ensures { SaysSame ⟦<Version as PartialEq>⟧.eq }
 {}

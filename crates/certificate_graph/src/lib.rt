@@ -1,6 +1,6 @@
 //! Certificates as data and as text.
 //!
-//! A graph has a side, a trump and nodes. A node claims that from every layout that matches its pattern, with one
+//! A graph has a version, a side, a trump and nodes. A node claims that from every layout that matches its pattern, with one
 //! seat to lead, the side can win so many tricks; its tree says how the first of them is played, and names the nodes
 //! that go on after it. The crate says which nodes make a graph, writes the one text of a graph, and reads a text as
 //! its graph or tells the first fault. Whether the claims are shown is not asked here. A tree is one row of tokens; contracts
@@ -27,14 +27,16 @@ mod rows;
 mod scanning;
 mod tree_reading;
 mod trees;
+mod versions;
 mod writing;
 
 pub use answers::Answer;
 pub use children::Child;
 pub use faults::{GraphFault, TextFault};
 pub use graphs::Graph;
-pub use laws::{graphs_are_read_back, one_answer, one_graph, one_text};
+pub use laws::{equal_versions_are_one, graphs_are_read_back, one_answer, one_graph, one_text};
 pub use nodes::Node;
 pub use places::{Branches, Children, Place, View};
 pub use rows::Token;
 pub use trees::Tree;
+pub use versions::Version;

@@ -7,6 +7,7 @@ ghost use Rattle.certificate_graph.specs.Graphs.{IsTree};
 ghost use Rattle.certificate_graph.specs.Texts.{claim_text, node_text, nodes_text, title_text, trump_text, side_text, count_text};
 
 use crate::nodes::Node;
+use crate::versions::Version;
 use crate::writing::{seat_byte, write_len, write_pattern, write_tree};
 use cards::{DeviceFault, Seat, Side, Sink, Suit, Trump, write_all, write_number};
 
@@ -41,6 +42,16 @@ pub(crate) fn write_nodes<S: Sink>(sink: &mut S, nodes: &[Node]) -> Result<(), D
     Ok(())
 }
 
+/// The title, which tells the version.
+pub(crate) fn title_line(version: Version) -> &'static [u8]
+    ensures { result.now ≡ title_text version [] }
+{
+    match version {
+        Version::One => b"DDC 1\n",
+        Version::Two => b"DDC 2\n",
+    }
+}
+
 /// The line of a trump.
 pub(crate) fn trump_line(trump: Trump) -> &'static [u8]
     ensures { result.now ≡ trump_text trump [] }
@@ -67,12 +78,13 @@ pub(crate) fn side_line(side: Side) -> &'static [u8]
 /// Writes the title, the trump and the side.
 pub(crate) fn write_heading<S: Sink>(
     sink: &mut S,
+    version: Version,
     trump: Trump,
     side: Side,
 ) -> Result<(), DeviceFault>
-    ensures { Writes (S.state sink.old) (S.state sink.new) (title_text (trump_text trump (side_text side []))) result }
+    ensures { Writes (S.state sink.old) (S.state sink.new) (title_text version (trump_text trump (side_text side []))) result }
 {
-    write_all(sink, b"DDC 1\n")?;
+    write_all(sink, title_line(version))?;
     write_all(sink, trump_line(trump))?;
     write_all(sink, side_line(side))
 }

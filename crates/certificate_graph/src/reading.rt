@@ -4,12 +4,14 @@ ghost use Rattle.std.specs.Prelude.{◌≡◌, ◌≢◌, ◌++◌, ◌∷◌, �
 ghost use Rattle.cards.specs.declared.seats.Side.{Side};
 ghost use Rattle.cards.specs.declared.suits.Trump.{Trump};
 ghost use Rattle.certificate_graph.specs.Texts.{title_text, trump_text, side_text};
+ghost use Rattle.certificate_graph.specs.declared.versions.Version.{Version};
 ghost use Rattle.certificate_graph.specs.Readings.{BeginsDigits, LacksDigits, ReadsCount, IsCountLineFault};
 
 use crate::checks::GREATEST_COUNT;
 use crate::faults::TextFault;
-use crate::line_writing::{side_line, trump_line};
+use crate::line_writing::{side_line, title_line, trump_line};
 use crate::scanning::{GREATEST_DIGITS, after_byte, is_number, split_digits, value_of};
+use crate::versions::Version;
 use cards::{Side, Trump};
 
 /// The text after this prefix, if it begins with it.
@@ -19,11 +21,17 @@ fn after_prefix<'a>(text: &'a [u8], prefix: &[u8]) -> Option<&'a [u8]>
     text.strip_prefix(prefix)
 }
 
-/// The text after the title, if the text begins with it.
-pub(crate) fn read_title(text: &[u8]) -> Option<&[u8]>
-    ensures { MatchOption result ((rest : List ℕ) → text.now ≢ title_text rest) (λ rest. text.now ≡ title_text rest.now) }
+/// The version, and the text after the title, which tells it.
+pub(crate) fn read_title(text: &[u8]) -> Option<(Version, &[u8])>
+    ensures { MatchOption result ((version : Version) (rest : List ℕ) → text.now ≢ title_text version rest) (λ p. text.now ≡ title_text p.0 p.1.now) }
 {
-    after_prefix(text, b"DDC 1\n")
+    if let Some(rest) = after_prefix(text, title_line(Version::One)) {
+        return Some((Version::One, rest));
+    }
+    let Some(rest) = after_prefix(text, title_line(Version::Two)) else {
+        return None;
+    };
+    Some((Version::Two, rest))
 }
 
 /// The trump, and the text after its line.

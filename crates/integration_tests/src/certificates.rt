@@ -17,6 +17,14 @@ nodes 1
 E 1 1.1.1.1/N 0.0.0.0/ 0.0.0.0/ 0.0.0.0/ (SxSx(SxSa{}))
 ";
 
+/// The same, by the rules of the second version.
+pub const SECOND_ACE: &[u8] = b"DDC 2
+trump NT
+side NS
+nodes 1
+E 1 1.1.1.1/N 0.0.0.0/ 0.0.0.0/ 0.0.0.0/ (SxSx(SxSa{}))
+";
+
 /// East and West need nothing.
 pub const NOTHING: &[u8] = b"DDC 1
 trump NT

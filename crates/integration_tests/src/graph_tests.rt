@@ -1,9 +1,9 @@
 //! Graphs of nodes and their texts. Texts that are refused are among the worked cases (`worked_cases`).
 
-use crate::certificates::{ACE, FINESSE, NOTHING};
+use crate::certificates::{ACE, FINESSE, NOTHING, SECOND_ACE};
 use crate::expect::{expect_bytes, expect_eq};
 use cards::{Buffer, DeviceFault, Seat, Side, Suit, Trump};
-use certificate_graph::{Child, Graph, GraphFault, Node, TextFault, Token, Tree};
+use certificate_graph::{Child, Graph, GraphFault, Node, TextFault, Token, Tree, Version};
 use pattern_step::PatCard;
 use patterns::Pattern;
 use std::alloc::Global;
@@ -28,15 +28,18 @@ fn expect_written(
 /// gets the beginning of the text, and a fault.
 #[test]
 fn written_as_read(rt: HostRuntime) -> Result<(), Fail> {
-    for text in [FINESSE, ACE, NOTHING] {
+    for text in [FINESSE, ACE, SECOND_ACE, NOTHING] {
         let graph = Graph::read(rt.alloc(), text)?;
         for piece in [1, 7, 200] {
             expect_written(&rt, rt.alloc(), &graph, piece, text)?;
         }
     }
-    let nodes = ace(rt.alloc(), PatCard::Top(Suit::Spades, 0), 1, &[])?;
-    let built = Graph::new(Trump::Nt, Side::NorthSouth, nodes)?;
-    expect_written(&rt, rt.alloc(), &built, 200, ACE)?;
+    for (version, text) in [(Version::One, ACE), (Version::Two, SECOND_ACE)] {
+        let nodes = ace(rt.alloc(), PatCard::Top(Suit::Spades, 0), 1, &[])?;
+        let built = Graph::new(version, Trump::Nt, Side::NorthSouth, nodes)?;
+        expect_eq(&rt, &built.version(), &version);
+        expect_written(&rt, rt.alloc(), &built, 200, text)?;
+    }
     let graph = Graph::read(rt.alloc(), FINESSE)?;
     for room in 0..FINESSE.len() {
         let mut sink = Buffer::new(rt.alloc(), room, 3)?;
@@ -141,7 +144,7 @@ const NODES: [(PatCard, u8, &[Child], Option<GraphFault>); 6] = [
 fn nodes_of_no_graph(rt: HostRuntime) -> Result<(), Fail> {
     for (card, need, children, fault) in NODES {
         let nodes = ace(rt.alloc(), card, need, children)?;
-        let built = Graph::new(Trump::Nt, Side::NorthSouth, nodes);
+        let built = Graph::new(Version::One, Trump::Nt, Side::NorthSouth, nodes);
         expect_eq(&rt, &built.err(), &fault);
     }
     Ok(())

@@ -3,7 +3,7 @@
 use crate::plans::{PLAN_FUEL, Piece, Plan, TrickStart, Turn};
 use crate::search::Search;
 use cards::{Seat, Side, Suit, Trump};
-use certificate_graph::{Child, Graph, Node, Token, Tree};
+use certificate_graph::{Child, Graph, Node, Token, Tree, Version};
 use pattern_step::PatCard;
 use patterns::Pattern;
 use search_state::pattern_tricks::{Held, LOW, PatternTrick};
@@ -67,7 +67,7 @@ impl Writing {
             Side::EastWest
         };
         let Writing { nodes, .. } = self;
-        Graph::new(trump, side, nodes).ok()
+        Graph::new(Version::One, trump, side, nodes).ok()
     }
 
     /// Writes the roots and all nodes that are named. False where one is not shown.

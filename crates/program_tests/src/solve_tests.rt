@@ -3,7 +3,7 @@
 use crate::expect::{End, Nothing, Open, ROOM, Stopped, expect_eq, expect_run};
 use arrayvec::ArrayVec;
 use cards::{Buffer, Bytes, Layout, Seat, Side, Suit, Trump};
-use certificate_graph::Graph;
+use certificate_graph::{Graph, Version};
 use partition_solver::{Bundle, Claim, Partition, Solver};
 use pbn_deals::read_layout;
 use std::alloc::{AllocError, Global};
@@ -123,8 +123,8 @@ pub fn east(layout: &str, budget: u64) -> Subcommand<'_> {
 
 /// Graphs without nodes, and these claims.
 fn bundle_of(alloc: Global, trump: Trump, claims: &[Claim]) -> Result<Option<Bundle>, AllocError> {
-    let ns = Graph::new(trump, Side::NorthSouth, Vec::new(alloc));
-    let ew = Graph::new(trump, Side::EastWest, Vec::new(alloc));
+    let ns = Graph::new(Version::One, trump, Side::NorthSouth, Vec::new(alloc));
+    let ew = Graph::new(Version::One, trump, Side::EastWest, Vec::new(alloc));
     let mut list = ArrayVec::new();
     for claim in claims {
         let _ = list.try_push(*claim);

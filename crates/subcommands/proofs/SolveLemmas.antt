@@ -22,10 +22,12 @@ use Rattle.pattern_step.specs.declared.pat_cards.PatCard.{PatCard}
 use Rattle.pattern_step.specs.declared.pat_cards.PatCard.TheVariants.{Top, Low}
 use Rattle.certificate_graph.specs.declared.children.Child.{Child}
 use Rattle.certificate_graph.specs.declared.nodes.Node.{Node}
+use Rattle.certificate_graph.specs.declared.versions.Version.{Version}
+use Rattle.certificate_graph.specs.declared.versions.Version.TheVariants.{One, Two}
 use Rattle.certificate_graph.specs.Trees.{TrickTree, Own, Reply, Leaf, Branches, NoBranch, Branch}
 use Rattle.certificate_graph.specs.Graphs.{GraphShape, IsGraph, IsNode, NamesBelow, NameBelow}
 use Rattle.certificate_graph.specs.LineForms.{IsSuitForm, IsPatternForm, IsNodeForm}
-use Rattle.certificate_graph.specs.Texts.{card_text, child_text, more_children_text, children_text, tree_text, branches_text, owners_text, suit_text, pattern_text, claim_text, node_text, nodes_text, graph_text}
+use Rattle.certificate_graph.specs.Texts.{card_text, child_text, more_children_text, children_text, tree_text, branches_text, owners_text, suit_text, pattern_text, claim_text, node_text, nodes_text, version_digit, graph_text}
 use Rattle.certificate_graph.proofs.TextParts.{tree-cut, pattern-cut, claim-cut}
 use Rattle.certificate_graph.proofs.OneAnswer.{node_form}
 use Rattle.subcommands.specs.Answers.{IsEmptyLine, HasNoEmptyLine, IsCut}
@@ -158,6 +160,10 @@ nodes_lines count (node ∷ others) rest few all more =
     (nodes_lines count others rest few (All-tail (IsNode count) node others all) more)
 
 -- a piece of a line
+plain_title : (version : Version) → Plain (codes "DDC " ++ version_digit version)
+plain_title One = search rules
+plain_title Two = search rules
+
 plain_trump : (t : Trump) → Plain (codes "trump " ++ trump_letters t)
 plain_trump trump.Nt = search rules
 plain_trump (trump.Suit Spades) = search rules
@@ -174,7 +180,7 @@ graph_lines graph is =
     let count = length graph.nodes in
     let few : count < 2 ^ 64 = omega (arith, is.size) in
     let nodes : Lines (nodes_text graph.nodes []) = nodes_lines count graph.nodes [] (omega (arith, is.size)) is.each no_line in
-    as_line _ (codes "DDC 1") _ refl (search rules) (omega arith)
+    as_line _ (codes "DDC " ++ version_digit graph.version) _ (sym (append_assoc (codes "DDC ") (version_digit graph.version) _)) (plain_title graph.version) (omega arith)
     (as_line _ (codes "trump " ++ trump_letters graph.trump) _ (sym (append_assoc (codes "trump ") (trump_letters graph.trump) _)) (plain_trump graph.trump) (omega arith)
     (as_line _ (codes "side " ++ side_letters graph.side) _ (sym (append_assoc (codes "side ") (side_letters graph.side) _)) (plain_side graph.side) (omega arith)
     (as_line _ (codes "nodes " ++ decimal count) _ (sym (append_assoc (codes "nodes ") (decimal count) _))

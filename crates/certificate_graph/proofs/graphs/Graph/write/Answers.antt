@@ -12,14 +12,14 @@ returns-in_err-write_heading g c =
     let end = c.from_residual in
     let left = count_text (decimal (length graph.nodes)) [] ++ nodes_text graph.nodes [] in
     writes_same _ _ end.result (graph-parts graph)
-    (stops_within _ _ end.result _ left end.ensures.1 refl (rw (c.trump.ensures, c.side.ensures) at c.in_err-write_heading.ensures))
+    (stops_within _ _ end.result _ left end.ensures.1 refl (rw (c.version.ensures, c.trump.ensures, c.side.ensures) at c.in_err-write_heading.ensures))
 
 pub returns-in_err-write_count : goal.returns-in_err-write_count
 returns-in_err-write_count g c =
     let graph = c.args.self.now in
     let end = c.from_residual-in_err-write_count in
     writes_same _ _ end.result (graph-parts graph)
-    (Writes-then end.result _ _ (rw (c.trump.ensures, c.side.ensures) at c.in_ok-write_heading.ensures)
+    (Writes-then end.result _ _ (rw (c.version.ensures, c.trump.ensures, c.side.ensures) at c.in_ok-write_heading.ensures)
     (stops_within _ _ end.result _ (nodes_text graph.nodes []) end.ensures.1 refl (rw c.nodes-nodes.ensures at c.in_err-write_count.ensures)))
 
 pub write_nodes-requires : goal.write_nodes-requires
@@ -29,5 +29,5 @@ pub returns : goal.returns
 returns g c =
     let done = c.write_nodes.result in
     writes_same _ _ done (graph-parts c.args.self.now)
-    (Writes-then done _ _ (rw (c.trump.ensures, c.side.ensures) at c.in_ok-write_heading.ensures)
+    (Writes-then done _ _ (rw (c.version.ensures, c.trump.ensures, c.side.ensures) at c.in_ok-write_heading.ensures)
     (Writes-then done _ _ (rw c.nodes-nodes.ensures at c.in_ok-write_count.ensures) (rw c.nodes-nodes.ensures at c.write_nodes.ensures)))
