@@ -11,7 +11,7 @@ use Rattle.certificate_graph.specs.declared.children.Child.{Child}
 use Rattle.certificate_graph.specs.declared.nodes.Node.{Node}
 use Rattle.certificate_graph.specs.Graphs.{GraphShape}
 use Rattle.checker.specs.declared.faults.StepFault.{StepFault}
-use Rattle.checker.specs.Steps.{need_after, IsListed, IsRightChild}
+use Rattle.checker.specs.Steps.{need_after, IsListed, rest_read, IsRightChild}
 use Rattle.checker.specs.Faults.{HasWrongLead, NeedsTooLittle, FailsToCover, IsChildrenFault}
 
 -- one node stands under a number
@@ -26,15 +26,15 @@ right_need graph node child next there enough (other, there', less) =
     let is = ap (λ (n : Node). n.need) (same_node graph.nodes child.number other next there' there) in
     absurd (omega arith)
 
-pub right_pattern : (graph : GraphShape) (node : Node) (cards : List PatCard) (child : Child) (next : Node) (left : Shape) → slice_get graph.nodes child.number ≡ Some next → IsLeft node.pattern node.lead cards left → Covers next.pattern left →
+pub right_pattern : (graph : GraphShape) (node : Node) (cards : List PatCard) (child : Child) (next : Node) (left : Shape) → slice_get graph.nodes child.number ≡ Some next → IsLeft node.pattern node.lead cards left → Covers next.pattern (rest_read graph.version left) →
     FailsToCover graph node cards child → ⊥
 right_pattern graph node cards child next left there is covers (other, there', fails) =
-    fails (left, is, subst (λ (n : Node). Covers n.pattern left) (same_node graph.nodes child.number next other there there') covers)
+    fails (left, is, subst (λ (n : Node). Covers n.pattern (rest_read graph.version left)) (same_node graph.nodes child.number next other there there') covers)
 
-pub wrong_pattern : (graph : GraphShape) (node : Node) (cards : List PatCard) (child : Child) (next : Node) (left : Shape) → slice_get graph.nodes child.number ≡ Some next → IsLeft node.pattern node.lead cards left → (Covers next.pattern left → ⊥) →
+pub wrong_pattern : (graph : GraphShape) (node : Node) (cards : List PatCard) (child : Child) (next : Node) (left : Shape) → slice_get graph.nodes child.number ≡ Some next → IsLeft node.pattern node.lead cards left → (Covers next.pattern (rest_read graph.version left) → ⊥) →
     FailsToCover graph node cards child
 wrong_pattern graph node cards child next left there is fails =
-    (next, there, λ (rest, is', covers). fails (subst (Covers next.pattern) (one_left node.pattern node.lead cards rest left is' is) covers))
+    (next, there, λ (rest, is', covers). fails (subst (λ (s : Shape). Covers next.pattern (rest_read graph.version s)) (one_left node.pattern node.lead cards rest left is' is) covers))
 
 -- the fault of the first child is that of all
 pub here : (graph : GraphShape) (node : Node) (cards : List PatCard) (child : Child) (rest : List Child) (fault : StepFault) → IsChildrenFault graph node cards (child ∷ []) fault → IsChildrenFault graph node cards (child ∷ rest) fault

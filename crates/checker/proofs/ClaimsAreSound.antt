@@ -32,7 +32,7 @@ named_is_smaller graph node next is holds named =
     let legal = four_are_legal node named.cards leaf.whole (on_lines graph node named.cards (Leaf named.children) holds named.leaf) in
     let same : right.0 ≡ next = (let both : Some right.0 ≡ Some next = sym right.1 ∙ named.there in cc) in
     subst (λ (other : Node). hand_size other.pattern North + 1 ≡ hand_size node.pattern North) same
-    (rest_is_smaller node named.cards right.0.pattern is legal right.2.pattern)
+    (rest_is_smaller node named.cards graph.version right.0.pattern is legal right.2.pattern)
 
 -- by induction on the cards of a hand: a circle of nodes shows nothing
 sound_below : (graph : GraphShape) → IsGraph graph → StepsHold graph → (size number : ℕ) (node : Node) → slice_get graph.nodes number ≡ Some node → hand_size node.pattern North ≤ size → KeepsItsClaim graph node

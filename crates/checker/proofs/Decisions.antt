@@ -74,7 +74,7 @@ pub same_some : (found : Option Seat) (seat : Seat) → Decided (found ≡ Some 
 same_some None seat = inr (λ e. cc)
 same_some (Some other) seat = alike (other ≡ seat) (Some other ≡ Some seat) ((λ e. ap Some e), λ e. cc) (same_seat other seat)
 
-has_card : (shape : Shape) (seat : Seat) (card : PatCard) → Decided (HasCard shape seat card)
+pub has_card : (shape : Shape) (seat : Seat) (card : PatCard) → Decided (HasCard shape seat card)
 has_card shape seat (Top suit place) = same_some (slice_get (suit_of shape suit).owners place) seat
 has_card shape seat (Low suit) = is_less (tops_of (suit_of shape suit) seat) (len_of (suit_of shape suit) seat)
 

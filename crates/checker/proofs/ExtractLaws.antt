@@ -6,14 +6,17 @@ use Rattle.std.proofs.lemmas.List.{get_or-map, length-map}
 use Rattle.std.proofs.lemmas.List.Elements.{All-map, All-weaker, Contains-get_or}
 use Rattle.std.proofs.lemmas.Option.{slice_get-get_or, slice_get_within, slice_get_past}
 use Rattle.cards.specs.declared.seats.Seat.{Seat}
+use Rattle.patterns.specs.Shapes.{Shape}
 use Rattle.pattern_step.specs.declared.pat_cards.PatCard.{PatCard}
 use Rattle.certificate_graph.specs.declared.children.Child.{Child}
 use Rattle.certificate_graph.specs.declared.nodes.Node.{Node}
+use Rattle.certificate_graph.specs.declared.versions.Version.{Version}
+use Rattle.certificate_graph.specs.declared.versions.Version.TheVariants.{One, Two}
 use Rattle.certificate_graph.specs.Trees.{TrickTree, Own, Reply, Leaf, Branches, NoBranch, Branch}
 use Rattle.certificate_graph.specs.Graphs.{GraphShape}
 use Rattle.certificate_graph.specs.Extracts.{exchanged, rename_child, rename_tree, rename_branches, rename_node, AreExchanged}
 use Rattle.checker.specs.Places.{HasBranch, LeadsTo}
-use Rattle.checker.specs.Steps.{IsListed, IsRightAfter, IsRightChild, IsRightLeaf, StepHolds, StepsHold}
+use Rattle.checker.specs.Steps.{player_after, IsAnswered, IsListed, IsRightAfter, IsRightChild, IsRightLeaf, StepHolds, StepsHold}
 use Rattle.checker.specs.Laws.{ExtractsHold}
 
 -- ---- numbers
@@ -34,6 +37,11 @@ module _ (to : ℕ → ℕ) where
   had NoBranch card tree none = absurd none
   had (Branch first one rest) card tree (inl (is, same)) = (one, sym same, inl (is, refl))
   had (Branch first one rest) card tree (inr later) = let there = had rest card tree later in (there.0, there.1, inr there.2)
+
+  answered_renamed : (version : Version) (shape : Shape) (seat : Seat) (branches : Branches) (card : PatCard) → IsAnswered version shape seat branches card → IsAnswered version shape seat (rename_branches to branches) card
+  answered_renamed One shape seat branches card has = (rename_tree to has.0, has_renamed branches card has.0 has.1)
+  answered_renamed Two shape seat branches card (inl has) = inl (rename_tree to has.0, has_renamed branches card has.0 has.1)
+  answered_renamed Two shape seat branches card (inr (higher, run, has)) = inr (higher, run, (rename_tree to has.0, has_renamed branches higher has.0 has.1))
 
   -- where cards lead in a renamed tree, they led in the tree
   place_back : (tree : TrickTree) (cards : List PatCard) (place : TrickTree) → LeadsTo (rename_tree to tree) cards place → (was : TrickTree) × (place ≡ rename_tree to was) × LeadsTo tree cards was
@@ -75,7 +83,7 @@ module _ (graph : GraphShape) (root : ℕ) (nodes : List Node) (is_root : root <
   to = exchanged root
 
   abbrev other : GraphShape
-  other = record { trump = graph.trump; side = graph.side; nodes = nodes }
+  other = record { version = graph.version; trump = graph.trump; side = graph.side; nodes = nodes }
 
   child_right : (node : Node) (cards : List PatCard) (child : Child) → IsRightChild graph node cards child → IsRightChild other (rename_node to node) cards (rename_child to child)
   child_right node cards child (next, there, goes_on) = (
@@ -99,10 +107,10 @@ module _ (graph : GraphShape) (root : ℕ) (nodes : List Node) (is_root : root <
   place_right node cards (Own card tree) (turn, may) = (record { goes_on = turn.goes_on; own = turn.own }, may)
   place_right node cards (Reply branches) (turn, answers) = (
     record { goes_on = turn.goes_on; others = turn.others },
-    λ card. (
-      (λ has. (answers card).0 (let there = had to branches card has.0 has.1 in (there.0, there.2))),
-      (λ may. let has = (answers card).1 may in (rename_tree to has.0, has_renamed to branches card has.0 has.1)),
-    ),
+    record {
+      each = λ card may. answered_renamed to graph.version node.pattern (player_after node cards) branches card (answers.each card may);
+      legal = λ card has. answers.legal card (let there = had to branches card has.0 has.1 in (there.0, there.2));
+    },
   )
   place_right node cards (Leaf children) right = leaf_right node cards children right
 
@@ -130,7 +138,8 @@ none_hold other none number node there =
 pub extracts : ExtractsHold
 extracts graph other None is extract hold = none_hold other extract.nodes
 extracts graph other (Some root) is extract hold =
-    let same : record { trump = graph.trump; side = graph.side; nodes = other.nodes } ≡ other =
-    ap (λ t. record { trump = t; side = graph.side; nodes = other.nodes }) (sym extract.trump_is)
-    ∙ ap (λ s. record { trump = other.trump; side = s; nodes = other.nodes }) (sym extract.side_is) in
+    let same : record { version = graph.version; trump = graph.trump; side = graph.side; nodes = other.nodes } ≡ other =
+    ap (λ v. record { version = v; trump = graph.trump; side = graph.side; nodes = other.nodes }) (sym extract.version_is)
+    ∙ (ap (λ t. record { version = other.version; trump = t; side = graph.side; nodes = other.nodes }) (sym extract.trump_is)
+    ∙ ap (λ s. record { version = other.version; trump = other.trump; side = s; nodes = other.nodes }) (sym extract.side_is)) in
     subst StepsHold same (steps_hold graph root other.nodes is extract.nodes hold)

@@ -6,6 +6,7 @@ use Rattle.cards.specs.declared.seats.Side.{Side}
 use Rattle.pattern_step.specs.declared.pat_cards.PatCard.{PatCard}
 use Rattle.certificate_graph.specs.declared.children.Child.{Child}
 use Rattle.certificate_graph.specs.declared.nodes.Node.{Node}
+use Rattle.certificate_graph.specs.declared.versions.Version.{Version}
 use Rattle.certificate_graph.specs.Trees.{TrickTree, Own, Reply, Leaf, Branches, NoBranch, Branch}
 use Rattle.certificate_graph.specs.Graphs.{GraphShape}
 use Rattle.checker.specs.declared.faults.StepFault.{StepFault}
@@ -36,8 +37,8 @@ AfterTurn node cards card = IfWrong (MayComeNext node cards card → ⊥) CardNo
 abbrev AfterLacking : Node → List PatCard → Branches → StepFault → Type 0
 AfterLacking node cards branches = IfWrong (HasWrongBranch node cards branches) BranchExtra NoFault
 
-abbrev AfterOpponents : Node → List PatCard → Branches → StepFault → Type 0
-AfterOpponents node cards branches = IfWrong (LacksBranch node cards branches) BranchMissing (AfterLacking node cards branches)
+abbrev AfterOpponents : Version → Node → List PatCard → Branches → StepFault → Type 0
+AfterOpponents version node cards branches = IfWrong (LacksBranch version node cards branches) BranchMissing (AfterLacking node cards branches)
 
 abbrev AfterNeed : GraphShape → Node → List PatCard → Child → List Child → StepFault → Type 0
 AfterNeed graph node cards child rest = IfWrong (FailsToCover graph node cards child) ChildPattern (IsChildrenFault graph node cards rest)
@@ -54,11 +55,11 @@ own_none side node cards card fault right =
     none_of (IsOwnTurn side node cards → ⊥) TreeShape (AfterTurn node cards card) fault (λ wrong. wrong right.0)
     (none_of (MayComeNext node cards card → ⊥) CardNotLegal NoFault fault (λ wrong. wrong right.1) (λ none. none))
 
-reply_none : (side : Side) (node : Node) (cards : List PatCard) (branches : Branches) (fault : StepFault) → IsOpponentsTurn side node cards × AreAnswers node cards branches → IsReplyFault side node cards branches fault → ⊥
-reply_none side node cards branches fault right =
-    none_of (IsOpponentsTurn side node cards → ⊥) TreeShape (AfterOpponents node cards branches) fault (λ wrong. wrong right.0)
-    (none_of (LacksBranch node cards branches) BranchMissing (AfterLacking node cards branches) fault (λ (card, may, lacks). lacks ((right.1 card).1 may))
-    (none_of (HasWrongBranch node cards branches) BranchExtra NoFault fault (λ (card, has, fails). fails ((right.1 card).0 has)) (λ none. none)))
+reply_none : (version : Version) (side : Side) (node : Node) (cards : List PatCard) (branches : Branches) (fault : StepFault) → IsOpponentsTurn side node cards × AreAnswers version node cards branches → IsReplyFault version side node cards branches fault → ⊥
+reply_none version side node cards branches fault right =
+    none_of (IsOpponentsTurn side node cards → ⊥) TreeShape (AfterOpponents version node cards branches) fault (λ wrong. wrong right.0)
+    (none_of (LacksBranch version node cards branches) BranchMissing (AfterLacking node cards branches) fault (λ (card, may, lacks). lacks (right.1.each card may))
+    (none_of (HasWrongBranch node cards branches) BranchExtra NoFault fault (λ (card, has, fails). fails (right.1.legal card has)) (λ none. none)))
 
 child_none : (graph : GraphShape) (node : Node) (cards : List PatCard) (child : Child) (rest : List Child) (fault : StepFault) → IsRightChild graph node cards child → (IsChildrenFault graph node cards rest fault → ⊥) →
     IsChildrenFault graph node cards (child ∷ rest) fault → ⊥
@@ -84,7 +85,7 @@ mutual
   pub none_first : (graph : GraphShape) (node : Node) (cards : List PatCard) (tree : TrickTree) (fault : StepFault) → HoldsFrom graph node cards tree → IsFirstFault graph node cards tree fault → ⊥
   none_first graph node cards (Own card tree) fault holds (inl own) = own_none graph.side node cards card fault (right_here graph node cards (Own card tree) holds) own
   none_first graph node cards (Own card tree) fault holds (inr below) = none_first graph node (cards ++ card ∷ []) tree fault (own_below graph node cards card tree holds) below.1
-  none_first graph node cards (Reply branches) fault holds (inl reply) = reply_none graph.side node cards branches fault (right_here graph node cards (Reply branches) holds) reply
+  none_first graph node cards (Reply branches) fault holds (inl reply) = reply_none graph.version graph.side node cards branches fault (right_here graph node cards (Reply branches) holds) reply
   none_first graph node cards (Reply branches) fault holds (inr below) = none_among graph node cards branches fault (reply_below graph node cards branches holds) below.1
   none_first graph node cards (Leaf children) fault holds told = leaf_none graph node cards children fault (right_here graph node cards (Leaf children) holds) told
 
@@ -99,10 +100,10 @@ one_own side node cards card one other =
     one_of (IsOwnTurn side node cards → ⊥) TreeShape (AfterTurn node cards card) one other
     (one_of (MayComeNext node cards card → ⊥) CardNotLegal NoFault one other (λ none. absurd none))
 
-one_reply : (side : Side) (node : Node) (cards : List PatCard) (branches : Branches) (one other : StepFault) → IsReplyFault side node cards branches one → IsReplyFault side node cards branches other → one ≡ other
-one_reply side node cards branches one other =
-    one_of (IsOpponentsTurn side node cards → ⊥) TreeShape (AfterOpponents node cards branches) one other
-    (one_of (LacksBranch node cards branches) BranchMissing (AfterLacking node cards branches) one other
+one_reply : (version : Version) (side : Side) (node : Node) (cards : List PatCard) (branches : Branches) (one other : StepFault) → IsReplyFault version side node cards branches one → IsReplyFault version side node cards branches other → one ≡ other
+one_reply version side node cards branches one other =
+    one_of (IsOpponentsTurn side node cards → ⊥) TreeShape (AfterOpponents version node cards branches) one other
+    (one_of (LacksBranch version node cards branches) BranchMissing (AfterLacking node cards branches) one other
     (one_of (HasWrongBranch node cards branches) BranchExtra NoFault one other (λ none. absurd none)))
 
 one_child : (graph : GraphShape) (node : Node) (cards : List PatCard) (children : List Child) (one other : StepFault) → IsChildrenFault graph node cards children one → IsChildrenFault graph node cards children other → one ≡ other
@@ -124,9 +125,9 @@ mutual
   one_first graph node cards (Own card tree) one other (inl a) (inr b) = absurd (own_none graph.side node cards card one b.0 a)
   one_first graph node cards (Own card tree) one other (inr a) (inl b) = absurd (own_none graph.side node cards card other a.0 b)
   one_first graph node cards (Own card tree) one other (inr a) (inr b) = one_first graph node (cards ++ card ∷ []) tree one other a.1 b.1
-  one_first graph node cards (Reply branches) one other (inl a) (inl b) = one_reply graph.side node cards branches one other a b
-  one_first graph node cards (Reply branches) one other (inl a) (inr b) = absurd (reply_none graph.side node cards branches one b.0 a)
-  one_first graph node cards (Reply branches) one other (inr a) (inl b) = absurd (reply_none graph.side node cards branches other a.0 b)
+  one_first graph node cards (Reply branches) one other (inl a) (inl b) = one_reply graph.version graph.side node cards branches one other a b
+  one_first graph node cards (Reply branches) one other (inl a) (inr b) = absurd (reply_none graph.version graph.side node cards branches one b.0 a)
+  one_first graph node cards (Reply branches) one other (inr a) (inl b) = absurd (reply_none graph.version graph.side node cards branches other a.0 b)
   one_first graph node cards (Reply branches) one other (inr a) (inr b) = one_among graph node cards branches one other a.1 b.1
   one_first graph node cards (Leaf children) one other a b = one_leaf graph node cards children one other a b
 

@@ -5,6 +5,7 @@ pub mod ChildLaws
 pub mod WinnerLaws
 pub mod WalkLaws
 pub mod Decisions
+pub mod HigherCards
 pub mod StepDecisions
 pub mod FaultLaws
 pub mod NoFaultLaws
@@ -17,6 +18,8 @@ pub mod ToldLaws
 pub mod TrickCards
 pub mod TrickWinner
 pub mod TrickRest
+pub mod TwoLines
 pub mod StepIsSound
 pub mod ClaimsAreSound
 pub mod ExtractLaws
+pub mod VersionLaws

@@ -10,16 +10,16 @@ use Rattle.pattern_step.specs.Tricks.{suit_led_by}
 use Rattle.pattern_step.proofs.PatCardLaws.{slice_get-at, slice_get-within}
 use Rattle.certificate_graph.specs.declared.children.Child.{Child}
 use Rattle.certificate_graph.specs.declared.nodes.Node.{Node}
+use Rattle.certificate_graph.specs.declared.versions.Version.{Version}
 use Rattle.certificate_graph.specs.Trees.{TrickTree, Own, Reply, Leaf, Branches, NoBranch, Branch}
 use Rattle.certificate_graph.specs.Graphs.{GraphShape, IsGraph, NamesBelow, NameBelow}
 use Rattle.checker.specs.declared.faults.StepFault.{StepFault}
 use Rattle.checker.specs.declared.faults.StepFault.TheVariants.{CardNotLegal, BranchMissing, BranchExtra, LeafWinners, ChildLead, ChildNeed, ChildPattern, TreeShape}
 use Rattle.checker.specs.declared.faults.NodeFault.{NodeFault}
-use Rattle.checker.specs.Places.{HasBranchOf}
-use Rattle.checker.specs.Steps.{player_after, need_after, IsOwnTurn, IsOpponentsTurn, MayComeNext, AreAnswers, IsListed, HasToGoOn, ListsWinners, CoversRest, IsRightChild, IsRightLeaf, StepsHold}
+use Rattle.checker.specs.Steps.{player_after, need_after, IsOwnTurn, IsOpponentsTurn, MayComeNext, IsAnswered, AreAnswers, IsListed, HasToGoOn, ListsWinners, CoversRest, IsRightChild, IsRightLeaf, StepsHold}
 use Rattle.checker.specs.Faults.{IfWrong, NoFault, LacksBranch, HasWrongBranch, HasWrongLead, NeedsTooLittle, FailsToCover, IsOwnFault, IsReplyFault, IsChildrenFault, IsLeafFault, HoldsFrom, HoldAmong, IsFirstFault, IsFirstFaultAmong, IsGraphFault}
 use Rattle.checker.proofs.Decisions.{Decided, not_not, alike, both, is_less, same_seat, same_side, is_legal}
-use Rattle.checker.proofs.StepDecisions.{has_branch, is_listed, has_to_go_on, covers_rest}
+use Rattle.checker.proofs.StepDecisions.{is_answered, is_listed, has_to_go_on, covers_rest}
 use Rattle.checker.proofs.HoldLaws.{own_holds, reply_holds, leaf_holds, none_hold, more_hold}
 
 -- a chain of which nothing is told: the first is not wrong, and nothing is told of what follows
@@ -58,13 +58,13 @@ own_right side node cards card none =
           (not_wrong (MayComeNext node cards card → ⊥) CardNotLegal NoFault (none_later (turn → ⊥) TreeShape rest none)),
     )
 
-reply_right : (side : Side) (node : Node) (cards : List PatCard) (branches : Branches) → ((fault : StepFault) → IsReplyFault side node cards branches fault → ⊥) → IsOpponentsTurn side node cards × AreAnswers node cards branches
-reply_right side node cards branches none = (
+reply_right : (version : Version) (side : Side) (node : Node) (cards : List PatCard) (branches : Branches) → ((fault : StepFault) → IsReplyFault version side node cards branches fault → ⊥) → IsOpponentsTurn side node cards × AreAnswers version node cards branches
+reply_right version side node cards branches none = (
   not_not turn (opponents_turn side node cards) (not_wrong (turn → ⊥) TreeShape after_turn none),
-  λ card. (
-    (λ has. not_not (MayComeNext node cards card) (may_come node cards card) (λ fails. no_wrong (card, has, fails))),
-    λ may. not_not (HasBranchOf branches card) (has_branch branches card) (λ lacks. no_lack (card, may, lacks)),
-  ),
+  record {
+    each = λ card may. not_not (IsAnswered version node.pattern (player_after node cards) branches card) (is_answered version node.pattern (player_after node cards) branches card) (λ lacks. no_lack (card, may, lacks));
+    legal = λ card has. not_not (MayComeNext node cards card) (may_come node cards card) (λ fails. no_wrong (card, has, fails));
+  },
 )
   where
     turn : Type 0
@@ -74,15 +74,15 @@ reply_right side node cards branches none = (
     after_lack = IfWrong (HasWrongBranch node cards branches) BranchExtra NoFault
 
     after_turn : StepFault → Type 0
-    after_turn = IfWrong (LacksBranch node cards branches) BranchMissing after_lack
+    after_turn = IfWrong (LacksBranch version node cards branches) BranchMissing after_lack
 
-    no_lack : LacksBranch node cards branches → ⊥
-    no_lack = not_wrong (LacksBranch node cards branches) BranchMissing after_lack (none_later (turn → ⊥) TreeShape after_turn none)
+    no_lack : LacksBranch version node cards branches → ⊥
+    no_lack = not_wrong (LacksBranch version node cards branches) BranchMissing after_lack (none_later (turn → ⊥) TreeShape after_turn none)
 
     no_wrong : HasWrongBranch node cards branches → ⊥
     no_wrong =
         not_wrong (HasWrongBranch node cards branches) BranchExtra NoFault
-        (none_later (LacksBranch node cards branches) BranchMissing after_lack (none_later (turn → ⊥) TreeShape after_turn none))
+        (none_later (LacksBranch version node cards branches) BranchMissing after_lack (none_later (turn → ⊥) TreeShape after_turn none))
 
 -- ---- leaves
 lists_right : (graph : GraphShape) (node : Node) (cards : List PatCard) (children : List Child) → ((ListsWinners graph node cards children → ⊥) → ⊥) → ListsWinners graph node cards children
@@ -105,7 +105,7 @@ child_right graph node cards child rest less none = (
     record {
       lead = not_not (next.lead ≡ child.winner) (same_seat next.lead child.winner) (λ fails. not_wrong (HasWrongLead graph child) ChildLead after_lead none (next, there, fails));
       need = enough (is_less next.need (need_after graph.side node.need child.winner));
-      pattern = not_not (CoversRest next.pattern node cards) (covers_rest next.pattern node cards) (λ fails. not_wrong (FailsToCover graph node cards child) ChildPattern after_pattern (none_later (NeedsTooLittle graph node child) ChildNeed after_need none') (next, there, fails));
+      pattern = not_not (CoversRest graph.version next.pattern node cards) (covers_rest graph.version next.pattern node cards) (λ fails. not_wrong (FailsToCover graph node cards child) ChildPattern after_pattern (none_later (NeedsTooLittle graph node child) ChildNeed after_need none') (next, there, fails));
     },
   ),
   none_later (FailsToCover graph node cards child) ChildPattern after_pattern (none_later (NeedsTooLittle graph node child) ChildNeed after_need none'),
@@ -169,7 +169,7 @@ mutual
       let right = own_right graph.side node cards card (λ fault own. none fault (inl own)) in
       own_holds graph node cards card tree right (holds_without graph node (cards ++ card ∷ []) tree named (λ fault below. none fault (inr (right, below))))
   holds_without graph node cards (Reply branches) named none =
-      let right = reply_right graph.side node cards branches (λ fault reply. none fault (inl reply)) in
+      let right = reply_right graph.version graph.side node cards branches (λ fault reply. none fault (inl reply)) in
       reply_holds graph node cards branches right (hold_without graph node cards branches named (λ fault below. none fault (inr (right, below))))
   holds_without graph node cards (Leaf children) named none = leaf_holds graph node cards children (leaf_right graph node cards children (All-from_recursion (λ (c : Child). c.number < length graph.nodes) children named) none)
 

@@ -10,20 +10,24 @@ use Rattle.patterns.specs.Shapes.{SuitShape, Shape, suit_of, len_of, Covers}
 use Rattle.patterns.proofs.SeatLaws.{for_each_seat, for_each_suit}
 use Rattle.pattern_step.specs.declared.pat_cards.PatCard.{PatCard}
 use Rattle.pattern_step.specs.declared.pat_cards.PatCard.TheVariants.{Top, Low}
+use Rattle.pattern_step.specs.PatCards.{HasCard}
 use Rattle.pattern_step.specs.HighestTops.{IsHighestTop, lesser}
 use Rattle.pattern_step.specs.Tricks.{MayWin, winning_suit, played_by, len_left, owners_left, IsLeft, IsLeftOf}
 use Rattle.pattern_step.proofs.TrickLemmas.{no_top_met, top_met, all_met, wins_by_top, wins_by_low}
 use Rattle.pattern_step.proofs.TrickLaws.{one_left}
 use Rattle.certificate_graph.specs.declared.children.Child.{Child}
 use Rattle.certificate_graph.specs.declared.nodes.Node.{Node}
+use Rattle.certificate_graph.specs.declared.versions.Version.{Version}
+use Rattle.certificate_graph.specs.declared.versions.Version.TheVariants.{One, Two}
 use Rattle.certificate_graph.specs.Trees.{Branches, NoBranch, Branch}
 use Rattle.certificate_graph.specs.Graphs.{GraphShape}
 use Rattle.checker.specs.Places.{HasBranchOf}
-use Rattle.checker.specs.Steps.{need_after, IsListed, HasToGoOn, CoversRest}
-use Rattle.checker.proofs.Decisions.{Decided, alike, both, either, is_less, same_seat, same_suit, same_card, same_some, covers}
+use Rattle.checker.specs.Steps.{need_after, HasHigher, IsAnswered, IsListed, HasToGoOn, rest_read, CoversRest}
+use Rattle.checker.proofs.HigherCards.{HasHere, low_has_none, first_has_none, higher_cases}
+use Rattle.checker.proofs.Decisions.{Decided, has_card, alike, both, either, is_less, same_seat, same_suit, same_card, same_some, covers}
 
 -- ---- branches
-pub has_branch : (branches : Branches) (card : PatCard) → Decided (HasBranchOf branches card)
+has_branch : (branches : Branches) (card : PatCard) → Decided (HasBranchOf branches card)
 has_branch NoBranch card = inr (λ (below, has). has)
 has_branch (Branch first tree rest) card =
     alike ((first ≡ card) ⊎ HasBranchOf rest card) (HasBranchOf (Branch first tree rest) card) (
@@ -31,6 +35,23 @@ has_branch (Branch first tree rest) card =
       λ (below, has). elim has [ inl here ↦ inl here.0 | inr later ↦ inr (below, later) ],
     )
     (either (first ≡ card) (HasBranchOf rest card) (same_card first card) (has_branch rest card))
+
+higher_than_top : (shape : Shape) (seat : Seat) (branches : Branches) (suit : Suit) (place : ℕ) → Decided (HasHigher shape seat branches (Top suit place))
+higher_than_top shape seat branches suit zero = inr (first_has_none shape seat branches suit)
+higher_than_top shape seat branches suit (suc place) =
+    let above = Top suit place in
+    alike (HasCard shape seat (Top suit (suc place)) × HasHere shape seat branches above) (HasHigher shape seat branches (Top suit (suc place))) (higher_cases shape seat branches suit (suc place) place refl)
+    (both (HasCard shape seat (Top suit (suc place))) (HasHere shape seat branches above) (has_card shape seat (Top suit (suc place)))
+    (both (HasCard shape seat above) (HasBranchOf branches above ⊎ HasHigher shape seat branches above) (has_card shape seat above)
+    (either (HasBranchOf branches above) (HasHigher shape seat branches above) (has_branch branches above) (higher_than_top shape seat branches suit place))))
+
+has_higher : (shape : Shape) (seat : Seat) (branches : Branches) (card : PatCard) → Decided (HasHigher shape seat branches card)
+has_higher shape seat branches (Low suit) = inr (low_has_none shape seat branches suit)
+has_higher shape seat branches (Top suit place) = higher_than_top shape seat branches suit place
+
+pub is_answered : (version : Version) (shape : Shape) (seat : Seat) (branches : Branches) (card : PatCard) → Decided (IsAnswered version shape seat branches card)
+is_answered One shape seat branches card = has_branch branches card
+is_answered Two shape seat branches card = either (HasBranchOf branches card) (HasHigher shape seat branches card) (has_branch branches card) (has_higher shape seat branches card)
 
 -- ---- seats listed
 listed_cases : (child : Child) (rest : List Child) (seat : Seat) → ((child.winner ≡ seat) ⊎ IsListed rest seat) ↔ IsListed (child ∷ rest) seat
@@ -123,10 +144,10 @@ shape_left-is shape leader cards =
     (suit_left-is shape.spades leader cards Spades) (suit_left-is shape.hearts leader cards Hearts)
     (suit_left-is shape.diamonds leader cards Diamonds) (suit_left-is shape.clubs leader cards Clubs)
 
-pub covers_rest : (pattern : Shape) (node : Node) (cards : List PatCard) → Decided (CoversRest pattern node cards)
-covers_rest pattern node cards =
+pub covers_rest : (version : Version) (pattern : Shape) (node : Node) (cards : List PatCard) → Decided (CoversRest version pattern node cards)
+covers_rest version pattern node cards =
     let left = shape_left node.pattern node.lead cards in
     let is = shape_left-is node.pattern node.lead cards in
-    alike (Covers pattern left) (CoversRest pattern node cards)
-    ((λ covers'. (left, is, covers')), λ (rest, is', covers'). subst (Covers pattern) (one_left node.pattern node.lead cards rest left is' is) covers')
-    (covers pattern left)
+    alike (Covers pattern (rest_read version left)) (CoversRest version pattern node cards)
+    ((λ covers'. (left, is, covers')), λ (rest, is', covers'). subst (λ (s : Shape). Covers pattern (rest_read version s)) (one_left node.pattern node.lead cards rest left is' is) covers')
+    (covers pattern (rest_read version left))

@@ -5,6 +5,7 @@ use Rattle.cards.specs.declared.seats.Side.{Side}
 use Rattle.pattern_step.specs.declared.pat_cards.PatCard.{PatCard}
 use Rattle.certificate_graph.specs.declared.children.Child.{Child}
 use Rattle.certificate_graph.specs.declared.nodes.Node.{Node}
+use Rattle.certificate_graph.specs.declared.versions.Version.{Version}
 use Rattle.certificate_graph.specs.Trees.{TrickTree, Own, Reply, Leaf, Branches, Branch}
 use Rattle.certificate_graph.specs.Graphs.{GraphShape, NamesBelow, NameBelow}
 use Rattle.checker.specs.declared.faults.StepFault.{StepFault}
@@ -35,11 +36,11 @@ own_told graph node cards next card tree place side answer here of_side played r
     (own_holds graph node cards card tree right') (λ fault first. inr (right', first))
     (subst (λ (l : List PatCard). IsTold graph node l tree answer) played told))
 
-pub reply_told : {A : Type 0} (graph : GraphShape) (node : Node) (cards : List PatCard) (branches : Branches) (place : TrickTree) (side : Side) (answer : Result A StepFault) →
-    Reply branches ≡ place → side ≡ graph.side → IsOpponentsTurn side node cards × AreAnswers node cards branches →
+pub reply_told : {A : Type 0} (graph : GraphShape) (node : Node) (cards : List PatCard) (branches : Branches) (place : TrickTree) (version : Version) (side : Side) (answer : Result A StepFault) →
+    Reply branches ≡ place → version ≡ graph.version → side ≡ graph.side → IsOpponentsTurn side node cards × AreAnswers version node cards branches →
     AreTold graph node cards branches answer → IsTold graph node cards place answer
-reply_told graph node cards branches place side answer here of_side right told =
-    let right' : IsRightAfter graph node cards (Reply branches) = (rw of_side at right) in
+reply_told graph node cards branches place version side answer here of_version of_side right told =
+    let right' : IsRightAfter graph node cards (Reply branches) = (rw (of_version, of_side) at right) in
     subst (λ (p : TrickTree). IsTold graph node cards p answer) here
     (told_on answer (HoldAmong graph node cards branches) (HoldsFrom graph node cards (Reply branches)) (IsFirstFaultAmong graph node cards branches) (IsFirstFault graph node cards (Reply branches))
     (reply_holds graph node cards branches right') (λ fault first. inr (right', first)) told)

@@ -4,6 +4,7 @@ use Rattle.cards.specs.declared.seats.Side.{Side}
 use Rattle.pattern_step.specs.declared.pat_cards.PatCard.{PatCard}
 use Rattle.certificate_graph.specs.declared.children.Child.{Child}
 use Rattle.certificate_graph.specs.declared.nodes.Node.{Node}
+use Rattle.certificate_graph.specs.declared.versions.Version.{Version}
 use Rattle.certificate_graph.specs.Trees.{TrickTree, Own, Reply, Leaf, Branches, NoBranch, Branch}
 use Rattle.certificate_graph.specs.Graphs.{GraphShape}
 use Rattle.checker.specs.declared.faults.StepFault.{StepFault}
@@ -11,7 +12,7 @@ use Rattle.checker.specs.declared.faults.StepFault.TheVariants.{CardNotLegal, Br
 use Rattle.checker.specs.declared.faults.StepFault.TheVariants.{ChildLead, ChildNeed, ChildPattern, TreeShape}
 use Rattle.checker.specs.declared.faults.NodeFault.{NodeFault}
 use Rattle.checker.specs.Places.{HasBranch, HasBranchOf, LeadsTo}
-use Rattle.checker.specs.Steps.{IsOwnTurn, IsOpponentsTurn, MayComeNext, ListsWinners}
+use Rattle.checker.specs.Steps.{player_after, IsOwnTurn, IsOpponentsTurn, MayComeNext, IsAnswered, ListsWinners}
 use Rattle.checker.specs.Steps.{need_after, CoversRest, IsRightAfter}
 
 -- this fault where this is wrong, and else what follows
@@ -22,9 +23,11 @@ abbrev pub NoFault : {F : Type 0} → F → Type 0
 NoFault fault = ⊥
 
 -- ---- what may be wrong
--- a legal card has no branch
-abbrev pub LacksBranch : Node → List PatCard → Branches → Type 0
-LacksBranch node cards branches = (card : PatCard) × MayComeNext node cards card × (HasBranchOf branches card → ⊥)
+-- a legal card is not answered: it has no branch and, in version 2, isn't excused by one of a higher card either
+abbrev pub LacksBranch : Version → Node → List PatCard → Branches → Type 0
+LacksBranch version node cards branches =
+    (card : PatCard) × MayComeNext node cards card
+    × (IsAnswered version node.pattern (player_after node cards) branches card → ⊥)
 
 -- a branch is of no legal card
 abbrev pub HasWrongBranch : Node → List PatCard → Branches → Type 0
@@ -44,7 +47,7 @@ NeedsTooLittle graph node child =
 -- the pattern of the node that is named doesn't cover what is left
 abbrev pub FailsToCover : GraphShape → Node → List PatCard → Child → Type 0
 FailsToCover graph node cards child =
-    (next : Node) × (slice_get graph.nodes child.number ≡ Some next) × (CoversRest next.pattern node cards → ⊥)
+    (next : Node) × (slice_get graph.nodes child.number ≡ Some next) × (CoversRest graph.version next.pattern node cards → ⊥)
 
 -- ---- the first fault of a place itself
 abbrev pub IsOwnFault : Side → Node → List PatCard → PatCard → StepFault → Type 0
@@ -52,10 +55,10 @@ IsOwnFault side node cards card =
     IfWrong (IsOwnTurn side node cards → ⊥) TreeShape
     (IfWrong (MayComeNext node cards card → ⊥) CardNotLegal NoFault)
 
-abbrev pub IsReplyFault : Side → Node → List PatCard → Branches → StepFault → Type 0
-IsReplyFault side node cards branches =
+abbrev pub IsReplyFault : Version → Side → Node → List PatCard → Branches → StepFault → Type 0
+IsReplyFault version side node cards branches =
     IfWrong (IsOpponentsTurn side node cards → ⊥) TreeShape
-    (IfWrong (LacksBranch node cards branches) BranchMissing
+    (IfWrong (LacksBranch version node cards branches) BranchMissing
     (IfWrong (HasWrongBranch node cards branches) BranchExtra NoFault))
 
 -- the first of the children that has a fault
@@ -91,7 +94,7 @@ abbrev mutual
       IsOwnFault graph.side node cards card fault
       ⊎ (IsRightAfter graph node cards (Own card tree) × IsFirstFault graph node (cards ++ card ∷ []) tree fault)
   IsFirstFault graph node cards (Reply branches) fault =
-      IsReplyFault graph.side node cards branches fault
+      IsReplyFault graph.version graph.side node cards branches fault
       ⊎ (IsRightAfter graph node cards (Reply branches) × IsFirstFaultAmong graph node cards branches fault)
   IsFirstFault graph node cards (Leaf children) fault = IsLeafFault graph node cards children fault
 

@@ -1,12 +1,14 @@
 -- What follows from the definitions, for all graphs.
-use Rattle.std.specs.Prelude.{◌≡◌, ◌↔◌, ℕ, ◌<◌, ◌≤◌, List, length, take, Option, Result}
+use Rattle.std.specs.Prelude.{◌≡◌, ◌↔◌, ℕ, ◌<◌, ◌≤◌, List, length, take, Option, Result, ⊤}
 use Rattle.cards.specs.declared.suits.Trump.{Trump}
 use Rattle.cards.specs.declared.seats.Seat.{Seat}
 use Rattle.cards.specs.Deal.{Deal}
 use Rattle.pattern_step.specs.declared.pat_cards.PatCard.{PatCard}
 use Rattle.pattern_step.specs.Tricks.{played_in_place}
 use Rattle.certificate_graph.specs.declared.nodes.Node.{Node}
-use Rattle.certificate_graph.specs.Trees.{TrickTree, Own}
+use Rattle.certificate_graph.specs.declared.versions.Version.{Version}
+use Rattle.certificate_graph.specs.declared.versions.Version.TheVariants.{One, Two}
+use Rattle.certificate_graph.specs.Trees.{TrickTree, Own, Reply, Leaf}
 use Rattle.certificate_graph.specs.Graphs.{GraphShape, IsGraph}
 use Rattle.certificate_graph.specs.Extracts.{IsExtract, IsRootIn}
 use Rattle.checker.specs.declared.faults.StepFault.{StepFault}
@@ -14,7 +16,7 @@ use Rattle.checker.specs.declared.faults.NodeFault.{NodeFault}
 use Rattle.checker.specs.declared.entry_faults.EntryFault.{EntryFault}
 use Rattle.checker.specs.declared.hand_faults.HandFault.{HandFault}
 use Rattle.checker.specs.declared.entries.Shown.{Shown}
-use Rattle.checker.specs.Places.{LeadsTo}
+use Rattle.checker.specs.Places.{HasBranchOf, LeadsTo}
 use Rattle.checker.specs.Steps.{StepHolds, StepsHold, BeginLine}
 use Rattle.checker.specs.Faults.{IsFirstFault, IsGraphFault}
 use Rattle.checker.specs.Roots.{RootedShape}
@@ -64,18 +66,25 @@ PlacesAreOnLines =
     → StepHolds graph node → LeadsTo node.tree cards place
     → BeginLine node cards
 
--- the cards keep to the tree: where it has a card of the side, that is the one that is played
-abbrev pub KeepTo : TrickTree → List PatCard → Type 0
-KeepTo tree cards =
-    (place : ℕ) (card : PatCard) (below : TrickTree) → place < length cards
-    → LeadsTo tree (take place cards) (Own card below)
-    → card ≡ played_in_place cards place
+-- The card goes on in the tree: it is the side's, where the tree has one. In version 2 it has a branch, where the opponents
+-- play, since legal cards may be without one there; in version 1 none is.
+abbrev pub GoesOn : Version → TrickTree → PatCard → Type 0
+GoesOn version (Own own below) card = own ≡ card
+GoesOn One (Reply branches) card = ⊤
+GoesOn Two (Reply branches) card = HasBranchOf branches card
+GoesOn version (Leaf children) card = ⊤
+
+-- the cards keep to the tree: each goes on in the place to which those before it lead
+abbrev pub KeepTo : Version → TrickTree → List PatCard → Type 0
+KeepTo version tree cards =
+    (place : ℕ) (there : TrickTree) → place < length cards → LeadsTo tree (take place cards) there
+    → GoesOn version there (played_in_place cards place)
 
 -- where a step holds, each beginning of a line that keeps to the tree leads to a place of it
 abbrev pub LinesLeadToPlaces : Type 0
 LinesLeadToPlaces =
     (graph : GraphShape) (node : Node) (cards : List PatCard)
-    → StepHolds graph node → length cards ≤ 4 → BeginLine node cards → KeepTo node.tree cards
+    → StepHolds graph node → length cards ≤ 4 → BeginLine node cards → KeepTo graph.version node.tree cards
     → (place : TrickTree) × LeadsTo node.tree cards place
 
 -- ---- other roots
@@ -84,3 +93,12 @@ abbrev pub ExtractsHold : Type 0
 ExtractsHold =
     (graph other : GraphShape) (root : Option ℕ)
     → IsRootIn graph.nodes root → IsExtract graph root other → StepsHold graph → StepsHold other
+
+-- ---- versions
+-- the graph, read by the second version
+abbrev pub as_two : GraphShape → GraphShape
+as_two graph = record graph { version = Two }
+
+-- where the steps of a graph of version 1 hold, they hold by version 2
+abbrev pub HoldAsTwo : Type 0
+HoldAsTwo = (graph : GraphShape) → graph.version ≡ One → StepsHold graph → StepsHold (as_two graph)

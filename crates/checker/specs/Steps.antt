@@ -1,18 +1,24 @@
 -- The step of a node: one trick, played on the node's pattern. At each turn of the side the tree has one legal card. At
--- each turn of the opponents it has all their legal cards and no others. After four cards it lists the seats that may
--- win and leave something to be done, and for each a node that goes on: of what is left, with that seat to lead, for no
--- less than is still needed.
+-- each turn of the opponents its branches answer all their legal cards and are of no others. After four cards it lists the
+-- seats that may win and leave something to be done, and for each a node that goes on: of what is left, with that seat to
+-- lead, for no less than is still needed.
+--
+-- The version of the graph decides two things: which cards a branch answers, and how what is left is read.
 use Rattle.std.specs.Prelude.{◌≡◌, ◌≢◌, ℕ, ◌-◌, ◌<◌, ◌≤◌, ◌↔◌, List}
-use Rattle.std.specs.Prelude.{length, take, Some, All, Contains, slice_get, if◌then◌else◌}
+use Rattle.std.specs.Prelude.{length, take, Some, All, Contains, slice_get, ◌⊎◌, if◌then◌else◌}
 use Rattle.cards.specs.declared.seats.Seat.{Seat}
 use Rattle.cards.specs.declared.seats.Side.{Side}
 use Rattle.cards.specs.Seats.{seat_in_place, side_of, is_same_side}
 use Rattle.patterns.specs.Shapes.{Shape, Covers}
+use Rattle.patterns.specs.Completions.{completed}
 use Rattle.pattern_step.specs.declared.pat_cards.PatCard.{PatCard}
 use Rattle.pattern_step.specs.PatCards.{IsLegal}
 use Rattle.pattern_step.specs.Tricks.{played_in_place, suit_led_by, MayWin, IsLeft}
+use Rattle.pattern_step.specs.Runs.{IsLowerInRun}
 use Rattle.certificate_graph.specs.declared.children.Child.{Child}
 use Rattle.certificate_graph.specs.declared.nodes.Node.{Node}
+use Rattle.certificate_graph.specs.declared.versions.Version.{Version}
+use Rattle.certificate_graph.specs.declared.versions.Version.TheVariants.{One, Two}
 use Rattle.certificate_graph.specs.Trees.{TrickTree, Own, Reply, Leaf, Branches}
 use Rattle.certificate_graph.specs.Graphs.{GraphShape}
 use Rattle.checker.specs.Places.{HasBranchOf, LeadsTo}
@@ -36,9 +42,23 @@ pub record IsOpponentsTurn (side : Side) (node : Node) (cards : List PatCard) : 
   pub goes_on : length cards < 4
   pub others : side_of (player_after node cards) ≢ side
 
--- the branches are the legal cards
-abbrev pub AreAnswers : Node → List PatCard → Branches → Type 0
-AreAnswers node cards branches = (card : PatCard) → HasBranchOf branches card ↔ MayComeNext node cards card
+-- a branch is of a higher card, in a run of the seat
+abbrev pub HasHigher : Shape → Seat → Branches → PatCard → Type 0
+HasHigher pattern seat branches card =
+    (higher : PatCard) × IsLowerInRun pattern seat card higher × HasBranchOf branches higher
+
+-- The branches answer a card of the seat that plays: one of them is of that card. In version 2 it is enough that one is of a
+-- higher card in a run of the seat.
+abbrev pub IsAnswered : Version → Shape → Seat → Branches → PatCard → Type 0
+IsAnswered One pattern seat branches card = HasBranchOf branches card
+IsAnswered Two pattern seat branches card = HasBranchOf branches card ⊎ HasHigher pattern seat branches card
+
+-- the branches answer the legal cards, and are of no others
+pub record AreAnswers (version : Version) (node : Node) (cards : List PatCard) (branches : Branches) : Type 0 where
+  pub each :
+      (card : PatCard) → MayComeNext node cards card
+      → IsAnswered version node.pattern (player_after node cards) branches card
+  pub legal : (card : PatCard) → HasBranchOf branches card → MayComeNext node cards card
 
 -- ---- the end of a trick
 -- what is still needed when this seat has won the trick
@@ -58,15 +78,21 @@ IsListed children seat = (number : ℕ) × Contains children (record { winner = 
 abbrev pub ListsWinners : GraphShape → Node → List PatCard → List Child → Type 0
 ListsWinners graph node cards children = (seat : Seat) → IsListed children seat ↔ HasToGoOn graph node cards seat
 
+-- what is left, as a node that goes on has to cover it: in version 2 it is completed
+abbrev pub rest_read : Version → Shape → Shape
+rest_read One rest = rest
+rest_read Two rest = completed rest
+
 -- the pattern covers what the four cards leave
-abbrev pub CoversRest : Shape → Node → List PatCard → Type 0
-CoversRest pattern node cards = (rest : Shape) × IsLeft node.pattern node.lead cards rest × Covers pattern rest
+abbrev pub CoversRest : Version → Shape → Node → List PatCard → Type 0
+CoversRest version pattern node cards =
+    (rest : Shape) × IsLeft node.pattern node.lead cards rest × Covers pattern (rest_read version rest)
 
 -- a node goes on after the four cards, where this seat has won
 pub record Continues (graph : GraphShape) (node : Node) (cards : List PatCard) (winner : Seat) (next : Node) : Type 0 where
   pub lead : next.lead ≡ winner
   pub need : need_after graph.side node.need winner ≤ next.need
-  pub pattern : CoversRest next.pattern node cards
+  pub pattern : CoversRest graph.version next.pattern node cards
 
 -- the node that is named goes on
 abbrev pub IsRightChild : GraphShape → Node → List PatCard → Child → Type 0
@@ -82,7 +108,8 @@ pub record IsRightLeaf (graph : GraphShape) (node : Node) (cards : List PatCard)
 -- what has to stand in the tree after these cards
 abbrev pub IsRightAfter : GraphShape → Node → List PatCard → TrickTree → Type 0
 IsRightAfter graph node cards (Own card tree) = IsOwnTurn graph.side node cards × MayComeNext node cards card
-IsRightAfter graph node cards (Reply branches) = IsOpponentsTurn graph.side node cards × AreAnswers node cards branches
+IsRightAfter graph node cards (Reply branches) =
+    IsOpponentsTurn graph.side node cards × AreAnswers graph.version node cards branches
 IsRightAfter graph node cards (Leaf children) = IsRightLeaf graph node cards children
 
 -- The step holds: in each place of the tree stands what has to, after the cards that lead there.

@@ -2,16 +2,18 @@
 
 ghost use Rattle.std.specs.Prelude.{◌≡◌, ◌<◌, ◌≤◌, ◌≢◌, ◌↔◌, IsTrue, MatchResult, All, length, [], ◌∷◌};
 ghost use Rattle.cards.specs.declared.seats.Seat.{Seat};
+ghost use Rattle.patterns.specs.Shapes.{Covers};
 ghost use Rattle.pattern_step.specs.SeatSets.{is_in};
 ghost use Rattle.pattern_step.specs.Tricks.{AreLegalInTurn};
-ghost use Rattle.checker.specs.Steps.{need_after, IsListed, ListsWinners, IsRightChild, IsRightLeaf, BeginLine};
+ghost use Rattle.checker.specs.Steps.{need_after, IsListed, ListsWinners, rest_read, IsRightChild, IsRightLeaf, BeginLine};
 ghost use Rattle.checker.specs.Faults.{IsChildrenFault, IsLeafFault};
 
 use crate::faults::StepFault;
 use crate::played::Played;
 use cards::{Seat, Side};
-use certificate_graph::{Child, Children, Graph, Node};
+use certificate_graph::{Child, Children, Graph, Node, Version};
 use pattern_step::{PatCard, SeatSet, rest, winners};
+use patterns::{Pattern, Rest};
 
 /// What is still needed when this seat has won the trick.
 fn need_after(side: Side, need: u8, winner: Seat) -> u8
@@ -60,6 +62,17 @@ fn lists_winners(graph: &Graph, node: &Node, trick: &[PatCard; 4], children: &Ch
         && is_rightly_listed(side, node.need, winners, children, Seat::West)
 }
 
+/// Whether the pattern covers what is left, as the version reads it. What covers the rest covers it completed, so it is
+/// completed only where that is needed.
+fn covers(version: Version, pattern: &Pattern, left: &Rest) -> bool
+    ensures { IsTrue result ↔ Covers pattern.now (rest_read version left.now) }
+{
+    match version {
+        Version::One => pattern.covers(left),
+        Version::Two => pattern.covers(left) || pattern.covers(&left.completed()),
+    }
+}
+
 /// Checks that the node named goes on from what the four cards leave.
 fn check_child(
     graph: &Graph,
@@ -81,7 +94,7 @@ fn check_child(
         return Err(StepFault::ChildNeed);
     }
     let left = rest(&node.pattern, node.lead, trick);
-    if !next.pattern.covers(&left) {
+    if !covers(graph.version(), &next.pattern, &left) {
         return Err(StepFault::ChildPattern);
     }
     Ok(())

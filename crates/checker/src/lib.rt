@@ -35,7 +35,7 @@ pub use judging::{Verdict, judge};
 pub use laws::{
     extracts_hold, graph_has_one_first_fault, graphs_have_one_answer, lines_lead_to_places,
     no_fault_where_steps_hold, place_has_one_first_fault, places_are_on_lines,
-    texts_have_one_verdict,
+    steps_hold_as_version_two, texts_have_one_verdict,
 };
 pub use soundness::{entries_are_sound, graphs_are_sound, one_step_is_sound};
 pub use wide::check_graph_wide;

@@ -3,15 +3,17 @@
 ghost use Rattle.std.specs.Prelude.{◌≡◌, ◌<◌, ◌↔◌, IsTrue, MatchBool, MatchResult, Contains, length};
 ghost use Rattle.cards.specs.Seats.{seat_in_place};
 ghost use Rattle.pattern_step.specs.declared.pat_cards.PatCard.{PatCard};
+ghost use Rattle.pattern_step.specs.declared.pat_cards.PatCard.TheVariants.{Top};
 ghost use Rattle.checker.specs.Places.{HasBranchOf};
-ghost use Rattle.checker.specs.Steps.{player_after, MayComeNext, IsOwnTurn, IsOpponentsTurn, AreAnswers};
+ghost use Rattle.checker.specs.Steps.{player_after, MayComeNext, IsOwnTurn, IsOpponentsTurn, HasHigher, IsAnswered, AreAnswers};
 ghost use Rattle.checker.specs.Faults.{HasWrongBranch, IsOwnFault, IsReplyFault};
 
 use crate::faults::StepFault;
 use crate::played::Played;
-use cards::{Seat, Side};
-use certificate_graph::{Branches, Node};
+use cards::{Seat, Side, Suit};
+use certificate_graph::{Branches, Node, Version};
 use pattern_step::{PatCard, is_legal, legal};
+use patterns::Pattern;
 
 /// The seat that plays after these cards.
 fn player_after(node: &Node, played: &Played) -> Seat
@@ -84,13 +86,62 @@ fn has_branch(branches: &Branches<'_>, card: PatCard) -> bool
     }
 }
 
-/// Whether there is a branch of each of the cards.
-fn has_branches(branches: &Branches<'_>, cards: &[PatCard]) -> bool
-    ensures { MatchBool result
-        ((card : PatCard) → Contains cards.now card → HasBranchOf branches.now card)
-        ((card : PatCard) × Contains cards.now card × (HasBranchOf branches.now card → ⊥)) }
+/// Whether there is a branch of a higher card than the top in this place, in a run of the seat.
+fn has_higher(pattern: &Pattern, seat: Seat, branches: &Branches<'_>, suit: Suit, place: u8) -> bool
+    ensures { IsTrue result ↔ HasHigher pattern.now seat branches.now (Top suit place) }
 {
-    cards.iter().all(|card| has_branch(branches, *card))
+    if place == 0 || !is_legal(pattern, seat, None, PatCard::Top(suit, place)) {
+        return false;
+    }
+    let above = PatCard::Top(suit, place - 1);
+    is_legal(pattern, seat, None, above)
+        && (has_branch(branches, above) || has_higher(pattern, seat, branches, suit, place - 1))
+}
+
+/// Whether there is a branch of a higher card than this one, in a run of the seat.
+fn is_excused(pattern: &Pattern, seat: Seat, branches: &Branches<'_>, card: PatCard) -> bool
+    ensures { IsTrue result ↔ HasHigher pattern.now seat branches.now card }
+{
+    match card {
+        PatCard::Top(suit, place) => has_higher(pattern, seat, branches, suit, place),
+        PatCard::Low(_) => false,
+    }
+}
+
+/// Whether the branches answer a card of the seat.
+fn is_answered(
+    version: Version,
+    pattern: &Pattern,
+    seat: Seat,
+    branches: &Branches<'_>,
+    card: PatCard,
+) -> bool
+    ensures { IsTrue result ↔ IsAnswered version pattern.now seat branches.now card }
+{
+    match version {
+        Version::One => has_branch(branches, card),
+        Version::Two => has_branch(branches, card) || is_excused(pattern, seat, branches, card),
+    }
+}
+
+/// Whether the branches answer each of the cards of the seat.
+fn are_answered(
+    version: Version,
+    pattern: &Pattern,
+    seat: Seat,
+    branches: &Branches<'_>,
+    cards: &[PatCard],
+) -> bool
+    ensures { MatchBool result
+        ((card : PatCard) → Contains cards.now card → IsAnswered version pattern.now seat branches.now card)
+        ((card : PatCard) × Contains cards.now card × (IsAnswered version pattern.now seat branches.now card → ⊥)) }
+{
+    for card in cards {
+        if !is_answered(version, pattern, seat, branches, *card) {
+            return false;
+        }
+    }
+    true
 }
 
 /// Whether all branches are of legal cards.
@@ -108,22 +159,25 @@ fn are_legal(node: &Node, played: &Played, branches: &Branches<'_>) -> bool
     }
 }
 
-/// Checks that the branches belong here: that they are the legal cards of the opponents.
+/// Checks that the branches belong here: that they answer the legal cards of the opponents, and are of no others.
 pub(crate) fn check_reply(
+    version: Version,
     side: Side,
     node: &Node,
     played: &Played,
     branches: &Branches<'_>,
 ) -> Result<(), StepFault>
     ensures { MatchResult result
-        (λ _. IsOpponentsTurn side node.now played.now × AreAnswers node.now played.now branches.now)
-        (IsReplyFault side node.now played.now branches.now) }
+        (λ _. IsOpponentsTurn side node.now played.now × AreAnswers version node.now played.now branches.now)
+        (IsReplyFault version side node.now played.now branches.now) }
 {
     if !is_opponents_turn(side, node, played) {
         return Err(StepFault::TreeShape);
     }
-    let cards = legal(&node.pattern, player_after(node, played), played.led());
-    if !has_branches(branches, cards.as_slice()) {
+    let pattern = &node.pattern;
+    let seat = player_after(node, played);
+    let cards = legal(pattern, seat, played.led());
+    if !are_answered(version, pattern, seat, branches, cards.as_slice()) {
         return Err(StepFault::BranchMissing);
     }
     if !are_legal(node, played, branches) {

@@ -33,7 +33,7 @@ pub(crate) fn check_place(
             check_place(graph, node, &played.with(card), &below)
         }
         View::Reply(branches) => {
-            check_reply(graph.side(), node, played, &branches)?;
+            check_reply(graph.version(), graph.side(), node, played, &branches)?;
             check_branches(graph, node, played, &branches)
         }
         View::Leaf(children) => check_leaf(graph, node, played, &children),

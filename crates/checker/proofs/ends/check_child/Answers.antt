@@ -46,7 +46,7 @@ returns-then-not-covers c =
       right_lead graph child next there leads,
       inr (
         right_need graph node child next there (omega (arith, needs, c.if-next-need_after.false)),
-        inl (wrong_pattern graph node trick child next c.rest-left.result there c.rest-left.ensures (not_told c.covers.ensures c.if-not-covers.true), refl),
+        inl (wrong_pattern graph node trick child next c.rest-left.result there c.rest-left.ensures (not_told (rw c.version.ensures at c.covers.ensures) c.if-not-covers.true), refl),
       ),
     )
 
@@ -59,4 +59,4 @@ returns c =
     let there = named graph.nodes c.nodes.result.now child next c.requires.named c.nodes.ensures c.index-nodes-child.is in
     let leads = seats_agree next.lead child.winner c.ne.result c.ne.ensures c.if-ne.false in
     let needs : c.need_after.result ≡ need_after graph.side node.need child.winner = (rw c.side.ensures at c.need_after.ensures) in
-    (next, there, record { lead = leads; need = omega (arith, needs, c.if-next-need_after.false); pattern = (c.rest-left.result, c.rest-left.ensures, c.covers.ensures.0 c.if-not-covers.false) })
+    (next, there, record { lead = leads; need = omega (arith, needs, c.if-next-need_after.false); pattern = (c.rest-left.result, c.rest-left.ensures, (rw c.version.ensures at c.covers.ensures).0 c.if-not-covers.false) })

@@ -29,8 +29,8 @@ check_place-returns-in_ok-check_own-in-Own t c =
 
 pub check_place-returns-in_ok-check_reply-in-Reply : goal.check_place-returns-in_ok-check_reply-in-Reply
 check_place-returns-in_ok-check_reply-in-Reply t c =
-    reply_told c.args.graph.now c.args.node.now c.args.played.now c.in-Reply.branches c.args.place.now c.side-in-Reply.result c.check_branches.result
-    c.in-Reply.ensures c.side-in-Reply.ensures c.in_ok-check_reply-in-Reply.ensures c.check_branches.ensures
+    reply_told c.args.graph.now c.args.node.now c.args.played.now c.in-Reply.branches c.args.place.now c.version.result c.side-in-Reply.result c.check_branches.result
+    c.in-Reply.ensures c.version.ensures c.side-in-Reply.ensures c.in_ok-check_reply-in-Reply.ensures c.check_branches.ensures
 
 pub check_place-returns-in-Leaf : goal.check_place-returns-in-Leaf
 check_place-returns-in-Leaf t c =
