@@ -114,9 +114,9 @@ impl Deal {
             hands: hands_of(layout, suits),
             trumps: trumps_of(trump),
             suits,
-            near: Vec::new(alloc),
-            deep: Vec::new(alloc),
-            ranks: Vec::new(alloc),
+            near: Vec::with_capacity(alloc, ALL_SETS)?,
+            deep: Vec::with_capacity(alloc, ALL_SETS)?,
+            ranks: Vec::with_capacity(alloc, SETS)?,
         };
         deal.fill_owners()?;
         deal.fill_ranks()?;
