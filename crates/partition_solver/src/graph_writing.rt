@@ -67,7 +67,7 @@ impl Writing {
             Side::EastWest
         };
         let Writing { nodes, .. } = self;
-        Graph::new(Version::One, trump, side, nodes).ok()
+        Graph::new(Version::Two, trump, side, nodes).ok()
     }
 
     /// Writes the roots and all nodes that are named. False where one is not shown.
@@ -116,7 +116,7 @@ impl Writing {
         let pattern = self.pattern_of(&held)?;
         let turn = Turn {
             held: &held,
-            trick: PatternTrick::start(start.lengths, start.leader),
+            trick: PatternTrick::start(&held, start.leader),
             need: i32::from(record.need),
             limit: u32::MAX,
         };

@@ -248,7 +248,7 @@ impl Plan {
         self.pieces.truncate(to);
     }
 
-    /// Adds all cards of the opponents.
+    /// Adds cards of the opponents: of each run the highest, which serves for the others, and the low ones.
     #[cycle(planning)]
     fn add_reply(&mut self, search: &mut Search, fuel: u32, turn: &Turn<'_>) -> Option<u32> {
         if fuel == 0 {
@@ -256,7 +256,7 @@ impl Plan {
         }
         self.push(search, Piece::Reply)?;
         let mut sum = 0u32;
-        let mut waiting = turn.legal_cards();
+        let mut waiting = tops_of_runs(turn.legal_cards());
         for _ in 0..u64::BITS {
             if waiting == 0 {
                 break;

@@ -4,7 +4,7 @@ use crate::search::Search;
 use crate::starts::{Found, Start};
 use pattern_store::{List, Record};
 use search_state::deals::CardsLeft;
-use search_state::relevant_cards::{depths_of, named_card};
+use search_state::relevant_cards::{depths_of, named_card, without_lone};
 use search_state::words::MIXER;
 
 /// There are 2 to this power of places for remembered leads.
@@ -93,9 +93,11 @@ impl Search {
         })
     }
 
-    /// Remembers what was found at the start of a trick, and of the card that showed it, if any, the name.
-    pub(crate) fn remember(&mut self, start: &Start, found: Found, card: u64) {
-        let depths = depths_of(start.left, found.relevant);
+    /// Remembers what was found at the start of a trick, and of the card that showed it, if any, the name. Answers it with
+    /// the cards that have to be named for it.
+    pub(crate) fn remember(&mut self, start: &Start, found: Found, card: u64) -> Found {
+        let relevant = without_lone(&self.held.hands, start.left, found.relevant);
+        let depths = depths_of(start.left, relevant);
         let named = named_card(start.left, depths, card);
         let left = self.deal.cards_left(start.left);
         let need = (found.bound & 15) as u8;
@@ -108,6 +110,7 @@ impl Search {
         if added.is_err() {
             self.run_out();
         }
+        Found { relevant, ..found }
     }
 
     /// Remembers that this lead succeeded.

@@ -106,15 +106,13 @@ impl Search {
             }
             if found.ours == mover {
                 self.remember_lead(start, tried.card);
-                self.remember(start, found, tried.card);
-                return found;
+                return self.remember(start, found, tried.card);
             }
             answer = answer.with_failed(tried, found);
             moves.skip(tried, found.relevant);
             next = self.next_lead(tricks, start, runs, &mut moves);
         }
-        self.remember(start, answer, 0);
-        answer
+        self.remember(start, answer, 0)
     }
 
     /// The second hand's turn.

@@ -52,7 +52,7 @@ fn tricks_of(text: &str, declarer: Seat, trump: Trump) -> Result<u8, Fail> {
     }
 }
 
-/// An answer is found, and `check` accepts it with this number.
+/// An answer is found, of version 2, and `check` accepts it with this number.
 fn expect_accepted<R: Abort + Threads + Wait + Sync>(
     rt: &R,
     alloc: Global,
@@ -83,6 +83,9 @@ fn expect_accepted<R: Abort + Threads + Wait + Sync>(
         &mut errors,
     );
     expect_eq(rt, &status, &Status::Done);
+    let beginning = format!(in alloc; "result {tricks}\nDDC 2\n")?;
+    let text = str::from_utf8(answer.bytes())?;
+    expect_eq(rt, &text.starts_with(beginning.as_str()), &true);
     let check = Subcommand::Check {
         layout,
         declarer,

@@ -22,6 +22,8 @@ pub struct Held {
     whole: Remains,
     /// The lengths, as the search has them.
     pub lengths: u64,
+    /// How many low cards each seat has, like the lengths.
+    lows: u64,
     /// The card that showed it in the search, where the side leads, or no card.
     pub first_card: u64,
 }
@@ -33,6 +35,8 @@ pub struct PatternTrick {
     gone: u64,
     /// The lengths, as the search has them.
     pub lengths: u64,
+    /// How many low cards each seat has, like the lengths.
+    lows: u64,
     /// All bits of the suit led, 0 before the lead.
     led: u64,
     /// The card that wins so far, or no card.
@@ -45,7 +49,8 @@ pub struct PatternTrick {
     pub seat: usize,
 }
 
-/// What a trick leaves: the owners, and the bits of those that are known.
+/// What a trick leaves: the owners, and the bits of those that are known. Where one seat alone has low cards of a suit it is
+/// known to own them.
 #[derive(Clone, Copy, Default)]
 pub struct Remains {
     pub owners: Owners,
@@ -84,6 +89,18 @@ fn without_all(owners: u32, places: u32) -> u32 {
     left
 }
 
+/// How many low cards of a suit there are where one seat alone has some, and their owners; else none.
+fn lone_lows(lows: u32) -> (u32, u32) {
+    let holders = (lows | lows >> 1 | lows >> 2 | lows >> 3) & 0x1111;
+    if holders == 0 || holders & holders.wrapping_sub(1) != 0 {
+        return (0, 0);
+    }
+    let start = holders.trailing_zeros();
+    let count = lows.wrapping_shr(start) & 15;
+    let all = 1u32.wrapping_shl(count.wrapping_mul(2)).wrapping_sub(1);
+    (count, all & (start >> 2 & 3).wrapping_mul(0x5555_5555))
+}
+
 impl Remains {
     /// Nothing is known.
     fn new() -> Remains {
@@ -111,6 +128,7 @@ impl Held {
             cards: [0; 4],
             whole: Remains::new(),
             lengths,
+            lows: lengths,
             first_card: if record.first_card < 64 {
                 1u64.wrapping_shl(u32::from(record.first_card))
             } else {
@@ -131,20 +149,15 @@ impl Held {
         self.depths[lane & 3] = depth;
         self.whole.put(lane, owners, depth);
         for place in 0..depth.min(MOST_CARDS) {
-            self.cards[self.owner(lane, place) & 3] |= bit_of(lane, place);
+            let owner = self.owner(lane, place) & 3;
+            self.cards[owner] |= bit_of(lane, place);
+            self.lows = self.lows.wrapping_sub(one_of(lane, owner));
         }
         for seat in 0..4usize {
-            let tops = lane_of(self.cards[seat], lane).count_ones();
-            if tops < u32::from(self.length(lane, seat)) {
+            if self.lows & one_of(lane, seat).wrapping_mul(15) != 0 {
                 self.cards[seat] |= bit_of(lane, LOW);
             }
         }
-    }
-
-    /// How many cards of a suit the seat has.
-    fn length(&self, lane: usize, seat: usize) -> u8 {
-        let place = (lane & 3) as u32 * 16 + (seat & 3) as u32 * 4;
-        (self.lengths.wrapping_shr(place) & 15) as u8
     }
 
     /// Who owns the card in this place of a suit.
@@ -171,17 +184,24 @@ impl Held {
         let mut remains = self.whole;
         for lane in 0..4usize {
             let gone = lane_of(trick.gone, lane);
-            if gone != 0 {
+            let lone = lone_lows(lane_of(trick.lows, lane));
+            if gone != 0 || lone.0 != 0 {
                 let left = without_all(self.owners[lane], gone);
+                let depth = self.depths[lane].wrapping_sub(gone.count_ones());
                 remains.put(
                     lane,
-                    left,
-                    self.depths[lane].wrapping_sub(gone.count_ones()),
+                    left | lone.1.wrapping_shl(depth.wrapping_mul(2)),
+                    depth.wrapping_add(lone.0),
                 );
             }
         }
         remains
     }
+}
+
+/// One card of a suit and a seat, in the words of the lengths.
+fn one_of(lane: usize, seat: usize) -> u64 {
+    1u64.wrapping_shl((lane & 3) as u32 * 16 + (seat & 3) as u32 * 4)
 }
 
 /// The card in this place of a suit.
@@ -190,11 +210,12 @@ fn bit_of(lane: usize, place: u32) -> u64 {
 }
 
 impl PatternTrick {
-    /// The start of a trick, with this seat to lead.
-    pub fn start(lengths: u64, leader: usize) -> PatternTrick {
+    /// The start of a trick on a pattern, with this seat to lead.
+    pub fn start(held: &Held, leader: usize) -> PatternTrick {
         PatternTrick {
             gone: 0,
-            lengths,
+            lengths: held.lengths,
+            lows: held.lows,
             led: 0,
             best: 0,
             winners: 0,
@@ -224,8 +245,11 @@ impl PatternTrick {
             next.led = suit;
         }
         next.gone |= card & !LOWS;
-        let place = start_of(card).wrapping_add(seat as u32 * 4);
-        next.lengths = self.lengths.wrapping_sub(1u64.wrapping_shl(place));
+        let one = 1u64.wrapping_shl(start_of(card).wrapping_add(seat as u32 * 4));
+        next.lengths = self.lengths.wrapping_sub(one);
+        if card & LOWS != 0 {
+            next.lows = self.lows.wrapping_sub(one);
+        }
         next.seat = seat + 1 & 3;
         next.on_table = self.on_table.wrapping_add(1);
         next

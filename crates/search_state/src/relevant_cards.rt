@@ -3,7 +3,9 @@
 use crate::moves::Move;
 use crate::pattern_tricks::LOW;
 use crate::positions::Trick;
-use crate::words::{SUIT, below, lowest, start_of, suit_of};
+use crate::words::{
+    SUIT, below, below_lowest, lowest, lowest_of_each, start_of, suit_of, suits_of_cards,
+};
 use pattern_store::NO_CARD;
 
 /// How deep the lowest relevant card of the suit that starts here lies.
@@ -45,6 +47,22 @@ pub fn named_card(left: u64, depths: u16, card: u64) -> u8 {
     let depth = u32::from(depths.wrapping_shr(start >> 2) & 15);
     let place = if above < depth { above } else { LOW };
     ((start | place) & 63) as u8
+}
+
+/// The cards of each hand below which no other hand has a card of their suit.
+fn lone_cards(hands: &[u64; 4], left: u64) -> u64 {
+    hands[0] & below_lowest(left & !hands[0])
+        | hands[1] & below_lowest(left & !hands[1])
+        | hands[2] & below_lowest(left & !hands[2])
+        | hands[3] & below_lowest(left & !hands[3])
+}
+
+/// The cards that have to be named for these. Where one hand alone has the lowest cards of a suit, the lengths tell who owns
+/// them: it is enough to name those above.
+pub fn without_lone(hands: &[u64; 4], left: u64, relevant: u64) -> u64 {
+    let lone = lone_cards(hands, left);
+    let above = lowest_of_each(left & !lone);
+    relevant & !lone | above & suits_of_cards(relevant & lone)
 }
 
 /// The cards whose rank matters after a trick: those of the rest, and that of the winner where others played to its suit.

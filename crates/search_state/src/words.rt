@@ -2,6 +2,8 @@
 
 /// All cards of the pack.
 pub(crate) const PACK: u64 = 0x1fff_1fff_1fff_1fff;
+/// The deuces.
+const DEUCES: u64 = 0x0001_0001_0001_0001;
 /// The bits of the lowest suit.
 pub const SUIT: u64 = 0xffff;
 /// The bit above the ace of the lowest suit.
@@ -49,6 +51,22 @@ pub fn suit_of(card: u64) -> u64 {
 /// The cards below this one, in its suit and the suits below.
 pub fn below(card: u64) -> u64 {
     card.wrapping_sub(1)
+}
+
+/// All cards of each suit in which the set has one.
+pub(crate) fn suits_of_cards(cards: u64) -> u64 {
+    let found = cards.wrapping_add(PACK) & DEUCES.wrapping_mul(ABOVE);
+    found.wrapping_sub(found >> 13)
+}
+
+/// The cards of each suit below the lowest of the set, and all cards of a suit in which it has none.
+pub(crate) fn below_lowest(cards: u64) -> u64 {
+    (cards | DEUCES.wrapping_mul(ABOVE)).wrapping_sub(DEUCES) & !cards & PACK
+}
+
+/// The lowest card of the set in each suit.
+pub(crate) fn lowest_of_each(cards: u64) -> u64 {
+    cards & (!cards & PACK).wrapping_add(DEUCES)
 }
 
 /// The lowest card of each run of touching cards of a hand: those between which no card is left with others.
