@@ -63,8 +63,25 @@ def rest(suits, lead, cards):
     return [(lengths, "".join(owners)) for lengths, owners in left]
 
 
-def covers(suits, left):
-    return all(suit.lengths == lengths and owners.startswith(suit.owners) for suit, (lengths, owners) in zip(suits, left))
+def completed(lengths, owners):
+    """The owners of a suit, and where one seat alone has low cards that seat for each of them."""
+    lows = [length - owners.count(seat) for seat, length in zip(SEATS, lengths)]
+    holders = [seat for seat, count in zip(SEATS, lows) if count > 0]
+    return owners + holders[0] * sum(lows) if len(holders) == 1 else owners
+
+
+def covers(version, suits, left):
+    """Whether a child covers what is left; by version 2 what is left may be completed."""
+    return all(suit.lengths == lengths and (owners if version == 1 else completed(lengths, owners)).startswith(suit.owners)
+               for suit, (lengths, owners) in zip(suits, left))
+
+
+def is_excused(suits, seat, branches, card):
+    """Whether a higher card of the card's run has a branch."""
+    if card[1] == "x":
+        return False
+    owners, last = suits[SUITS.index(card[0])].owners, TOPS.index(card[1])
+    return any(card[0] + TOPS[first] in branches and owners[first:last + 1] == seat * (last + 1 - first) for first in range(last))
 
 
 def leaf_fault(graph, node, cards, children):
@@ -82,7 +99,7 @@ def leaf_fault(graph, node, cards, children):
             return "5 ChildLead"
         if child.need < needs[seat]:
             return "6 ChildNeed"
-        if not covers(child.suits, left):
+        if not covers(graph.version, child.suits, left):
             return "7 ChildPattern"
     return None
 
@@ -102,7 +119,8 @@ def tree_fault(graph, node, tree, cards):
     if tree[0] != "reply":
         return "8 TreeShape"
     branches = [card for card, _ in tree[1]]
-    if any(card not in branches for card in allowed):
+    missing = [card for card in allowed if card not in branches]
+    if any(graph.version == 1 or not is_excused(node.suits, seat, branches, card) for card in missing):
         return "2 BranchMissing"
     if any(card not in allowed for card in branches):
         return "3 BranchExtra"

@@ -1,11 +1,12 @@
 #!/usr/bin/env python3
-"""Compares `ddfarm check` with the checker beside it (checker.py) on the answers of answers.tar.xz, as they are and damaged:
-status, standard output and standard error, to the byte. What is accepted has to tell the tricks that DDS tells, and `ddfarm plain`
+"""Compares `ddfarm check` with the checker beside it (checker.py) on the answers of answers.tar.xz, as they are, as version 2
+and damaged: status, standard output and standard error, to the byte. What is accepted has to tell the tricks that DDS tells, and `ddfarm plain`
 has to tell them too where it takes the layout.
 
-Usage: bench/answers/compare.py COUNT [SEED]. Each answer as it is, and COUNT times with each kind of damage (a tenth of that where
-it is longer than 100,000 bytes). The program has to be built (run ./ddfarm once). Ends with status 1 at the first difference.
+Usage: bench/answers/compare.py COUNT [SEED]. Each answer as it is and as version 2 without the branches that may be left out, and
+COUNT times each with each kind of damage (a tenth of that where it is longer than 100,000 bytes). The program has to be built (run ./ddfarm once). Ends with status 1 at the first difference.
 """
+import itertools
 import os
 import random
 import subprocess
@@ -15,6 +16,7 @@ from collections import Counter
 
 import checker
 import damages
+import versions
 
 FOLDER = os.path.dirname(os.path.abspath(__file__))
 PROGRAM = os.path.join(FOLDER, "..", "..", "crates", "ddfarm", "out", "ddfarm")
@@ -63,17 +65,18 @@ def main():
     sound, damaged = 0, Counter()
     for name, words, text in answers():
         tricks = int(text.split(b"\n", 1)[0].split()[1])
-        if compare(name, words, text, tricks) != "accepted":
-            sys.exit(f"{name}: not accepted")
         compare_plain(name, *words, tricks)
+        second = versions.as_version_two(text)
+        for form in (text, second):
+            if compare(name, words, form, tricks) != "accepted":
+                sys.exit(f"{name}: not accepted")
         sound += 1
         times = count if len(text) <= LONG else (count + 9) // 10
-        for kind in damages.KINDS:
-            for number in range(times):
-                other = kind(random.Random(f"{seed} {name} {kind.__name__} {number}"), text)
-                if other is not None and other != text:
-                    damaged[compare(f"{name}, {kind.__name__} {number}", words, other, tricks)] += 1
-    print(f"{sound} answers accepted, {sum(damaged.values())} damaged ones, no difference",
+        for form, kind, number in itertools.product((text, second), damages.KINDS, range(times)):
+            other = kind(random.Random(f"{seed} {name} {kind.__name__} {number}"), form)
+            if other is not None and other != form:
+                damaged[compare(f"{name}, {kind.__name__} {number}", words, other, tricks)] += 1
+    print(f"{sound} answers accepted by both versions, {sum(damaged.values())} damaged ones, no difference",
           *(f"{name} {times}" for name, times in damaged.most_common()), sep=", ")
 
 

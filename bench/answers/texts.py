@@ -12,13 +12,13 @@ CARD_ORDER = {suit + top: (SUITS.index(suit), TOPS.index(top)) for suit in SUITS
 
 Suit = namedtuple("Suit", "lengths owners")
 Node = namedtuple("Node", "lead need suits tree")
-Graph = namedtuple("Graph", "trump side nodes")
+Graph = namedtuple("Graph", "version trump side nodes")
 
 NUMBER = "(?:0|[1-9][0-9]*)"
 LENGTH = "(?:1[0-3]|[0-9])"
 SUIT = rf"({LENGTH})\.({LENGTH})\.({LENGTH})\.({LENGTH})/([NESW]{{0,13}})"
 NODE_LINE = re.compile(rf"([NESW]) (1[0-3]|[1-9]) {SUIT} {SUIT} {SUIT} {SUIT} (.+)")
-HEAD_FORMS = [re.compile(form) for form in ("DDC 1", "trump (NT|S|H|D|C)", "side (NS|EW)", f"nodes ({NUMBER})")]
+HEAD_FORMS = [re.compile(form) for form in ("DDC ([12])", "trump (NT|S|H|D|C)", "side (NS|EW)", f"nodes ({NUMBER})")]
 
 
 class TextFault(Exception):
@@ -81,6 +81,15 @@ def read_tree(text, at, depth):
     return ("own", card, tree), at
 
 
+def tree_text(tree):
+    """A tree as a line has it."""
+    if tree[0] == "own":
+        return tree[1] + tree_text(tree[2])
+    if tree[0] == "reply":
+        return "(" + "".join(card + tree_text(below) for card, below in tree[1]) + ")"
+    return "{" + " ".join(f"{seat}{number}" for seat, number in tree[1]) + "}"
+
+
 def children_of(tree):
     if tree[0] == "leaf":
         return tree[1]
@@ -134,7 +143,7 @@ def read_graph(text):
         nodes.append(read_node(lines[number - 1], number, count))
     if len(lines) > 4 + count or rest:
         raise TextFault("5 Count", 5 + count)
-    return Graph(head[1], head[2], nodes)
+    return Graph(int(head[0]), head[1], head[2], nodes)
 
 
 def read_answer(text):

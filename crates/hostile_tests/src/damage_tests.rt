@@ -1,4 +1,4 @@
-//! A certificate with one byte changed, for each place and each byte, and the beginnings of an answer.
+//! A certificate of each version with one byte changed, for each place and each byte, and the beginnings of an answer.
 
 use crate::expect::{Open, Stopped, expect_bytes, expect_eq, joined};
 use cards::{Buffer, Bytes, Seat, Trump};
@@ -20,6 +20,11 @@ S 2 2.2.2.2/NWN 0.0.0.0/ 0.0.0.0/ 0.0.0.0/ Sx(SbSa(Sx{N1})SxSc(Sx{N1}))
 N 1 1.1.1.1/N 0.0.0.0/ 0.0.0.0/ 0.0.0.0/ Sa(SxSx(Sx{}))
 ";
 
+/// The digits of the versions, and the place where one stands.
+const VERSIONS: [u8; 2] = [b'1', b'2'];
+
+const VERSION_PLACE: usize = 4;
+
 /// What stands before it in the answer to East's no-trump: East's side needs no trick.
 const NONE_FOR_EAST: &[u8] = b"result 0
 DDC 1
@@ -32,10 +37,12 @@ nodes 0
 /// The pieces of the finesse, and how many texts with another byte in a piece are those of a graph.
 ///
 /// A seat has three others, but none owns more cards than it has. A need may be 1 to 13. The suit of a card has three others, its
-/// letter thirteen, but a branch has to come after the one before it. A child may be node 0 too. Each other change breaks a form
-/// or gives a hand another size.
-const PIECES: [(&[u8], u64); 27] = [
-    (b"DDC 1\ntrump NT\nside NS\nnodes 2\n", 0),
+/// letter thirteen, but a branch has to come after the one before it. A child may be node 0 too, and there is another version. Each
+/// other change breaks a form or gives a hand another size.
+const PIECES: [(&[u8], u64); 29] = [
+    (b"DDC ", 0),
+    (b"1", 1),
+    (b"\ntrump NT\nside NS\nnodes 2\n", 0),
     (b"S", 3),
     (b" ", 0),
     (b"2", 8),
@@ -64,13 +71,23 @@ const PIECES: [(&[u8], u64); 27] = [
     (b"{}))\n", 0),
 ];
 
-/// The finesse with this byte in this place.
-fn damaged(alloc: Global, place: usize, byte: u8) -> Result<Vec<u8>, AllocError> {
-    let mut text = Vec::from_slice(alloc, FINESSE)?;
+/// The finesse as a certificate of this version.
+fn finesse(alloc: Global, version: u8) -> Result<Vec<u8>, AllocError> {
+    let text = Vec::from_slice(alloc, FINESSE)?;
+    Ok(with_byte(text, VERSION_PLACE, version))
+}
+
+/// The text with this byte in this place.
+fn with_byte(mut text: Vec<u8>, place: usize, byte: u8) -> Vec<u8> {
     if let Some(spot) = text.get_mut(place) {
         *spot = byte;
     }
-    Ok(text)
+    text
+}
+
+/// The finesse of this version with this byte in this place.
+fn damaged(alloc: Global, version: u8, place: usize, byte: u8) -> Result<Vec<u8>, AllocError> {
+    Ok(with_byte(finesse(alloc, version)?, place, byte))
 }
 
 /// Whether the text is that of a graph. The graph is written as it was read.
@@ -87,32 +104,40 @@ fn is_graph(rt: &impl Abort, alloc: Global, text: &[u8]) -> Result<bool, Fail> {
     }
 }
 
-/// How many texts with another byte in this place are those of a graph.
-fn graphs_at(rt: &impl Abort, alloc: Global, place: usize) -> Result<u64, Fail> {
+/// How many texts of this version with another byte in this place are those of a graph.
+fn graphs_at(rt: &impl Abort, alloc: Global, version: u8, place: usize) -> Result<u64, Fail> {
+    let whole = finesse(alloc, version)?;
     let mut graphs = 0u64;
     for byte in 0..=u8::MAX {
-        let text = damaged(alloc, place, byte)?;
-        if text.as_slice() != FINESSE && is_graph(rt, alloc, text.as_slice())? {
+        let text = damaged(alloc, version, place, byte)?;
+        if text.as_slice() != whole.as_slice() && is_graph(rt, alloc, text.as_slice())? {
             graphs = graphs.saturating_add(1);
         }
     }
     Ok(graphs)
 }
 
-/// A text with one byte changed is refused, or is that of another graph: 211 are of 40,545.
-#[test]
-fn texts_with_one_byte_changed(rt: HostRuntime) -> Result<(), Fail> {
+/// A text with one byte changed is refused, or is that of another graph: 212 are of 40,545.
+fn expect_graphs(rt: &impl Abort, alloc: Global, version: u8) -> Result<(), Fail> {
     let mut place = 0usize;
     for (piece, wanted) in PIECES {
         let mut graphs = 0u64;
         for byte in piece {
-            expect_eq(&rt, &FINESSE.get(place), &Some(byte));
-            graphs = graphs.saturating_add(graphs_at(&rt, rt.alloc(), place)?);
+            expect_eq(rt, &FINESSE.get(place), &Some(byte));
+            graphs = graphs.saturating_add(graphs_at(rt, alloc, version, place)?);
             place = place.saturating_add(1);
         }
-        expect_eq(&rt, &graphs, &wanted);
+        expect_eq(rt, &graphs, &wanted);
     }
-    expect_eq(&rt, &place, &FINESSE.len());
+    expect_eq(rt, &place, &FINESSE.len());
+    Ok(())
+}
+
+#[test]
+fn texts_with_one_byte_changed(rt: HostRuntime) -> Result<(), Fail> {
+    for version in VERSIONS {
+        expect_graphs(&rt, rt.alloc(), version)?;
+    }
     Ok(())
 }
 
@@ -143,14 +168,12 @@ fn check<R: Threads + Wait + Sync>(
     )
 }
 
-/// Whether `check` accepts the finesse with this byte in this place. It says so, or refuses it, in one line.
+/// Whether `check` accepts this in the finesse's place. It says so, or refuses it, in one line.
 fn is_accepted<R: Abort + Threads + Wait + Sync>(
     rt: &R,
     alloc: Global,
-    place: usize,
-    byte: u8,
+    text: Vec<u8>,
 ) -> Result<bool, Fail> {
-    let text = damaged(alloc, place, byte)?;
     let answer = joined(alloc, &[NONE_FOR_EAST, text.as_slice()])?;
     let mut output = Buffer::new(alloc, 100, 100)?;
     let mut errors = Buffer::new(alloc, 100, 100)?;
@@ -171,13 +194,21 @@ fn is_accepted<R: Abort + Threads + Wait + Sync>(
     Ok(!is_refused)
 }
 
-/// No byte can be changed: two rounds of the finesse are told with no card, seat or number to spare.
+/// No byte can be changed but the version: two rounds of the finesse are told with no card, seat or number to spare.
 #[test]
 fn answers_with_one_byte_changed(rt: HostRuntime) -> Result<(), Fail> {
-    for (place, old) in FINESSE.iter().enumerate() {
-        for byte in 0..=u8::MAX {
-            let accepted = is_accepted(&rt, rt.alloc(), place, byte)?;
-            expect_eq(&rt, &accepted, &(byte == *old));
+    for version in VERSIONS {
+        for (place, old) in FINESSE.iter().enumerate() {
+            for byte in 0..=u8::MAX {
+                let text = damaged(rt.alloc(), version, place, byte)?;
+                let accepted = is_accepted(&rt, rt.alloc(), text)?;
+                let is_right = if place == VERSION_PLACE {
+                    VERSIONS.contains(&byte)
+                } else {
+                    byte == *old
+                };
+                expect_eq(&rt, &accepted, &is_right);
+            }
         }
     }
     Ok(())
@@ -207,19 +238,31 @@ fn end_of_beginning(count: usize) -> (Status, &'static str, &'static str) {
     (Status::Rejected, printed, "")
 }
 
-#[test]
-fn beginnings_of_the_answer(rt: HostRuntime) -> Result<(), Fail> {
-    let alloc = rt.alloc();
-    let answer = joined(alloc, &[NONE_FOR_EAST, FINESSE])?;
-    expect_eq(&rt, &answer.len(), &200);
+/// Each beginning of the answer with the finesse of this version ends as it should.
+fn expect_beginnings<R: Abort + Threads + Wait + Sync>(
+    rt: &R,
+    alloc: Global,
+    version: u8,
+) -> Result<(), Fail> {
+    let text = finesse(alloc, version)?;
+    let answer = joined(alloc, &[NONE_FOR_EAST, text.as_slice()])?;
+    expect_eq(rt, &answer.len(), &200);
     for count in 0..=answer.len() {
         let text = answer.get(..count).ok_or("a shorter answer")?;
         let mut output = Buffer::new(alloc, 100, 3)?;
         let mut errors = Buffer::new(alloc, 100, 3)?;
-        let status = check(&rt, alloc, text, &mut output, &mut errors);
+        let status = check(rt, alloc, text, &mut output, &mut errors);
         let printed = str::from_utf8(output.bytes())?;
         let told = str::from_utf8(errors.bytes())?;
-        expect_eq(&rt, &(status, printed, told), &end_of_beginning(count));
+        expect_eq(rt, &(status, printed, told), &end_of_beginning(count));
+    }
+    Ok(())
+}
+
+#[test]
+fn beginnings_of_the_answer(rt: HostRuntime) -> Result<(), Fail> {
+    for version in VERSIONS {
+        expect_beginnings(&rt, rt.alloc(), version)?;
     }
     Ok(())
 }
