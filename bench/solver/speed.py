@@ -70,13 +70,14 @@ def filled(lines):
     return text.replace("@COUNT@", str(len(tables))).replace("@HANDS@", hands).replace("@NUMBERS@", numbers)
 
 
-def build(folder, lines):
+def build(folder, lines, root=ROOT):
+    """The program over the crates of a checkout."""
     crate = folder / "crates" / "solver_speed"
     for name in CRATES:
-        shutil.copytree(ROOT / "crates" / name, folder / "crates" / name, ignore=shutil.ignore_patterns("must-fail"))
+        shutil.copytree(root / "crates" / name, folder / "crates" / name, ignore=shutil.ignore_patterns("must-fail"))
     (crate / "src").mkdir(parents=True)
     (crate / "src" / "main.rt").write_text(filled(lines))
-    kept = [line for line in (ROOT / "crates.txt").read_text().splitlines() if line.split(":")[0] in CRATES]
+    kept = [line for line in (root / "crates.txt").read_text().splitlines() if line.split(":")[0] in CRATES]
     (folder / "crates.txt").write_text("\n".join(kept + ["solver_speed: partition_solver checker certificate_graph cards arrayvec"]) + "\n")
     subprocess.run(["git", "init", "-q", "."], cwd=folder, check=True)
     subprocess.run(["rt", "run"], cwd=crate, stdout=subprocess.DEVNULL)
@@ -93,13 +94,14 @@ def told(name, micros):
 def report(run, theirs):
     """What came of our run beside DDS's times."""
     rows = [[int(word) for word in line.split()] for line in run.splitlines()]
-    entries, tries, wrong, unanswered, refused, nodes, size = (sum(row[place] for row in rows) for place in range(7))
+    entries, tries, wrong, unanswered, refused, nodes, leaves, size = (sum(row[place] for row in rows) for place in range(8))
     print(f"{entries} entries, {tries} tries: {wrong} wrong, {unanswered} without an answer, {refused} refused")
-    print(f"{nodes / entries:.0f} nodes an entry; {nodes / len(rows):.0f} nodes a board, in texts of {size / len(rows):.0f} bytes")
+    print(f"{nodes / entries:.0f} nodes an entry; {nodes / len(rows):.0f} nodes a board with {leaves / len(rows):.0f} leaves, "
+          f"in texts of {size / len(rows):.0f} bytes")
     told("DDS", theirs)
-    told("solving", [row[7] for row in rows])
-    told("checking", [row[8] for row in rows])
-    print(f"solving and checking: {sum(row[7] + row[8] for row in rows) / sum(theirs):.2f} times DDS")
+    told("solving", [row[8] for row in rows])
+    told("checking", [row[9] for row in rows])
+    print(f"solving and checking: {sum(row[8] + row[9] for row in rows) / sum(theirs):.2f} times DDS")
 
 
 def printed_table(text):
