@@ -62,15 +62,21 @@ fn lists_winners(graph: &Graph, node: &Node, trick: &[PatCard; 4], children: &Ch
         && is_rightly_listed(side, node.need, winners, children, Seat::West)
 }
 
-/// Whether the pattern covers what is left, as the version reads it. What covers the rest covers it completed, so it is
-/// completed only where that is needed.
+/// What is left, as the version reads it.
+fn as_read(version: Version, left: &Rest) -> Rest
+    ensures { result ≡ rest_read version left.now }
+{
+    match version {
+        Version::One => *left,
+        Version::Two => left.completed(),
+    }
+}
+
+/// Whether the pattern covers what is left, as the version reads it.
 fn covers(version: Version, pattern: &Pattern, left: &Rest) -> bool
     ensures { IsTrue result ↔ Covers pattern.now (rest_read version left.now) }
 {
-    match version {
-        Version::One => pattern.covers(left),
-        Version::Two => pattern.covers(left) || pattern.covers(&left.completed()),
-    }
+    pattern.covers(&as_read(version, left))
 }
 
 /// Checks that the node named goes on from what the four cards leave.

@@ -118,9 +118,12 @@ fn is_answered(
 ) -> bool
     ensures { IsTrue result ↔ IsAnswered version pattern.now seat branches.now card }
 {
+    if has_branch(branches, card) {
+        return true;
+    }
     match version {
-        Version::One => has_branch(branches, card),
-        Version::Two => has_branch(branches, card) || is_excused(pattern, seat, branches, card),
+        Version::One => false,
+        Version::Two => is_excused(pattern, seat, branches, card),
     }
 }
 
