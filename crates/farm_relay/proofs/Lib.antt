@@ -1,0 +1,5 @@
+pub mod Sums
+pub mod Moves
+pub mod Whole
+pub mod Joining
+pub mod RelayLaws

@@ -1,0 +1,6 @@
+pub mod Tallies
+pub mod Rule
+pub mod Steps
+pub mod Relays
+pub mod Opening
+pub mod Closing

@@ -1,0 +1,86 @@
+-- What a relay promises.
+use Rattle.std.specs.Prelude.{◌≡◌, ◌⊎◌, ℕ, ◌+◌, Bool, false, List, [], All, length, sum_by}
+use Rattle.crossbeam_channel.specs.Claims.{view}
+use Rattle.crossbeam_channel.specs.Ends.{sends_on, receives_on, ruled_capacity}
+use Rattle.crossbeam_channel.specs.Fifo.{Held}
+use Rattle.farm_relay.specs.declared.putters.Putter.{Putter}
+use Rattle.farm_relay.specs.declared.takers.Taker.{Taker}
+use Rattle.farm_relay.specs.declared.relays.Relay.{Relay}
+use Rattle.farm_relay.specs.Rule.{IsAt}
+
+module _ {T : Type 0} where
+  -- the messages that a putter put, in order
+  abbrev pub put_by : Putter T → List T
+  put_by putter = (view putter.pass).put
+
+  abbrev pub is_finished : Putter T → Bool
+  is_finished putter = putter.finished
+
+  -- the messages that a taker took, in order
+  abbrev pub taken_by : Taker T → List T
+  taken_by taker = (view taker.pass).taken
+
+  -- how many end marks a taker took
+  abbrev pub marks_of : Taker T → ℕ
+  marks_of taker = (view taker.pass).marks
+
+  abbrev pub places_of : Relay T → ℕ
+  places_of relay = ruled_capacity (sends_on relay.ends.sender)
+
+  -- how many putters and takers the relay was opened with
+  abbrev pub putters_of : Relay T → ℕ
+  putters_of relay = relay.putters
+
+  abbrev pub takers_of : Relay T → ℕ
+  takers_of relay = relay.takers
+
+  -- the putter came with the relay, and knows how many takers there are
+  pub record IsPutterOf (relay : Relay T) (putter : Putter T) : Type 0 where
+    pub channel : sends_on putter.sender ≡ sends_on relay.ends.sender
+    pub takers : putter.takers ≡ takers_of relay
+
+  -- the taker came with the relay
+  abbrev pub IsTakerOf : Relay T → Taker T → Type 0
+  IsTakerOf relay taker = receives_on taker.receiver ≡ sends_on relay.ends.sender
+
+  -- of whichever relay the putter was, it still is, and counts with the same others
+  pub record PutsAtSame (old new : Putter T) : Type 0 where
+    pub channel : sends_on new.sender ≡ sends_on old.sender
+    pub takers : new.takers ≡ old.takers
+    pub others : new.unfinished ≡ old.unfinished
+
+  abbrev pub TakesAtSame : Taker T → Taker T → Type 0
+  TakesAtSame old new = receives_on new.receiver ≡ receives_on old.receiver
+
+  -- the relay, as its rule knows it, held nothing at one moment, while the taker knew what it knows
+  abbrev pub WasEmpty : Taker T → Type 0
+  WasEmpty taker = Held 0 (IsAt (view taker.pass))
+
+  -- the taker took an end mark, or the relay was empty
+  abbrev pub IsAtEnd : Taker T → Taker T → Type 0
+  IsAtEnd old new = (marks_of new ≡ marks_of old + 1) ⊎ ((marks_of new ≡ marks_of old) × WasEmpty old)
+
+  -- these are all putters and all takers of the relay, and no others
+  pub record AreAllOf (relay : Relay T) (putters : List (Putter T)) (takers : List (Taker T)) : Type 0 where
+    pub putters_are : All (IsPutterOf relay) putters
+    pub takers_are : All (IsTakerOf relay) takers
+    pub all_putters : length putters ≡ putters_of relay
+    pub all_takers : length takers ≡ takers_of relay
+
+  -- a relay of so many places, with so many putters and takers, who have put and taken nothing
+  pub record IsOpened (places putter_count taker_count : ℕ) (relay : Relay T) (putters : List (Putter T)) (takers : List (Taker T)) : Type 0 where
+    pub places_are : places_of relay ≡ places
+    pub putters_are : putters_of relay ≡ putter_count
+    pub takers_are : takers_of relay ≡ taker_count
+    pub ends : AreAllOf relay putters takers
+    pub none_put : All (λ putter. put_by putter ≡ []) putters
+    pub none_finished : All (λ putter. is_finished putter ≡ false) putters
+    pub none_taken : All (λ taker. taken_by taker ≡ []) takers
+
+  -- The messages put are those taken and those left, each as often as it was put: so it is where every weight of messages
+  -- gives the same sum.
+  abbrev pub IsNothingLost : List (Putter T) → List (Taker T) → List T → Type 0
+  IsNothingLost putters takers left =
+      (weight : T → ℕ)
+      → sum_by (λ putter. sum_by weight (put_by putter)) putters
+      ≡ sum_by (λ taker. sum_by weight (taken_by taker)) takers + sum_by weight left

@@ -1,0 +1,20 @@
+//! A channel between threads that loses nothing.
+#![tactic(auto)]
+
+mod closing;
+mod ends;
+mod faults;
+mod items;
+mod opening;
+mod putters;
+mod receiving;
+mod relays;
+mod rule;
+mod sending;
+mod takers;
+mod tallies;
+
+pub use faults::OutOfMemory;
+pub use putters::Putter;
+pub use relays::Relay;
+pub use takers::Taker;

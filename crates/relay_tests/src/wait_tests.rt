@@ -1,0 +1,112 @@
+//! Calls that wait: a take at an empty relay, a put at a full one. And that they don't where nobody is left.
+
+use crate::expect::expect_eq;
+use farm_relay::{OutOfMemory, Putter, Relay, Taker};
+use std::alloc::Global;
+use std::sync::Wait;
+use std::sync::atomic::AtomicBool;
+use std::sync::atomic::Ordering::SeqCst;
+use std::test::Fail;
+use std::thread;
+use std::thread::Threads;
+
+/// How often a thread looks whether the other has come to its call, and then goes on looking, so that the call is under way.
+const TURNS: u64 = 10_000;
+
+/// Looks until it is set, and then as often again.
+fn look_for(flag: &AtomicBool) {
+    let mut turns = 0u64;
+    for _turn in 0..TURNS * TURNS {
+        thread::yield_now();
+        if flag.load(SeqCst) {
+            turns = turns.wrapping_add(1);
+        }
+        if turns >= TURNS {
+            return;
+        }
+    }
+}
+
+/// Takes, and says before that it is about to.
+fn take_now<R: Wait>(rt: &R, taker: Taker<u64>, begun: &AtomicBool) -> Option<u64> {
+    let mut taker = taker;
+    begun.store(true, SeqCst);
+    taker.take(rt)
+}
+
+/// Puts a number, and says before that it is about to. Says whether it was put.
+fn put_now<R: Wait>(rt: &R, putter: Putter<u64>, number: u64, begun: &AtomicBool) -> bool {
+    let mut putter = putter;
+    begun.store(true, SeqCst);
+    putter.put(rt, number).is_ok()
+}
+
+/// What is taken from an empty relay, into which a number is put only once the take is under way.
+fn taken_when_empty<R: Threads + Wait + Sync>(
+    rt: &R,
+    alloc: Global,
+) -> Result<Option<u64>, OutOfMemory> {
+    let (_relay, mut putters, mut takers) = Relay::<u64>::open(alloc, 1, 1, 1)?;
+    let (Some(putter), Some(taker)) = (putters.pop(), takers.pop()) else {
+        return Ok(None);
+    };
+    let flag = AtomicBool::new(false);
+    let begun = &flag;
+    let (taken, _put) = thread::join(
+        rt,
+        move || take_now(rt, taker, begun),
+        move || {
+            look_for(begun);
+            put_now(rt, putter, 3, begun)
+        },
+    );
+    Ok(taken)
+}
+
+/// Whether a number is put into a full relay, from which one is taken only once the put is under way.
+fn put_when_full<R: Threads + Wait + Sync>(
+    rt: &R,
+    alloc: Global,
+) -> Result<(bool, Option<u64>), OutOfMemory> {
+    let (_relay, mut putters, mut takers) = Relay::<u64>::open(alloc, 1, 1, 1)?;
+    let (Some(putter), Some(taker)) = (putters.pop(), takers.pop()) else {
+        return Ok((false, None));
+    };
+    let mut putter = putter;
+    let _first = putter.put(rt, 4);
+    let flag = AtomicBool::new(false);
+    let begun = &flag;
+    Ok(thread::join(
+        rt,
+        move || put_now(rt, putter, 5, begun),
+        move || {
+            look_for(begun);
+            take_now(rt, taker, begun)
+        },
+    ))
+}
+
+#[test]
+fn a_take_waits(rt: HostRuntime) -> Result<(), Fail> {
+    expect_eq(&rt, &taken_when_empty(&rt, rt.alloc())?, &Some(3));
+    Ok(())
+}
+
+#[test]
+fn a_put_waits(rt: HostRuntime) -> Result<(), Fail> {
+    expect_eq(&rt, &put_when_full(&rt, rt.alloc())?, &(true, Some(4)));
+    Ok(())
+}
+
+#[test]
+fn nobody_is_left(rt: HostRuntime) -> Result<(), Fail> {
+    let (relay, mut putters, takers) = Relay::<u64>::open(rt.alloc(), 4, 1, 1)?;
+    drop(relay);
+    drop(takers);
+    expect_eq(&rt, &putters[0].put(&rt, 9), &Err(9));
+    let (relay, putters, mut takers) = Relay::<u64>::open(rt.alloc(), 4, 1, 1)?;
+    drop(relay);
+    drop(putters);
+    expect_eq(&rt, &takers[0].take(&rt), &None);
+    Ok(())
+}
