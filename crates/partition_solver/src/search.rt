@@ -1,7 +1,7 @@
 //! The search: whether North and South can win so many of the tricks left. Each hand's turn is a function; what is held is changed
 //! before a call, and put back after it.
 
-use crate::remembering::HINTS;
+use crate::remembering::{HintRow, no_hints};
 use crate::starts::{Found, Start, is_ours, trick_for};
 use cards::{Layout, Trump};
 use pattern_store::Records;
@@ -32,7 +32,7 @@ pub(crate) struct Search {
     /// How often something was remembered.
     pub adds: u32,
     /// By lengths, leader and want the lead that succeeded last: its bit and one, or 0.
-    pub hints: Vec<u8>,
+    pub hints: Vec<HintRow>,
 }
 
 impl Search {
@@ -48,7 +48,7 @@ impl Search {
             memory_ran_out: false,
             stopped: false,
             adds: 0,
-            hints: vec![in alloc; 0; HINTS]?,
+            hints: no_hints(alloc)?,
         })
     }
 

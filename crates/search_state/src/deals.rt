@@ -6,6 +6,12 @@ use std::alloc::{AllocError, Global};
 
 const SETS: usize = 8192;
 
+/// How many are filled in at a time: those of the nine lowest ranks beside the same of the four others.
+const LOW_SETS: usize = 512;
+
+/// The lowest of those four.
+const HIGH_RANK: u32 = 9;
+
 /// How many sets of ranks four suits have.
 const ALL_SETS: usize = 4 * SETS;
 
@@ -99,6 +105,40 @@ fn owners_by(table: &[u16], left: u64) -> u64 {
         | u64::from(highest).wrapping_shl(48)
 }
 
+/// Who owns the card of this rank in a suit, by the suit's number in the word.
+fn owner_of(hands: [u64; 4], lane: u32, rank: u32) -> u32 {
+    holder(
+        hands,
+        1u64.wrapping_shl(rank.wrapping_add(lane.wrapping_mul(16))),
+    )
+}
+
+/// For each set of the lowest ranks of a suit the owners, the highest first. The others of a set are a set before it.
+fn low_owners(hands: [u64; 4], lane: u32) -> [u32; LOW_SETS] {
+    let mut low = [0u32; LOW_SETS];
+    for rank in 0..HIGH_RANK {
+        let owner = owner_of(hands, lane, rank);
+        let highest = 1usize.wrapping_shl(rank);
+        for others in 0..highest {
+            let before = low[others & (LOW_SETS - 1)];
+            low[(highest | others) & (LOW_SETS - 1)] = before.wrapping_shl(2) | owner;
+        }
+    }
+    low
+}
+
+/// The owners of a set of the four highest ranks of a suit, the highest first, and how many bits they take.
+fn high_owners(hands: [u64; 4], lane: u32, set: u32) -> (u32, u32) {
+    let (mut owners, mut bits) = (0u32, 0u32);
+    for rank in HIGH_RANK..MOST_CARDS {
+        if set.wrapping_shr(rank.wrapping_sub(HIGH_RANK)) & 1 != 0 {
+            owners = owners.wrapping_shl(2) | owner_of(hands, lane, rank);
+            bits = bits.wrapping_add(2);
+        }
+    }
+    (owners, bits)
+}
+
 impl CardsLeft<'_> {
     /// The owners after the eighth of each suit.
     pub fn deep(&self) -> u64 {
@@ -136,30 +176,25 @@ impl Deal {
     /// For each suit and each set of its ranks the owners, the highest first.
     fn fill_owners(&mut self) -> Result<(), AllocError> {
         for lane in 0..4u32 {
-            self.push_owners(0)?;
-            for top in 0..MOST_CARDS {
-                self.fill_sets(lane, top)?;
+            let low = low_owners(self.hands, lane);
+            for high in 0..16u32 {
+                let (owners, bits) = high_owners(self.hands, lane, high);
+                self.add_row(&low, owners, bits)?;
             }
         }
         Ok(())
     }
 
-    /// For each set of ranks of a suit with this one as the highest the owners. The others of a set are a set before it.
-    fn fill_sets(&mut self, lane: u32, top: u32) -> Result<(), AllocError> {
-        let card = 1u64.wrapping_shl(top.wrapping_add(lane.wrapping_mul(16)));
-        let owner = holder(self.hands, card);
-        for others in 0..1usize.wrapping_shl(top) {
-            let owners = self.owners_in(lane as usize, others);
-            self.push_owners(owners.wrapping_shl(2) | owner)?;
+    /// Adds the owners of the sets that have the same of the highest ranks, with these owners in so many bits.
+    fn add_row(&mut self, low: &[u32; LOW_SETS], high: u32, bits: u32) -> Result<(), AllocError> {
+        let (mut near, mut deep) = ([0u16; LOW_SETS], [0u16; LOW_SETS]);
+        for set in 0..LOW_SETS {
+            let owners = low[set].wrapping_shl(bits) | high;
+            near[set] = (owners & 0xffff) as u16;
+            deep[set] = (owners >> 16 & 0xffff) as u16;
         }
-        Ok(())
-    }
-
-    /// Adds the owners of the next set.
-    fn push_owners(&mut self, owners: u32) -> Result<(), AllocError> {
-        self.near.push((owners & 0xffff) as u16)?;
-        self.deep.push((owners >> 16 & 0xffff) as u16)?;
-        Ok(())
+        self.near.extend_from_slice(near.as_slice())?;
+        self.deep.extend_from_slice(deep.as_slice())
     }
 
     /// For each set of ranks the ranks themselves, four bits each, the highest first.
@@ -172,14 +207,6 @@ impl Deal {
             }
         }
         Ok(())
-    }
-
-    /// The owners of the cards of a suit, by its number in the word.
-    fn owners_in(&self, lane: usize, ranks: usize) -> u32 {
-        let place = lane.wrapping_mul(SETS).wrapping_add(ranks & 0x1fff);
-        let near = self.near.get(place).copied().unwrap_or(0);
-        let deep = self.deep.get(place).copied().unwrap_or(0);
-        u32::from(near) | u32::from(deep) << 16
     }
 
     /// The owners of the first eight cards of a suit, by its number in the word.
