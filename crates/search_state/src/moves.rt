@@ -8,10 +8,13 @@ use crate::words::{
 /// How many runs there is room for: more than a hand has.
 const ROOM: usize = 16;
 
-/// What a weight is multiplied with beside the number of a bit, and the bit that tells that the highest card is tried.
-const WEIGHED: i32 = 128;
+/// What a weight is multiplied with beside the numbers of two bits, the bit that tells that the highest card is tried, and what
+/// the number of its bit is multiplied with.
+const WEIGHED: i32 = 8192;
 
-const TOP: i32 = 64;
+const TOP: i32 = 4096;
+
+const HIGHEST: i32 = 64;
 
 /// A card to be tried, with the lowest and the highest card of its run.
 #[derive(Clone, Copy)]
@@ -46,7 +49,7 @@ pub struct Moves {
     bottoms: u64,
     /// The lowest card of each run that is not skipped.
     waiting: u64,
-    /// The runs by falling weight: the weight, whether the highest card is tried, and the bit of the lowest.
+    /// The runs by falling weight: the weight, whether the highest card is tried, and the bits of the highest and the lowest.
     runs: [i32; ROOM],
     count: usize,
     /// The place of the run that is tried next.
@@ -143,7 +146,8 @@ impl Moves {
     /// Puts a run where it belongs by its weight. Its highest card is tried, or its lowest.
     pub(crate) fn add(&mut self, run: Run, tries_top: bool, weight: i32) {
         let top = if tries_top { TOP } else { 0 };
-        let entry = weight.wrapping_mul(WEIGHED) | top | (run.bottom & 63) as i32;
+        let cards = ((run.top & 63) as i32).wrapping_mul(HIGHEST) | (run.bottom & 63) as i32;
+        let entry = weight.wrapping_mul(WEIGHED) | top | cards;
         let mut place = self.count;
         for before in (0..self.count).rev() {
             let other = self.runs[before & 15];
@@ -164,7 +168,9 @@ impl Moves {
             let bottom = card_at((entry & 63) as u32);
             if self.waiting & bottom != 0 {
                 self.next = place.wrapping_add(1);
-                return Some(self.move_of(bottom, entry & TOP != 0));
+                let top = card_at((entry >> 6 & 63) as u32);
+                let card = if entry & TOP != 0 { top } else { bottom };
+                return Some(Move { card, bottom, top });
             }
         }
         None

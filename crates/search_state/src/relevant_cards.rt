@@ -4,7 +4,8 @@ use crate::moves::Move;
 use crate::pattern_tricks::LOW;
 use crate::positions::Trick;
 use crate::words::{
-    SUIT, below, below_lowest, lowest, lowest_of_each, start_of, suit_of, suits_of_cards,
+    PACK, SUIT, below, below_lowest, lowest, lowest_of_each, lowest_run, start_of, suit_of,
+    suits_of_cards,
 };
 use pattern_store::NO_CARD;
 
@@ -26,10 +27,9 @@ pub fn depths_of(left: u64, relevant: u64) -> u16 {
         | depth_of(left, relevant, 48).wrapping_shl(12)
 }
 
-/// How many owners have to be known for these cards.
+/// How many owners have to be known for these cards: of each suit those down to its lowest card.
 fn owners_named(left: u64, relevant: u64) -> u32 {
-    let depths = u32::from(depths_of(left, relevant));
-    (depths & 15) + (depths >> 4 & 15) + (depths >> 8 & 15) + (depths >> 12)
+    (left & !below_lowest(relevant)).count_ones()
 }
 
 /// Whether fewer owners have to be known for the first cards than for the second.
@@ -51,18 +51,23 @@ pub fn named_card(left: u64, depths: u16, card: u64) -> u8 {
 
 /// The cards of each hand below which no other hand has a card of their suit.
 fn lone_cards(hands: &[u64; 4], left: u64) -> u64 {
-    hands[0] & below_lowest(left & !hands[0])
-        | hands[1] & below_lowest(left & !hands[1])
-        | hands[2] & below_lowest(left & !hands[2])
-        | hands[3] & below_lowest(left & !hands[3])
+    let gone = PACK & !left;
+    hands[0] & lowest_run(hands[0] | gone)
+        | hands[1] & lowest_run(hands[1] | gone)
+        | hands[2] & lowest_run(hands[2] | gone)
+        | hands[3] & lowest_run(hands[3] | gone)
 }
 
 /// The cards that have to be named for these. Where one hand alone has the lowest cards of a suit, the lengths tell who owns
 /// them: it is enough to name those above.
 pub fn without_lone(hands: &[u64; 4], left: u64, relevant: u64) -> u64 {
     let lone = lone_cards(hands, left);
+    let told = relevant & lone;
+    if told == 0 {
+        return relevant;
+    }
     let above = lowest_of_each(left & !lone);
-    relevant & !lone | above & suits_of_cards(relevant & lone)
+    relevant & !told | above & suits_of_cards(told)
 }
 
 /// The cards whose rank matters after a trick: those of the rest, and that of the winner where others played to its suit.

@@ -64,6 +64,11 @@ pub(crate) fn below_lowest(cards: u64) -> u64 {
     (cards | DEUCES.wrapping_mul(ABOVE)).wrapping_sub(DEUCES) & !cards & PACK
 }
 
+/// Of each suit the ranks of the set from the lowest rank on up to the first that the set lacks.
+pub(crate) fn lowest_run(cards: u64) -> u64 {
+    cards & !cards.wrapping_add(DEUCES)
+}
+
 /// The lowest card of the set in each suit.
 pub(crate) fn lowest_of_each(cards: u64) -> u64 {
     cards & (!cards & PACK).wrapping_add(DEUCES)
