@@ -1,6 +1,6 @@
 //! The leaves of a tree in work: the records that go on after its trick.
 
-use crate::plans::{Piece, Plan, TrickStart, Turn, tops_of_runs};
+use crate::plans::{Piece, Plan, TrickStart, Turn};
 use crate::search::Search;
 use search_state::pattern_tricks::Remains;
 
@@ -15,8 +15,8 @@ pub(crate) struct Leaf {
 
 impl Plan {
     /// The last card of a trick whose new children cost least, and the children.
-    pub(crate) fn best_last(&self, search: &Search, turn: &Turn<'_>) -> Option<(u64, Leaf)> {
-        let mut waiting = tops_of_runs(turn.legal_cards());
+    pub(crate) fn best_last(&mut self, search: &Search, turn: &Turn<'_>) -> Option<(u64, Leaf)> {
+        let mut waiting = turn.legal_cards();
         let mut least = turn.limit;
         let mut best = None;
         for _ in 0..u64::BITS {
@@ -50,30 +50,67 @@ impl Plan {
     }
 
     /// The children after a trick. None where what is remembered does not show them for less than the limit.
-    pub(crate) fn leaf(&self, search: &Search, turn: &Turn<'_>) -> Option<Leaf> {
-        let lengths = turn.trick.lengths;
-        let shape = search.records.shape(lengths);
-        let remains = turn.held.remains(&turn.trick);
+    pub(crate) fn leaf(&mut self, search: &Search, turn: &Turn<'_>) -> Option<Leaf> {
         let mut leaf = Leaf {
-            lengths,
+            lengths: turn.trick.lengths,
             records: [0; 4],
             cost: 0,
         };
-        for seat in 0..4usize {
-            let won = if self.owns(seat) { 1 } else { 0 };
-            let rest = turn.need.wrapping_sub(won);
-            if turn.trick.winners.wrapping_shr(seat as u32) & 1 == 0 || rest <= 0 {
-                continue;
-            }
-            let record = self.child(search, shape, &remains, seat, rest)?;
-            leaf.cost = leaf.cost.wrapping_add(self.cost_of(search, record));
-            leaf.records[seat] = record;
+        let unsettled = turn.trick.winners & self.unsettled_after(turn.need);
+        if unsettled != 0 {
+            self.add_children(search, turn, unsettled, &mut leaf)?;
         }
         if leaf.cost < turn.limit {
             Some(leaf)
         } else {
             None
         }
+    }
+
+    /// The seats after whose trick the side still needs some, where it needed so many before: a bit each.
+    fn unsettled_after(&self, need: i32) -> u32 {
+        if need > 1 {
+            15
+        } else if need <= 0 {
+            0
+        } else if self.ours {
+            10
+        } else {
+            5
+        }
+    }
+
+    /// Puts in a child for each of these seats, of which one wins the trick.
+    fn add_children(
+        &mut self,
+        search: &Search,
+        turn: &Turn<'_>,
+        winners: u32,
+        leaf: &mut Leaf,
+    ) -> Option<()> {
+        let shape = self.shape(search, leaf.lengths);
+        let first = (winners.trailing_zeros() & 3) as usize;
+        search.records.list(shape, first, self.ours)?;
+        let remains = turn.held.remains(&turn.trick);
+        for seat in 0..4usize {
+            if winners.wrapping_shr(seat as u32) & 1 == 0 {
+                continue;
+            }
+            let won = if self.owns(seat) { 1 } else { 0 };
+            let rest = turn.need.wrapping_sub(won);
+            let record = self.child(search, shape, &remains, seat, rest)?;
+            leaf.cost = leaf.cost.wrapping_add(self.cost_of(search, record));
+            leaf.records[seat] = record;
+        }
+        Some(())
+    }
+
+    /// The number of the shape with these lengths, if it has one. Leaves of a trick are mostly of one shape.
+    fn shape(&mut self, search: &Search, lengths: u64) -> Option<u32> {
+        if self.shape.0 != lengths {
+            self.shape = (lengths, search.records.shape(lengths));
+        }
+        self.shape.1
     }
 
     /// What a child of this record costs: nothing where it has a node already.

@@ -2,7 +2,7 @@
 
 use crate::search::Search;
 use cards::Suit;
-use search_state::pattern_tricks::{Held, LOWS, PatternTrick};
+use search_state::pattern_tricks::{Held, PatternTrick};
 use search_state::words::{SUIT, lowest};
 use std::alloc::{AllocError, Global};
 
@@ -49,6 +49,8 @@ pub(crate) struct Plan {
     is_thrifty: bool,
     /// Where the suits lie in a word, spades first.
     pub lanes: [usize; 4],
+    /// The lengths that were looked up last, and the number of their shape.
+    pub shape: (u64, Option<u32>),
 }
 
 /// A place of the tree in work: the node's pattern, the trick so far, and what has to be shown: so many tricks, with new nodes
@@ -79,11 +81,6 @@ fn number_of(card: u64) -> u32 {
     card.trailing_zeros() & 63
 }
 
-/// The highest place of each run of touching tops of one seat, and the low card.
-pub(crate) fn tops_of_runs(legal: u64) -> u64 {
-    legal & (!(legal & !LOWS).wrapping_shl(1) | LOWS)
-}
-
 impl<'a> Turn<'a> {
     /// The place after a card, where what follows it may cost so much.
     pub(crate) fn after(&self, card: u64, trumps: u64, limit: u32) -> Turn<'a> {
@@ -95,7 +92,7 @@ impl<'a> Turn<'a> {
         }
     }
 
-    /// The cards that the seat to play may play.
+    /// The cards that the seat to play may play, of each run of touching tops the highest.
     pub(crate) fn legal_cards(&self) -> u64 {
         self.held.legal_cards(&self.trick)
     }
@@ -126,6 +123,7 @@ impl Plan {
                 lane_of(suits, Suit::Diamonds),
                 lane_of(suits, Suit::Clubs),
             ],
+            shape: (u64::MAX, None),
         })
     }
 
@@ -208,7 +206,7 @@ impl Plan {
         let begin = self.pieces.len();
         let mut least = turn.limit;
         let mut found = None;
-        let mut waiting = tops_of_runs(turn.legal_cards());
+        let mut waiting = turn.legal_cards();
         let first = turn.first_card() & waiting;
         for _ in 0..u64::BITS {
             if waiting == 0 || least == 0 || self.is_thrifty && found.is_some() {
@@ -256,7 +254,7 @@ impl Plan {
         }
         self.push(search, Piece::Reply)?;
         let mut sum = 0u32;
-        let mut waiting = tops_of_runs(turn.legal_cards());
+        let mut waiting = turn.legal_cards();
         for _ in 0..u64::BITS {
             if waiting == 0 {
                 break;

@@ -8,7 +8,13 @@ use pattern_store::{Owners, Record};
 pub const LOW: u32 = 15;
 
 /// The bits of all low cards.
-pub const LOWS: u64 = 0x8000_8000_8000_8000;
+const LOWS: u64 = 0x8000_8000_8000_8000;
+
+/// The bit of the first seat in the lengths of each suit.
+const FIRST_SEATS: u64 = 0x0001_0001_0001_0001;
+
+/// How many owners of a suit stand in the first word of a record.
+const NEAR: u32 = 8;
 
 /// A pattern before a trick is played on it.
 #[derive(Clone, Copy)]
@@ -16,9 +22,9 @@ pub struct Held {
     /// Of each suit the owners of its tops, two bits each, the highest first.
     owners: [u32; 4],
     depths: [u32; 4],
-    /// The cards that each seat may choose from.
+    /// The cards that each seat may choose from, of each run of its touching tops the highest.
     cards: [u64; 4],
-    /// What is known of it where no card is gone.
+    /// What is known of it where no card is gone, completed as what a trick leaves.
     whole: Remains,
     /// The lengths, as the search has them.
     pub lengths: u64,
@@ -35,8 +41,6 @@ pub struct PatternTrick {
     gone: u64,
     /// The lengths, as the search has them.
     pub lengths: u64,
-    /// How many low cards each seat has, like the lengths.
-    lows: u64,
     /// All bits of the suit led, 0 before the lead.
     led: u64,
     /// The card that wins so far, or no card.
@@ -51,7 +55,7 @@ pub struct PatternTrick {
 
 /// What a trick leaves: the owners, and the bits of those that are known. Where one seat alone has low cards of a suit it is
 /// known to own them.
-#[derive(Clone, Copy, Default)]
+#[derive(Clone, Copy)]
 pub struct Remains {
     pub owners: Owners,
     pub known: Owners,
@@ -68,25 +72,20 @@ fn with_lane(word: u64, lane: usize, part: u32) -> u64 {
     word & !SUIT.wrapping_shl(start) | (u64::from(part) & SUIT).wrapping_shl(start)
 }
 
+/// The highest place of each run of touching tops of one seat.
+fn tops_of_runs(tops: u64) -> u64 {
+    tops & !tops.wrapping_shl(1)
+}
+
 /// The owners without that in this place.
 fn without(owners: u32, place: u32) -> u32 {
     let low = 1u32.wrapping_shl(place.wrapping_mul(2)).wrapping_sub(1);
     owners & low | owners >> 2 & !low
 }
 
-/// The owners without those in these places.
-fn without_all(owners: u32, places: u32) -> u32 {
-    let mut left = owners;
-    let mut gone = places;
-    for _ in 0..4 {
-        if gone == 0 {
-            break;
-        }
-        let place = 31u32.wrapping_sub(gone.leading_zeros());
-        left = without(left, place);
-        gone &= !1u32.wrapping_shl(place);
-    }
-    left
+/// A bit for each suit and seat that has cards by such lengths, the lowest of its four.
+fn holders_of(lengths: u64) -> u64 {
+    (lengths | lengths >> 1 | lengths >> 2 | lengths >> 3) & 0x1111_1111_1111_1111
 }
 
 /// How many low cards of a suit there are where one seat alone has some, and their owners; else none.
@@ -102,9 +101,25 @@ fn lone_lows(lows: u32) -> (u32, u32) {
 }
 
 impl Remains {
-    /// Nothing is known.
-    fn new() -> Remains {
-        Remains::default()
+    /// What a record names. Owners after the eighth of a suit are not known yet.
+    fn of_tops(record: &Record) -> Remains {
+        Remains {
+            owners: Owners {
+                near: record.near,
+                deep: record.deep,
+            },
+            known: Owners {
+                near: record.mask,
+                deep: 0,
+            },
+        }
+    }
+
+    /// Puts in a suit of which so many owners are known, and those of these low cards where one seat alone has some.
+    fn put_completed(&mut self, lane: usize, owners: u32, depth: u32, lows: u32) {
+        let (count, lone) = lone_lows(lows);
+        let all = owners | lone.wrapping_shl(depth.wrapping_mul(2));
+        self.put(lane, all, depth.wrapping_add(count));
     }
 
     /// Puts in a suit of which so many owners are known.
@@ -113,9 +128,11 @@ impl Remains {
             .wrapping_shl((depth & 15).wrapping_mul(2))
             .wrapping_sub(1);
         self.owners.near = with_lane(self.owners.near, lane, owners);
-        self.owners.deep = with_lane(self.owners.deep, lane, owners >> 16);
         self.known.near = with_lane(self.known.near, lane, bits);
-        self.known.deep = with_lane(self.known.deep, lane, bits >> 16);
+        if u64::from(bits >> 16) | self.known.deep != 0 {
+            self.owners.deep = with_lane(self.owners.deep, lane, owners >> 16);
+            self.known.deep = with_lane(self.known.deep, lane, bits >> 16);
+        }
     }
 }
 
@@ -126,7 +143,7 @@ impl Held {
             owners: [0; 4],
             depths: [0; 4],
             cards: [0; 4],
-            whole: Remains::new(),
+            whole: Remains::of_tops(record),
             lengths,
             lows: lengths,
             first_card: if record.first_card < 64 {
@@ -138,25 +155,34 @@ impl Held {
         for lane in 0..4usize {
             held.put_suit(record, lane);
         }
+        held.put_lows();
         held
     }
 
-    /// Puts in a suit of a record.
+    /// Puts in the tops of a suit of a record, and what is known of the suit.
     fn put_suit(&mut self, record: &Record, lane: usize) {
         let owners = lane_of(record.near, lane) | lane_of(record.deep, lane).wrapping_shl(16);
         let depth = u32::from(record.depths.wrapping_shr((lane & 3) as u32 * 4) & 15);
         self.owners[lane & 3] = owners;
         self.depths[lane & 3] = depth;
-        self.whole.put(lane, owners, depth);
         for place in 0..depth.min(MOST_CARDS) {
             let owner = self.owner(lane, place) & 3;
             self.cards[owner] |= bit_of(lane, place);
             self.lows = self.lows.wrapping_sub(one_of(lane, owner));
         }
+        let (count, lone) = lone_lows(lane_of(self.lows, lane));
+        if count != 0 || depth > NEAR {
+            let all = owners | lone.wrapping_shl(depth.wrapping_mul(2));
+            self.whole.put(lane, all, depth.wrapping_add(count));
+        }
+    }
+
+    /// Puts in the low cards, once all tops are there, and leaves of each run of these the highest.
+    fn put_lows(&mut self) {
+        let holders = holders_of(self.lows);
         for seat in 0..4usize {
-            if self.lows & one_of(lane, seat).wrapping_mul(15) != 0 {
-                self.cards[seat] |= bit_of(lane, LOW);
-            }
+            let suits = holders.wrapping_shr((seat & 3) as u32 * 4) & FIRST_SEATS;
+            self.cards[seat] = tops_of_runs(self.cards[seat]) | suits.wrapping_shl(LOW);
         }
     }
 
@@ -172,30 +198,43 @@ impl Held {
             | u64::from(self.owners[lane & 3]).wrapping_shl(20)
     }
 
-    /// The cards that the seat to play may play.
+    /// The cards that the seat to play may play, of each run of its touching tops the highest.
     pub fn legal_cards(&self, trick: &PatternTrick) -> u64 {
         let cards = self.cards[trick.seat & 3];
         let follows = cards & trick.led;
         if follows != 0 { follows } else { cards }
     }
 
-    /// What a trick leaves.
+    /// What a trick leaves. Suits of which no card was played are as they were.
     pub fn remains(&self, trick: &PatternTrick) -> Remains {
+        let played = self.lengths.wrapping_sub(trick.lengths);
         let mut remains = self.whole;
         for lane in 0..4usize {
-            let gone = lane_of(trick.gone, lane);
-            let lone = lone_lows(lane_of(trick.lows, lane));
-            if gone != 0 || lone.0 != 0 {
-                let left = without_all(self.owners[lane], gone);
-                let depth = self.depths[lane].wrapping_sub(gone.count_ones());
-                remains.put(
-                    lane,
-                    left | lone.1.wrapping_shl(depth.wrapping_mul(2)),
-                    depth.wrapping_add(lone.0),
-                );
+            let of_suit = lane_of(played, lane);
+            if of_suit != 0 {
+                self.put_left(&mut remains, lane, of_suit, lane_of(trick.gone, lane));
             }
         }
         remains
+    }
+
+    /// Puts in what is left of a suit after these seats have played to it, one card each, and these tops are gone.
+    fn put_left(&self, remains: &mut Remains, lane: usize, played: u32, places: u32) {
+        let mut owners = self.owners[lane & 3];
+        let mut lows = lane_of(self.lows, lane).wrapping_sub(played);
+        let mut gone = places;
+        for _ in 0..4 {
+            if gone == 0 {
+                break;
+            }
+            let place = 31u32.wrapping_sub(gone.leading_zeros());
+            let owner = self.owner(lane, place) & 3;
+            lows = lows.wrapping_add(1u32.wrapping_shl(owner as u32 * 4));
+            owners = without(owners, place);
+            gone &= !1u32.wrapping_shl(place);
+        }
+        let depth = self.depths[lane & 3].wrapping_sub(places.count_ones());
+        remains.put_completed(lane, owners, depth, lows);
     }
 }
 
@@ -215,7 +254,6 @@ impl PatternTrick {
         PatternTrick {
             gone: 0,
             lengths: held.lengths,
-            lows: held.lows,
             led: 0,
             best: 0,
             winners: 0,
@@ -247,9 +285,6 @@ impl PatternTrick {
         next.gone |= card & !LOWS;
         let one = 1u64.wrapping_shl(start_of(card).wrapping_add(seat as u32 * 4));
         next.lengths = self.lengths.wrapping_sub(one);
-        if card & LOWS != 0 {
-            next.lows = self.lows.wrapping_sub(one);
-        }
         next.seat = seat + 1 & 3;
         next.on_table = self.on_table.wrapping_add(1);
         next
