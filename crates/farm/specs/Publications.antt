@@ -16,20 +16,20 @@ use Rattle.lease_book.specs.Replies.{IsLegal}
 -- each number published for an entry is the double-dummy value of its board's deal, for its declarer and denomination
 abbrev pub AreValues : List Board → List Event → Type 0
 AreValues boards events =
-    (entry : Entry) (k : ℕ) → published_in events entry ≡ Some k →
+    (entry : Entry) (k : ℕ) → published_in boards events entry ≡ Some k →
     (deal : Deal) × (deal_of boards entry.board ≡ Some deal) × IsValue deal entry.declarer entry.trump k
 
--- the events publish one number for an entry, or none
-abbrev pub ArePublishedOnce : List Event → Type 0
-ArePublishedOnce events =
-    (entry : Entry) → filter_map (published_for entry) events ≡ option_to_list (published_in events entry)
+-- the events publish one number for an entry and its twins, or none
+abbrev pub ArePublishedOnce : List Board → List Event → Type 0
+ArePublishedOnce boards events =
+    (entry : Entry) → filter_map (published_for boards entry) events ≡ option_to_list (published_in boards events entry)
 
 -- a history of the boards: each reply is the one that the events before it name, each number published is the
 -- double-dummy value of its deal, and is published once
 pub record IsTrueHistory (terms : Terms) (events : List Event) : Type 0 where
   pub legal : IsLegal terms events
   pub values : AreValues terms.boards events
-  pub once : ArePublishedOnce events
+  pub once : ArePublishedOnce terms.boards events
 
 -- a lease was asked for, and none was given: no entry was open any more
 abbrev pub IsGivenOut : List Event → Type 0

@@ -1,5 +1,5 @@
 -- What an event changes of what is kept beside the history.
-use Rattle.std.proofs.Common.{◌≡◌, ℕ, ◌-◌, ◌*◌, ◌/◌, ◌<◌, ◌≤◌, cond, List, [], ◌∷◌, ◌++◌, length, get_or, count_by, Option, None, Some, is_some, refl, sym, ◌∙◌, ap, subst, ◌⊎◌, inl, inr, ⊎_elim, arith}
+use Rattle.std.proofs.Common.{◌≡◌, ℕ, ◌-◌, ◌*◌, ◌/◌, ◌<◌, ◌≤◌, cond, List, [], ◌∷◌, ◌++◌, length, get_or, count_by, Option, None, Some, refl, sym, ◌∙◌, ap, subst, ◌⊎◌, inl, inr, ⊎_elim, arith}
 use Rattle.std.specs.List.{filter, find, cons_option}
 use Rattle.std.specs.Option.{option_or}
 use Rattle.std.proofs.lemmas.List.{append-nil}
@@ -11,10 +11,11 @@ use Rattle.lease_book.specs.declared.events.Event.{Event}
 use Rattle.lease_book.specs.declared.slots.Slot.{Slot}
 use Rattle.lease_book.specs.Entries.{place_of}
 use Rattle.lease_book.specs.Proofs.{IsProven}
-use Rattle.lease_book.specs.Histories.{Terms, given_by, given_in, held_after, published_by, published_at, published_in, times_leased, deal_of, is_for_place}
+use Rattle.lease_book.specs.Twins.{deal_of, is_first}
+use Rattle.lease_book.specs.Histories.{Terms, given_by, given_in, held_after, times_leased, is_for_place}
 use Rattle.lease_book.specs.Replies.{IsReply}
 use Rattle.lease_book.specs.Slots.{new_slot, tries_of}
-use Rattle.lease_book.specs.Keeping.{Among, AreApart, slot_of, IsKept}
+use Rattle.lease_book.specs.Keeping.{Among, AreApart, is_in_place, published_by, published_at, slot_of, IsKept}
 use Rattle.lease_book.proofs.HistoryLaws.{is_left_by, given_push, held_push, published_push, legal_push}
 use Rattle.lease_book.proofs.HeldLaws.{keep_if, among_filter, apart_filter, find_filter}
 
@@ -49,9 +50,9 @@ module _ (terms : Terms) (events : List Event) (event : Event) (none : given_by 
 
   slot_push : (place : ℕ) → AreApart (held_after events) → slot_of terms (events ++ event ∷ []) place ≡ slot_after event place (slot_of terms events place)
   slot_push place apart =
-      let all = cond (is_some (deal_of terms.boards (place / 20))) terms.tries 0 in
+      let all = cond (is_first terms.boards (place / 20)) terms.tries 0 in
       same_slot _ _ _ _ _ _
-      (published_push place events event)
+      (published_push (is_in_place place) events event)
       (ap (find (is_for_place place)) held_same ∙ find_filter (is_left_by event) place (held_after events) apart)
       (ap (λ grants. all - count_by (is_for_place place) grants) given_same)
 
@@ -67,10 +68,10 @@ module _ (terms : Terms) (events : List Event) (event : Event) (none : given_by 
   kept_after leases slots after kept reply same changed new there =
       record {
         legal = legal_push terms events event kept.legal reply;
-        proven = λ entry deal k h b. proven_of entry deal k b (option_or_some (published_in events entry) (published_by (place_of entry) event.asked event.reply) k (sym (published_push (place_of entry) events event) ∙ h));
+        proven = λ entry deal k h b. proven_of entry deal k b (option_or_some (published_at (place_of entry) events) (published_by (place_of entry) event.asked event.reply) k (sym (published_push (is_in_place (place_of entry)) events event) ∙ h));
         at_most_13 = λ place k h.
             ⊎_elim (kept.at_most_13 place k) (λ now. (there place k now).1)
-            (option_or_some (published_at place events) (published_by place event.asked event.reply) k (sym (published_push place events event) ∙ h));
+            (option_or_some (published_at place events) (published_by place event.asked event.reply) k (sym (published_push (is_in_place place) events event) ∙ h));
         few_boards = kept.few_boards;
         sized = same ∙ kept.sized;
         given = kept.given ∙ sym given_same;
@@ -81,7 +82,7 @@ module _ (terms : Terms) (events : List Event) (event : Event) (none : given_by 
         slots_are = λ place d l.
             let m : place < length slots = omega (arith, same) in
             changed place d m ∙ ap (slot_after event place) (kept.slots_are place d m) ∙ sym (slot_push place kept.apart);
-        only_there = λ place l. not_there place (omega (arith, same, l)) (option_or (published_at place events) (published_by place event.asked event.reply)) refl (published_push place events event);
+        only_there = λ place l. not_there place (omega (arith, same, l)) (option_or (published_at place events) (published_by place event.asked event.reply)) refl (published_push (is_in_place place) events event);
       }
     where
       not_there : (place : ℕ) → length slots ≤ place → (o : Option ℕ) → option_or (published_at place events) (published_by place event.asked event.reply) ≡ o → published_at place (events ++ event ∷ []) ≡ option_or (published_at place events) (published_by place event.asked event.reply) → published_at place (events ++ event ∷ []) ≡ None
@@ -92,7 +93,7 @@ module _ (terms : Terms) (events : List Event) (event : Event) (none : given_by 
           (λ (now : published_by place event.asked event.reply ≡ Some k). absurd (omega (arith, (there place k now).0)))
           (option_or_some (published_at place events) (published_by place event.asked event.reply) k e)
 
-      proven_of : (entry : Entry) (deal : Deal) (k : ℕ) → deal_of terms.boards entry.board ≡ Some deal → (published_in events entry ≡ Some k) ⊎ (published_by (place_of entry) event.asked event.reply ≡ Some k)
+      proven_of : (entry : Entry) (deal : Deal) (k : ℕ) → deal_of terms.boards entry.board ≡ Some deal → (published_at (place_of entry) events ≡ Some k) ⊎ (published_by (place_of entry) event.asked event.reply ≡ Some k)
           → IsProven (record { layout = deal; declarer = entry.declarer; trump = entry.trump; k = k })
       proven_of entry deal k b (inl h) = kept.proven entry deal k h b
       proven_of entry deal k b (inr h) = new entry deal k h b

@@ -1,5 +1,5 @@
 -- Places of entries.
-use Rattle.std.proofs.Common.{◌≡◌, ℕ, zero, suc, ◌/◌, ◌^◌, ◌<◌, length, List, Some, refl, sym, ◌∙◌, ap, arith}
+use Rattle.std.proofs.Common.{◌≡◌, ℕ, zero, suc, ◌/◌, ◌^◌, ◌<◌, Bool, true, false, length, List, Some, refl, sym, ◌∙◌, ap, arith}
 use Rattle.std.specs.List.{find}
 use Rattle.cards.specs.declared.seats.Seat.{Seat}
 use Rattle.cards.specs.declared.seats.Seat.TheVariants.{North, East, South, West}
@@ -14,6 +14,12 @@ use Rattle.lease_book.specs.Entries.{seat_place, trump_place, contract_place, pl
 use Rattle.lease_book.specs.Histories.{Terms, is_numbered}
 use Rattle.lease_book.specs.Keeping.{IsKept}
 use Rattle.lease_book.proofs.HeldLaws.{find_among}
+
+pub same_bool : (a b : Bool) → (a ≡ true → b ≡ true) → (b ≡ true → a ≡ true) → a ≡ b
+same_bool true true f g = refl
+same_bool true false f g = sym (f refl)
+same_bool false true f g = g refl
+same_bool false false f g = refl
 
 pub seat_below : (seat : Seat) → seat_place seat < 4
 seat_below North = omega arith

@@ -6,6 +6,7 @@ use Rattle.std.specs.Option.{option_or}
 use Rattle.std.proofs.lemmas.Bool.{and_parts, and_from, eq-eqb}
 use Rattle.std.proofs.lemmas.List.{append-nil}
 use Rattle.std.proofs.lemmas.List.Folds.{find-append}
+use Rattle.pbn_deals.specs.declared.boards.Board.{Board}
 use Rattle.lease_book.specs.declared.entries.Entry.{Entry}
 use Rattle.lease_book.specs.declared.events.Grant.{Grant}
 use Rattle.lease_book.specs.declared.events.Evidence.{Evidence}
@@ -15,7 +16,8 @@ use Rattle.lease_book.specs.declared.events.Reply.{Reply}
 use Rattle.lease_book.specs.declared.events.Reply.TheVariants.{Given, Nothing, Freed, OtherEntry, AlreadyPublished}
 use Rattle.lease_book.specs.declared.events.Event.{Event}
 use Rattle.lease_book.specs.Entries.{place_of, is_same_entry}
-use Rattle.lease_book.specs.Histories.{Terms, given_as, given_in, grant_of, held_after, is_held, is_numbered, is_for_place, published_in, times_leased, deal_of}
+use Rattle.lease_book.specs.Twins.{are_twins, is_first}
+use Rattle.lease_book.specs.Histories.{Terms, given_as, given_in, grant_of, held_after, is_held, is_numbered, is_for_place, published_in, times_leased}
 use Rattle.lease_book.specs.Replies.{IsNextLease, IsReply, IsLegal, is_evidence_for, evidence_reply, hand_in_reply}
 use Rattle.lease_book.proofs.HistoryLaws.{is_left_by, given_push, held_push, published_push, option_or_none}
 use Rattle.lease_book.proofs.HeldLaws.{find_above}
@@ -46,20 +48,20 @@ module _ (terms : Terms) (before : List Event) (now lease : ℕ) (entry : Entry)
       ∙ ap (λ o. option_or o (find (is_numbered lease) (grant ∷ []))) (find_above 1 (given_in before) lease (numbered terms before legal) (omega (arith, next.next)))
       ∙ ap (λ b. cond b (Some grant) None) (eq-eqb lease lease refl)
 
-  unpublished : is_some (published_in given entry) ≡ false
+  unpublished : is_some (published_in terms.boards given entry) ≡ false
   unpublished =
-      let has_deal = is_some (deal_of terms.boards entry.board) in
-      let no_number = is_none (published_in before entry) in
+      let first_board = is_first terms.boards entry.board in
+      let no_number = is_none (published_in terms.boards before entry) in
       let no_lease = not (list_any (is_for_place (place_of entry)) (held_after before)) in
-      let first = and_parts ((has_deal && no_number) && no_lease) (nat_lt (times_leased before (place_of entry)) terms.tries) next.ready in
-      let second = and_parts (has_deal && no_number) no_lease first.0 in
-      ap (λ (o : Option ℕ). is_some o) (published_push (place_of entry) before (record { asked = Lease now; reply = Given lease entry deadline }) ∙ option_or_none (published_in before entry))
-      ∙ unpublished_is (published_in before entry) (and_parts has_deal no_number second.0).1
+      let first = and_parts ((first_board && no_number) && no_lease) (nat_lt (times_leased before (place_of entry)) terms.tries) next.ready in
+      let second = and_parts (first_board && no_number) no_lease first.0 in
+      ap (λ (o : Option ℕ). is_some o) (published_push (are_twins terms.boards entry) before (record { asked = Lease now; reply = Given lease entry deadline }) ∙ option_or_none (published_in terms.boards before entry))
+      ∙ unpublished_is (published_in terms.boards before entry) (and_parts first_board no_number second.0).1
 
   counts : (evidence : Evidence) → is_evidence_for terms.boards entry evidence ≡ true → hand_in_reply terms given (grant_of given lease) entry evidence ≡ evidence_reply evidence
   counts evidence for_it =
       ap (λ o. hand_in_reply terms given o entry evidence) found
-      ∙ ap (λ b. cond b (cond (is_some (published_in given entry)) AlreadyPublished (evidence_reply evidence)) OtherEntry)
+      ∙ ap (λ b. cond b (cond (is_some (published_in terms.boards given entry)) AlreadyPublished (evidence_reply evidence)) OtherEntry)
       (and_from (is_same_entry entry entry) (is_evidence_for terms.boards entry evidence) (eq-eqb (place_of entry) (place_of entry) refl) for_it)
       ∙ ap (λ b. cond b AlreadyPublished (evidence_reply evidence)) unpublished
 
@@ -99,13 +101,13 @@ module _ (events : List Event) (now later count : ℕ) where
       held_push (events ++ nothing ∷ []) freed
       ∙ ap (λ (held : List Grant). filter (is_left_by freed) held ++ []) (held_push events nothing ∙ ap (λ (held : List Grant). filter (is_left_by nothing) held ++ []) free)
 
-  pub published_at_end : (entry : Entry) → published_in ended entry ≡ published_in events entry
-  published_at_end entry =
+  pub published_at_end : (boards : List Board) (entry : Entry) → published_in boards ended entry ≡ published_in boards events entry
+  published_at_end boards entry =
       let nothing : Event = record { asked = Lease now; reply = Nothing } in
-      published_push (place_of entry) (events ++ nothing ∷ []) (record { asked = Expire later; reply = Freed count })
-      ∙ option_or_none (published_in (events ++ nothing ∷ []) entry)
-      ∙ published_push (place_of entry) events nothing
-      ∙ option_or_none (published_in events entry)
+      published_push (are_twins boards entry) (events ++ nothing ∷ []) (record { asked = Expire later; reply = Freed count })
+      ∙ option_or_none (published_in boards (events ++ nothing ∷ []) entry)
+      ∙ published_push (are_twins boards entry) events nothing
+      ∙ option_or_none (published_in boards events entry)
 
   pub given_at_end : given_in ended ≡ given_in events
   given_at_end =

@@ -1,13 +1,14 @@
 -- What one event more changes of a history.
-use Rattle.std.proofs.Common.{◌≡◌, ℕ, Bool, true, false, not, cond, ◌||◌, List, [], ◌∷◌, ◌++◌, Option, None, Some, refl, sym, ◌∙◌, ap, subst, append_assoc}
+use Rattle.std.proofs.Common.{◌≡◌, Bool, true, false, not, cond, ◌||◌, List, [], ◌∷◌, ◌++◌, Option, None, Some, refl, sym, ◌∙◌, ap, subst, append_assoc}
 use Rattle.std.specs.List.{filter, list_any, cons_option}
 use Rattle.std.specs.Option.{option_or}
 use Rattle.std.proofs.lemmas.List.{append-nil}
 use Rattle.std.proofs.lemmas.List.Elements.{filter_map-append, filter-append}
 use Rattle.std.proofs.lemmas.List.Folds.{list_any-append}
+use Rattle.lease_book.specs.declared.entries.Entry.{Entry}
 use Rattle.lease_book.specs.declared.events.Grant.{Grant}
 use Rattle.lease_book.specs.declared.events.Event.{Event}
-use Rattle.lease_book.specs.Histories.{Terms, given_by, given_in, frees, unless_freed, held_after, published_by, published_at}
+use Rattle.lease_book.specs.Histories.{Terms, given_by, given_in, frees, unless_freed, held_after, published_when, first_published}
 use Rattle.lease_book.specs.Replies.{IsReply, IsLegalAfter, IsLegal}
 
 -- whether the event leaves the lease
@@ -52,11 +53,11 @@ option_or_assoc : {X : Type 0} (a b c : Option X) → option_or a (option_or b c
 option_or_assoc None b c = refl
 option_or_assoc (Some x) b c = refl
 
-pub published_push : (place : ℕ) (events : List Event) (event : Event) → published_at place (events ++ event ∷ []) ≡ option_or (published_at place events) (published_by place event.asked event.reply)
-published_push place [] event = option_or_none (published_by place event.asked event.reply)
-published_push place (first ∷ events) event =
-    ap (option_or (published_by place first.asked first.reply)) (published_push place events event)
-    ∙ option_or_assoc (published_by place first.asked first.reply) (published_at place events) (published_by place event.asked event.reply)
+pub published_push : (test : Entry → Bool) (events : List Event) (event : Event) → first_published test (events ++ event ∷ []) ≡ option_or (first_published test events) (published_when test event.asked event.reply)
+published_push test [] event = option_or_none (published_when test event.asked event.reply)
+published_push test (first ∷ events) event =
+    ap (option_or (published_when test first.asked first.reply)) (published_push test events event)
+    ∙ option_or_assoc (published_when test first.asked first.reply) (first_published test events) (published_when test event.asked event.reply)
 
 legal_push_after : (terms : Terms) (before events : List Event) (event : Event) → IsLegalAfter terms before events → IsReply terms (before ++ events) event.asked event.reply → IsLegalAfter terms before (events ++ event ∷ [])
 legal_push_after terms before [] event legal reply =

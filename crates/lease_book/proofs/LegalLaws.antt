@@ -1,12 +1,13 @@
 -- What holds of every legal history.
-use Rattle.std.proofs.Common.{◌≡◌, ℕ, zero, suc, ◌+◌, ◌*◌, ◌<◌, ◌≤◌, ◌≢◌, Bool, true, false, not, cond, ◌&&◌, List, [], ◌∷◌, ◌++◌, length, count_by, Option, None, Some, is_some, is_none, refl, sym, ◌∙◌, ap, subst, ◌⊎◌, inl, inr, ⊎_elim, append_assoc, arith}
+use Rattle.std.proofs.Common.{◌≡◌, ℕ, zero, suc, ◌+◌, ◌*◌, ◌/◌, ◌<◌, ◌≤◌, ◌≢◌, Bool, true, false, not, cond, ◌&&◌, List, [], ◌∷◌, ◌++◌, length, count_by, Option, None, Some, is_some, is_none, refl, sym, ◌∙◌, ap, subst, ◌⊎◌, inl, inr, ⊎_elim, append_assoc, arith}
 use Rattle.std.specs.Prelude.{nat_lt}
 use Rattle.std.specs.List.{filter, list_any, cons_option}
 use Rattle.std.proofs.Math.Nat.{mul-suc}
-use Rattle.std.proofs.lemmas.Bool.{and_parts, both_ways, cases_lt, cases_eq, ltb-true, ltb-false, eqb-true, eq-eqb, not-true, not-false}
+use Rattle.std.proofs.lemmas.Bool.{and_parts, both_ways, cases_eq, ltb-true, eqb-true, eq-eqb, not-true, false_from_ne_true}
 use Rattle.std.proofs.lemmas.List.{append-nil}
 use Rattle.std.proofs.lemmas.List.Sums.{sum_by_push, sum_by-cons}
-use Rattle.std.proofs.lemmas.Option.{none-some, same_Some, slice_get_past}
+use Rattle.std.proofs.lemmas.Option.{none-some, same_Some}
+use Rattle.pbn_deals.specs.declared.boards.Board.{Board}
 use Rattle.lease_book.specs.declared.entries.Entry.{Entry}
 use Rattle.lease_book.specs.declared.events.Grant.{Grant}
 use Rattle.lease_book.specs.declared.events.Evidence.{Evidence}
@@ -17,10 +18,12 @@ use Rattle.lease_book.specs.declared.events.Reply.{Reply}
 use Rattle.lease_book.specs.declared.events.Reply.TheVariants.{Given, Nothing, GaveUp, NotHeld, UnknownLease, OtherEntry, AlreadyPublished}
 use Rattle.lease_book.specs.declared.events.Event.{Event}
 use Rattle.lease_book.specs.Entries.{place_of, is_same_entry}
-use Rattle.lease_book.specs.Histories.{Terms, given_as, given_by, given_in, grant_of, held_after, is_held, is_for_place, is_open, published_in, times_leased, deal_of, deal_of_board}
+use Rattle.lease_book.specs.Twins.{is_first, deals_before, deal_count}
+use Rattle.lease_book.specs.Histories.{Terms, given_as, given_by, given_in, grant_of, held_after, is_held, is_for_place, is_open, published_in, times_leased}
 use Rattle.lease_book.specs.Replies.{IsNextLease, IsLeaseReply, IsReply, IsLegalAfter, IsLegal, is_evidence_for, evidence_reply, hand_in_reply}
 use Rattle.lease_book.specs.Keeping.{Among, AreNumberedFrom}
-use Rattle.lease_book.proofs.EntryLaws.{same_entry, contract_below}
+use Rattle.lease_book.proofs.EntryLaws.{same_entry, contract_below, board_of}
+use Rattle.lease_book.proofs.TwinLaws.{first_there}
 use Rattle.lease_book.proofs.HistoryLaws.{given_push}
 use Rattle.lease_book.proofs.HeldLaws.{among_append, numbered_push}
 
@@ -81,7 +84,7 @@ gives terms before (HandIn lease entry evidence) reply grant is g = absurd (none
   where
     of_lease : (own : Option Grant) → given_as (hand_in_reply terms before own entry evidence) ≡ None
     of_lease None = refl
-    of_lease (Some own) = hand_in_gives_none (is_same_entry own.entry entry && is_evidence_for terms.boards entry evidence) (is_some (published_in before entry)) evidence
+    of_lease (Some own) = hand_in_gives_none (is_same_entry own.entry entry && is_evidence_for terms.boards entry evidence) (is_some (published_in terms.boards before entry)) evidence
 
 -- no other request is given one
 pub gives_none : (terms : Terms) (before : List Event) (asked : Asked) (reply : Reply) → IsReply terms before asked reply → ((now : ℕ) → asked ≡ Lease now → ⊥) → given_as reply ≡ None
@@ -92,7 +95,7 @@ gives_none terms before (HandIn lease entry evidence) reply is other = ap given_
   where
     of_lease : (own : Option Grant) → given_as (hand_in_reply terms before own entry evidence) ≡ None
     of_lease None = refl
-    of_lease (Some own) = hand_in_gives_none (is_same_entry own.entry entry && is_evidence_for terms.boards entry evidence) (is_some (published_in before entry)) evidence
+    of_lease (Some own) = hand_in_gives_none (is_same_entry own.entry entry && is_evidence_for terms.boards entry evidence) (is_some (published_in terms.boards before entry)) evidence
 
 -- the leases after one event more
 by_given : (P : List Grant → Type 0) (before : List Event) (event : Event) → P (given_in before)
@@ -117,19 +120,36 @@ record AreFew (terms : Terms) (grants : List Grant) : Type 0 where
   times : (place : ℕ) → count_by (is_for_place place) grants ≤ terms.tries
   there : (grant : Grant) → Among grant grants → place_of grant.entry < 20 * length terms.boards
 
+open_parts : (terms : Terms) (before : List Event) (entry : Entry) → is_open terms before entry ≡ true → (is_first terms.boards entry.board ≡ true) × (times_leased before (place_of entry) < terms.tries)
+open_parts terms before entry ready =
+    let first = is_first terms.boards entry.board in
+    let unpublished = is_none (published_in terms.boards before entry) in
+    let free = not (list_any (is_for_place (place_of entry)) (held_after before)) in
+    let parts = and_parts ((first && unpublished) && free) (nat_lt (times_leased before (place_of entry)) terms.tries) ready in
+    ((and_parts first unpublished (and_parts (first && unpublished) free parts.0).0).0, ltb-true (times_leased before (place_of entry)) terms.tries parts.1)
+
 open_is_there : (terms : Terms) (before : List Event) (entry : Entry) → is_open terms before entry ≡ true → (place_of entry < 20 * length terms.boards) × (times_leased before (place_of entry) < terms.tries)
 open_is_there terms before entry ready =
-    let has_deal = is_some (deal_of terms.boards entry.board) in
-    let unpublished = is_none (published_in before entry) in
-    let free = not (list_any (is_for_place (place_of entry)) (held_after before)) in
-    let parts = and_parts ((has_deal && unpublished) && free) (nat_lt (times_leased before (place_of entry)) terms.tries) ready in
-    let deal = (and_parts has_deal unpublished (and_parts (has_deal && unpublished) free parts.0).0).0 in
-    let there : entry.board < length terms.boards = within (cases_lt entry.board (length terms.boards)) deal in
-    (omega (arith, there, contract_below entry.declarer entry.trump), ltb-true (times_leased before (place_of entry)) terms.tries parts.1)
+    let parts = open_parts terms before entry ready in
+    (omega (arith, first_there terms.boards entry.board parts.0, contract_below entry.declarer entry.trump), parts.1)
+
+-- each is of an entry on the first board with its deal
+pub firsts : (terms : Terms) (events : List Event) → IsLegal terms events → (grant : Grant) → Among grant (given_in events) → is_first terms.boards grant.entry.board ≡ true
+firsts terms events legal = carried (λ all. (grant : Grant) → Among grant (given_in all) → is_first terms.boards grant.entry.board ≡ true) terms push [] events legal (λ grant m. elim m [ ])
   where
-    within : (entry.board < length terms.boards) ⊎ (length terms.boards ≤ entry.board) → is_some (deal_of terms.boards entry.board) ≡ true → entry.board < length terms.boards
-    within (inl l) h = l
-    within (inr l) h = absurd (both_ways (is_some (deal_of terms.boards entry.board)) (ap (λ o. is_some (deal_of_board o)) (slice_get_past terms.boards entry.board l)) h)
+    of_either : (grants : List Grant) (new grant : Grant) → ((other : Grant) → Among other grants → is_first terms.boards other.entry.board ≡ true) → is_first terms.boards new.entry.board ≡ true
+        → Among grant grants ⊎ Among grant (new ∷ []) → is_first terms.boards grant.entry.board ≡ true
+    of_either grants new grant are first (inl m) = are grant m
+    of_either grants new grant are first (inr (inl same)) = subst (λ (x : Grant). is_first terms.boards x.entry.board ≡ true) same first
+    of_either grants new grant are first (inr (inr m)) = elim m [ ]
+
+    push : (before : List Event) (event : Event) → ((grant : Grant) → Among grant (given_in before) → is_first terms.boards grant.entry.board ≡ true) → IsReply terms before event.asked event.reply
+        → (grant : Grant) → Among grant (given_in (before ++ event ∷ [])) → is_first terms.boards grant.entry.board ≡ true
+    push before event are reply =
+        by_given (λ grants. (grant : Grant) → Among grant grants → is_first terms.boards grant.entry.board ≡ true) before event are
+        (λ new g.
+        let first = (open_parts terms before new.entry (gives terms before event.asked event.reply new reply g).1.ready).0 in
+        λ grant m. of_either (given_in before) new grant are first (among_append (given_in before) (new ∷ []) grant m))
 
 few : (terms : Terms) (events : List Event) → IsLegal terms events → AreFew terms (given_in events)
 few terms events legal = carried (λ all. AreFew terms (given_in all)) terms push [] events legal (record { times = λ place. omega arith; there = λ grant m. elim m [ ] })
@@ -194,15 +214,30 @@ split_by test (first ∷ rest) = go (test first) refl (split_by test rest) (sum_
     go true h later all = omega (arith, later, all, ap {B = ℕ} (λ b. cond b 1 0) h)
     go false h later all = omega (arith, later, all, ap {B = ℕ} (λ b. cond b 1 0) h)
 
-few_in_places : (places tries : ℕ) (grants : List Grant) → ((grant : Grant) → Among grant grants → place_of grant.entry < places) → ((place : ℕ) → count_by (is_for_place place) grants ≤ tries) → length grants ≤ tries * places
-few_in_places zero tries [] there times = omega arith
-few_in_places zero tries (first ∷ rest) there times = absurd (omega (arith, there first (inl refl)))
-few_in_places (suc places) tries grants there times =
+none_pass : (test : Grant → Bool) (grants : List Grant) → ((grant : Grant) → Among grant grants → test grant ≡ false) → count_by test grants ≡ 0
+none_pass test [] none = refl
+none_pass test (first ∷ rest) none =
+    sum_by-cons (λ (grant : Grant). cond (test grant) 1 0) first rest
+    ∙ ap (λ b. cond b 1 0 + count_by test rest) (none first (inl refl))
+    ∙ omega (arith, none_pass test rest (λ grant m. none grant (inr m)))
+
+-- how many of the places before one are those of first boards
+abbrev places_before : List Board → ℕ → ℕ
+places_before boards zero = 0
+places_before boards (suc place) = places_before boards place + cond (is_first boards (place / 20)) 1 0
+
+few_in_places : (boards : List Board) (places tries : ℕ) (grants : List Grant) → ((grant : Grant) → Among grant grants → place_of grant.entry < places) → ((place : ℕ) → count_by (is_for_place place) grants ≤ tries)
+    → ((grant : Grant) → Among grant grants → is_first boards grant.entry.board ≡ true) → length grants ≤ tries * places_before boards places
+few_in_places boards zero tries [] there times are = omega arith
+few_in_places boards zero tries (first ∷ rest) there times are = absurd (omega (arith, there first (inl refl)))
+few_in_places boards (suc places) tries grants there times are =
     let elsewhere = filter (λ grant. not (is_for_place places grant)) grants in
-    let others = few_in_places places tries elsewhere (λ grant m. below grant (passes_filter (λ other. not (is_for_place places other)) grants grant m))
-    (λ place. omega (arith, fewer_pass (is_for_place place) (λ grant. not (is_for_place places grant)) grants, times place)) in
-    omega (arith, others, split_by (is_for_place places) grants, times places, mul-suc tries places)
+    let others = few_in_places boards places tries elsewhere (λ grant m. below grant (left grant m)) (λ place. omega (arith, fewer_pass (is_for_place place) (λ grant. not (is_for_place places grant)) grants, times place)) (λ grant m. are grant (left grant m).0) in
+    by_first (is_first boards (places / 20)) refl others
   where
+    left : (grant : Grant) → Among grant (filter (λ other. not (is_for_place places other)) grants) → Among grant grants × (not (is_for_place places grant) ≡ true)
+    left grant m = passes_filter (λ other. not (is_for_place places other)) grants grant m
+
     below : (grant : Grant) → Among grant grants × (not (is_for_place places grant) ≡ true) → place_of grant.entry < places
     below grant (m, other) =
         ⊎_elim
@@ -210,32 +245,61 @@ few_in_places (suc places) tries grants there times =
         (λ (ne : place_of grant.entry ≢ places). omega (arith, there grant m, ne))
         (cases_eq (place_of grant.entry) places)
 
-pub few_leases : (terms : Terms) (events : List Event) → IsLegal terms events → length (given_in events) ≤ terms.tries * (20 * length terms.boards)
+    -- no lease is for a place of another board
+    none_here : is_first boards (places / 20) ≡ false → (grant : Grant) → Among grant grants → is_for_place places grant ≡ false
+    none_here other grant m =
+        false_from_ne_true (is_for_place places grant)
+        (λ h. let board : grant.entry.board ≡ places / 20 = sym (board_of grant.entry) ∙ ap (λ n. n / 20) (eqb-true (place_of grant.entry) places h) in
+        both_ways (is_first boards (places / 20)) other (ap (is_first boards) (sym board) ∙ are grant m))
+
+    by_first : (first : Bool) → is_first boards (places / 20) ≡ first → length (filter (λ grant. not (is_for_place places grant)) grants) ≤ tries * places_before boards places → length grants ≤ tries * (places_before boards places + cond first 1 0)
+    by_first true e others =
+        let all = places_before boards places in
+        let more : all + 1 ≡ suc all = omega arith in
+        omega (arith, others, split_by (is_for_place places) grants, times places, mul-suc tries all, ap (λ n. tries * n) more)
+    by_first false e others =
+        let all = places_before boards places in
+        let same : all + 0 ≡ all = omega arith in
+        omega (arith, others, split_by (is_for_place places) grants, none_pass (is_for_place places) grants (none_here e), ap (λ n. tries * n) same)
+
+-- a first board has twenty of them
+module _ (boards : List Board) (number : ℕ) where
+  some_places : (k : ℕ) → k ≤ 20 → places_before boards (20 * number + k) ≡ places_before boards (20 * number) + cond (is_first boards number) k 0
+  some_places zero l =
+      let e : 20 * number + zero ≡ 20 * number = omega arith in
+      ap (places_before boards) e ∙ by_first (is_first boards number)
+    where
+      by_first : (first : Bool) → places_before boards (20 * number) ≡ places_before boards (20 * number) + cond first zero 0
+      by_first true = omega arith
+      by_first false = omega arith
+  some_places (suc k) l =
+      let e : 20 * number + suc k ≡ suc (20 * number + k) = omega arith in
+      let board : (20 * number + k) / 20 ≡ number = omega (arith, l) in
+      ap (places_before boards) e
+      ∙ ap (λ n. places_before boards (20 * number + k) + cond (is_first boards n) 1 0) board
+      ∙ by_first (is_first boards number) (some_places k (omega (arith, l)))
+    where
+      by_first : (first : Bool) → places_before boards (20 * number + k) ≡ places_before boards (20 * number) + cond first k 0
+          → places_before boards (20 * number + k) + cond first 1 0 ≡ places_before boards (20 * number) + cond first (suc k) 0
+      by_first true before = omega (arith, before)
+      by_first false before = omega (arith, before)
+
+twenty_each : (boards : List Board) (number : ℕ) → places_before boards (20 * number) ≡ 20 * deals_before boards number
+twenty_each boards zero = refl
+twenty_each boards (suc number) =
+    let e : 20 * suc number ≡ 20 * number + 20 = omega arith in
+    ap (places_before boards) e ∙ some_places boards number 20 (omega arith) ∙ by_first (is_first boards number) (twenty_each boards number)
+  where
+    by_first : (first : Bool) → places_before boards (20 * number) ≡ 20 * deals_before boards number
+        → places_before boards (20 * number) + cond first 20 0 ≡ 20 * (deals_before boards number + cond first 1 0)
+    by_first true before = omega (arith, before)
+    by_first false before = omega (arith, before)
+
+pub few_leases : (terms : Terms) (events : List Event) → IsLegal terms events → length (given_in events) ≤ terms.tries * (20 * deal_count terms.boards)
 few_leases terms events legal =
     let are = few terms events legal in
-    few_in_places (20 * length terms.boards) terms.tries (given_in events) are.there are.times
+    let few_places = few_in_places terms.boards (20 * length terms.boards) terms.tries (given_in events) are.there are.times (firsts terms events legal) in
+    omega (arith, few_places, ap (λ n. terms.tries * n) (twenty_each terms.boards (length terms.boards)))
 
--- ---- where nothing is open
--- what an entry with a deal lacks that is not open
-lacks : (deal unpublished free left : Bool) → (((deal && unpublished) && free) && left) ≡ false → deal ≡ true → (unpublished ≡ false) ⊎ ((free ≡ false) ⊎ (left ≡ false))
-lacks true true true left h d = inr (inr h)
-lacks true true false left h d = inr (inl refl)
-lacks true false free left h d = inl refl
-lacks false unpublished free left h d = cc
-
-is_there : (o : Option ℕ) → is_none o ≡ false → is_some o ≡ true
-is_there None h = cc
-is_there (Some k) h = refl
-
-pub nothing_left : (terms : Terms) (before : List Event) (now : ℕ) (entry : Entry) → IsLegal terms before → IsReply terms before (Lease now) Nothing → is_some (deal_of terms.boards entry.board) ≡ true
-    → (is_some (published_in before entry) ≡ true) ⊎ ((list_any (is_for_place (place_of entry)) (held_after before) ≡ true) ⊎ (times_leased before (place_of entry) ≡ terms.tries))
-nothing_left terms before now entry legal none deal =
-    go (lacks (is_some (deal_of terms.boards entry.board)) (is_none (published_in before entry)) (not (list_any (is_for_place (place_of entry)) (held_after before)))
-    (nat_lt (times_leased before (place_of entry)) terms.tries) (none entry) deal)
-  where
-    go : (is_none (published_in before entry) ≡ false) ⊎ ((not (list_any (is_for_place (place_of entry)) (held_after before)) ≡ false) ⊎ (nat_lt (times_leased before (place_of entry)) terms.tries ≡ false))
-        → (is_some (published_in before entry) ≡ true) ⊎ ((list_any (is_for_place (place_of entry)) (held_after before) ≡ true) ⊎ (times_leased before (place_of entry) ≡ terms.tries))
-    go (inl h) = inl (is_there (published_in before entry) h)
-    go (inr (inl h)) = inr (inl (not-false (list_any (is_for_place (place_of entry)) (held_after before)) h))
-    go (inr (inr h)) =
-        inr (inr (omega (arith, ltb-false (times_leased before (place_of entry)) terms.tries h, (few terms before legal).times (place_of entry))))
+pub times_few : (terms : Terms) (events : List Event) → IsLegal terms events → (place : ℕ) → times_leased events place ≤ terms.tries
+times_few terms events legal place = (few terms events legal).times place

@@ -9,6 +9,9 @@ pub mod OpenLaws
 pub mod ExpireLaws
 pub mod SettleLaws
 pub mod LegalLaws
+pub mod TwinLaws
+pub mod HolderLaws
+pub mod NamedLaws
 pub mod PublicationLaws
 pub mod VerdictLaws
 pub mod PlaceLaws

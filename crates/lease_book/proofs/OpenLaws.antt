@@ -1,5 +1,5 @@
 -- Open entries, and the lease of the least.
-use Rattle.std.proofs.Common.{◌≡◌, ℕ, ◌+◌, ◌-◌, ◌/◌, ◌<◌, ◌≤◌, ◌≢◌, Bool, true, false, not, cond, ◌&&◌, List, [], ◌∷◌, ◌++◌, length, get_or, set, count_by, None, Some, is_some, is_none, refl, sym, ◌∙◌, ap, subst, ◌⊎◌, inl, inr, ⊎_elim, arith}
+use Rattle.std.proofs.Common.{◌≡◌, ℕ, ◌+◌, ◌-◌, ◌/◌, ◌<◌, ◌≤◌, ◌≢◌, Bool, true, false, not, cond, ◌&&◌, List, [], ◌∷◌, ◌++◌, length, get_or, set, count_by, Option, None, Some, is_none, refl, sym, ◌∙◌, ap, subst, ◌⊎◌, inl, inr, ⊎_elim, arith}
 use Rattle.std.specs.Prelude.{nat_lt, min, ◌^◌}
 use Rattle.std.specs.List.{filter, find, list_any}
 use Rattle.std.specs.Option.{option_or}
@@ -7,7 +7,7 @@ use Rattle.std.proofs.lemmas.Bool.{both_ways, cases_eq, cases_lt, and_parts, ltb
 use Rattle.std.proofs.lemmas.List.{get_or-set_same, get_or-set_other, length-set}
 use Rattle.std.proofs.lemmas.List.Folds.{find-append}
 use Rattle.std.proofs.lemmas.List.Sums.{sum_by_push}
-use Rattle.std.proofs.lemmas.Option.{none-some, slice_get_past}
+use Rattle.std.proofs.lemmas.Option.{none-some}
 use Rattle.lease_book.specs.declared.entries.Entry.{Entry}
 use Rattle.lease_book.specs.declared.events.Grant.{Grant}
 use Rattle.lease_book.specs.declared.events.Asked.TheVariants.{Lease}
@@ -16,16 +16,19 @@ use Rattle.lease_book.specs.declared.events.Reply.TheVariants.{Given, Nothing}
 use Rattle.lease_book.specs.declared.events.Event.{Event}
 use Rattle.lease_book.specs.declared.slots.Slot.{Slot}
 use Rattle.lease_book.specs.Entries.{place_of}
-use Rattle.lease_book.specs.Histories.{Terms, given_in, held_after, published_at, published_in, times_leased, deal_of, deal_of_board, is_numbered, is_for_place, is_open}
+use Rattle.lease_book.specs.Twins.{is_first}
+use Rattle.lease_book.specs.Histories.{Terms, given_in, held_after, published_in, times_leased, is_numbered, is_for_place, is_open}
 use Rattle.lease_book.specs.Replies.{IsNextLease}
 use Rattle.lease_book.specs.Slots.{is_open_slot, NonePasses, IsFirst}
-use Rattle.lease_book.specs.Keeping.{Among, AreApart, slot_of, IsKept}
+use Rattle.lease_book.specs.Keeping.{Among, AreApart, is_in_place, published_at, slot_of, IsKept}
 use Rattle.lease_book.proofs.SlotLaws.{no_slot}
-use Rattle.lease_book.proofs.EntryLaws.{board_of, contract_below}
+use Rattle.lease_book.proofs.EntryLaws.{same_bool, board_of, contract_below}
 use Rattle.lease_book.proofs.HistoryLaws.{is_left_by, given_push, held_push, published_push, legal_push, option_or_none}
 use Rattle.lease_book.proofs.HeldLaws.{is_none_find, find_none, among_append, apart_push, find_above, numbered_push}
 use Rattle.lease_book.proofs.BookLaws.{same_slot, kept_after}
-use Rattle.lease_book.proofs.ReleaseLaws.{same_bool, slot_stays}
+use Rattle.lease_book.proofs.ReleaseLaws.{slot_stays}
+use Rattle.lease_book.proofs.TwinLaws.{none_first}
+use Rattle.lease_book.proofs.NamedLaws.{published_own}
 
 tries_left : (h : Bool) (tries times : ℕ) → nat_lt 0 (cond h tries 0 - times) ≡ (h && nat_lt times tries)
 tries_left true tries times = same_bool (nat_lt 0 (tries - times)) (nat_lt times tries)
@@ -40,16 +43,23 @@ in_order false true false d = refl
 in_order false false b d = refl
 
 module _ (terms : Terms) (events : List Event) (leases : List Grant) (slots : List Slot) (kept : IsKept terms events leases slots) where
+  -- of an entry on a first board its own number tells whether it is published
+  own_number : (entry : Entry) (free left first : Bool) → is_first terms.boards entry.board ≡ first
+      → (((first && is_none (published_at (place_of entry) events)) && free) && left) ≡ (((first && is_none (published_in terms.boards events entry)) && free) && left)
+  own_number entry free left true h = ap (λ (o : Option ℕ). (is_none o && free) && left) (sym (published_own terms events entry kept.legal h))
+  own_number entry free left false h = refl
+
   open_as : (entry : Entry) → is_open_slot (slot_of terms events (place_of entry)) ≡ is_open terms events entry
   open_as entry =
-      let there = is_some (deal_of terms.boards entry.board) in
-      let unpublished = is_none (published_in events entry) in
+      let first = is_first terms.boards entry.board in
+      let unpublished = is_none (published_at (place_of entry) events) in
       let free = not (list_any (is_for_place (place_of entry)) (held_after events)) in
       let times = times_leased events (place_of entry) in
-      ap (λ n. (unpublished && is_none (find (is_for_place (place_of entry)) (held_after events))) && nat_lt 0 (cond (is_some (deal_of terms.boards n)) terms.tries 0 - times)) (board_of entry)
-      ∙ ap (λ b. (unpublished && b) && nat_lt 0 (cond there terms.tries 0 - times)) (is_none_find (is_for_place (place_of entry)) (held_after events))
-      ∙ ap (λ b. (unpublished && free) && b) (tries_left there terms.tries times)
-      ∙ in_order there unpublished free (nat_lt times terms.tries)
+      ap (λ n. (unpublished && is_none (find (is_for_place (place_of entry)) (held_after events))) && nat_lt 0 (cond (is_first terms.boards n) terms.tries 0 - times)) (board_of entry)
+      ∙ ap (λ b. (unpublished && b) && nat_lt 0 (cond first terms.tries 0 - times)) (is_none_find (is_for_place (place_of entry)) (held_after events))
+      ∙ ap (λ b. (unpublished && free) && b) (tries_left first terms.tries times)
+      ∙ in_order first unpublished free (nat_lt times terms.tries)
+      ∙ own_number entry free (nat_lt times terms.tries) first refl
 
   open_at : (entry : Entry) (d : Slot) → place_of entry < length slots → is_open_slot (get_or slots (place_of entry) d) ≡ is_open terms events entry
   open_at entry d l = ap is_open_slot (kept.slots_are (place_of entry) d l) ∙ open_as entry
@@ -57,8 +67,8 @@ module _ (terms : Terms) (events : List Event) (leases : List Grant) (slots : Li
   closed_past : (entry : Entry) → length slots ≤ place_of entry → is_open terms events entry ≡ false
   closed_past entry l =
       let past : length terms.boards ≤ entry.board = omega (arith, kept.sized, contract_below entry.declarer entry.trump) in
-      ap (λ o. ((is_some (deal_of_board o) && is_none (published_in events entry)) && not (list_any (is_for_place (place_of entry)) (held_after events))) && nat_lt (times_leased events (place_of entry)) terms.tries)
-      (slice_get_past terms.boards entry.board past)
+      ap (λ b. ((b && is_none (published_in terms.boards events entry)) && not (list_any (is_for_place (place_of entry)) (held_after events))) && nat_lt (times_leased events (place_of entry)) terms.tries)
+      (none_first terms.boards entry.board past)
 
   pub nothing_open : NonePasses is_open_slot 0 slots → (entry : Entry) → is_open terms events entry ≡ false
   nothing_open none entry =
@@ -108,23 +118,23 @@ module _ (terms : Terms) (events : List Event) (leases : List Grant) (slots : Li
   given_more = given_push events (record { asked = Lease now; reply = Given lease entry deadline })
 
   published_same : (place : ℕ) → published_at place (events ++ record { asked = Lease now; reply = Given lease entry deadline } ∷ []) ≡ published_at place events
-  published_same place = published_push place events (record { asked = Lease now; reply = Given lease entry deadline }) ∙ option_or_none (published_at place events)
+  published_same place = published_push (is_in_place place) events (record { asked = Lease now; reply = Given lease entry deadline }) ∙ option_or_none (published_at place events)
 
   free : list_any (is_for_place (place_of entry)) (held_after events) ≡ false
   free =
-      let first = and_parts (is_some (deal_of terms.boards entry.board) && is_none (published_in events entry) && not (list_any (is_for_place (place_of entry)) (held_after events))) (nat_lt (times_leased events (place_of entry)) terms.tries) next.ready in
-      let second = and_parts (is_some (deal_of terms.boards entry.board) && is_none (published_in events entry)) (not (list_any (is_for_place (place_of entry)) (held_after events))) first.0 in
+      let first = and_parts (is_first terms.boards entry.board && is_none (published_in terms.boards events entry) && not (list_any (is_for_place (place_of entry)) (held_after events))) (nat_lt (times_leased events (place_of entry)) terms.tries) next.ready in
+      let second = and_parts (is_first terms.boards entry.board && is_none (published_in terms.boards events entry)) (not (list_any (is_for_place (place_of entry)) (held_after events))) first.0 in
       not-true (list_any (is_for_place (place_of entry)) (held_after events)) second.1
 
   new_slot_is : (place : ℕ) → slot_of terms (events ++ record { asked = Lease now; reply = Given lease entry deadline } ∷ []) place
       ≡ record {
         published = published_at place events;
         holder = option_or (find (is_for_place place) (held_after events)) (cond (is_for_place place (record { lease = lease; entry = entry; deadline = deadline })) (Some (record { lease = lease; entry = entry; deadline = deadline })) None);
-        left = cond (is_some (deal_of terms.boards (place / 20))) terms.tries 0 - (times_leased events place + cond (is_for_place place (record { lease = lease; entry = entry; deadline = deadline })) 1 0);
+        left = cond (is_first terms.boards (place / 20)) terms.tries 0 - (times_leased events place + cond (is_for_place place (record { lease = lease; entry = entry; deadline = deadline })) 1 0);
       }
   new_slot_is place =
       let new : Grant = record { lease = lease; entry = entry; deadline = deadline } in
-      let all = cond (is_some (deal_of terms.boards (place / 20))) terms.tries 0 in
+      let all = cond (is_first terms.boards (place / 20)) terms.tries 0 in
       same_slot _ _ _ _ _ _
       (published_same place)
       (ap (find (is_for_place place)) held_more ∙ find-append (is_for_place place) (held_after events) (new ∷ []))
@@ -188,7 +198,7 @@ module _ (terms : Terms) (events : List Event) (leases : List Grant) (slots : Li
           (sym (ap (λ o. option_or o (cond (is_for_place (place_of entry) new) (Some new) None)) (find_none (is_for_place (place_of entry)) (held_after events) free)
           ∙ ap (λ b. cond b (Some new) None) (eq-eqb (place_of entry) (place_of entry) refl)))
           (ap (λ (slot : Slot). slot.left - 1) was
-          ∙ one_less (cond (is_some (deal_of terms.boards (place_of entry / 20))) terms.tries 0) (times_leased events (place_of entry)) (is_for_place (place_of entry) new) (eq-eqb (place_of entry) (place_of entry) refl))
+          ∙ one_less (cond (is_first terms.boards (place_of entry / 20)) terms.tries 0) (times_leased events (place_of entry)) (is_for_place (place_of entry) new) (eq-eqb (place_of entry) (place_of entry) refl))
           ∙ sym (new_slot_is (place_of entry))
           ∙ ap (λ n. slot_of terms (events ++ record { asked = Lease now; reply = Given lease entry deadline } ∷ []) n) (sym same))
           (λ (ne : place ≢ place_of entry).
@@ -198,7 +208,7 @@ module _ (terms : Terms) (events : List Event) (leases : List Grant) (slots : Li
           refl
           (sym (ap (λ b. option_or (find (is_for_place place) (held_after events)) (cond b (Some new) None)) (ne_eqb (place_of entry) place (λ same. ne (sym same)))
           ∙ option_or_none (find (is_for_place place) (held_after events))))
-          (none_less (cond (is_some (deal_of terms.boards (place / 20))) terms.tries 0) (times_leased events place) (is_for_place place new) (ne_eqb (place_of entry) place (λ same. ne (sym same))))
+          (none_less (cond (is_first terms.boards (place / 20)) terms.tries 0) (times_leased events place) (is_for_place place new) (ne_eqb (place_of entry) place (λ same. ne (sym same))))
           ∙ sym (new_slot_is place))
           (cases_eq place (place_of entry))
         where

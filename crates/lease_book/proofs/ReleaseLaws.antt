@@ -11,19 +11,14 @@ use Rattle.lease_book.specs.declared.events.Reply.TheVariants.{GaveUp, NotHeld, 
 use Rattle.lease_book.specs.declared.events.Event.{Event}
 use Rattle.lease_book.specs.declared.slots.Slot.{Slot}
 use Rattle.lease_book.specs.Entries.{place_of}
-use Rattle.lease_book.specs.Histories.{Terms, given_by, grant_of, is_held, held_after, frees, published_by, is_numbered, is_for_place}
+use Rattle.lease_book.specs.Histories.{Terms, given_by, grant_of, is_held, held_after, frees, is_numbered, is_for_place}
 use Rattle.lease_book.specs.Replies.{give_up_reply}
 use Rattle.lease_book.specs.Slots.{is_holder, freed_of}
-use Rattle.lease_book.specs.Keeping.{Among, IsKept}
+use Rattle.lease_book.specs.Keeping.{Among, published_by, IsKept}
+use Rattle.lease_book.proofs.EntryLaws.{same_bool}
 use Rattle.lease_book.proofs.HistoryLaws.{is_left_by, option_or_none}
 use Rattle.lease_book.proofs.HeldLaws.{keep_if, among_any, any_among, find_among, find_apart}
 use Rattle.lease_book.proofs.BookLaws.{slot_after, same_slot, kept_after}
-
-pub same_bool : (a b : Bool) → (a ≡ true → b ≡ true) → (b ≡ true → a ≡ true) → a ≡ b
-same_bool true true f g = refl
-same_bool true false f g = sym (f refl)
-same_bool false true f g = g refl
-same_bool false false f g = refl
 
 pub keep_all : (test : Grant → Bool) (holder : Option Grant) → ((grant : Grant) → holder ≡ Some grant → test grant ≡ true) → keep_if test holder ≡ holder
 keep_all test None h = refl

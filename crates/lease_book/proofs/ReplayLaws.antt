@@ -18,10 +18,11 @@ use Rattle.lease_book.specs.declared.events.Event.{Event}
 use Rattle.lease_book.specs.declared.requests.Request.{Request}
 use Rattle.lease_book.specs.declared.requests.Request.TheVariants as request
 use Rattle.lease_book.specs.Entries.{place_of, contract_place, is_same_entry}
-use Rattle.lease_book.specs.Histories.{Terms, given_as, given_in, grant_of, deal_of, published_in, is_numbered}
+use Rattle.lease_book.specs.Twins.{deal_of, twin_of}
+use Rattle.lease_book.specs.Histories.{Terms, given_as, given_in, grant_of, published_in, is_numbered}
 use Rattle.lease_book.specs.Replies.{IsReply, IsLegalAfter, IsLegal, is_shown_for}
 use Rattle.lease_book.specs.Books.{Ledger, AreBoards, AreTries}
-use Rattle.lease_book.specs.GoodHandIns.{good_under, good_of}
+use Rattle.lease_book.specs.GoodHandIns.{good_under, good_of, first_good_after}
 use Rattle.lease_book.specs.Requests.{IsJudged, IsAskedBy, AreAskedBy, IsAnswerTo}
 use Rattle.lease_book.specs.Replays.{TextsShow, WasGiven, IsGoodHandIn, IsFirstGood, IsReplayed, reply_of}
 use Rattle.lease_book.proofs.EntryLaws.{same_entry}
@@ -200,12 +201,12 @@ module _ (terms : Terms) (requests : List Request) (events : List Event) (replie
   not_good (Some k) place event entry there good none = absurd (none k (good_in_list place event entry k there good))
 
   -- ---- both ways
-  pub published_first : (entry : Entry) (k : ℕ) → (published_in events entry ≡ Some k) ↔ IsFirstGood terms.boards requests replies entry k
-  published_first entry k = (to, from)
+  first_for : (entry : Entry) (k : ℕ) → (first_good_after terms [] events entry ≡ Some k) ↔ IsFirstGood terms.boards requests replies entry k
+  first_for entry k = (to, from)
     where
-      to : published_in events entry ≡ Some k → IsFirstGood terms.boards requests replies entry k
+      to : first_good_after terms [] events entry ≡ Some k → IsFirstGood terms.boards requests replies entry k
       to h =
-          let found = first_at terms [] events entry k (sym (publishes_first_good terms events entry legal) ∙ h) in
+          let found = first_at terms [] events entry k h in
           record {
             place = found.place;
             good = good_in_list found.place found.event entry k found.there found.good;
@@ -214,12 +215,17 @@ module _ (terms : Terms) (requests : List Request) (events : List Event) (replie
                 none-some other (sym (found.none earlier one.0 l one.1) ∙ one.2);
           }
 
-      from : IsFirstGood terms.boards requests replies entry k → published_in events entry ≡ Some k
+      from : IsFirstGood terms.boards requests replies entry k → first_good_after terms [] events entry ≡ Some k
       from is =
           let one = good_in_history is.place entry k is.good in
-          publishes_first_good terms events entry legal
-          ∙ first_from terms [] events entry k is.place one.0 one.1 one.2
+          first_from terms [] events entry k is.place one.0 one.1 one.2
           (λ earlier other l there. not_good (good_of terms (take earlier events) entry other.asked) earlier other entry there refl (λ number good. is.first earlier number l good))
+
+  pub published_first : (entry : Entry) (k : ℕ) → (published_in terms.boards events entry ≡ Some k) ↔ IsFirstGood terms.boards requests replies (twin_of terms.boards entry) k
+  published_first entry k =
+      let both = first_for (twin_of terms.boards entry) k in
+      let same = publishes_first_good terms events entry legal in
+      (λ h. both.0 (sym same ∙ h), λ is. same ∙ both.1 is)
 
 -- ---- the loop
 -- what a book has answered of the requests

@@ -23,15 +23,17 @@ use Rattle.lease_book.specs.declared.events.Event.{Event}
 use Rattle.lease_book.specs.declared.slots.Slot.{Slot}
 use Rattle.lease_book.specs.Entries.{contract_place, place_of, is_same_entry}
 use Rattle.lease_book.specs.Proofs.{IsProven, IsProvenEvidence}
-use Rattle.lease_book.specs.Histories.{Terms, given_as, grant_of, published_as, published_at, published_in, deal_of, is_numbered, is_freed_by_hand_in}
+use Rattle.lease_book.specs.Twins.{deal_of}
+use Rattle.lease_book.specs.Histories.{Terms, given_as, grant_of, published_in, is_numbered, is_freed_by_hand_in}
 use Rattle.lease_book.specs.Replies.{is_shown_for, is_evidence_for, evidence_reply, hand_in_reply}
 use Rattle.lease_book.specs.Slots.{freed_of}
-use Rattle.lease_book.specs.Keeping.{IsKept}
+use Rattle.lease_book.specs.Keeping.{published_as, published_at, IsKept}
 use Rattle.lease_book.proofs.EntryLaws.{same_contract, same_entry}
 use Rattle.lease_book.proofs.HistoryLaws.{is_left_by}
 use Rattle.lease_book.proofs.HeldLaws.{keep_if}
 use Rattle.lease_book.proofs.BookLaws.{slot_after, same_slot, kept_after}
 use Rattle.lease_book.proofs.ReleaseLaws.{slot_stays, holder_found, released, grant_is}
+use Rattle.lease_book.proofs.NamedLaws.{named_first, published_own}
 
 -- what was shown for an entry, named by the entry and its deal
 shown_as : (entry : Entry) (deal : Deal) (shown : Shown) → is_shown_for (Some deal) entry shown ≡ true → shown ≡ record { layout = deal; declarer = entry.declarer; trump = entry.trump; k = shown.k }
@@ -52,29 +54,30 @@ module _ (terms : Terms) (events : List Event) (leases : List Grant) (slots : Li
   pub unknown_hand_in : (lease : ℕ) (entry : Entry) (evidence : Evidence) → find (is_numbered lease) leases ≡ None → UnknownLease ≡ hand_in_reply terms events (grant_of events lease) entry evidence
   unknown_hand_in lease entry evidence none = sym (ap (λ o. hand_in_reply terms events o entry evidence) (grant_is terms events leases slots kept lease None none))
 
-  known : (lease : ℕ) (entry : Entry) (evidence : Evidence) (own : Grant) (one other : Bool) → find (is_numbered lease) leases ≡ Some own → (is_same_entry own.entry entry && is_evidence_for terms.boards entry evidence) ≡ one → is_some (published_in events entry) ≡ other
+  known : (lease : ℕ) (entry : Entry) (evidence : Evidence) (own : Grant) (one other : Bool) → find (is_numbered lease) leases ≡ Some own → (is_same_entry own.entry entry && is_evidence_for terms.boards entry evidence) ≡ one → is_some (published_in terms.boards events entry) ≡ other
       → hand_in_reply terms events (grant_of events lease) entry evidence ≡ cond one (cond other AlreadyPublished (evidence_reply evidence)) OtherEntry
   known lease entry evidence own one other given e p =
       ap (λ o. hand_in_reply terms events o entry evidence) (grant_is terms events leases slots kept lease (Some own) given)
-      ∙ ap (λ b. cond b (cond (is_some (published_in events entry)) AlreadyPublished (evidence_reply evidence)) OtherEntry) e
+      ∙ ap (λ b. cond b (cond (is_some (published_in terms.boards events entry)) AlreadyPublished (evidence_reply evidence)) OtherEntry) e
       ∙ ap (λ b. cond one (cond b AlreadyPublished (evidence_reply evidence)) OtherEntry) p
 
   pub other_entry : (lease : ℕ) (entry : Entry) (evidence : Evidence) (own : Grant) → find (is_numbered lease) leases ≡ Some own → is_same_entry own.entry entry ≡ false → OtherEntry ≡ hand_in_reply terms events (grant_of events lease) entry evidence
-  other_entry lease entry evidence own given e = sym (known lease entry evidence own false (is_some (published_in events entry)) given (and_left (is_same_entry own.entry entry) (is_evidence_for terms.boards entry evidence) e) refl)
+  other_entry lease entry evidence own given e = sym (known lease entry evidence own false (is_some (published_in terms.boards events entry)) given (and_left (is_same_entry own.entry entry) (is_evidence_for terms.boards entry evidence) e) refl)
 
   pub other_evidence : (lease : ℕ) (entry : Entry) (evidence : Evidence) (own : Grant) → find (is_numbered lease) leases ≡ Some own → is_evidence_for terms.boards entry evidence ≡ false → OtherEntry ≡ hand_in_reply terms events (grant_of events lease) entry evidence
-  other_evidence lease entry evidence own given e = sym (known lease entry evidence own false (is_some (published_in events entry)) given (and_right (is_same_entry own.entry entry) (is_evidence_for terms.boards entry evidence) e) refl)
+  other_evidence lease entry evidence own given e = sym (known lease entry evidence own false (is_some (published_in terms.boards events entry)) given (and_right (is_same_entry own.entry entry) (is_evidence_for terms.boards entry evidence) e) refl)
 
-  slot_number : (d : Slot) (entry : Entry) (own : Grant) → is_same_entry own.entry entry ≡ true → place_of own.entry < length slots → (get_or slots (place_of own.entry) d).published ≡ published_in events entry
-  slot_number d entry own same l =
+  slot_number : (lease : ℕ) (d : Slot) (entry : Entry) (own : Grant) → find (is_numbered lease) leases ≡ Some own → is_same_entry own.entry entry ≡ true → place_of own.entry < length slots → (get_or slots (place_of own.entry) d).published ≡ published_in terms.boards events entry
+  slot_number lease d entry own given same l =
       ap (λ (s : Slot). s.published) (kept.slots_are (place_of own.entry) d l)
       ∙ ap (λ n. published_at n events) (eqb-true (place_of own.entry) (place_of entry) same)
+      ∙ sym (published_own terms events entry kept.legal (named_first terms events lease own entry kept.legal (grant_is terms events leases slots kept lease (Some own) given) same))
 
   pub counts : (lease : ℕ) (d : Slot) (entry : Entry) (evidence : Evidence) (own : Grant) (other : Bool) → find (is_numbered lease) leases ≡ Some own → is_same_entry own.entry entry ≡ true → is_evidence_for terms.boards entry evidence ≡ true → place_of own.entry < length slots
       → is_some (get_or slots (place_of own.entry) d).published ≡ other → hand_in_reply terms events (grant_of events lease) entry evidence ≡ cond other AlreadyPublished (evidence_reply evidence)
   counts lease d entry evidence own other given same e l p =
       known lease entry evidence own true other given (and_from (is_same_entry own.entry entry) (is_evidence_for terms.boards entry evidence) same e)
-      (ap (λ (o : Option ℕ). is_some o) (sym (slot_number d entry own same l)) ∙ p)
+      (ap (λ (o : Option ℕ). is_some o) (sym (slot_number lease d entry own given same l)) ∙ p)
 
   -- a refusal leaves all
   pub kept_refused : (lease : ℕ) (entry : Entry) (evidence : Evidence) (reply : Reply) → given_as reply ≡ None → ((grant : Grant) → is_freed_by_hand_in grant lease entry reply ≡ false) → ((place : ℕ) → published_as place entry reply ≡ None)

@@ -115,14 +115,14 @@ module _ (now : ℕ) (before slots : List Slot) (from : ℕ)
       sym (count_up_to (is_past_slot now) before from (length before) h (omega arith) (λ other d k l. none_before other d k (omega arith)))
       ∙ ap (count_by (is_past_slot now)) (take_all (length before) before (omega arith))
 
--- one more slot is as it is to be
-pub set_step : (slots after : List Slot) (place : ℕ) (slot : Slot) (wanted : ℕ → Slot) → after ≡ set slots place slot → place < length slots → slot ≡ wanted place
-    → ((other : ℕ) (d : Slot) → other < place → get_or slots other d ≡ wanted other) → (other : ℕ) (d : Slot) → other < place + 1 → get_or after other d ≡ wanted other
-set_step slots after place slot wanted a l is done other d h =
-    ap (λ (all : List Slot). get_or all other d) a
+-- one more element is as it is to be
+pub set_step : {X : Type 0} (some after : List X) (place : ℕ) (one : X) (wanted : ℕ → X) → after ≡ set some place one → place < length some → one ≡ wanted place
+    → ((other : ℕ) (d : X) → other < place → get_or some other d ≡ wanted other) → (other : ℕ) (d : X) → other < place + 1 → get_or after other d ≡ wanted other
+set_step {X} some after place one wanted a l is done other d h =
+    ap (λ (all : List X). get_or all other d) a
     ∙ ⊎_elim
-    (λ (e : other ≡ place). ap (λ n. get_or (set slots place slot) n d) e ∙ get_or-set_same slots place slot d l ∙ is ∙ ap wanted (sym e))
-    (λ (ne : other ≢ place). get_or-set_other slots place other slot d ne ∙ done other d (omega arith))
+    (λ (e : other ≡ place). ap (λ n. get_or (set some place one) n d) e ∙ get_or-set_same some place one d l ∙ is ∙ ap wanted (sym e))
+    (λ (ne : other ≢ place). get_or-set_other some place other one d ne ∙ done other d (omega arith))
     (cases_eq other place)
 
 pub set_rest : (slots after : List Slot) (place : ℕ) (slot : Slot) → after ≡ set slots place slot → (other : ℕ) (d : Slot) → place + 1 ≤ other → get_or after other d ≡ get_or slots other d

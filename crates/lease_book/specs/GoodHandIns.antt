@@ -10,7 +10,8 @@ use Rattle.lease_book.specs.declared.events.Asked.{Asked}
 use Rattle.lease_book.specs.declared.events.Asked.TheVariants.{Lease, Expire, GiveUp, HandIn}
 use Rattle.lease_book.specs.declared.events.Event.{Event}
 use Rattle.lease_book.specs.Entries.{is_same_entry}
-use Rattle.lease_book.specs.Histories.{Terms, deal_of, grant_of}
+use Rattle.lease_book.specs.Twins.{deal_of, twin_of}
+use Rattle.lease_book.specs.Histories.{Terms, grant_of}
 use Rattle.lease_book.specs.Replies.{is_shown_for}
 
 -- the number that is shown for an entry under a lease, if the lease was given for it
@@ -34,5 +35,6 @@ first_good_after terms before [] entry = None
 first_good_after terms before (event ∷ later) entry =
     option_or (good_of terms before entry event.asked) (first_good_after terms (before ++ event ∷ []) later entry)
 
+-- the number of the first good hand-in for an entry's least twin
 abbrev pub first_good : Terms → List Event → Entry → Option ℕ
-first_good terms events entry = first_good_after terms [] events entry
+first_good terms events entry = first_good_after terms [] events (twin_of terms.boards entry)

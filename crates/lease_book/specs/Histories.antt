@@ -1,9 +1,8 @@
 -- What follows from a list of events: which leases were given, which are held, what is published, what is open.
-use Rattle.std.specs.Prelude.{ℕ, Bool, false, not, ◌&&◌, List, [], ◌∷◌, ◌++◌, Option, None, Some, is_some, is_none}
-use Rattle.std.specs.Prelude.{if◌then◌else◌, nat_eq, nat_le, nat_lt, count_by, slice_get}
+use Rattle.std.specs.Prelude.{ℕ, Bool, false, not, ◌&&◌, List, [], ◌∷◌, ◌++◌, Option, None, Some, is_none}
+use Rattle.std.specs.Prelude.{if◌then◌else◌, nat_eq, nat_le, nat_lt, count_by}
 use Rattle.std.specs.List.{filter_map, find, list_any}
 use Rattle.std.specs.Option.{option_or}
-use Rattle.cards.specs.Deal.{Deal}
 use Rattle.pbn_deals.specs.declared.boards.Board.{Board}
 use Rattle.lease_book.specs.declared.entries.Entry.{Entry}
 use Rattle.lease_book.specs.declared.events.Grant.{Grant}
@@ -14,6 +13,8 @@ use Rattle.lease_book.specs.declared.events.Reply.TheVariants.{Given, Nothing, F
 use Rattle.lease_book.specs.declared.events.Reply.TheVariants.{OtherEntry, AlreadyPublished, BadCertificate, Published}
 use Rattle.lease_book.specs.declared.events.Event.{Event}
 use Rattle.lease_book.specs.Entries.{place_of}
+pub use Rattle.lease_book.specs.Twins.{deal_of_board, deal_of}
+use Rattle.lease_book.specs.Twins.{are_twins, is_first}
 
 -- what a book is over: its boards, how long a lease lasts, and how often an entry may be leased
 pub record Terms : Type 0 where
@@ -55,7 +56,8 @@ is_past now grant = nat_le grant.deadline now
 abbrev pub grant_of : List Event → ℕ → Option Grant
 grant_of events lease = find (is_numbered lease) (given_in events)
 
--- whether a hand-in with this reply frees the lease: a bad one its own, a publication every lease of its entry
+-- Whether a hand-in with this reply frees the lease: a bad one its own, a publication every lease of its entry. (No twin of
+-- it is ever leased beside it: only the least of its twins is open.)
 abbrev pub is_freed_by_hand_in : Grant → ℕ → Entry → Reply → Bool
 is_freed_by_hand_in grant lease entry (BadCertificate fault) = is_numbered lease grant
 is_freed_by_hand_in grant lease entry (Published k) = is_for_place (place_of entry) grant
@@ -84,40 +86,34 @@ held_after (event ∷ later) = unless_freed (given_by event) later ++ held_after
 abbrev pub is_held : List Event → ℕ → Bool
 is_held events lease = list_any (is_numbered lease) (held_after events)
 
--- the number that an event publishes in this place
-abbrev pub published_as : ℕ → Entry → Reply → Option ℕ
-published_as place entry (Published k) = if nat_eq (place_of entry) place then Some k else None
-published_as place entry _ = None
+-- the number that a reply publishes, for those that it is meant for
+abbrev pub number_for : Bool → Reply → Option ℕ
+number_for is_meant (Published k) = if is_meant then Some k else None
+number_for is_meant _ = None
 
-abbrev pub published_by : ℕ → Asked → Reply → Option ℕ
-published_by place (HandIn lease entry evidence) reply = published_as place entry reply
-published_by place _ reply = None
+-- the number that an event publishes for the entries that pass a test
+abbrev pub published_when : (Entry → Bool) → Asked → Reply → Option ℕ
+published_when test (HandIn lease entry evidence) reply = number_for (test entry) reply
+published_when test _ reply = None
 
--- the number published in this place, if there is one: the first
-abbrev pub published_at : ℕ → List Event → Option ℕ
-published_at place [] = None
-published_at place (event ∷ later) = option_or (published_by place event.asked event.reply) (published_at place later)
+-- the first of these numbers, if there is one
+abbrev pub first_published : (Entry → Bool) → List Event → Option ℕ
+first_published test [] = None
+first_published test (event ∷ later) = option_or (published_when test event.asked event.reply) (first_published test later)
 
--- the number published for an entry
-abbrev pub published_in : List Event → Entry → Option ℕ
-published_in events entry = published_at (place_of entry) events
+-- the number published for an entry: the first that is published for a twin of it
+abbrev pub published_in : List Board → List Event → Entry → Option ℕ
+published_in boards events entry = first_published (are_twins boards entry) events
 
 -- how often the entry in this place was leased
 abbrev pub times_leased : List Event → ℕ → ℕ
 times_leased events place = count_by (is_for_place place) (given_in events)
 
--- the deal of a board; a board that isn't there has none
-abbrev pub deal_of_board : Option Board → Option Deal
-deal_of_board None = None
-deal_of_board (Some board) = board.deal
-
-abbrev pub deal_of : List Board → ℕ → Option Deal
-deal_of boards number = deal_of_board (slice_get boards number)
-
--- whether an entry is open: its board has a deal, it is unpublished, no lease of it is held, and a try is left
+-- whether an entry is open: its board has a deal and the entry is the least of its twins, it is unpublished, no lease of it
+-- is held, and a try is left
 abbrev pub is_open : Terms → List Event → Entry → Bool
 is_open terms events entry =
-    is_some (deal_of terms.boards entry.board)
-    && is_none (published_in events entry)
+    is_first terms.boards entry.board
+    && is_none (published_in terms.boards events entry)
     && not (list_any (is_for_place (place_of entry)) (held_after events))
     && nat_lt (times_leased events (place_of entry)) terms.tries

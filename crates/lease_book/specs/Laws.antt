@@ -1,16 +1,19 @@
 -- What follows from the definitions, for every list of events.
-use Rattle.std.specs.Prelude.{◌≡◌, ℕ, ◌*◌, ◌≤◌, ◌⊎◌, true, List, length, Option, is_some}
+use Rattle.std.specs.Prelude.{◌≡◌, ℕ, ◌*◌, ◌≤◌, ◌⊎◌, true, List, length, Option, Some, is_some}
 use Rattle.std.specs.List.{filter_map, list_any}
 use Rattle.std.specs.Option.{option_to_list}
+use Rattle.pbn_deals.specs.declared.boards.Board.{Board}
 use Rattle.lease_book.specs.declared.entries.Entry.{Entry}
+use Rattle.lease_book.specs.declared.events.Grant.{Grant}
 use Rattle.lease_book.specs.declared.events.Asked.{Asked}
 use Rattle.lease_book.specs.declared.events.Asked.TheVariants.{Lease}
 use Rattle.lease_book.specs.declared.events.Reply.{Reply}
 use Rattle.lease_book.specs.declared.events.Reply.TheVariants.{Nothing}
 use Rattle.lease_book.specs.declared.events.Event.{Event}
 use Rattle.lease_book.specs.Entries.{place_of}
-use Rattle.lease_book.specs.Histories.{Terms, given_in, held_after, is_for_place, published_by, published_in}
-use Rattle.lease_book.specs.Histories.{times_leased, deal_of}
+use Rattle.lease_book.specs.Twins.{deal_of, are_twins, IsLeastTwin, IsTwin, deal_count, twin_of}
+use Rattle.lease_book.specs.Histories.{Terms, given_in, grant_of, held_after, is_for_place, published_when}
+use Rattle.lease_book.specs.Histories.{published_in, times_leased}
 use Rattle.lease_book.specs.Replies.{IsReply, IsLegal}
 use Rattle.lease_book.specs.GoodHandIns.{first_good}
 
@@ -21,34 +24,46 @@ NamesOneReply =
     → IsReply terms before asked one → IsReply terms before asked other
     → one ≡ other
 
--- a legal history publishes the number of the first good hand-in for an entry, and no other
+-- what is called the least twin of an entry is the least of its twins
+abbrev pub FindsLeastTwin : Type 0
+FindsLeastTwin = (boards : List Board) (entry : Entry) → IsTwin boards entry (twin_of boards entry)
+
+-- a legal history gives leases of least twins alone, so never of two twins
+abbrev pub LeasesLeastTwins : Type 0
+LeasesLeastTwins =
+    (terms : Terms) (events : List Event) (lease : ℕ) (grant : Grant) → IsLegal terms events
+    → grant_of events lease ≡ Some grant
+    → IsLeastTwin terms.boards grant.entry grant.entry
+
+-- a legal history publishes the number of the first good hand-in for an entry's least twin, and no other
 abbrev pub PublishesFirstGood : Type 0
 PublishesFirstGood =
     (terms : Terms) (events : List Event) (entry : Entry) → IsLegal terms events
-    → published_in events entry ≡ first_good terms events entry
+    → published_in terms.boards events entry ≡ first_good terms events entry
 
--- what an event publishes for an entry
-abbrev pub published_for : Entry → Event → Option ℕ
-published_for entry event = published_by (place_of entry) event.asked event.reply
+-- what an event publishes for an entry: a number for a twin of it
+abbrev pub published_for : List Board → Entry → Event → Option ℕ
+published_for boards entry event = published_when (are_twins boards entry) event.asked event.reply
 
--- a legal history publishes a number for an entry once, or never
+-- a legal history publishes a number for an entry and its twins once, or never
 abbrev pub PublishesOnce : Type 0
 PublishesOnce =
     (terms : Terms) (events : List Event) (entry : Entry) → IsLegal terms events
-    → filter_map (published_for entry) events ≡ option_to_list (published_in events entry)
+    → filter_map (published_for terms.boards entry) events ≡ option_to_list (published_in terms.boards events entry)
 
--- a legal history gives no more leases than the entries have tries, so that who leases on is answered Nothing in the end
+-- a legal history gives no more leases than the entries of so many boards as there are different deals have tries, so that
+-- who leases on is answered Nothing in the end
 abbrev pub GivesFewLeases : Type 0
 GivesFewLeases =
     (terms : Terms) (events : List Event) → IsLegal terms events
-    → length (given_in events) ≤ terms.tries * (20 * length terms.boards)
+    → length (given_in events) ≤ terms.tries * (20 * deal_count terms.boards)
 
--- where a request for a lease is answered Nothing, each entry whose board has a deal has a number, is leased, or was leased
--- as often as it may be
+-- where a request for a lease is answered Nothing, each entry whose board has a deal has a number, or its least twin is
+-- leased, or was leased as often as it may be
 abbrev pub NothingIsLeft : Type 0
 NothingIsLeft =
     (terms : Terms) (before : List Event) (now : ℕ) (entry : Entry) → IsLegal terms before
     → IsReply terms before (Lease now) Nothing → is_some (deal_of terms.boards entry.board) ≡ true
-    → (is_some (published_in before entry) ≡ true)
-    ⊎ ((list_any (is_for_place (place_of entry)) (held_after before) ≡ true)
-    ⊎ (times_leased before (place_of entry) ≡ terms.tries))
+    → (is_some (published_in terms.boards before entry) ≡ true)
+    ⊎ ((list_any (is_for_place (place_of (twin_of terms.boards entry))) (held_after before) ≡ true)
+    ⊎ (times_leased before (place_of (twin_of terms.boards entry)) ≡ terms.tries))

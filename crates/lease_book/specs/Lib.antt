@@ -1,5 +1,7 @@
 pub mod Entries
 pub mod Proofs
+pub mod Twins
+pub mod Holders
 pub mod Histories
 pub mod Replies
 pub mod Slots

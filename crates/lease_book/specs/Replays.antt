@@ -14,7 +14,8 @@ use Rattle.lease_book.specs.declared.events.Reply.TheVariants.{Given}
 use Rattle.lease_book.specs.declared.events.Event.{Event}
 use Rattle.lease_book.specs.declared.requests.Request.{Request}
 use Rattle.lease_book.specs.declared.requests.Request.TheVariants as request
-use Rattle.lease_book.specs.Histories.{Terms, deal_of, published_in}
+use Rattle.lease_book.specs.Twins.{deal_of, twin_of}
+use Rattle.lease_book.specs.Histories.{Terms, published_in}
 use Rattle.lease_book.specs.Replies.{IsLegal}
 use Rattle.lease_book.specs.Books.{Ledger, AreBoards, AreTries}
 use Rattle.lease_book.specs.Requests.{AreAskedBy}
@@ -56,7 +57,7 @@ abbrev pub reply_of : Event → Reply
 reply_of event = event.reply
 
 -- The book has these terms, its history is legal and is that of the requests, and the replies are those of the history. A
--- number is published exactly where it is that of the first good hand-in.
+-- number is published exactly where it is that of the first good hand-in for the entry's least twin.
 pub record IsReplayed (terms : Terms) (requests : List Request) (book : Ledger) (replies : List Reply) : Type 0 where
   pub boards : AreBoards terms.boards
   pub tries : AreTries terms.tries
@@ -66,4 +67,5 @@ pub record IsReplayed (terms : Terms) (requests : List Request) (book : Ledger) 
   pub replied : replies ≡ map reply_of book.events
   pub published :
       (entry : Entry) (k : ℕ)
-      → (published_in book.events entry ≡ Some k) ↔ IsFirstGood terms.boards requests replies entry k
+      → (published_in terms.boards book.events entry ≡ Some k)
+      ↔ IsFirstGood terms.boards requests replies (twin_of terms.boards entry) k

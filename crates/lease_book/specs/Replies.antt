@@ -51,12 +51,12 @@ abbrev pub evidence_reply : Evidence → Reply
 evidence_reply (Shows shown) = Published shown.k
 evidence_reply (Faulty fault) = BadCertificate fault
 
--- the first that applies: no such lease; another entry; published before; then what was handed in counts
+-- the first that applies: no such lease; another entry; published before, or a twin of it; then what was handed in counts
 abbrev pub hand_in_reply : Terms → List Event → Option Grant → Entry → Evidence → Reply
 hand_in_reply terms before None entry evidence = UnknownLease
 hand_in_reply terms before (Some grant) entry evidence =
     if is_same_entry grant.entry entry && is_evidence_for terms.boards entry evidence
-    then (if is_some (published_in before entry) then AlreadyPublished else evidence_reply evidence)
+    then (if is_some (published_in terms.boards before entry) then AlreadyPublished else evidence_reply evidence)
     else OtherEntry
 
 -- the reply to a request, after these events

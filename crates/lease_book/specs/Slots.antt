@@ -1,10 +1,10 @@
 -- What a book keeps of each entry, in the order of their places.
 use Rattle.std.specs.Prelude.{◌≡◌, ℕ, ◌/◌, ◌<◌, ◌≤◌, Bool, true, false, ◌&&◌, List, Option, None, Some, is_none}
-use Rattle.std.specs.Prelude.{is_some, if◌then◌else◌, nat_eq, nat_lt, slice_index_or, length}
+use Rattle.std.specs.Prelude.{if◌then◌else◌, nat_eq, nat_lt, slice_index_or, length}
 use Rattle.due_rows.specs.Moments.{is_due}
 use Rattle.lease_book.specs.declared.events.Grant.{Grant}
 use Rattle.pbn_deals.specs.declared.boards.Board.{Board}
-use Rattle.lease_book.specs.Histories as histories
+use Rattle.lease_book.specs.Twins.{is_first}
 use Rattle.lease_book.specs.declared.slots.Slot.{Slot}
 
 -- the deadline of the lease that is held, if there is one
@@ -56,6 +56,6 @@ pub record IsFirst (test : Slot → Bool) (from : ℕ) (slots : List Slot) (plac
 abbrev pub new_slot : ℕ → Slot
 new_slot tries = record { published = None; holder = None; left = tries }
 
--- how often the entry in a place may be leased: never where its board has no deal
+-- how often the entry in a place may be leased: never where its board has no deal, or a board before it has the same
 abbrev pub tries_of : List Board → ℕ → ℕ → ℕ
-tries_of boards tries place = if is_some (histories.deal_of boards (place / 20)) then tries else 0
+tries_of boards tries place = if is_first boards (place / 20) then tries else 0

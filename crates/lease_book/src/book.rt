@@ -5,6 +5,7 @@ ghost use Rattle.std.specs.List.{find};
 ghost use Rattle.cards.specs.Deal.{Deal};
 ghost use Rattle.lease_book.specs.Entries.{place_of};
 ghost use Rattle.lease_book.specs.Proofs.{IsProven, IsProvenEvidence, evidence_of};
+ghost use Rattle.lease_book.specs.Twins.{IsTwin, twin_of};
 ghost use Rattle.lease_book.specs.Histories.{is_numbered, published_in, deal_of};
 ghost use Rattle.lease_book.specs.Replies.{IsLegal, is_evidence_for, is_shown_for};
 ghost use Rattle.lease_book.specs.Slots.{is_holder, freed_of};
@@ -14,6 +15,7 @@ ghost use Rattle.lease_book.specs.declared.slots.Slot.{Slot};
 ghost use Rattle.lease_book.specs.declared.events.Asked.TheVariants.{Lease, Expire, GiveUp, HandIn};
 ghost use Rattle.lease_book.specs.declared.events.Reply.TheVariants.{GaveUp, NotHeld};
 
+use crate::boards::Boards;
 use crate::entries::{Entry, contract_place};
 use crate::events::{Asked, Event, Evidence, Grant, Reply, add, make_room};
 use crate::faults::BookFault;
@@ -27,7 +29,7 @@ use std::marker::Model;
 /// A book of leases over a list of boards. Contracts see its boards, term and tries, and its history.
 #[derive(Drop)]
 pub struct Book {
-    boards: Vec<Board>,
+    boards: Boards,
     term: u64,
     tries: u32,
     events: Vec<Event>,
@@ -43,9 +45,9 @@ impl Model for Book {
 
     ghost Value = { Ledger };
 
-    ghost view = { λ book. record { terms = record { boards = book.boards.items; term = book.term; tries = book.tries }; events = book.events.items } };
+    ghost view = { λ book. record { terms = record { boards = book.boards; term = book.term; tries = book.tries }; events = book.events.items } };
 
-    ghost invariant = { λ book. IsKept (record { boards = book.boards.items; term = book.term; tries = book.tries }) book.events.items book.leases.items book.slots };
+    ghost invariant = { λ book. IsKept (record { boards = book.boards; term = book.term; tries = book.tries }) book.events.items book.leases.items book.slots };
 }
 
 /// The lease given under a number.
@@ -135,7 +137,10 @@ impl Book {
         if tries == 0 || tries > 1000 {
             return Err(BookFault::Tries);
         }
-        let Ok(slots) = Slots::new(alloc, boards.as_slice(), tries) else {
+        let Ok(boards) = Boards::new(alloc, boards) else {
+            return Err(BookFault::OutOfMemory);
+        };
+        let Ok(slots) = Slots::new(alloc, &boards, tries) else {
             return Err(BookFault::OutOfMemory);
         };
         Ok(Book {
@@ -163,16 +168,29 @@ impl Book {
         self.events.as_slice()
     }
 
-    /// The number published for an entry, which is proven on the deal of its board.
+    /// The least of an entry's twins, which are the entries of its declarer and denomination on the boards with the deal of
+    /// its own, whatever their names. An entry whose board has no deal or isn't there is told as it is. Takes no memory.
+    pub fn twin(&self, entry: Entry) -> Entry
+        ensures twin { result ≡ twin_of self.now.terms.boards entry }
+        ensures least { IsTwin self.now.terms.boards entry result }
+    {
+        Entry {
+            board: self.boards.first(entry.board),
+            ..entry
+        }
+    }
+
+    /// The number published for an entry or a twin of it, which is proven on the deal of its board.
     pub fn published(&self, entry: Entry) -> Option<u8>
-        ensures number { result ≡ published_in self.now.events entry }
+        ensures number { result ≡ published_in self.now.terms.boards self.now.events entry }
         ensures at_most_13 { IfSome result (λ k. k ≤ 13) }
         ensures proven { AreProven self.now.terms self.now.events }
     {
-        if entry.board >= self.boards.len() {
+        let twin = self.twin(entry);
+        if twin.board >= self.boards.len() {
             return None;
         }
-        self.slots.slot(entry.place()).published
+        self.slots.slot(twin.place()).published
     }
 
     /// Gives the least open entry to the one who asks at this moment, or answers that none is open.

@@ -78,11 +78,11 @@ pub enum Reply {
     NotHeld,
     /// The lease is for another entry, or what was shown is of another layout, declarer or denomination.
     OtherEntry,
-    /// The entry has a number already.
+    /// The entry or a twin of it has a number already.
     AlreadyPublished,
     /// Nothing was shown. The lease is freed if it was held.
     BadCertificate(HandFault),
-    /// The entry has this number of tricks from now on, 0 to 13.
+    /// The entry and its twins have this number of tricks from now on, 0 to 13.
     Published(u8),
 }
 

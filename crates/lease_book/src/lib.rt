@@ -5,10 +5,12 @@
 //! proof on the board's deal.
 #![tactic(auto)]
 
+mod boards;
 mod book;
 mod entries;
 mod events;
 mod faults;
+mod holders;
 mod laws;
 mod replays;
 mod replies;
@@ -21,7 +23,8 @@ pub use entries::Entry;
 pub use events::{Asked, Event, Evidence, Grant, Reply};
 pub use faults::BookFault;
 pub use laws::{
-    gives_few_leases, names_one_reply, nothing_is_left, publishes_first_good, publishes_once,
+    finds_least_twin, gives_few_leases, leases_least_twins, names_one_reply, nothing_is_left,
+    publishes_first_good, publishes_once,
 };
 pub use replays::replay;
 pub use replies::answer_number;

@@ -1,32 +1,21 @@
 //! Whole lists of requests.
 
 ghost use Rattle.std.specs.Prelude.{◌≡◌, IfOk, IfErr};
-ghost use Rattle.std.specs.Option.{option_copied};
 ghost use Rattle.lease_book.specs.Histories.{deal_of};
 ghost use Rattle.lease_book.specs.Proofs.{evidence_of};
 ghost use Rattle.lease_book.specs.Requests.{IsJudged, IsAnswerTo};
 ghost use Rattle.lease_book.specs.Books.{IsRefused};
 ghost use Rattle.lease_book.specs.Replays.{IsReplayed};
 
+use crate::boards::deal_on;
 use crate::book::Book;
 use crate::entries::Entry;
 use crate::events::Reply;
 use crate::faults::BookFault;
 use crate::requests::{GraphText, Request};
-use cards::Layout;
 use checker::{OutOfMemory, Verdict, judge};
 use pbn_deals::Board;
 use std::alloc::Global;
-
-/// The deal of a board, where there is one.
-fn deal_on(boards: &[Board], board: usize) -> Option<&Layout>
-    ensures { option_copied result ≡ deal_of boards.now board }
-{
-    match boards.get(board) {
-        Some(board) => board.deal.as_ref(),
-        None => None,
-    }
-}
 
 /// The verdict on texts that are handed in for an entry, on the deal of its board.
 fn verdict_on(

@@ -4,10 +4,10 @@ ghost use Rattle.std.specs.Prelude.{◌≡◌, ◌<◌, ◌≤◌, ◌^◌, ℕ,
 ghost use Rattle.lease_book.specs.declared.slots.Slot.{Slot};
 ghost use Rattle.lease_book.specs.Slots.{deadline_of, opening_of, is_open_slot, is_past_slot, freed_if_past, is_holder, NonePasses, IsFirst, new_slot, tries_of};
 
+use crate::boards::Boards;
 use crate::entries::PER_BOARD;
 use crate::events::Grant;
 use due_rows::DueRow;
-use pbn_deals::Board;
 use std::alloc::{AllocError, Global};
 use std::marker::Model;
 
@@ -81,13 +81,14 @@ impl Slot {
     }
 }
 
-/// How often the entry in a place may be leased: never where its board has no deal.
-fn tries_of(boards: &[Board], tries: u32, place: usize) -> u32
+/// How often the entry in a place may be leased: never where its board has no deal, or a board before it has the same.
+fn tries_of(boards: &Boards, tries: u32, place: usize) -> u32
     ensures { result ≡ tries_of boards.now tries place }
 {
-    match boards.get(place / PER_BOARD) {
-        Some(board) => { if board.deal.is_some() { tries } else { 0 } }
-        None => 0,
+    if boards.is_first(place / PER_BOARD) {
+        tries
+    } else {
+        0
     }
 }
 
@@ -135,7 +136,7 @@ impl Slots {
     }
 
     /// The slots of the entries of these boards, none of which was leased yet.
-    pub(crate) fn new(alloc: Global, boards: &[Board], tries: u32) -> Result<Slots, AllocError>
+    pub(crate) fn new(alloc: Global, boards: &Boards, tries: u32) -> Result<Slots, AllocError>
         requires { length boards.now ≤ 4096 }
         ensures sized { IfOk result (λ slots. length slots ≡ 20 * length boards.now) }
         ensures slots { IfOk result (λ slots. (place : ℕ) (d : Slot) → place < length slots

@@ -54,7 +54,7 @@ shown_if false done evidence k e = cc
 pub shown_by : (terms : Terms) (events : List Event) (grant : Option Grant) (entry : Entry) (evidence : Evidence) (k : ℕ) → hand_in_reply terms events grant entry evidence ≡ Published k → IsShownAs evidence k
 shown_by terms events None entry evidence k e = cc
 shown_by terms events (Some grant) entry evidence k e =
-    shown_if (is_same_entry grant.entry entry && is_evidence_for terms.boards entry evidence) (is_some (published_in events entry)) evidence k e
+    shown_if (is_same_entry grant.entry entry && is_evidence_for terms.boards entry evidence) (is_some (published_in terms.boards events entry)) evidence k e
 
 value_in : (terms : Terms) (entry : Entry) (claimed : Claimed) (k : ℕ) (found : Option Deal) (verdict : Result Shown HandFault) → deal_of terms.boards entry.board ≡ found → IsVerdictOn found entry claimed verdict → IfOk verdict IsProven → IsShownAs (evidence_of verdict) k → IsValueOf terms entry k
 value_in terms entry claimed k found (Err fault) on judged proven is = let apart : Faulty fault ≡ Shows is.shown = is.shows in cc

@@ -14,7 +14,7 @@ use pbn_deals::Board;
 impl Sheet for Book {
     ghost boards_of = { λ book. book.terms.boards };
 
-    ghost results_of = { λ book. book_results book.events };
+    ghost results_of = { λ book. book_results book.terms.boards book.events };
 
     fn boards(&self) -> &[Board] {
         Book::boards(self)
@@ -34,10 +34,10 @@ impl Sheet for Book {
 /// memory.
 pub fn write_tables<S: Sink>(book: &Book, sink: &mut S) -> Result<Report, DeviceFault>
     ensures writes { Writes (S.state sink.old) (S.state sink.new)
-        (tables_text book.now.terms.boards (book_results book.now.events)) result }
+        (tables_text book.now.terms.boards (book_results book.now.terms.boards book.now.events)) result }
     ensures boards { IfOk result (λ report. report.boards ≡ length book.now.terms.boards) }
     ensures complete { IfOk result (λ report. report.complete
-        ≡ complete_count book.now.terms.boards (book_results book.now.events)) }
+        ≡ complete_count book.now.terms.boards (book_results book.now.terms.boards book.now.events)) }
 {
     write_sheet(book, sink)
 }

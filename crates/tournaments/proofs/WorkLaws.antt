@@ -24,11 +24,13 @@ use Rattle.lease_book.specs.declared.events.Reply.{Reply}
 use Rattle.lease_book.specs.declared.events.Reply.TheVariants.{Given, Nothing, Freed}
 use Rattle.lease_book.specs.declared.events.Event.{Event}
 use Rattle.lease_book.specs.Entries.{contract_place, place_of}
-use Rattle.lease_book.specs.Histories.{Terms, given_by, held_after, deal_of, published_in, times_leased, is_for_place, is_past}
+use Rattle.lease_book.specs.Twins.{deal_of, twin_of}
+use Rattle.lease_book.specs.Histories.{Terms, given_by, held_after, published_in, times_leased, is_for_place, is_past}
 use Rattle.lease_book.specs.Proofs.{evidence_of}
 use Rattle.lease_book.specs.Replies.{IsReply, IsLeaseReply, IsLegal, is_shown_for, is_evidence_for}
 use Rattle.lease_book.specs.Books.{Ledger, IsAnswered, with_event}
-use Rattle.lease_book.proofs.LegalLaws.{nothing_left, gives_none}
+use Rattle.lease_book.proofs.LegalLaws.{gives_none}
+use Rattle.lease_book.proofs.NamedLaws.{nothing_left}
 use Rattle.lease_book.proofs.FreeLaws.{ended, free_after_hand_in, free_after_give_up, free_at_end, published_at_end, given_at_end}
 use Rattle.tournaments.specs.Done.{IsDone}
 use Rattle.partition_solver.specs.Answers.{MayFind}
@@ -218,10 +220,11 @@ module _ (first leased expired : Ledger) (now later : ℕ) (reply last : Reply)
             each = λ entry deal. go entry (nothing_left terms events now entry legal none deal);
           }
         where
-          go : (entry : Entry) → (is_some (published_in events entry) ≡ true) ⊎ ((list_any (is_for_place (place_of entry)) (held_after events) ≡ true) ⊎ (times_leased events (place_of entry) ≡ terms.tries))
-              → (is_some (published_in (ended events now later (count_by (is_past later) (held_after leased.events))) entry) ≡ true)
-              ⊎ (times_leased (ended events now later (count_by (is_past later) (held_after leased.events))) (place_of entry) ≡ terms.tries)
-          go entry (inl h) = inl (ap (λ (o : Option ℕ). is_some o) (published_at_end events now later (count_by (is_past later) (held_after leased.events)) entry) ∙ h)
-          go entry (inr (inl h)) = absurd (false≢true (sym (ap (λ (held : List Grant). list_any (is_for_place (place_of entry)) held) none_held) ∙ h))
+          go : (entry : Entry) → (is_some (published_in terms.boards events entry) ≡ true)
+              ⊎ ((list_any (is_for_place (place_of (twin_of terms.boards entry))) (held_after events) ≡ true) ⊎ (times_leased events (place_of (twin_of terms.boards entry)) ≡ terms.tries))
+              → (is_some (published_in terms.boards (ended events now later (count_by (is_past later) (held_after leased.events))) entry) ≡ true)
+              ⊎ (times_leased (ended events now later (count_by (is_past later) (held_after leased.events))) (place_of (twin_of terms.boards entry)) ≡ terms.tries)
+          go entry (inl h) = inl (ap (λ (o : Option ℕ). is_some o) (published_at_end events now later (count_by (is_past later) (held_after leased.events)) terms.boards entry) ∙ h)
+          go entry (inr (inl h)) = absurd (false≢true (sym (ap (λ (held : List Grant). list_any (is_for_place (place_of (twin_of terms.boards entry))) held) none_held) ∙ h))
           go entry (inr (inr h)) =
-              inr (ap (λ (grants : List Grant). count_by (is_for_place (place_of entry)) grants) (given_at_end events now later (count_by (is_past later) (held_after leased.events))) ∙ h)
+              inr (ap (λ (grants : List Grant). count_by (is_for_place (place_of (twin_of terms.boards entry))) grants) (given_at_end events now later (count_by (is_past later) (held_after leased.events))) ∙ h)

@@ -30,12 +30,12 @@ pub record HasBoards (old new : Device) (boards : List Board) : Type 0 where
 
 -- the text of the boards, with the numbers that the history publishes
 abbrev pub history_text : List Board → List Event → List ℕ
-history_text boards events = tables_text boards (book_results events)
+history_text boards events = tables_text boards (book_results boards events)
 
 -- the report counts the boards, and those of which all twenty numbers are published
 pub record Counts (boards : List Board) (events : List Event) (report : Report) : Type 0 where
   pub boards_are : report.boards ≡ length boards
-  pub complete_are : report.complete ≡ complete_count boards (book_results events)
+  pub complete_are : report.complete ≡ complete_count boards (book_results boards events)
 
 -- A whole run over the boards: a history of theirs in which all entries were given out, until each was done. What the solver
 -- found for each lease was handed in, and the moments are those that the clock told.

@@ -1,4 +1,4 @@
-use Rattle.lease_book.proofs.LegalLaws.{nothing_left}
+use Rattle.lease_book.proofs.NamedLaws.{nothing_left}
 use Rattle.lease_book.proofs.laws.nothing_is_left.Goals as goal
 
 pub returns : goal.returns

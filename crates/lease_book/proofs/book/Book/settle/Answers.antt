@@ -51,7 +51,7 @@ invariant_of-self-then-not-is_evidence_for c =
     let book = c.self.inside in
     let evidence = c.evidence_of-evidence.result in
     let given = sym (ap (find (is_numbered c.args.lease)) c.as_slice.ensures.value) ∙ sym c.given.ensures ∙ c.in-Some.is in
-    let right = ap (λ boards. is_evidence_for boards c.args.entry evidence) (sym c.as_slice-2.ensures.value) ∙ sym c.if-not-is_evidence_for.ensures in
+    let right = ap (λ boards. is_evidence_for boards c.args.entry evidence) (sym c.as_slice-2.ensures) ∙ sym c.if-not-is_evidence_for.ensures in
     (kept_in _ book.events.items _ _ (HandIn c.args.lease c.args.entry evidence) OtherEntry book.leases.items book.slots c.add-then-not-is_evidence_for.ensures.events c.make_room.ensures.events
     (kept_refused _ book.events.items book.leases.items book.slots c.self.invariant c.args.lease c.args.entry evidence OtherEntry refl (λ grant. refl) (λ place. refl) (other_evidence _ book.events.items book.leases.items book.slots c.self.invariant c.args.lease c.args.entry evidence c.in-Some.grant given right)))
 
@@ -60,7 +60,7 @@ returns-then-not-is_evidence_for-clause-ok c =
     let book = c.self.inside in
     let evidence = c.evidence_of-evidence.result in
     let given = sym (ap (find (is_numbered c.args.lease)) c.as_slice.ensures.value) ∙ sym c.given.ensures ∙ c.in-Some.is in
-    let right = ap (λ boards. is_evidence_for boards c.args.entry evidence) (sym c.as_slice-2.ensures.value) ∙ sym c.if-not-is_evidence_for.ensures in
+    let right = ap (λ boards. is_evidence_for boards c.args.entry evidence) (sym c.as_slice-2.ensures) ∙ sym c.if-not-is_evidence_for.ensures in
     rw (← c.evidence_of-evidence.ensures.same)
     (replied _ book.events.items _ _ c.args.self.now (HandIn c.args.lease c.args.entry evidence) OtherEntry c.add-then-not-is_evidence_for.result c.self.view_is c.add-then-not-is_evidence_for.ensures.events c.make_room.ensures.events c.add-then-not-is_evidence_for.ensures.reply
     (other_evidence _ book.events.items book.leases.items book.slots c.self.invariant c.args.lease c.args.entry evidence c.in-Some.grant given right))
@@ -100,7 +100,7 @@ invariant_of-self-then-is_some c =
     let given = sym (ap (find (is_numbered c.args.lease)) c.as_slice.ensures.value) ∙ sym c.given.ensures ∙ c.in-Some.is in
     let within = own_place _ book.events.items book.leases.items book.slots c.self.invariant c.args.lease c.in-Some.grant given in
     let same = sym c.if-not-is_same.ensures in
-    let right = ap (λ boards. is_evidence_for boards c.args.entry evidence) (sym c.as_slice-2.ensures.value) ∙ sym c.if-not-is_evidence_for.ensures in
+    let right = ap (λ boards. is_evidence_for boards c.args.entry evidence) (sym c.as_slice-2.ensures) ∙ sym c.if-not-is_evidence_for.ensures in
     let slot : c.slot-slot.result ≡ get_or book.slots (place_of c.in-Some.grant.entry) no_slot = c.slot-slot.ensures no_slot ∙ ap (λ n. get_or book.slots n no_slot) c.place-place.ensures in
     let published = ap (λ (s : Slot). is_some s.published) (sym slot) ∙ sym c.is_some.ensures ∙ c.if-is_some.true in
     (kept_in _ book.events.items _ _ (HandIn c.args.lease c.args.entry evidence) AlreadyPublished book.leases.items book.slots c.add-then-is_some.ensures.events c.make_room.ensures.events
@@ -113,7 +113,7 @@ returns-then-is_some-clause-ok c =
     let given = sym (ap (find (is_numbered c.args.lease)) c.as_slice.ensures.value) ∙ sym c.given.ensures ∙ c.in-Some.is in
     let within = own_place _ book.events.items book.leases.items book.slots c.self.invariant c.args.lease c.in-Some.grant given in
     let same = sym c.if-not-is_same.ensures in
-    let right = ap (λ boards. is_evidence_for boards c.args.entry evidence) (sym c.as_slice-2.ensures.value) ∙ sym c.if-not-is_evidence_for.ensures in
+    let right = ap (λ boards. is_evidence_for boards c.args.entry evidence) (sym c.as_slice-2.ensures) ∙ sym c.if-not-is_evidence_for.ensures in
     let slot : c.slot-slot.result ≡ get_or book.slots (place_of c.in-Some.grant.entry) no_slot = c.slot-slot.ensures no_slot ∙ ap (λ n. get_or book.slots n no_slot) c.place-place.ensures in
     let published = ap (λ (s : Slot). is_some s.published) (sym slot) ∙ sym c.is_some.ensures ∙ c.if-is_some.true in
     rw (← c.evidence_of-evidence.ensures.same)
@@ -127,7 +127,7 @@ invariant_of-self-in-Shows c =
     let given = sym (ap (find (is_numbered c.args.lease)) c.as_slice.ensures.value) ∙ sym c.given.ensures ∙ c.in-Some.is in
     let within = own_place _ book.events.items book.leases.items book.slots c.self.invariant c.args.lease c.in-Some.grant given in
     let same = sym c.if-not-is_same.ensures in
-    let right = ap (λ boards. is_evidence_for boards c.args.entry evidence) (sym c.as_slice-2.ensures.value) ∙ sym c.if-not-is_evidence_for.ensures in
+    let right = ap (λ boards. is_evidence_for boards c.args.entry evidence) (sym c.as_slice-2.ensures) ∙ sym c.if-not-is_evidence_for.ensures in
     let slot : c.slot-slot.result ≡ get_or book.slots (place_of c.in-Some.grant.entry) no_slot = c.slot-slot.ensures no_slot ∙ ap (λ n. get_or book.slots n no_slot) c.place-place.ensures in
     let unpublished = ap (λ (s : Slot). is_some s.published) (sym slot) ∙ sym c.is_some.ensures ∙ c.if-is_some.false in
     rw (numbered_slots book.slots c.set.new.self c.place-place.result (place_of c.in-Some.grant.entry) c.in-Shows.shown.k c.slot-slot.result c.with_number.result no_slot c.set.ensures c.with_number.ensures slot c.place-place.ensures)
@@ -141,7 +141,7 @@ invariant_of-self-in-Faulty c =
     let given = sym (ap (find (is_numbered c.args.lease)) c.as_slice.ensures.value) ∙ sym c.given.ensures ∙ c.in-Some.is in
     let within = own_place _ book.events.items book.leases.items book.slots c.self.invariant c.args.lease c.in-Some.grant given in
     let same = sym c.if-not-is_same.ensures in
-    let right = ap (λ boards. is_evidence_for boards c.args.entry evidence) (sym c.as_slice-2.ensures.value) ∙ sym c.if-not-is_evidence_for.ensures in
+    let right = ap (λ boards. is_evidence_for boards c.args.entry evidence) (sym c.as_slice-2.ensures) ∙ sym c.if-not-is_evidence_for.ensures in
     let slot : c.slot-slot.result ≡ get_or book.slots (place_of c.in-Some.grant.entry) no_slot = c.slot-slot.ensures no_slot ∙ ap (λ n. get_or book.slots n no_slot) c.place-place.ensures in
     let unpublished = ap (λ (s : Slot). is_some s.published) (sym slot) ∙ sym c.is_some.ensures ∙ c.if-is_some.false in
     rw (rw c.place-place.ensures at c.take_back-held.ensures.slots no_slot)
@@ -155,7 +155,7 @@ returns-in-Shows-clause-ok c =
     let given = sym (ap (find (is_numbered c.args.lease)) c.as_slice.ensures.value) ∙ sym c.given.ensures ∙ c.in-Some.is in
     let within = own_place _ book.events.items book.leases.items book.slots c.self.invariant c.args.lease c.in-Some.grant given in
     let same = sym c.if-not-is_same.ensures in
-    let right = ap (λ boards. is_evidence_for boards c.args.entry evidence) (sym c.as_slice-2.ensures.value) ∙ sym c.if-not-is_evidence_for.ensures in
+    let right = ap (λ boards. is_evidence_for boards c.args.entry evidence) (sym c.as_slice-2.ensures) ∙ sym c.if-not-is_evidence_for.ensures in
     let slot : c.slot-slot.result ≡ get_or book.slots (place_of c.in-Some.grant.entry) no_slot = c.slot-slot.ensures no_slot ∙ ap (λ n. get_or book.slots n no_slot) c.place-place.ensures in
     let unpublished = ap (λ (s : Slot). is_some s.published) (sym slot) ∙ sym c.is_some.ensures ∙ c.if-is_some.false in
     rw (← c.evidence_of-evidence.ensures.same)
@@ -169,7 +169,7 @@ returns-in-Faulty-clause-ok c =
     let given = sym (ap (find (is_numbered c.args.lease)) c.as_slice.ensures.value) ∙ sym c.given.ensures ∙ c.in-Some.is in
     let within = own_place _ book.events.items book.leases.items book.slots c.self.invariant c.args.lease c.in-Some.grant given in
     let same = sym c.if-not-is_same.ensures in
-    let right = ap (λ boards. is_evidence_for boards c.args.entry evidence) (sym c.as_slice-2.ensures.value) ∙ sym c.if-not-is_evidence_for.ensures in
+    let right = ap (λ boards. is_evidence_for boards c.args.entry evidence) (sym c.as_slice-2.ensures) ∙ sym c.if-not-is_evidence_for.ensures in
     let slot : c.slot-slot.result ≡ get_or book.slots (place_of c.in-Some.grant.entry) no_slot = c.slot-slot.ensures no_slot ∙ ap (λ n. get_or book.slots n no_slot) c.place-place.ensures in
     let unpublished = ap (λ (s : Slot). is_some s.published) (sym slot) ∙ sym c.is_some.ensures ∙ c.if-is_some.false in
     rw (← c.evidence_of-evidence.ensures.same)
