@@ -101,13 +101,14 @@ impl Clock for SetByHand {
     }
 }
 
-/// A board with a deal, and one without.
-fn two_boards(alloc: Global) -> Result<Vec<Board>, Fail> {
+/// So many boards: the second has no deal, and all others have the same.
+fn some_boards(alloc: Global, count: usize) -> Result<Vec<Board>, Fail> {
+    let layout = read_layout(b"N:A... K... Q... J...")?;
     let mut boards = Vec::new(alloc);
-    for deal in [Some(read_layout(b"N:A... K... Q... J...")?), None] {
+    for number in 0..count {
         boards.push(Board {
             name: BoardName::new(Vec::new(alloc)),
-            deal,
+            deal: if number == 1 { None } else { Some(layout) },
         })?;
     }
     Ok(boards)
@@ -139,7 +140,7 @@ fn a_line_a_second_and_one_at_the_end(rt: HostRuntime) -> Result<(), Fail> {
         seconds: AtomicU64::new(3),
     };
     let progress = Progress::new(&rt, &clock, Buffer::new(alloc, ROOM, 5)?);
-    progress.before_work(two_boards(alloc)?.as_slice());
+    progress.before_work(some_boards(alloc, 2)?.as_slice());
     check(&progress, 1, Reply::Published(7));
     clock.seconds.store(4, SeqCst);
     check(&progress, 3, Reply::AlreadyPublished);
@@ -151,5 +152,26 @@ fn a_line_a_second_and_one_at_the_end(rt: HostRuntime) -> Result<(), Fail> {
     clock.seconds.store(12, SeqCst);
     progress.after_work();
     expect_eq(&rt, &progress.into_sink().bytes(), &LINES);
+    Ok(())
+}
+
+const SHARED_LINES: &[u8] = b"ddfarm: 3 of 60 results, 0 of 4 boards, 4 s
+ddfarm: 60 of 60 results, 3 of 4 boards, 5 s, 1 tables incomplete
+";
+
+/// A result counts for each of the boards with its deal.
+#[test]
+fn boards_that_share_a_deal(rt: HostRuntime) -> Result<(), Fail> {
+    let alloc = rt.alloc();
+    let clock = SetByHand {
+        seconds: AtomicU64::new(3),
+    };
+    let progress = Progress::new(&rt, &clock, Buffer::new(alloc, ROOM, 5)?);
+    progress.before_work(some_boards(alloc, 4)?.as_slice());
+    clock.seconds.store(4, SeqCst);
+    check(&progress, 20, Reply::Published(0));
+    clock.seconds.store(5, SeqCst);
+    progress.after_work();
+    expect_eq(&rt, &progress.into_sink().bytes(), &SHARED_LINES);
     Ok(())
 }

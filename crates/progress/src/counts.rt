@@ -2,6 +2,7 @@
 
 ghost use Rattle.std.specs.Prelude.{◌≡◌, ◌-◌};
 
+use cards::Layout;
 use pbn_deals::Board;
 
 /// The most boards that a book has.
@@ -13,8 +14,10 @@ const RESULTS: u8 = 20;
 /// How many results are published, and of how many.
 #[derive(Drop)]
 pub(crate) struct Counts {
-    /// Of each board.
+    /// Of each board that is the first with its deal.
     of_board: [u8; MOST_BOARDS],
+    /// How many boards have the deal of that one. A result is published for all of them at once.
+    sharing: [u16; MOST_BOARDS],
     /// Of all boards.
     pub(crate) published: u64,
     /// How many there may be: twenty of each board that has a deal.
@@ -24,11 +27,22 @@ pub(crate) struct Counts {
     pub(crate) boards: u64,
 }
 
+/// The number of the first board with this deal, or how many boards there are.
+fn first_with(boards: &[Board], deal: Layout) -> usize {
+    for (number, board) in boards.iter().enumerate() {
+        if board.deal == Some(deal) {
+            return number;
+        }
+    }
+    boards.len()
+}
+
 impl Counts {
     /// Of no boards.
     pub(crate) const fn none() -> Counts {
         Counts {
             of_board: [0; MOST_BOARDS],
+            sharing: [0; MOST_BOARDS],
             published: 0,
             results: 0,
             finished: 0,
@@ -41,21 +55,31 @@ impl Counts {
         *self = Counts::none();
         self.boards = boards.len() as u64;
         for board in boards {
-            if board.deal.is_some() {
+            if let Some(deal) = board.deal {
                 self.results = self.results.saturating_add(RESULTS as u64);
+                self.share(first_with(boards, deal));
             }
         }
     }
 
-    /// A result of this board was published.
+    /// One board more has the deal of this one.
+    fn share(&mut self, first: usize) {
+        if first < MOST_BOARDS {
+            self.sharing[first] = self.sharing[first].saturating_add(1);
+        }
+    }
+
+    /// A result of this board was published, and so of all that share its deal.
     pub(crate) fn publish(&mut self, board: usize) {
-        self.published = self.published.saturating_add(1);
-        if board < MOST_BOARDS {
-            let now = self.of_board[board].saturating_add(1);
-            self.of_board[board] = now;
-            if now == RESULTS {
-                self.finished = self.finished.saturating_add(1);
-            }
+        if board >= MOST_BOARDS {
+            return;
+        }
+        let sharing = self.sharing[board] as u64;
+        self.published = self.published.saturating_add(sharing);
+        let now = self.of_board[board].saturating_add(1);
+        self.of_board[board] = now;
+        if now == RESULTS {
+            self.finished = self.finished.saturating_add(sharing);
         }
     }
 
