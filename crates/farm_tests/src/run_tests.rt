@@ -3,9 +3,9 @@
 use crate::expect::expect_eq;
 use crate::gates::Open;
 use crate::solvers::{FindsNothing, FindsTheAce, HasNoMemory, StandsStill};
-use crate::tables::{ONE_SUIT_EACH, Tally, empty_boards, one_board, tally_of};
+use crate::tables::{ONE_SUIT_EACH, Tally, boards_of, empty_boards, one_board, tally_of};
 use farm::{FarmFault, Settings, run_farm};
-use lease_book::BookFault;
+use lease_book::{Asked, BookFault, Entry, Reply};
 use partition_solver::{Partition, Solver};
 use std::alloc::Global;
 use std::process::Abort;
@@ -58,6 +58,35 @@ fn each_entry_is_leased_and_published_once(rt: HostRuntime) -> Result<(), Fail> 
                 ..LEASED
             },
         );
+    }
+    Ok(())
+}
+
+/// Two boards with one deal: the second takes its numbers from the first.
+#[test]
+fn a_deal_of_two_boards_is_solved_once(rt: HostRuntime) -> Result<(), Fail> {
+    let alloc = rt.alloc();
+    let settings = Settings::new(1, 1, 600, 1, BUDGET, 20)?;
+    let boards = boards_of(alloc, &[ONE_SUIT_EACH, ONE_SUIT_EACH])?;
+    let book = run_farm(
+        &rt,
+        alloc,
+        boards,
+        settings,
+        &Partition::new(),
+        &Open,
+        &StandsStill,
+    )?;
+    let wanted = Tally {
+        published: 20,
+        ..LEASED
+    };
+    expect_eq(&rt, &tally_of(&book), &wanted);
+    for event in book.history() {
+        if let (Asked::HandIn { entry, .. }, Reply::Published(k)) = (event.asked, event.reply) {
+            let twin = Entry { board: 1, ..entry };
+            expect_eq(&rt, &book.published(twin), &Some(k));
+        }
     }
     Ok(())
 }

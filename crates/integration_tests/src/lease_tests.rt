@@ -4,3 +4,4 @@ pub mod books;
 pub mod certificates;
 pub mod long_list;
 pub mod slow_book;
+pub mod twins;

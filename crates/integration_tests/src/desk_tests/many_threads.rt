@@ -10,7 +10,7 @@ use super::plain_book::PlainBook;
 use super::shifts::{Shift, closed_after};
 use crate::expect::expect_eq;
 use crate::lease_tests::certificates::boards;
-use crate::lease_tests::long_list::{DEALS, LAYOUTS, kind_of};
+use crate::lease_tests::long_list::{LAYOUTS, kind_of};
 use lease_book::Event;
 use lease_desk::{Chair, Desk};
 use pbn_deals::Board;
@@ -21,6 +21,9 @@ use std::test::Fail;
 
 /// How many chairs there are, and how many calls are made from all of them.
 const DESKS: [(usize, usize); 2] = [(4, 8_000), (8, 16_000)];
+
+/// Whether each of the boards has a deal.
+const DEALS: [bool; 3] = [true, false, true];
 
 /// How many calls are made from each.
 const CALLS: u64 = 2_000;

@@ -1,5 +1,5 @@
-//! A long list of requests, some stale, repeated, damaged or for another entry: each reply and each publication is the one
-//! that a slow search of the list finds.
+//! Long lists of requests, some stale, repeated, damaged or for another entry: each reply and each publication is the one
+//! that a slow search of the list finds. In two of them boards share their deals.
 
 use super::certificates::{Answer, EAST_HIGH, NORTH_HIGH, boards};
 use super::slow_book::{Ask, DECLARERS, Past, Rules, TRUMPS, entry_of, leased, published, reply};
@@ -16,8 +16,19 @@ use std::test::Fail;
 /// The layouts of the boards; the second has no deal.
 pub const LAYOUTS: [Option<&str>; 3] = [Some(NORTH_HIGH), None, Some(EAST_HIGH)];
 
-/// Whether each of them has a deal.
-pub const DEALS: [bool; 3] = [true, false, true];
+/// For each of them that has a deal the number of the first with it.
+const FIRSTS: [Option<usize>; 3] = [Some(0), None, Some(2)];
+
+/// The layouts of boards of which some have the same.
+const SHARED: [Option<&str>; 5] = [
+    Some(NORTH_HIGH),
+    Some(EAST_HIGH),
+    Some(NORTH_HIGH),
+    None,
+    Some(EAST_HIGH),
+];
+
+const SHARED_FIRSTS: [Option<usize>; 5] = [Some(0), Some(1), Some(0), None, Some(1)];
 
 /// One of a few, by a number.
 pub fn pick<T: Copy>(some: &[T], number: u64, other: T) -> T {
@@ -122,7 +133,7 @@ pub fn verdict_on(
 }
 
 /// What the request asks, by the verdict on what it hands in.
-fn asked(alloc: Global, boards: &[Board], request: &Request) -> Result<Ask, Fail> {
+pub fn asked(alloc: Global, boards: &[Board], request: &Request) -> Result<Ask, Fail> {
     Ok(match request {
         Request::Lease { now } => Ask::Lease(*now),
         Request::Expire { now } => Ask::Expire(*now),
@@ -158,9 +169,9 @@ pub fn kind_of(reply: Reply) -> usize {
     }
 }
 
-/// The publications of the book are those that the search finds, for all entries, and for one of a board that isn't there.
-fn same_publications<R: Abort>(rt: &R, book: &Book, past: &[Past]) {
-    for board in 0..4 {
+/// The publications of the book are those that the search finds, for all entries, and for those of a board that isn't there.
+fn same_publications<R: Abort>(rt: &R, book: &Book, firsts: &[Option<usize>], past: &[Past]) {
+    for board in 0..=firsts.len() {
         for declarer in DECLARERS {
             for trump in TRUMPS {
                 let entry = Entry {
@@ -168,25 +179,44 @@ fn same_publications<R: Abort>(rt: &R, book: &Book, past: &[Past]) {
                     declarer,
                     trump,
                 };
-                expect_eq(rt, &book.published(entry), &published(past, entry));
+                expect_eq(rt, &book.published(entry), &published(firsts, past, entry));
             }
         }
     }
+}
+
+/// A book of these boards replies to the requests as the search did, and publishes what it finds.
+pub fn compare_replay<R: Abort>(
+    rt: &R,
+    alloc: Global,
+    known: Vec<Board>,
+    rules: Rules,
+    requests: &[Request],
+    past: &[Past],
+) -> Result<(), Fail> {
+    let (book, replies) = replay(alloc, known, rules.term, rules.tries, requests)?;
+    expect_eq(rt, &replies.len(), &past.len());
+    for (reply, event) in replies.iter().zip(past) {
+        expect_eq(rt, reply, &event.reply);
+    }
+    same_publications(rt, &book, rules.firsts, past);
+    Ok(())
 }
 
 /// A list of so many requests. Counts its replies by their kinds.
 fn compare_list<R: Abort>(
     rt: &R,
     alloc: Global,
+    (layouts, firsts): (&[Option<&str>], &[Option<usize>]),
     (seed, count): (u64, usize),
     kinds: &mut [u64; 10],
 ) -> Result<(), Fail> {
     let rules = Rules {
-        deals: &DEALS,
+        firsts,
         term: 30,
         tries: 6,
     };
-    let known = boards(alloc, &LAYOUTS)?;
+    let known = boards(alloc, layouts)?;
     let mut past = Vec::new(alloc);
     let mut requests = Vec::new(alloc);
     let mut number = seed;
@@ -201,26 +231,42 @@ fn compare_list<R: Abort>(
         past.push(Past { ask, reply })?;
         requests.push(request)?;
     }
-    let (book, replies) = replay(alloc, known, 30, 6, requests.as_slice())?;
-    expect_eq(rt, &replies.len(), &past.len());
-    for (reply, event) in replies.iter().zip(past.as_slice()) {
-        expect_eq(rt, reply, &event.reply);
-    }
-    same_publications(rt, &book, past.as_slice());
-    Ok(())
+    compare_replay(
+        rt,
+        alloc,
+        known,
+        rules,
+        requests.as_slice(),
+        past.as_slice(),
+    )
 }
 
 /// The first number of a list, and how many requests it has.
 const LISTS: [(u64, usize); 3] = [(11, 2_000), (22, 800), (33, 800)];
 
+/// The same of lists for boards that share their deals.
+const SHARED_LISTS: [(u64, usize); 2] = [(44, 800), (55, 800)];
+
 #[test]
 fn replies_are_those_of_a_slow_search(rt: HostRuntime) -> Result<(), Fail> {
     let mut kinds = [0u64; 10];
     for list in LISTS {
-        compare_list(&rt, rt.alloc(), list, &mut kinds)?;
+        compare_list(&rt, rt.alloc(), (&LAYOUTS, &FIRSTS), list, &mut kinds)?;
     }
     for count in kinds {
         assert!(rt; count >= 20, "{kinds:?}");
+    }
+    Ok(())
+}
+
+#[test]
+fn replies_where_boards_share_deals(rt: HostRuntime) -> Result<(), Fail> {
+    let mut kinds = [0u64; 10];
+    for list in SHARED_LISTS {
+        compare_list(&rt, rt.alloc(), (&SHARED, &SHARED_FIRSTS), list, &mut kinds)?;
+    }
+    for count in kinds {
+        assert!(rt; count >= 5, "{kinds:?}");
     }
     Ok(())
 }

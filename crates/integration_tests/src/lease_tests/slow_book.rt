@@ -99,11 +99,28 @@ fn is_held(past: &[Past], entry: Entry, lease: u64) -> bool {
     }
 }
 
-/// The number that was published for the entry first.
-pub fn published(past: &[Past], entry: Entry) -> Option<u8> {
+/// The number of the first board with the deal of this one, where it has a deal.
+fn first_with(firsts: &[Option<usize>], board: usize) -> Option<usize> {
+    match firsts.get(board) {
+        Some(first) => *first,
+        None => None,
+    }
+}
+
+/// Whether two entries have one declarer and one denomination, and their boards one deal.
+fn are_twins(firsts: &[Option<usize>], one: Entry, other: Entry) -> bool {
+    let first = first_with(firsts, one.board);
+    first.is_some()
+        && first == first_with(firsts, other.board)
+        && one.declarer == other.declarer
+        && one.trump == other.trump
+}
+
+/// The number that was published for the entry or a twin of it first.
+pub fn published(firsts: &[Option<usize>], past: &[Past], entry: Entry) -> Option<u8> {
     for event in past {
         if let (Ask::Good(_, named, _), Reply::Published(k)) = (event.ask, event.reply)
-            && named == entry
+            && are_twins(firsts, entry, named)
         {
             return Some(k);
         }
@@ -131,24 +148,25 @@ pub fn leased(past: &[Past], of: Option<Entry>) -> u64 {
     count
 }
 
-/// What a book is over: whether each board has a deal, the term, and the tries.
+/// What a book is over: for each board that has a deal the number of the first with it, the term, and the tries.
 #[derive(Clone, Copy)]
 pub struct Rules<'a> {
-    pub deals: &'a [bool],
+    pub firsts: &'a [Option<usize>],
     pub term: u64,
-    pub tries: u64,
+    pub tries: u32,
 }
 
-/// Whether an entry of a board with a deal is open.
+/// Whether an entry is open: its board is the first with its deal, and so on.
 fn is_open(rules: Rules, past: &[Past], entry: Entry) -> bool {
-    leased(past, Some(entry)) < rules.tries
-        && published(past, entry).is_none()
+    first_with(rules.firsts, entry.board) == Some(entry.board)
+        && leased(past, Some(entry)) < u64::from(rules.tries)
+        && published(rules.firsts, past, entry).is_none()
         && holder_of(past, entry).is_none()
 }
 
 /// The least open entry.
 fn first_open(rules: Rules, past: &[Past]) -> Option<Entry> {
-    for (board, has_deal) in rules.deals.iter().enumerate() {
+    for board in 0..rules.firsts.len() {
         for declarer in DECLARERS {
             for trump in TRUMPS {
                 let entry = Entry {
@@ -156,7 +174,7 @@ fn first_open(rules: Rules, past: &[Past]) -> Option<Entry> {
                     declarer,
                     trump,
                 };
-                if *has_deal && is_open(rules, past, entry) {
+                if is_open(rules, past, entry) {
                     return Some(entry);
                 }
             }
@@ -200,17 +218,19 @@ pub fn reply(rules: Rules, past: &[Past], ask: Ask) -> Reply {
             Some(entry) if is_held(past, entry, lease) => Reply::GaveUp,
             Some(_) => Reply::NotHeld,
         },
-        Ask::Good(lease, entry, k) => counted(past, lease, entry, Reply::Published(k)),
-        Ask::Bad(lease, entry, fault) => counted(past, lease, entry, Reply::BadCertificate(fault)),
+        Ask::Good(lease, entry, k) => counted(rules, past, lease, entry, Reply::Published(k)),
+        Ask::Bad(lease, entry, fault) => {
+            counted(rules, past, lease, entry, Reply::BadCertificate(fault))
+        }
     }
 }
 
 /// The reply to a hand-in that gets this one where it counts.
-fn counted(past: &[Past], lease: u64, entry: Entry, reply: Reply) -> Reply {
+fn counted(rules: Rules, past: &[Past], lease: u64, entry: Entry, reply: Reply) -> Reply {
     match entry_of(past, lease) {
         None => Reply::UnknownLease,
         Some(given) if given != entry => Reply::OtherEntry,
-        Some(_) if published(past, entry).is_some() => Reply::AlreadyPublished,
+        Some(_) if published(rules.firsts, past, entry).is_some() => Reply::AlreadyPublished,
         Some(_) => reply,
     }
 }
