@@ -1,5 +1,5 @@
 #!/usr/bin/env python3
-"""Measures how many calls a second threads make at one desk of 4,096 boards.
+"""Measures how many calls a second threads make at one desk of 4,096 boards with different deals.
 
 Usage: bench/desk/speed.py. It copies the crates into a folder of its own, proves and builds speed.rt.txt there, and runs it once.
 The same 81,920 calls are made on a book alone, at a desk with 1, 2, 4 and 8 threads, and with as many threads on a book under a
@@ -18,8 +18,7 @@ RUNS = 5
 BOARDS = 4096
 CALLS = 81920
 THREADS = (1, 2, 4, 8)
-CRATES = ("pbn_deals", "lease_book", "lease_desk")
-LAYOUT = "N:A... K... Q... J..."
+CRATES = ("cards", "pbn_deals", "lease_book", "lease_desk")
 
 
 def below(names, lines):
@@ -42,7 +41,7 @@ def build(folder):
         shutil.copytree(ROOT / "crates" / name, folder / "crates" / name, ignore=shutil.ignore_patterns("must-fail"))
     (crate / "src").mkdir(parents=True)
     source = (HERE / "speed.rt.txt").read_text()
-    for word, value in (("LAYOUT", LAYOUT), ("BOARDS", BOARDS), ("CALLS", CALLS), ("RUNS", RUNS)):
+    for word, value in (("BOARDS", BOARDS), ("CALLS", CALLS), ("RUNS", RUNS)):
         source = source.replace(f"@{word}@", str(value))
     (crate / "src" / "main.rt").write_text(source)
     proofs = crate / "proofs" / "work_at_desk"

@@ -76,4 +76,5 @@ def main():
             print(f"{size} bytes read, {written} written: ddfarm table {ours:.0f} ms, wc -l {theirs:.0f} ms")
 
 
-main()
+if __name__ == "__main__":
+    main()
