@@ -1,5 +1,5 @@
 -- What is known of chairs goes over to others of which the same is shown.
-use Rattle.std.proofs.Common.{◌≡◌, ℕ, ◌+◌, ◌<◌, Bool, true, false, cond, List, [], ◌∷◌, map, All, Contains, count_by, refl, sym, ap, ◌∙◌, subst, ⊎_elim, arith}
+use Rattle.std.proofs.Common.{◌≡◌, ℕ, ◌<◌, Bool, true, false, cond, List, [], ◌∷◌, map, All, Contains, count_by, refl, subst, ⊎_elim, arith}
 use Rattle.std.specs.Prelude.{sum_by}
 use Rattle.std.proofs.lemmas.Bool.{cases_lt}
 use Rattle.std.proofs.lemmas.List.Elements.{All-nil, All-cons, All-head, All-tail, Contains-append_left, Contains-append_right, Contains-push}
@@ -40,11 +40,3 @@ pub counted_is_there : {X : Type 0} (test : X → Bool) (xs : List X) → 0 < co
 counted_is_there test xs some =
     let found = above_zero (λ x. cond (test x) 1 0) xs some in
     (found.0, found.1, passes (test found.0) found.2)
-
--- a count over a list of numbers is one over what they are the numbers of
-pub count_by-map : {X Y : Type 0} (test : Y → Bool) (f : X → Y) (xs : List X) → count_by test (map f xs) ≡ count_by (λ x. test (f x)) xs
-count_by-map test f [] = refl
-count_by-map test f (x ∷ xs) =
-    sum_by-cons (λ y. cond (test y) 1 0) (f x) (map f xs)
-    ∙ ap (λ n. cond (test (f x)) 1 0 + n) (count_by-map test f xs)
-    ∙ sym (sum_by-cons (λ y. cond (test (f y)) 1 0) x xs)

@@ -1,5 +1,5 @@
 -- What follows from the chairs of a run for the history of its book.
-use Rattle.std.proofs.Common.{◌≡◌, ℕ, ◌<◌, List, map, All, count_by, sym, ap, ◌∙◌, subst, arith, eqb, get_or}
+use Rattle.std.proofs.Common.{◌≡◌, ℕ, List, Contains, map, All, count_by, sym, ap, ◌∙◌, subst, arith, get_or}
 use Rattle.std.proofs.lemmas.Bool.{eqb-true}
 use Rattle.std.proofs.lemmas.Option.{get_or_from_slice_get, slice_get_within}
 use Rattle.std.proofs.lemmas.List.Elements.{All-weaker, All-contains}
@@ -16,18 +16,18 @@ use Rattle.lease_desk.specs.Desks.{IsChairOf, AreChairsOf, IsClosed, AreAll, cha
 use Rattle.farm.specs.Moments.{MayTell, IsTimed, AreTimed}
 use Rattle.farm.specs.Publications.{IsTrueHistory, IsGivenOut}
 use Rattle.farm.specs.Runs.{IsBookOf}
-use Rattle.farm.specs.Working.{HasWorked, SawNothing}
-use Rattle.farm.proofs.Chairs.{All-shown, counted_is_there, above_zero, count_by-map}
+use Rattle.farm.specs.Working.{IsWorker, HaveWorked, SawNothing}
+use Rattle.farm.proofs.Chairs.{All-shown, counted_is_there, above_zero}
 
 -- the chairs that come back from the threads are those of the desk
-pub same_chairs : (may_tell : MayTell) (desk : Desk) (solvers : ℕ) (chairs worked : List Chair) → AreChairsOf desk chairs → All (HasWorked may_tell desk solvers) worked → map number_of worked ≡ map number_of chairs → AreChairsOf desk worked
-same_chairs may_tell desk solvers chairs worked are have numbers = record {
-  each = All-weaker (HasWorked may_tell desk solvers) (IsChairOf desk) (λ chair has. has.worker.chair_is) worked have;
+pub same_chairs : (may_tell : MayTell) (desk : Desk) (chairs worked : List Chair) → AreChairsOf desk chairs → HaveWorked may_tell desk worked → map number_of worked ≡ map number_of chairs → AreChairsOf desk worked
+same_chairs may_tell desk chairs worked are have numbers = record {
+  each = All-weaker (IsWorker may_tell desk) (IsChairOf desk) (λ chair has. has.chair_is) worked have.workers;
   all = subst (λ (l : List ℕ). AreAll (chairs_of desk) l) (sym numbers) are.all;
 }
 
-module _ (may_tell : MayTell) (terms : Terms) (desk : Desk) (solvers : ℕ) (chairs closed : List Chair) (book : Ledger)
-    (have : All (HasWorked may_tell desk solvers) chairs) (is : IsClosed terms chairs book closed) where
+module _ (may_tell : MayTell) (terms : Terms) (desk : Desk) (chairs closed : List Chair) (book : Ledger)
+    (have : HaveWorked may_tell desk chairs) (is : IsClosed terms chairs book closed) where
   -- the request in each place is that of a receipt
   timed : AreTimed may_tell book.events
   timed place d within =
@@ -35,27 +35,25 @@ module _ (may_tell : MayTell) (terms : Terms) (desk : Desk) (solvers : ℕ) (cha
       let once = is.once place within in
       let chair = above_zero (λ (c : Chair). count_by (is_for place) (receipts_in c)) closed (omega arith) in
       let receipt = counted_is_there (is_for place) (receipts_in chair.0) chair.2 in
-      let own = All-shown (λ shown. All Of shown.1) chairs closed is.same (All-weaker (HasWorked may_tell desk solvers) (λ c. All Of (receipts_in c)) (λ c has. has.worker.timed) chairs have) in
+      let own = All-shown (λ shown. All Of shown.1) chairs closed is.same (All-weaker (IsWorker may_tell desk) (λ c. All Of (receipts_in c)) (λ c has. has.timed) chairs have.workers) in
       let may : Of receipt.0 = All-contains Of (receipts_in chair.0) receipt.0 (All-contains (λ (c : Chair). All Of (receipts_in c)) closed chair.0 own chair.1) receipt.1 in
       let at : receipt.0.place ≡ place = eqb-true receipt.0.place place receipt.2 in
       let stands = All-contains (Stands book.events) (receipts_in chair.0) receipt.0 (All-contains (λ (c : Chair). All (Stands book.events) (receipts_in c)) closed chair.0 is.stand chair.1) receipt.1 in
       let event : get_or book.events place d ≡ receipt.0.event = ap (λ k. get_or book.events k d) (sym at) ∙ get_or_from_slice_get book.events receipt.0.place receipt.0.event d stands in
       subst (λ (e : Event). IsTimed may_tell e.asked) (sym event) may
 
-  -- the first chair is a solver's
-  given_out : AreAll (chairs_of desk) (map number_of chairs) → 0 < chairs_of desk → 0 < solvers → IsGivenOut book.events
-  given_out all some_chair some_solver =
-      let once = all.once 0 some_chair in
-      let chair = counted_is_there (λ (c : Chair). eqb 0 (number_of c)) chairs (omega (arith, count_by-map (eqb 0) number_of chairs)) in
-      let number : 0 ≡ number_of chair.0 = eqb-true 0 (number_of chair.0) chair.2 in
-      let worked = All-contains (HasWorked may_tell desk solvers) chairs chair.0 have chair.1 in
-      let nothing : SawNothing (receipts_in chair.0) = worked.nothing (omega arith) in
+  -- one of the chairs saw that no entry was open
+  given_out : IsGivenOut book.events
+  given_out =
+      let chair = have.done.0 in
+      let there : Contains chairs chair = have.done.1 in
+      let nothing : SawNothing (receipts_in chair) = have.done.2 in
       let event : Event = record { asked = Lease nothing.0; reply = Nothing } in
       let told : Receipt = record { place = nothing.1; event = event } in
       let stand = All-shown (λ shown. All (Stands book.events) shown.1) closed chairs (sym is.same) is.stand in
-      let stands : Stands book.events told = All-contains (Stands book.events) (receipts_in chair.0) told (All-contains (λ (c : Chair). All (Stands book.events) (receipts_in c)) chairs chair.0 stand chair.1) nothing.2 in
+      let stands : Stands book.events told = All-contains (Stands book.events) (receipts_in chair) told (All-contains (λ (c : Chair). All (Stands book.events) (receipts_in c)) chairs chair stand there) nothing.2 in
       (nothing.0, (nothing.1, slice_get_within book.events nothing.1 event stands, get_or_from_slice_get book.events nothing.1 event event stands))
 
-  pub is_run : AreAll (chairs_of desk) (map number_of chairs) → 0 < chairs_of desk → 0 < solvers → IsTrueHistory book.terms book.events → IsBookOf may_tell terms book
-  is_run all some_chair some_solver history =
-      record { terms_are = is.terms_are; run = record { history = subst (λ (t : Terms). IsTrueHistory t book.events) is.terms_are history; given_out = given_out all some_chair some_solver; timed = timed } }
+  pub is_run : IsTrueHistory book.terms book.events → IsBookOf may_tell terms book
+  is_run history =
+      record { terms_are = is.terms_are; run = record { history = subst (λ (t : Terms). IsTrueHistory t book.events) is.terms_are history; given_out = given_out; timed = timed } }

@@ -6,4 +6,10 @@ pub mod Moments
 pub mod Publications
 pub mod Runs
 pub mod Working
+pub mod Leases
+pub mod Flows
+pub mod Ending
 pub mod Promises
+pub mod Relaying
+pub mod Starting
+pub mod Passing

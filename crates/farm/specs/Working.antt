@@ -1,11 +1,11 @@
 -- What is known of the chair of a thread.
-use Rattle.std.specs.Prelude.{ℕ, ◌<◌, List, All, Contains}
+use Rattle.std.specs.Prelude.{◌≡◌, ℕ, List, [], All, Contains}
 use Rattle.lease_book.specs.declared.events.Asked.TheVariants.{Lease}
 use Rattle.lease_book.specs.declared.events.Reply.TheVariants.{Nothing}
 use Rattle.lease_desk.specs.declared.receipts.Receipt.{Receipt}
 use Rattle.lease_desk.specs.declared.chairs.Chair.{Chair}
 use Rattle.lease_desk.specs.declared.desk.Desk.{Desk}
-use Rattle.lease_desk.specs.Desks.{IsChairOf, number_of, receipts_in}
+use Rattle.lease_desk.specs.Desks.{IsChairOf, receipts_in}
 use Rattle.farm.specs.Moments.{MayTell, IsTimed}
 
 -- a receipt tells that no entry was open
@@ -23,7 +23,17 @@ pub record IsWorker (may_tell : MayTell) (desk : Desk) (chair : Chair) : Type 0 
 abbrev pub never : MayTell
 never moment = ⊥
 
--- the first chairs are those of the solvers, who work until no entry is open
-pub record HasWorked (may_tell : MayTell) (desk : Desk) (solvers : ℕ) (chair : Chair) : Type 0 where
+-- the chair came with the desk, and has made no call
+pub record IsNew (desk : Desk) (chair : Chair) : Type 0 where
+  pub chair_is : IsChairOf desk chair
+  pub none_yet : receipts_in chair ≡ []
+
+-- a solver works until no entry is open
+pub record HasWorked (may_tell : MayTell) (desk : Desk) (chair : Chair) : Type 0 where
   pub worker : IsWorker may_tell desk chair
-  pub nothing : number_of chair < solvers → SawNothing (receipts_in chair)
+  pub nothing : SawNothing (receipts_in chair)
+
+-- the chairs came with the desk, and one of them saw that no entry was open
+pub record HaveWorked (may_tell : MayTell) (desk : Desk) (chairs : List Chair) : Type 0 where
+  pub workers : All (IsWorker may_tell desk) chairs
+  pub done : (chair : Chair) × Contains chairs chair × SawNothing (receipts_in chair)

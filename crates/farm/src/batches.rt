@@ -1,12 +1,13 @@
 //! What a solver leases at a time.
 
-ghost use Rattle.std.specs.Prelude.{◌≡◌};
-ghost use Rattle.lease_desk.specs.Desks.{number_of};
+ghost use Rattle.std.specs.Prelude.{◌≡◌, ℕ, IfOk};
+ghost use Rattle.lease_desk.specs.Desks.{number_of, receipts_in};
 ghost use Rattle.farm.specs.Working.{IsWorker};
+ghost use Rattle.farm.specs.Flows.{Moves, of_task, of_tasks};
 
 use crate::clocks::Clock;
 use crate::crews::Crew;
-use crate::requests::next_task;
+use crate::requests::{give_up, next_task};
 use crate::tasks::{Task, Tasks};
 use lease_book::OutOfMemory;
 use lease_desk::Chair;
@@ -22,14 +23,18 @@ pub(crate) fn lease_batch<S, G, C: Clock, R: Wait>(
     requires worker { IsWorker (C.may_tell crew.now.clock.now) crew.now.desk.now chair.old }
     ensures worker { IsWorker (C.may_tell crew.now.clock.now) crew.now.desk.now chair.new }
     ensures number { number_of chair.new ≡ number_of chair.old }
+    ensures leases { IfOk result (λ batch. (weight : ℕ → ℕ) → Moves weight (receipts_in chair.old) (receipts_in chair.new) (of_task weight first) (of_tasks weight batch.items)) }
 {
     let mut batch = Tasks::new();
-    let _ = batch.try_push(first);
+    batch.push(first);
     for _more in 1..crew.batch {
         let Some(task) = next_task(rt, crew, chair)? else {
             break;
         };
-        let _ = batch.try_push(task);
+        if batch.try_push(task).is_err() {
+            give_up(rt, crew, chair, task.lease)?;
+            break;
+        }
     }
     Ok(batch)
 }

@@ -1,10 +1,14 @@
 //! The work of a checker.
 
-use crate::tasks::{Answered, Found};
+ghost use Rattle.std.specs.Prelude.{◌+◌, ◌≤◌, ℕ};
+ghost use Rattle.farm_relay.specs.Relays.{PutsAtSame, TakesAtSame, put_by, taken_by};
+ghost use Rattle.farm.specs.Flows.{IsCheckers, claimed_in, of_found};
+
+use crate::tasks::{Answered, Found, Task};
 use cards::Side;
 use certificate_graph::Graph;
 use checker::{CheckedGraph, Claimed, Rooted};
-use crossbeam_channel::{Receiver, Sender};
+use farm_relay::{Putter, Taker};
 use lease_desk::Gate;
 use partition_solver::{Bundle, Claim};
 use std::alloc::{AllocError, Global};
@@ -62,45 +66,67 @@ impl Pair {
     }
 }
 
-/// Tells the gate of the leases of a message, checks its graphs, and sends each claim on. A claim that is handed back is
-/// dropped; its lease stays.
+/// Puts the claim for a lease, where there is one. A claim that is handed back is dropped; its lease stays.
+fn put_claim<R: Wait>(
+    rt: &R,
+    bundle: &Bundle,
+    pair: &Pair,
+    task: Task,
+    answers: &mut Putter<Answered>,
+) -> Result<(), AllocError>
+    ensures leases { (weight : ℕ → ℕ) → claimed_in weight (put_by answers.new) ≤ claimed_in weight (put_by answers.old) + weight task.lease }
+    ensures same { PutsAtSame answers.old answers.new }
+{
+    let Some(claim) = bundle.claim_for(task.entry.declarer) else {
+        return Ok(());
+    };
+    let claimed = pair.claimed(claim)?;
+    let Err(_back) = answers.put(rt, Answered { task, claimed }) else {
+        return Ok(());
+    };
+    Ok(())
+}
+
+/// Tells the gate of the leases of a message, checks its graphs, and puts each claim.
 fn check_found<G: Gate, R: Threads + Wait + Sync>(
     rt: &R,
     alloc: Global,
     gate: &G,
     found: Found,
-    answered: &Sender<Answered>,
-) -> Result<(), AllocError> {
+    answers: &mut Putter<Answered>,
+) -> Result<(), AllocError>
+    ensures leases { (weight : ℕ → ℕ) → claimed_in weight (put_by answers.new) ≤ claimed_in weight (put_by answers.old) + of_found weight found }
+    ensures same { PutsAtSame answers.old answers.new }
+{
     let Found { tasks, bundle } = found;
     for task in tasks.iter() {
         gate.before_graphs(task.lease);
     }
     let pair = Pair::of(rt, alloc, &bundle)?;
     for task in tasks.iter() {
-        if let Some(claim) = bundle.claim_for(task.entry.declarer) {
-            let claimed = pair.claimed(claim)?;
-            let _ = answered.send(
-                rt,
-                Answered {
-                    task: *task,
-                    claimed,
-                },
-            );
-        }
+        put_claim(rt, &bundle, &pair, *task, answers)?;
     }
     Ok(())
 }
 
-/// Takes what was found until the channel is closed and empty, checks the graphs, and sends the claims on. What is refused for
-/// memory is dropped; its leases stay.
+/// Takes what was found until nothing comes, checks the graphs, and puts the claims. What is refused for memory is dropped; its
+/// leases stay.
 pub(crate) fn check_all<G: Gate, R: Threads + Wait + Sync>(
     rt: &R,
     alloc: Global,
     gate: &G,
-    found: &Receiver<Found>,
-    answered: &Sender<Answered>,
-) {
-    for message in found.iter(rt) {
-        let _ = check_found(rt, alloc, gate, message, answered);
+    found: &mut Taker<Found>,
+    answers: &mut Putter<Answered>,
+)
+    requires { (weight : ℕ → ℕ) → IsCheckers weight (taken_by found.old) (put_by answers.old) }
+    ensures leases { (weight : ℕ → ℕ) → IsCheckers weight (taken_by found.new) (put_by answers.new) }
+    ensures found { TakesAtSame found.old found.new }
+    ensures answers { PutsAtSame answers.old answers.new }
+{
+    for _ in rt.forever() {
+        let Some(message) = found.take(rt) else {
+            return;
+        };
+        let _ = check_found(rt, alloc, gate, message, answers);
     }
 }

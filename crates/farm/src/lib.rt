@@ -17,6 +17,8 @@ mod halts;
 mod histories;
 mod joining;
 mod opening;
+mod promises;
+mod relays;
 mod requests;
 mod running;
 mod settings;

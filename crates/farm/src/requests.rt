@@ -1,8 +1,9 @@
 //! What a solver asks at the desk.
 
-ghost use Rattle.std.specs.Prelude.{◌≡◌, IfOk, IfNone};
+ghost use Rattle.std.specs.Prelude.{◌≡◌, ℕ, IfOk, OnOk, IfNone};
 ghost use Rattle.lease_desk.specs.Desks.{number_of, receipts_in};
 ghost use Rattle.farm.specs.Working.{IsWorker, SawNothing};
+ghost use Rattle.farm.specs.Flows.{Moves, of_next};
 
 use crate::clocks::Clock;
 use crate::crews::Crew;
@@ -21,6 +22,7 @@ pub(crate) fn next_task<S, G, C: Clock, R: Wait>(
     ensures worker { IsWorker (C.may_tell crew.now.clock.now) crew.now.desk.now chair.new }
     ensures number { number_of chair.new ≡ number_of chair.old }
     ensures nothing { IfOk result (λ task. IfNone task (SawNothing (receipts_in chair.new))) }
+    ensures leases { IfOk result (λ task. (weight : ℕ → ℕ) → Moves weight (receipts_in chair.old) (receipts_in chair.new) 0 (of_next weight task)) }
 {
     let told = crew.desk.lease(rt, chair, crew.clock.now())?;
     match told.event.reply {
@@ -39,6 +41,7 @@ pub(crate) fn frees_a_lease<S, G, C: Clock, R: Wait>(
     ensures worker { IsWorker (C.may_tell crew.now.clock.now) crew.now.desk.now chair.new }
     ensures number { number_of chair.new ≡ number_of chair.old }
     ensures nothing { SawNothing (receipts_in chair.old) → SawNothing (receipts_in chair.new) }
+    ensures leases { OnOk result ((weight : ℕ → ℕ) → Moves weight (receipts_in chair.old) (receipts_in chair.new) 0 0) }
 {
     let told = crew.desk.expire(rt, chair, crew.clock.now())?;
     match told.event.reply {
@@ -57,6 +60,7 @@ pub(crate) fn give_up<S, G, C: Clock, R: Wait>(
     requires worker { IsWorker (C.may_tell crew.now.clock.now) crew.now.desk.now chair.old }
     ensures worker { IsWorker (C.may_tell crew.now.clock.now) crew.now.desk.now chair.new }
     ensures number { number_of chair.new ≡ number_of chair.old }
+    ensures leases { OnOk result ((weight : ℕ → ℕ) → Moves weight (receipts_in chair.old) (receipts_in chair.new) (weight lease) 0) }
 {
     let _told = crew.desk.give_up(rt, chair, lease)?;
     Ok(())

@@ -2,7 +2,11 @@
 
 ghost use Rattle.std.specs.Prelude.{◌≡◌, All, IfOk, IfErr, map};
 ghost use Rattle.lease_desk.specs.Desks.{number_of};
-ghost use Rattle.farm.specs.Working.{IsWorker, HasWorked, never};
+ghost use Rattle.farm.specs.Working.{IsNew, HaveWorked};
+ghost use Rattle.farm.specs.Starting.{AreStarted, numbers_of};
+ghost use Rattle.farm.specs.Relaying.{AreForCounts};
+ghost use Rattle.farm.specs.Leases.{AreSettledOnce};
+ghost use Rattle.farm.specs.Passing.{ArePassedOn, IsPassedOn};
 ghost use Rattle.farm.specs.Faults.{IsFaultOf};
 ghost use Rattle.farm.specs.Runs.{IsBookOf};
 
@@ -11,10 +15,11 @@ use crate::crews::Crew;
 use crate::faults::FarmFault;
 use crate::halts::Halt;
 use crate::histories::is_true_history;
-use crate::joining::join_all;
+use crate::joining::{end_all, join_all};
 use crate::opening::{deals_of, open_desk};
+use crate::relays::Relays;
 use crate::settings::Settings;
-use crate::starting::start_all;
+use crate::starting::{Started, start_all};
 use cards::Layout;
 use lease_book::Book;
 use lease_desk::{Chair, Closed, Desk, Gate};
@@ -27,7 +32,29 @@ use std::sync::atomic::Ordering::SeqCst;
 use std::thread;
 use std::thread::{Scope, Threads};
 
-/// Starts a thread for each chair in a scope, and waits for them. Where one can't be started, the others lease no more.
+/// Waits for all threads, closes the relays, and hands out the chairs, unless the run has failed.
+fn close_all<S, G, C: Clock, R: Threads + Wait>(
+    rt: &R,
+    crew: &Crew<'_, S, G, C>,
+    settings: Settings,
+    relays: Relays,
+    started: Started<C>,
+) -> Result<Vec<Chair>, Halt>
+    requires counts { AreForCounts settings relays }
+    requires started { AreStarted crew.now.desk.now crew.now.clock.now relays started }
+    ensures worked { IfOk result (λ worked. HaveWorked (C.may_tell crew.now.clock.now) crew.now.desk.now worked.items) }
+    ensures numbers { IfOk result (λ worked. map number_of worked.items ≡ numbers_of started) }
+    ensures passed { IfOk result (λ worked. ArePassedOn settings worked.items) }
+{
+    let (worked, settled, ends) = join_all(rt, crew, &relays, started)?;
+    relays.close(rt, settings, ends)?;
+    let (mut chairs, mut settled) = (worked, settled);
+    chairs.append(&mut settled)?;
+    Ok(chairs)
+}
+
+/// Starts a thread for each chair and each checker in a scope, and waits for them. Where one can't be started, no more is leased,
+/// and both relays are let go, so that no thread waits for an end that nobody has.
 fn work_in<'s, E, S: Solver + Sync, G: Gate + Sync, C: Clock + Sync, R: Threads + Wait + Sync>(
     rt: &'s R,
     scope: &Scope<'s, E>,
@@ -41,9 +68,10 @@ fn work_in<'s, E, S: Solver + Sync, G: Gate + Sync, C: Clock + Sync, R: Threads 
     stop: &'s AtomicBool,
     chairs: Vec<Chair>,
 ) -> Result<Vec<Chair>, Halt>
-    requires { All (IsWorker never desk.now) chairs.items }
-    ensures worked { IfOk result (λ worked. All (HasWorked (C.may_tell clock.now) desk.now settings.solvers) worked.items) }
+    requires { All (IsNew desk.now) chairs.items }
+    ensures worked { IfOk result (λ worked. HaveWorked (C.may_tell clock.now) desk.now worked.items) }
     ensures numbers { IfOk result (λ worked. map number_of worked.items ≡ map number_of chairs.items) }
+    ensures passed { IfOk result (λ worked. ArePassedOn settings worked.items) }
 {
     let crew = Crew {
         alloc,
@@ -56,18 +84,15 @@ fn work_in<'s, E, S: Solver + Sync, G: Gate + Sync, C: Clock + Sync, R: Threads 
         clock,
         stop,
     };
-    let started = start_all(
-        rt,
-        scope,
-        &crew,
-        settings.solvers,
-        settings.checkers,
-        chairs,
-    );
-    if started.is_err() {
-        stop.store(true, SeqCst);
-    }
-    join_all(rt, &crew, settings.solvers, started?)
+    let (relays, ends) = Relays::open(alloc, settings)?;
+    let mut started = Started::new(alloc, settings)?;
+    let Err(halt) = start_all(rt, scope, &crew, &relays, chairs, ends, &mut started) else {
+        return close_all(rt, &crew, settings, relays, started);
+    };
+    stop.store(true, SeqCst);
+    drop(relays);
+    end_all(rt, started);
+    Err(halt)
 }
 
 /// Works at all chairs, each in a thread of its own.
@@ -82,9 +107,10 @@ fn work_all<S: Solver + Sync, G: Gate + Sync, C: Clock + Sync, R: Threads + Wait
     clock: &C,
     chairs: Vec<Chair>,
 ) -> Result<Vec<Chair>, Halt>
-    requires { All (IsWorker never desk.now) chairs.items }
-    ensures worked { IfOk result (λ worked. All (HasWorked (C.may_tell clock.now) desk.now settings.solvers) worked.items) }
+    requires { All (IsNew desk.now) chairs.items }
+    ensures worked { IfOk result (λ worked. HaveWorked (C.may_tell clock.now) desk.now worked.items) }
     ensures numbers { IfOk result (λ worked. map number_of worked.items ≡ map number_of chairs.items) }
+    ensures passed { IfOk result (λ worked. ArePassedOn settings worked.items) }
 {
     let stop = AtomicBool::new(false);
     let stop = &stop;
@@ -92,9 +118,10 @@ fn work_all<S: Solver + Sync, G: Gate + Sync, C: Clock + Sync, R: Threads + Wait
         thread::scope_env(),
         rt,
         |scope| -> Result<Vec<Chair>, Halt>
-            requires { All (IsWorker never desk.now) chairs.items }
-            ensures worked { IfOk result (λ worked. All (HasWorked (C.may_tell clock.entry.now) desk.entry.now settings.solvers) worked.items) }
+            requires { All (IsNew desk.now) chairs.items }
+            ensures worked { IfOk result (λ worked. HaveWorked (C.may_tell clock.entry.now) desk.entry.now worked.items) }
             ensures numbers { IfOk result (λ worked. map number_of worked.items ≡ map number_of chairs.items) }
+            ensures passed { IfOk result (λ worked. ArePassedOn settings worked.items) }
         {
             work_in(
                 rt, scope, alloc, desk, deals, settings, solver, gate, clock, stop, chairs,
@@ -123,6 +150,8 @@ pub fn run_farm<S: Solver + Sync, G: Gate + Sync, C: Clock + Sync, R: Threads + 
 ) -> Result<Book, FarmFault>
     ensures book { IfOk result (IsBookOf (C.may_tell clock.now) (record { boards = boards.items; term = settings.term; tries = settings.tries })) }
     ensures fault { IfErr result (IsFaultOf boards.items) }
+    ensures passed { IfOk result (λ book. IsPassedOn settings book.events) }
+    ensures once { IfOk result (λ book. AreSettledOnce book.events) }
 {
     let deals = deals_of(alloc, boards.as_slice())?;
     gate.before_work(boards.as_slice());

@@ -1,59 +1,36 @@
-//! The threads of solvers, of checkers and of clerks.
+//! The threads of solvers, of checkers and of clerks. Whatever comes, what a thread puts into ends with it.
 
-ghost use Rattle.std.specs.Prelude.{◌≡◌, ◌≤◌, IfOk, IfSome};
+ghost use Rattle.std.specs.Prelude.{◌≡◌, ℕ, [], IfOk, IfSome};
 ghost use Rattle.lease_desk.specs.Desks.{number_of, receipts_in};
-ghost use Rattle.farm.specs.Working.{IsWorker, HasWorked, SawNothing, never};
+ghost use Rattle.farm_relay.specs.Relays.{IsPutterOf, IsTakerOf, PutsAtSame, TakesAtSame, put_by, taken_by};
+ghost use Rattle.farm.specs.Working.{IsWorker, IsNew, HasWorked, never};
+ghost use Rattle.farm.specs.Flows.{IsSolvers, IsCheckers, IsClerks};
+ghost use Rattle.farm.specs.Promises.{IsSolverOf, IsCheckerOf, IsClerkOf};
 
 use crate::checking::check_all;
 use crate::clerks::settle_all;
 use crate::clocks::Clock;
 use crate::crews::Crew;
-use crate::halts::Halt;
+use crate::promises::{
+    Checked, CheckerThread, Checks, ClerkThread, Settled, Settles, Solved, SolverThread, Solves,
+};
+use crate::relays::Relays;
 use crate::solving::solve_all;
 use crate::tasks::{Answered, Found};
 use cards::Layout;
-use core::thread::{Anything, Stack};
-use crossbeam_channel::{Receiver, Sender};
+use core::thread::Stack;
+use farm_relay::{Putter, Taker};
 use lease_desk::{Chair, Desk, Gate};
 use partition_solver::Solver;
 use std::alloc::Global;
 use std::snapshot::Snapshot;
 use std::sync::Wait;
 use std::sync::atomic::AtomicBool;
-use std::thread::{Promise, PromisedHandle, Scope, Threads};
+use std::thread::{Scope, Threads};
 
 /// How many bytes of stack a thread gets, whatever the process's limit is. What a search needs most of is a call for each card of
 /// the deal that was played.
 const STACK: usize = 1 << 20;
-
-/// What a thread ends with: its chair, unless the run has failed.
-pub(crate) type Outcome = Result<Chair, Halt>;
-
-/// What a thread is to do: the work of the chair of this number.
-pub(crate) struct Works<C> {
-    pub(crate) desk: Snapshot<Desk>,
-    pub(crate) clock: Snapshot<C>,
-    pub(crate) solvers: usize,
-    pub(crate) number: usize,
-}
-
-impl<C> Drop for Works<C> {
-    fn drop(self) {
-        let Works {
-            desk: _,
-            clock: _,
-            solvers: _,
-            number: _,
-        } = self;
-    }
-}
-
-impl<C: Clock> Promise<Outcome> for Works<C> {
-    ghost kept_by = { λ works outcome. IfOk outcome (λ chair. HasWorked (C.may_tell works.clock.value) works.desk.value works.solvers chair × (number_of chair ≡ works.number)) };
-}
-
-/// A thread that was started.
-pub(crate) type Handle<C> = PromisedHandle<Outcome, Works<C>>;
 
 /// Works as a solver.
 fn solve_at<S: Solver, G: Gate, C: Clock, R: Wait>(
@@ -68,12 +45,14 @@ fn solve_at<S: Solver, G: Gate, C: Clock, R: Wait>(
     clock: &C,
     stop: &AtomicBool,
     chair: Chair,
-    found: Sender<Found>,
-) -> Outcome
-    requires { IsWorker (C.may_tell clock.now) desk.now chair }
-    ensures worker { IfOk result (IsWorker (C.may_tell clock.now) desk.now) }
-    ensures number { IfOk result (λ worked. number_of worked ≡ number_of chair) }
-    ensures nothing { IfOk result (λ worked. SawNothing (receipts_in worked)) }
+    found: Putter<Found>,
+) -> Solved
+    requires chair { IsNew desk.now chair }
+    requires found { put_by found ≡ [] }
+    ensures worked { IfOk result (λ worked. HasWorked (C.may_tell clock.now) desk.now worked.0) }
+    ensures number { IfOk result (λ worked. number_of worked.0 ≡ number_of chair) }
+    ensures leases { IfOk result (λ worked. (weight : ℕ → ℕ) → IsSolvers weight (receipts_in worked.0) (put_by worked.1)) }
+    ensures same { IfOk result (λ worked. PutsAtSame found worked.1) }
 {
     let crew = Crew {
         alloc,
@@ -86,9 +65,31 @@ fn solve_at<S: Solver, G: Gate, C: Clock, R: Wait>(
         clock,
         stop,
     };
-    let mut chair = chair;
-    solve_all(rt, &crew, &mut chair, &found)?;
-    Ok(chair)
+    let (mut chair, mut found) = (chair, found);
+    let outcome = solve_all(rt, &crew, &mut chair, &mut found);
+    found.finish(rt);
+    outcome?;
+    Ok((chair, found))
+}
+
+/// Works as a checker.
+fn check_at<G: Gate, R: Threads + Wait + Sync>(
+    rt: &R,
+    alloc: Global,
+    gate: &G,
+    found: Taker<Found>,
+    answers: Putter<Answered>,
+) -> Checked
+    requires found { taken_by found ≡ [] }
+    requires answers { put_by answers ≡ [] }
+    ensures leases { (weight : ℕ → ℕ) → IsCheckers weight (taken_by result.0) (put_by result.1) }
+    ensures found { TakesAtSame found result.0 }
+    ensures answers { PutsAtSame answers result.1 }
+{
+    let (mut found, mut answers) = (found, answers);
+    check_all(rt, alloc, gate, &mut found, &mut answers);
+    answers.finish(rt);
+    (found, answers)
 }
 
 /// Works as a clerk.
@@ -97,30 +98,18 @@ fn settle_at<G: Gate, R: Wait>(
     desk: &Desk,
     gate: &G,
     chair: Chair,
-    answered: Receiver<Answered>,
-) -> Outcome
-    requires { IsWorker never desk.now chair }
-    ensures worker { IfOk result (IsWorker never desk.now) }
-    ensures number { IfOk result (λ worked. number_of worked ≡ number_of chair) }
+    answered: Taker<Answered>,
+) -> Settled
+    requires chair { IsNew desk.now chair }
+    requires answered { taken_by answered ≡ [] }
+    ensures worker { IfOk result (λ worked. IsWorker never desk.now worked.0) }
+    ensures number { IfOk result (λ worked. number_of worked.0 ≡ number_of chair) }
+    ensures leases { IfOk result (λ worked. (weight : ℕ → ℕ) → IsClerks weight (receipts_in worked.0) (taken_by worked.1)) }
+    ensures same { IfOk result (λ worked. TakesAtSame answered worked.1) }
 {
-    let mut chair = chair;
-    settle_all(rt, desk, gate, &mut chair, &answered)?;
-    Ok(chair)
-}
-
-/// The promise of the thread of a chair.
-fn works_of<C>(desk: &Desk, clock: &C, solvers: usize, chair: &Chair) -> Works<C>
-    ensures desk { result.desk.value ≡ desk.now }
-    ensures clock { result.clock.value ≡ clock.now }
-    ensures solvers { result.solvers ≡ solvers }
-    ensures number { result.number ≡ number_of chair.now }
-{
-    Works {
-        desk: Snapshot::of(desk),
-        clock: Snapshot::of(clock),
-        solvers,
-        number: chair.number(),
-    }
+    let (mut chair, mut answered) = (chair, answered);
+    settle_all(rt, desk, gate, &mut chair, &mut answered)?;
+    Ok((chair, answered))
 }
 
 /// Starts the thread of a solver, where one can be started.
@@ -135,23 +124,28 @@ pub(crate) fn start_solver<
     rt: &'s R,
     scope: &Scope<'s, E>,
     crew: &Crew<'s, S, G, C>,
-    solvers: usize,
+    relays: &Relays,
     chair: Chair,
-    found: Sender<Found>,
-) -> Option<Handle<C>>
-    requires { IsWorker (C.may_tell crew.now.clock.now) crew.now.desk.now chair }
-    ensures desk { IfSome result (λ handle. handle.promise.desk.value ≡ crew.now.desk.now) }
-    ensures clock { IfSome result (λ handle. handle.promise.clock.value ≡ crew.now.clock.now) }
-    ensures solvers { IfSome result (λ handle. handle.promise.solvers ≡ solvers) }
-    ensures number { IfSome result (λ handle. handle.promise.number ≡ number_of chair) }
+    found: Putter<Found>,
+) -> Option<SolverThread<C>>
+    requires chair { IsNew crew.now.desk.now chair }
+    requires found { IsPutterOf relays.now.found found }
+    requires none_put { put_by found ≡ [] }
+    ensures of { IfSome result (λ thread. IsSolverOf crew.now.desk.now crew.now.clock.now relays.now thread.promise) }
+    ensures number { IfSome result (λ thread. thread.promise.number ≡ number_of chair) }
 {
     let (alloc, desk, deals) = (crew.alloc, crew.desk, crew.deals);
     let (solver, batch, budget) = (crew.solver, crew.batch, crew.budget);
     let (gate, clock, stop) = (crew.gate, crew.clock, crew.stop);
-    let works = works_of(desk, clock, solvers, &chair);
+    let solves = Solves {
+        desk: Snapshot::of(desk),
+        clock: Snapshot::of(clock),
+        relays: Snapshot::of(relays),
+        number: chair.number(),
+    };
     Stack::new()
         .stack_size(STACK)
-        .spawn_scoped_with(scope, works, move || {
+        .spawn_scoped_with(scope, solves, move || {
             solve_at(
                 rt, alloc, desk, deals, solver, batch, budget, gate, clock, stop, chair, found,
             )
@@ -159,50 +153,65 @@ pub(crate) fn start_solver<
         .ok()
 }
 
-/// Starts the thread of a clerk, where one can be started.
-pub(crate) fn start_clerk<'s, E, S, G: Gate + Sync, C: Clock, R: Wait + Sync>(
+/// Starts the thread of a checker, where one can be started.
+pub(crate) fn start_checker<'s, E, S, G: Gate + Sync, C, R: Threads + Wait + Sync>(
     rt: &'s R,
     scope: &Scope<'s, E>,
     crew: &Crew<'s, S, G, C>,
-    solvers: usize,
-    chair: Chair,
-    answered: Receiver<Answered>,
-) -> Option<Handle<C>>
-    requires worker { IsWorker never crew.now.desk.now chair }
-    requires number { solvers ≤ number_of chair }
-    ensures desk { IfSome result (λ handle. handle.promise.desk.value ≡ crew.now.desk.now) }
-    ensures clock { IfSome result (λ handle. handle.promise.clock.value ≡ crew.now.clock.now) }
-    ensures solvers { IfSome result (λ handle. handle.promise.solvers ≡ solvers) }
-    ensures number { IfSome result (λ handle. handle.promise.number ≡ number_of chair) }
+    relays: &Relays,
+    found: Taker<Found>,
+    answers: Putter<Answered>,
+) -> Option<CheckerThread>
+    requires found { IsTakerOf relays.now.found found }
+    requires none_taken { taken_by found ≡ [] }
+    requires answers { IsPutterOf relays.now.answered answers }
+    requires none_put { put_by answers ≡ [] }
+    ensures { IfSome result (λ thread. IsCheckerOf relays.now thread.promise) }
 {
-    let (desk, gate) = (crew.desk, crew.gate);
-    let works = works_of(desk, crew.clock, solvers, &chair);
+    let (alloc, gate) = (crew.alloc, crew.gate);
+    let checks = Checks {
+        relays: Snapshot::of(relays),
+    };
     Stack::new()
         .stack_size(STACK)
         .spawn_scoped_with(
             scope,
-            works,
-            move || settle_at(rt, desk, gate, chair, answered),
+            checks,
+            move || -> Checked
+                requires found { taken_by found ≡ [] }
+                requires answers { put_by answers ≡ [] }
+            { check_at(rt, alloc, gate, found, answers) },
         )
         .ok()
 }
 
-/// Starts the thread of a checker, where one can be started, and says whether it was. It ends by itself, and the scope waits
-/// for it.
-pub(crate) fn starts_checker<'s, E, S, G: Gate + Sync, C, R: Threads + Wait + Sync>(
+/// Starts the thread of a clerk, where one can be started.
+pub(crate) fn start_clerk<'s, E, S, G: Gate + Sync, C, R: Wait + Sync>(
     rt: &'s R,
     scope: &Scope<'s, E>,
     crew: &Crew<'s, S, G, C>,
-    found: Receiver<Found>,
-    answered: Sender<Answered>,
-) -> bool {
-    let (alloc, gate) = (crew.alloc, crew.gate);
+    relays: &Relays,
+    chair: Chair,
+    answered: Taker<Answered>,
+) -> Option<ClerkThread>
+    requires chair { IsNew crew.now.desk.now chair }
+    requires answered { IsTakerOf relays.now.answered answered }
+    requires none_taken { taken_by answered ≡ [] }
+    ensures of { IfSome result (λ thread. IsClerkOf crew.now.desk.now relays.now thread.promise) }
+    ensures number { IfSome result (λ thread. thread.promise.number ≡ number_of chair) }
+{
+    let (desk, gate) = (crew.desk, crew.gate);
+    let settles = Settles {
+        desk: Snapshot::of(desk),
+        relays: Snapshot::of(relays),
+        number: chair.number(),
+    };
     Stack::new()
         .stack_size(STACK)
         .spawn_scoped_with(
             scope,
-            Anything,
-            move || check_all(rt, alloc, gate, &found, &answered),
+            settles,
+            move || settle_at(rt, desk, gate, chair, answered),
         )
-        .is_ok()
+        .ok()
 }
