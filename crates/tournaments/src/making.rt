@@ -3,6 +3,8 @@
 ghost use Rattle.std.specs.Prelude.{◌≡◌, IfOk, IfErr};
 ghost use Rattle.lease_book.specs.Books.{AreBoards};
 ghost use Rattle.farm.specs.Runs.{IsBookOf, IsRun};
+ghost use Rattle.farm.specs.Leases.{AreSettledOnce};
+ghost use Rattle.farm.specs.Passing.{IsPassedOn};
 ghost use Rattle.tournaments.specs.Making.{MakesTables};
 ghost use Rattle.tournaments.specs.Texts.{IsHalted};
 
@@ -33,6 +35,8 @@ fn farmed_book<S: Solver + Sync, G: Gate + Sync, C: Clock + Sync, R: Threads + W
     requires { AreBoards boards.items }
     ensures book { IfOk result (IsBookOf (C.may_tell clock.now) (record { boards = boards.items; term = settings.term; tries = settings.tries })) }
     ensures fault { IfErr result IsHalted }
+    ensures passed { IfOk result (λ book. IsPassedOn settings book.events) }
+    ensures once { IfOk result (λ book. AreSettledOnce book.events) }
 {
     match run_farm(rt, alloc, boards, settings, solver, gate, clock) {
         Ok(book) => Ok(book),
@@ -47,7 +51,8 @@ fn farmed_book<S: Solver + Sync, G: Gate + Sync, C: Clock + Sync, R: Threads + W
 ///
 /// Whatever the solver answers, the gate does and the clock tells, and in whatever order the threads work, a number that is
 /// written is the double-dummy value of its deal, and is written once: an answer whose certificates don't show it gives none.
-/// With all refusals but a failed sink nothing was written.
+/// No lease is settled twice, and nothing that a thread put for another was lost, as `run_farm` tells. With all refusals but a
+/// failed sink nothing was written.
 pub fn make_tables<
     I: Source,
     O: Sink,
@@ -65,8 +70,10 @@ pub fn make_tables<
     gate: &G,
     clock: &C,
 ) -> Result<(Report, Book), MakeFault>
-    ensures { MakesTables (IsRun (C.may_tell clock.now)) settings.term settings.tries (I.state input.old) (I.state input.new)
+    ensures tables { MakesTables (IsRun (C.may_tell clock.now)) settings.term settings.tries (I.state input.old) (I.state input.new)
         (O.state output.old) (O.state output.new) result }
+    ensures passed { IfOk result (λ made. IsPassedOn settings made.1.events) }
+    ensures once { IfOk result (λ made. AreSettledOnce made.1.events) }
 {
     let text = read_all(alloc, input)?;
     let boards = take_boards(alloc, text.as_slice())?;
