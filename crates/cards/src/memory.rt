@@ -84,25 +84,27 @@ impl Source for Bytes<'_> {
     }
 }
 
-/// A sink that keeps its bytes in memory, of which the room is made at the start. It takes pieces of at most a
-/// set size, and fails once its room is full.
+/// A sink that keeps its bytes in memory, which is taken once, when it is made. It takes pieces of at most a set size,
+/// and fails once its room is full.
 #[derive(Debug, Drop)]
 pub struct Buffer {
+    /// The bytes that were taken, and zeroes up to the room.
     bytes: Vec<u8>,
-    room: usize,
+    /// How many were taken.
+    used: usize,
     greatest_piece: usize,
     failures: u64,
 }
 
 impl Model for Buffer {
-    ghost use Rattle.std.specs.Prelude.{◌≤◌, vec_len, vec_capacity};
+    ghost use Rattle.std.specs.Prelude.{◌≤◌, take, vec_len};
     ghost use Rattle.cards.specs.Memory.{Stock};
 
     ghost Value = { Stock };
 
-    ghost view = { λ buffer. record { bytes = buffer.bytes.items; room = buffer.room; greatest_piece = buffer.greatest_piece; failed = buffer.failures } };
+    ghost view = { λ buffer. record { bytes = take buffer.used buffer.bytes.items; room = vec_len buffer.bytes; greatest_piece = buffer.greatest_piece; failed = buffer.failures } };
 
-    ghost invariant = { λ buffer. (vec_len buffer.bytes ≤ buffer.room) × (buffer.room ≤ vec_capacity buffer.bytes) };
+    ghost invariant = { λ buffer. buffer.used ≤ vec_len buffer.bytes };
 }
 
 impl Buffer {
@@ -112,8 +114,8 @@ impl Buffer {
         ensures device { IfOk result (λ buffer. ⟦<Buffer as Sink>⟧.state buffer ≡ record { bytes = Some []; failed = 0 }) }
     {
         Ok(Buffer {
-            bytes: Vec::with_capacity(alloc, room)?,
-            room,
+            bytes: vec![in alloc; 0; room]?,
+            used: 0,
             greatest_piece,
             failures: 0,
         })
@@ -123,7 +125,7 @@ impl Buffer {
     pub fn bytes(&self) -> &[u8]
         ensures { result.now ≡ self.now.bytes }
     {
-        self.bytes.as_slice()
+        &self.bytes[..self.used]
     }
 }
 
@@ -136,15 +138,15 @@ impl Sink for Buffer {
     {
         let count = piece
             .len()
-            .min(self.room - self.bytes.len())
+            .min(self.bytes.len() - self.used)
             .min(self.greatest_piece.max(1));
         if count == 0 && !piece.is_empty() {
             self.failures = self.failures.saturating_add(1);
             return Err(DeviceFault);
         }
-        if self.bytes.extend_from_slice(&piece[..count]).is_err() {
-            unreachable!();
-        }
+        let end = self.used + count;
+        self.bytes[self.used..end].copy_from_slice(&piece[..count]);
+        self.used = end;
         Ok(count)
     }
 }
