@@ -7,18 +7,18 @@ ghost use Rattle.cards.specs.Devices.{Writes};
 ghost use Rattle.certificate_graph.specs.GraphFaults.{MakesGraph};
 ghost use Rattle.certificate_graph.specs.TextFaults.{TextAnswers};
 ghost use Rattle.certificate_graph.specs.Texts.{graph_text};
-ghost use Rattle.certificate_graph.specs.declared.faults.TextFault.TheVariants.{OutOfMemory};
+ghost use Rattle.certificate_graph.specs.declared.faults.TextFault.TheVariants as text_fault;
 
 use crate::checks::check_nodes;
 use crate::extracting::exchange_nodes;
-use crate::faults::{GraphFault, TextFault};
+use crate::faults::{GraphFault, OutOfMemory, TextFault};
 use crate::line_writing::{write_count, write_heading, write_nodes};
 use crate::node_reading::read_nodes;
 use crate::nodes::Node;
 use crate::reading::{read_count, read_side, read_title, read_trump};
 use crate::versions::Version;
 use cards::{DeviceFault, Side, Sink, Trump};
-use std::alloc::{AllocError, Global};
+use std::alloc::Global;
 use std::marker::Model;
 
 /// A graph of a version and of a side, with a trump: at most 1,000,000 nodes, each named by its place.
@@ -95,7 +95,7 @@ impl Graph {
     /// The graph that the text tells, else the fault of the first line that has one, in a line the first in the order
     /// of their numbers, or that memory ran out.
     pub fn read(alloc: Global, text: &[u8]) -> Result<Graph, TextFault>
-        ensures { (result ≡ Err OutOfMemory) ⊎ TextAnswers text.now result }
+        ensures { (result ≡ Err text_fault.OutOfMemory) ⊎ TextAnswers text.now result }
     {
         let Some((version, rest)) = read_title(text) else {
             return Err(TextFault::Head { line: 1 });
@@ -129,7 +129,7 @@ impl Graph {
 
     /// The graph with the node of this number first: that node and the first are exchanged, and the leaves name them by their
     /// new numbers. Without a number it has no nodes. Fails only where memory runs out.
-    pub fn extract(&self, alloc: Global, root: Option<u32>) -> Result<Graph, AllocError>
+    pub fn extract(&self, alloc: Global, root: Option<u32>) -> Result<Graph, OutOfMemory>
         requires { IsRootIn self.now.nodes root }
         ensures { IfOk result (IsExtract self.now root) }
     {

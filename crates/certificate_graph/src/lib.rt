@@ -32,7 +32,7 @@ mod writing;
 
 pub use answers::Answer;
 pub use children::Child;
-pub use faults::{GraphFault, TextFault};
+pub use faults::{GraphFault, OutOfMemory, TextFault};
 pub use graphs::Graph;
 pub use laws::{equal_versions_are_one, graphs_are_read_back, one_answer, one_graph, one_text};
 pub use nodes::Node;

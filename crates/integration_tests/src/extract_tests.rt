@@ -1,5 +1,6 @@
 //! Graphs that begin with another node.
 
+use crate::certificates::FINESSE;
 use cards::Buffer;
 use certificate_graph::Graph;
 use std::alloc::Global;
@@ -34,6 +35,22 @@ fn extracted(rt: HostRuntime) -> Result<(), Fail> {
     text_of(&rt, rt.alloc(), &none, NONE)?;
     Ok(())
 }
+
+/// The finesse with its two nodes in the other order begins with the second one of them.
+#[test]
+fn extracted_finesse(rt: HostRuntime) -> Result<(), Fail> {
+    let graph = Graph::read(rt.alloc(), EXCHANGED)?;
+    let begun = begun_with(rt.alloc(), &graph, 1)?;
+    text_of(&rt, rt.alloc(), &begun, FINESSE)
+}
+
+const EXCHANGED: &[u8] = b"DDC 1
+trump NT
+side NS
+nodes 2
+N 1 1.1.1.1/N 0.0.0.0/ 0.0.0.0/ 0.0.0.0/ Sa(SxSx(Sx{}))
+S 2 2.2.2.2/NWN 0.0.0.0/ 0.0.0.0/ 0.0.0.0/ Sx(SbSa(Sx{N0})SxSc(Sx{N0}))
+";
 
 const TEXT: &[u8] = b"DDC 1
 trump NT

@@ -4,7 +4,7 @@ use crate::outcomes::{Outcome, Told};
 use crate::spending::Spending;
 use crate::texts::{CR_LF, FINESSE, FOUR_SUITS, FROM_SECOND};
 use cards::{Buffer, Layout};
-use certificate_graph::{Graph, TextFault};
+use certificate_graph::{Graph, OutOfMemory, TextFault};
 use pbn_deals::{Board, PbnFault, read_boards, read_layout};
 use std::alloc::{AllocError, Global};
 
@@ -69,7 +69,7 @@ pub fn extracted(alloc: Global, spending: Spending) -> Result<Told, AllocError> 
     let left = spending.left(alloc);
     let outcome = match begun {
         Ok(graph) => is_written(&graph, &mut sink, FROM_SECOND),
-        Err(AllocError) => Outcome::OutOfMemory,
+        Err(OutOfMemory) => Outcome::OutOfMemory,
     };
     Ok(Told::Called(outcome, left))
 }

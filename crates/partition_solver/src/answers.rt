@@ -63,10 +63,14 @@ impl Bundle {
         let side = claim.declarer.side();
         Ok(Some(Answer {
             k: claim.k,
-            declarer: self.graph_of(side).extract(alloc, claim.declarer_root)?,
+            declarer: self
+                .graph_of(side)
+                .extract(alloc, claim.declarer_root)
+                .map_err(|_| AllocError)?,
             defenders: self
                 .graph_of(side.other())
-                .extract(alloc, claim.defenders_root)?,
+                .extract(alloc, claim.defenders_root)
+                .map_err(|_| AllocError)?,
         }))
     }
 }
