@@ -1,13 +1,13 @@
 -- What the first token of a row tells of a tree.
-use Rattle.std.proofs.Common.{◌≡◌, ◌↔◌, Bool, IsTrue, ℕ, ◌+◌, ◌-◌, ◌≤◌, List, [], ◌∷◌, ◌++◌, length, take, drop, set, refl, sym, ◌∙◌, ap, ap₂, subst, arith, length-append}
-use Rattle.std.proofs.lemmas.List.{length-take-le, take-append-drop}
+use Rattle.std.proofs.Common.{◌≡◌, ◌↔◌, Bool, IsTrue, ℕ, ◌+◌, ◌-◌, ◌<◌, ◌≤◌, List, [], ◌∷◌, ◌++◌, length, take, drop, set, get_or, refl, sym, ◌∙◌, ap, ap₂, subst, arith, length-append, append-nil, append_assoc}
+use Rattle.std.proofs.lemmas.List.{length-take-le, take-append-drop, take_more}
 use Rattle.std.proofs.Math.Seq.{set-append_seam, take-append_seam, drop-append_seam}
 use Rattle.pattern_step.specs.declared.pat_cards.PatCard.{PatCard}
 use Rattle.certificate_graph.specs.declared.children.Child.{Child}
 use Rattle.certificate_graph.specs.declared.rows.Token.{Token}
 use Rattle.certificate_graph.specs.declared.rows.Token.TheVariants as token
-use Rattle.certificate_graph.specs.Trees.{TrickTree, Own, Reply, Leaf, Branches, NoBranch, Branch}
-use Rattle.certificate_graph.specs.Rows.{tree_row, branches_row, children_row, IsTreeRow, AreBranchesRow, AreChildrenRow}
+use Rattle.certificate_graph.specs.Trees.{TrickTree, Own, Reply, Leaf, Branches, NoBranch, Branch, branches_of}
+use Rattle.certificate_graph.specs.Rows.{tree_row, branches_row, one_branch_row, children_row, IsTreeRow, AreBranchesRow, AreChildrenRow}
 use Rattle.certificate_graph.specs.OneTree.{heads, tails, parted}
 
 pub own_first : (t : TrickTree) (card : PatCard) (rest : List Token) → token.Own card ∷ rest ≡ tree_row t → (below : TrickTree) × (rest ≡ tree_row below)
@@ -146,3 +146,32 @@ branch_row row rest below others first card count is of_branch within front back
     let whole : token.Branch card (length below) ∷ (below ++ others) ≡ row =
     ap₂ (λ n l. token.Branch card n ∷ l) long parts ∙ begun row rest first (token.Branch card count) is of_branch in
     subst (λ l. (IsTreeRow below × AreBranchesRow others) ↔ AreBranchesRow l) whole (branch_more card below others)
+
+-- ---- branches that are given as a list
+-- one more branch
+pub branches_more : (branches : List (PatCard × TrickTree)) (card : PatCard) (below : TrickTree) →
+    branches_row (branches_of (branches ++ (card, below) ∷ [])) ≡ branches_row (branches_of branches) ++ one_branch_row card below
+branches_more [] card below = ap (λ l. token.Branch card (length (tree_row below)) ∷ l) (append-nil (tree_row below))
+branches_more (first ∷ rest) card below =
+    ap (λ l. token.Branch first.0 (length (tree_row first.1)) ∷ l)
+    (ap (λ l. tree_row first.1 ++ l) (branches_more rest card below)
+    ∙ sym (append_assoc (tree_row first.1) (branches_row (branches_of rest)) (one_branch_row card below)))
+
+-- a row that has grown by the first branches grows by the next one
+pub branch_pushed : (before row grown : List Token) (branches : List (PatCard × TrickTree)) (i : ℕ) (branch : PatCard × TrickTree) →
+    i < length branches → branch ≡ get_or branches i branch → row ≡ before ++ branches_row (branches_of (take i branches)) →
+    grown ≡ row ++ one_branch_row branch.0 branch.1 → grown ≡ before ++ branches_row (branches_of (take (i + 1) branches))
+branch_pushed before row grown branches i branch within is so_far more =
+    let last = one_branch_row branch.0 branch.1 in
+    let first = branches_row (branches_of (take i branches)) in
+    let taken : take (i + 1) branches ≡ take i branches ++ branch ∷ [] =
+    take_more branches i branch within ∙ ap (λ b. take i branches ++ b ∷ []) (sym is) in
+    let rows : branches_row (branches_of (take (i + 1) branches)) ≡ first ++ last =
+    ap (λ l. branches_row (branches_of l)) taken ∙ branches_more (take i branches) branch.0 branch.1 in
+    more ∙ (ap (λ l. l ++ last) so_far ∙ (append_assoc before first last ∙ ap (λ l. before ++ l) (sym rows)))
+
+-- a row that was empty, and then got a token and others
+pub begun_with : (empty one row others added : List Token) (first : Token) → empty ≡ [] → one ≡ empty ++ first ∷ [] →
+    others ≡ added → row ≡ one ++ others → row ≡ first ∷ added
+begun_with empty one row others added first none is are all =
+    all ∙ ap₂ (λ x y. x ++ y) (is ∙ ap (λ l. l ++ first ∷ []) none) are

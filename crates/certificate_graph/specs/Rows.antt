@@ -1,5 +1,6 @@
 -- A tree as a row of tokens: that of a place stands before those of what follows it.
 use Rattle.std.specs.Prelude.{◌≡◌, List, [], ◌∷◌, ◌++◌, length, map}
+use Rattle.pattern_step.specs.declared.pat_cards.PatCard.{PatCard}
 use Rattle.certificate_graph.specs.declared.children.Child.{Child}
 use Rattle.certificate_graph.specs.declared.rows.Token.{Token}
 use Rattle.certificate_graph.specs.declared.rows.Token.TheVariants as token
@@ -17,6 +18,10 @@ abbrev mutual
   pub branches_row : Branches → List Token
   branches_row NoBranch = []
   branches_row (Branch card tree rest) = token.Branch card (length (tree_row tree)) ∷ (tree_row tree ++ branches_row rest)
+
+-- one branch alone
+abbrev pub one_branch_row : PatCard → TrickTree → List Token
+one_branch_row card tree = token.Branch card (length (tree_row tree)) ∷ tree_row tree
 
 -- the row is that of a tree, of branches, of children
 abbrev pub IsTreeRow : List Token → Type 0

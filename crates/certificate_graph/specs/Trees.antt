@@ -1,5 +1,5 @@
 -- What is to be played in one trick: a tree of pattern cards, with the nodes that go on after it.
-use Rattle.std.specs.Prelude.{ℕ, suc, ◌+◌, List}
+use Rattle.std.specs.Prelude.{ℕ, suc, ◌+◌, List, [], ◌∷◌}
 use Rattle.pattern_step.specs.declared.pat_cards.PatCard.{PatCard}
 use Rattle.certificate_graph.specs.declared.children.Child.{Child}
 
@@ -13,6 +13,11 @@ mutual
   pub data Branches : Type 0 where
     NoBranch : Branches
     Branch : PatCard → TrickTree → Branches → Branches
+
+-- branches in this order, each a card and what follows it
+abbrev pub branches_of : List (PatCard × TrickTree) → Branches
+branches_of [] = NoBranch
+branches_of (branch ∷ rest) = Branch branch.0 branch.1 (branches_of rest)
 
 -- how many places a tree has, each counted so that a part has fewer
 abbrev mutual

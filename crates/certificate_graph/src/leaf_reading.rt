@@ -1,11 +1,12 @@
 //! The children of a leaf, as they are read.
 
-ghost use Rattle.std.specs.Prelude.{◌≡◌, ◌++◌, [], List, ◌≤◌, length, MatchOption, IfOk, OnOk};
+ghost use Rattle.std.specs.Prelude.{◌≡◌, ◌++◌, [], List, ◌≤◌, length, MatchOption, IfOk};
 ghost use Rattle.certificate_graph.specs.Readings.{BeginsChild, LacksChild, BeginsMore, LacksMore, BeginsChildren, LacksChildren};
 ghost use Rattle.certificate_graph.specs.Rows.{children_row};
 ghost use Rattle.certificate_graph.specs.declared.children.Child.{Child};
 
 use crate::children::Child;
+use crate::row_writing::push_children;
 use crate::rows::Token;
 use crate::scanning::{after_byte, read_number, read_seat};
 use arrayvec::ArrayVec;
@@ -64,16 +65,6 @@ fn read_rising<'a>(text: &'a [u8], children: &mut ArrayVec<Child, 4>) -> Option<
     };
     children.push(child);
     read_more(rest, child.winner.number() + 1, children)
-}
-
-/// Puts children at the end of a row.
-fn push_children(row: &mut Vec<Token>, children: &[Child]) -> Result<(), AllocError>
-    ensures { OnOk result (row.new.items ≡ row.old.items ++ children_row children.now) }
-{
-    for child in children {
-        row.push(Token::Child(*child))?;
-    }
-    Ok(())
 }
 
 /// Puts the children of a leaf at the end of a row, and answers the text after the closing brace.

@@ -23,6 +23,7 @@ mod nodes;
 mod pattern_reading;
 mod places;
 mod reading;
+mod row_writing;
 mod rows;
 mod scanning;
 mod tree_reading;

@@ -52,6 +52,8 @@ mod table_tests;
 #[cfg(test)]
 mod tournament_tests;
 #[cfg(test)]
+mod tree_tests;
+#[cfg(test)]
 mod trick_tests;
 #[cfg(test)]
 mod wide_tests;
