@@ -1,16 +1,23 @@
 -- How what is in hand changes with the receipts.
-use Rattle.std.proofs.Common.{◌≡◌, ℕ, ◌+◌, List, [], ◌∷◌, ◌++◌, refl, ap, ◌∙◌, arith}
+use Rattle.std.proofs.Common.{◌≡◌, ℕ, ◌+◌, List, [], ◌∷◌, ◌++◌, None, Some, Bool, ap, ◌∙◌, arith}
 use Rattle.std.proofs.lemmas.List.Sums.{sum_by_push}
-use Rattle.lease_book.specs.declared.entries.Entry.{Entry}
+use Rattle.lease_book.specs.declared.events.Asked.{Asked}
 use Rattle.lease_book.specs.declared.events.Reply.{Reply}
-use Rattle.lease_book.specs.declared.events.Reply.TheVariants.{Given}
-use Rattle.lease_book.specs.declared.events.Asked.TheVariants.{Lease}
+use Rattle.lease_book.specs.Histories.{Terms}
 use Rattle.lease_desk.specs.declared.receipts.Receipt.{Receipt}
+use Rattle.lease_desk.specs.Desks.{IsTold}
 use Rattle.farm_relay.specs.declared.putters.Putter.{Putter}
 use Rattle.farm_relay.specs.Relays.{PutsAtSame}
-use Rattle.farm.specs.declared.tasks.Answered.{Answered}
-use Rattle.farm.specs.Leases.{weight_in, given_by, given_up_by, handed_in_by}
-use Rattle.farm.specs.Flows.{given, given_up, handed_in, claimed_in, Moves, IsClerks}
+use Rattle.farm.specs.declared.tasks.Task.{Task}
+use Rattle.farm.specs.declared.tasks.CheckedClaim.{CheckedClaim}
+use Rattle.farm.specs.Leases.{given_by, settled_by}
+use Rattle.farm.specs.Requests.{Hears, IsNextTask, FreesLeases, GivesUp, HandsIn}
+use Rattle.farm.specs.Flows.{given, settled, Moves}
+
+-- what a call at the desk tells
+pub heard : (terms : Terms) (before after : List Receipt) (asked : Asked) (reply : Reply) (told : Receipt) → IsTold terms before after asked told → told.event.reply ≡ reply → Hears asked reply before after
+heard terms before after asked reply told is said =
+    (told.place, is.receipts ∙ (λ i. before ++ record { place = told.place; event = record { asked = is.asked_is i; reply = said i } } ∷ []))
 
 -- an end that went through two calls
 pub puts_then : {T : Type 0} (first now last : Putter T) → PutsAtSame first now → PutsAtSame now last → PutsAtSame first last
@@ -18,45 +25,42 @@ puts_then first now last one other =
     record { channel = other.channel ∙ one.channel; takers = other.takers ∙ one.takers; others = other.others ∙ one.others }
 
 module _ (weight : ℕ → ℕ) where
-  -- one more receipt
-  given_more : (old new : List Receipt) (told : Receipt) → new ≡ old ++ told ∷ [] → given weight new ≡ given weight old + given_by weight told.event.asked told.event.reply
-  given_more old new told is = ap (given weight) is ∙ sum_by_push (λ (r : Receipt). given_by weight r.event.asked r.event.reply) old told
+  given_more : (before after : List Receipt) (told : Receipt) → after ≡ before ++ told ∷ [] → given weight after ≡ given weight before + given_by weight told.event.asked told.event.reply
+  given_more before after told is = ap (given weight) is ∙ sum_by_push (λ (r : Receipt). given_by weight r.event.asked r.event.reply) before told
 
-  given_up_more : (old new : List Receipt) (told : Receipt) → new ≡ old ++ told ∷ [] → given_up weight new ≡ given_up weight old + given_up_by weight told.event.asked
-  given_up_more old new told is = ap (given_up weight) is ∙ sum_by_push (λ (r : Receipt). given_up_by weight r.event.asked) old told
+  settled_more : (before after : List Receipt) (told : Receipt) → after ≡ before ++ told ∷ [] → settled weight after ≡ settled weight before + settled_by weight told.event.asked
+  settled_more before after told is = ap (settled weight) is ∙ sum_by_push (λ (r : Receipt). settled_by weight r.event.asked) before told
 
-  handed_in_more : (old new : List Receipt) (told : Receipt) → new ≡ old ++ told ∷ [] → handed_in weight new ≡ handed_in weight old + handed_in_by weight told.event.asked
-  handed_in_more old new told is = ap (handed_in weight) is ∙ sum_by_push (λ (r : Receipt). handed_in_by weight r.event.asked) old told
+  pub task_moves : (before after : List Receipt) (task : Task) → IsNextTask before after (Some task) → Moves weight before after 0 (weight task.lease)
+  task_moves before after task next =
+      let a = given_more before after _ next.2.1 in
+      let b = settled_more before after _ next.2.1 in
+      omega arith
 
-  -- a reply that gives no lease
-  none_given : (reply : Reply) → ((lease : ℕ) (entry : Entry) (deadline : ℕ) → reply ≡ Given lease entry deadline → ⊥) → weight_in weight reply ≡ 0
-  none_given (Given lease entry deadline) is_not = absurd (is_not lease entry deadline refl)
-  none_given other is_not = refl
+  pub nothing_moves : (before after : List Receipt) → IsNextTask before after None → Moves weight before after 0 0
+  nothing_moves before after next =
+      let a = given_more before after _ next.1.1 in
+      let b = settled_more before after _ next.1.1 in
+      omega arith
 
-  -- a lease was asked for, and none was given
-  pub none_leased : (old new : List Receipt) (told : Receipt) (now : ℕ) → new ≡ old ++ told ∷ [] → told.event.asked ≡ Lease now → ((lease : ℕ) (entry : Entry) (deadline : ℕ) → told.event.reply ≡ Given lease entry deadline → ⊥) → Moves weight old new 0 0
-  none_leased old new told now is asked is_not =
-      let a = given_more old new told is in
-      let b = given_up_more old new told is in
-      let c = handed_in_more old new told is in
-      let a' = ap (λ q. given_by weight q told.event.reply) asked in
-      let b' = ap (given_up_by weight) asked in
-      let c' = ap (handed_in_by weight) asked in
-      let none = none_given told.event.reply is_not in
-      record { hand = omega arith; none_handed_in = omega arith }
+  pub freeing_moves : (before after : List Receipt) (freed : Bool) → FreesLeases before after freed → Moves weight before after 0 0
+  freeing_moves before after freed frees =
+      let a = given_more before after _ frees.3.1 in
+      let b = settled_more before after _ frees.3.1 in
+      omega arith
 
-  -- a group of what is in hand is worked on
-  pub moves_on : (first now last : List Receipt) (put put' put'' all rest group others : ℕ) → group + others ≡ rest → Moves weight first now (all + put) (rest + put') → Moves weight now last (group + put') put'' → Moves weight first last (all + put) (others + put'')
-  moves_on first now last put put' put'' all rest group others is one other =
-      let h = one.hand in
-      let k = other.hand in
-      let p = one.none_handed_in in
-      let q = other.none_handed_in in
-      record { hand = omega arith; none_handed_in = omega arith }
+  pub giving_up_moves : (lease : ℕ) (before after : List Receipt) → GivesUp lease before after → Moves weight before after (weight lease) 0
+  giving_up_moves lease before after gives_up =
+      let a = given_more before after _ gives_up.1.1 in
+      let b = settled_more before after _ gives_up.1.1 in
+      omega arith
 
-  -- the same claims, told otherwise
-  pub clerks_same : (receipts : List Receipt) (claims told : List Answered) → told ≡ claims → IsClerks weight receipts claims → IsClerks weight receipts told
-  clerks_same receipts claims told is of =
-      let k = ap (claimed_in weight) is in
-      let h = of.all_handed_in in
-      record { hand = of.hand; all_handed_in = omega arith }
+  pub handing_in_moves : (terms : Terms) (claim : CheckedClaim) (before after : List Receipt) → HandsIn terms claim before after → Moves weight before after (weight claim.task.lease) 0
+  handing_in_moves terms claim before after hands_in =
+      let told = hands_in.0 in
+      let is = hands_in.1.told_is in
+      let a = given_more before after told is.receipts in
+      let b = settled_more before after told is.receipts in
+      let c = ap (λ (q : Asked). given_by weight q told.event.reply) is.asked_is in
+      let d = ap (λ (q : Asked). settled_by weight q) is.asked_is in
+      omega arith

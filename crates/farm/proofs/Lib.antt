@@ -1,9 +1,9 @@
-pub mod Loops
 pub mod PublicationLaws
-pub mod Chairs
-pub mod Worked
-pub mod Flows
-pub mod Counts
-pub mod Places
-pub mod Leases
-pub mod Runs
+mod Chairs
+mod Beside
+mod Dividing
+mod Sums
+mod Flows
+mod Places
+mod Ending
+mod Runs

@@ -1,8 +1,8 @@
 -- What follows from the chairs of a run for the history of its book.
-use Rattle.std.proofs.Common.{◌≡◌, ℕ, List, Contains, map, All, count_by, sym, ap, ◌∙◌, subst, arith, get_or}
+use Rattle.std.proofs.Common.{◌≡◌, ℕ, List, Contains, All, count_by, sym, ap, ◌∙◌, subst, arith, get_or}
 use Rattle.std.proofs.lemmas.Bool.{eqb-true}
 use Rattle.std.proofs.lemmas.Option.{get_or_from_slice_get, slice_get_within}
-use Rattle.std.proofs.lemmas.List.Elements.{All-weaker, All-contains}
+use Rattle.std.proofs.lemmas.List.Elements.{All-weaker, All-contains, Contains-push, Contains-append_left}
 use Rattle.lease_book.specs.declared.events.Asked.TheVariants.{Lease}
 use Rattle.lease_book.specs.declared.events.Reply.TheVariants.{Nothing}
 use Rattle.lease_book.specs.declared.events.Event.{Event}
@@ -10,50 +10,70 @@ use Rattle.lease_book.specs.Histories.{Terms}
 use Rattle.lease_book.specs.Books.{Ledger}
 use Rattle.lease_desk.specs.declared.receipts.Receipt.{Receipt}
 use Rattle.lease_desk.specs.declared.chairs.Chair.{Chair}
-use Rattle.lease_desk.specs.declared.desk.Desk.{Desk}
 use Rattle.lease_desk.specs.Receipts.{Stands, is_for}
-use Rattle.lease_desk.specs.Desks.{IsChairOf, AreChairsOf, IsClosed, AreAll, chairs_of, number_of, receipts_in}
+use Rattle.lease_desk.specs.Desks.{IsChairOf, AreChairsOf, IsClosed, AreAll, chairs_of, receipts_in}
+use Rattle.farm.specs.declared.crews.Crew.{Crew}
 use Rattle.farm.specs.Moments.{MayTell, IsTimed, AreTimed}
 use Rattle.farm.specs.Publications.{IsTrueHistory, IsGivenOut}
 use Rattle.farm.specs.Runs.{IsBookOf}
-use Rattle.farm.specs.Working.{IsWorker, HaveWorked, SawNothing}
+use Rattle.farm.specs.Working.{IsOnDuty}
+use Rattle.farm.specs.Requests.{EndsIdle}
+use Rattle.farm.specs.Leases.{given_by, settled_by, AreSettledOnce}
+use Rattle.farm.specs.Running.{HaveWorked}
 use Rattle.farm.proofs.Chairs.{All-shown, counted_is_there, above_zero}
+use Rattle.farm.proofs.Places.{of_closed}
 
--- the chairs that come back from the threads are those of the desk
-pub same_chairs : (may_tell : MayTell) (desk : Desk) (chairs worked : List Chair) → AreChairsOf desk chairs → HaveWorked may_tell desk worked → map number_of worked ≡ map number_of chairs → AreChairsOf desk worked
-same_chairs may_tell desk chairs worked are have numbers = record {
-  each = All-weaker (IsWorker may_tell desk) (IsChairOf desk) (λ chair has. has.chair_is) worked have.workers;
-  all = subst (λ (l : List ℕ). AreAll (chairs_of desk) l) (sym numbers) are.all;
-}
+-- a receipt tells that no entry was open
+saw_nothing : (receipts : List Receipt) → EndsIdle receipts → (now : ℕ) × (place : ℕ) × Contains receipts (record { place = place; event = record { asked = Lease now; reply = Nothing } })
+saw_nothing receipts idle =
+    let told : Receipt = record { place = idle.nothing.0; event = record { asked = Lease idle.asked; reply = Nothing } } in
+    let between : Contains idle.between told = subst (λ (l : List Receipt). Contains l told) (sym idle.nothing.1) (Contains-push idle.before told) in
+    (idle.asked, idle.nothing.0, subst (λ (l : List Receipt). Contains l told) (sym idle.none_freed.1) (Contains-append_left idle.between _ told between))
 
-module _ (may_tell : MayTell) (terms : Terms) (desk : Desk) (chairs closed : List Chair) (book : Ledger)
-    (have : HaveWorked may_tell desk chairs) (is : IsClosed terms chairs book closed) where
-  -- the request in each place is that of a receipt
-  timed : AreTimed may_tell book.events
-  timed place d within =
-      let Of : Receipt → Type 0 = λ receipt. IsTimed may_tell receipt.event.asked in
-      let once = is.once place within in
-      let chair = above_zero (λ (c : Chair). count_by (is_for place) (receipts_in c)) closed (omega arith) in
-      let receipt = counted_is_there (is_for place) (receipts_in chair.0) chair.2 in
-      let own = All-shown (λ shown. All Of shown.1) chairs closed is.same (All-weaker (IsWorker may_tell desk) (λ c. All Of (receipts_in c)) (λ c has. has.timed) chairs have.workers) in
-      let may : Of receipt.0 = All-contains Of (receipts_in chair.0) receipt.0 (All-contains (λ (c : Chair). All Of (receipts_in c)) closed chair.0 own chair.1) receipt.1 in
-      let at : receipt.0.place ≡ place = eqb-true receipt.0.place place receipt.2 in
-      let stands = All-contains (Stands book.events) (receipts_in chair.0) receipt.0 (All-contains (λ (c : Chair). All (Stands book.events) (receipts_in c)) closed chair.0 is.stand chair.1) receipt.1 in
-      let event : get_or book.events place d ≡ receipt.0.event = ap (λ k. get_or book.events k d) (sym at) ∙ get_or_from_slice_get book.events receipt.0.place receipt.0.event d stands in
-      subst (λ (e : Event). IsTimed may_tell e.asked) (sym event) may
+module _ {S G C : Type 0} (may_tell : C → MayTell) (crew : Crew S G C) where
+  -- the chairs that come back from the threads are those of the desk
+  pub same_chairs : (chairs worked : List Chair) → AreChairsOf crew.desk.now chairs → HaveWorked may_tell crew chairs worked → AreChairsOf crew.desk.now worked
+  same_chairs chairs worked are have = record {
+    each = All-weaker (IsOnDuty may_tell crew) (IsChairOf crew.desk.now) (λ chair has. has.chair_is) worked have.duty;
+    all = subst (λ (l : List ℕ). AreAll (chairs_of crew.desk.now) l) (sym have.numbers) are.all;
+  }
 
-  -- one of the chairs saw that no entry was open
-  given_out : IsGivenOut book.events
-  given_out =
-      let chair = have.done.0 in
-      let there : Contains chairs chair = have.done.1 in
-      let nothing : SawNothing (receipts_in chair) = have.done.2 in
-      let event : Event = record { asked = Lease nothing.0; reply = Nothing } in
-      let told : Receipt = record { place = nothing.1; event = event } in
-      let stand = All-shown (λ shown. All (Stands book.events) shown.1) closed chairs (sym is.same) is.stand in
-      let stands : Stands book.events told = All-contains (Stands book.events) (receipts_in chair) told (All-contains (λ (c : Chair). All (Stands book.events) (receipts_in c)) chairs chair stand there) nothing.2 in
-      (nothing.0, (nothing.1, slice_get_within book.events nothing.1 event stands, get_or_from_slice_get book.events nothing.1 event event stands))
+  module _ (terms : Terms) (first chairs closed : List Chair) (book : Ledger)
+      (have : HaveWorked may_tell crew first chairs) (is : IsClosed terms chairs book closed) where
+    -- the request in each place is that of a receipt
+    timed : AreTimed (may_tell crew.clock.now) book.events
+    timed place d within =
+        let Of : Receipt → Type 0 = λ receipt. IsTimed (may_tell crew.clock.now) receipt.event.asked in
+        let once = is.once place within in
+        let chair = above_zero (λ (c : Chair). count_by (is_for place) (receipts_in c)) closed (omega arith) in
+        let receipt = counted_is_there (is_for place) (receipts_in chair.0) chair.2 in
+        let own = All-shown (λ shown. All Of shown.1) chairs closed is.same (All-weaker (IsOnDuty may_tell crew) (λ c. All Of (receipts_in c)) (λ c has. has.timed) chairs have.duty) in
+        let may : Of receipt.0 = All-contains Of (receipts_in chair.0) receipt.0 (All-contains (λ (c : Chair). All Of (receipts_in c)) closed chair.0 own chair.1) receipt.1 in
+        let at : receipt.0.place ≡ place = eqb-true receipt.0.place place receipt.2 in
+        let stands = All-contains (Stands book.events) (receipts_in chair.0) receipt.0 (All-contains (λ (c : Chair). All (Stands book.events) (receipts_in c)) closed chair.0 is.stand chair.1) receipt.1 in
+        let event : get_or book.events place d ≡ receipt.0.event = ap (λ k. get_or book.events k d) (sym at) ∙ get_or_from_slice_get book.events receipt.0.place receipt.0.event d stands in
+        subst (λ (e : Event). IsTimed (may_tell crew.clock.now) e.asked) (sym event) may
 
-  pub is_run : IsTrueHistory book.terms book.events → IsBookOf may_tell terms book
-  is_run history =
-      record { terms_are = is.terms_are; run = record { history = subst (λ (t : Terms). IsTrueHistory t book.events) is.terms_are history; given_out = given_out; timed = timed } }
+    -- one of the chairs saw that no entry was open
+    given_out : IsGivenOut book.events
+    given_out =
+        let chair = have.idle.0 in
+        let there : Contains chairs chair = have.idle.1 in
+        let nothing = saw_nothing (receipts_in chair) have.idle.2 in
+        let event : Event = record { asked = Lease nothing.0; reply = Nothing } in
+        let told : Receipt = record { place = nothing.1; event = event } in
+        let stand = All-shown (λ shown. All (Stands book.events) shown.1) closed chairs (sym is.same) is.stand in
+        let stands : Stands book.events told = All-contains (Stands book.events) (receipts_in chair) told (All-contains (λ (c : Chair). All (Stands book.events) (receipts_in c)) chairs chair stand there) nothing.2 in
+        (nothing.0, (nothing.1, slice_get_within book.events nothing.1 event stands, get_or_from_slice_get book.events nothing.1 event event stands))
+
+    pub is_run : IsTrueHistory book.terms book.events → IsBookOf (may_tell crew.clock.now) terms book
+    is_run history =
+        record { terms_are = is.terms_are; run = record { history = subst (λ (t : Terms). IsTrueHistory t book.events) is.terms_are history; given_out = given_out; timed = timed } }
+
+    -- what the chairs settled together, the events do
+    pub settled_once : AreSettledOnce book.events
+    settled_once weight =
+        let a = of_closed (λ (e : Event). given_by weight e.asked e.reply) terms chairs closed book is in
+        let b = of_closed (λ (e : Event). settled_by weight e.asked) terms chairs closed book is in
+        let h = have.leases weight in
+        omega arith

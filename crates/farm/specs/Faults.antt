@@ -4,6 +4,8 @@ use Rattle.std.specs.Fmt.{decimal}
 use Rattle.pbn_deals.specs.declared.boards.Board.{Board}
 use Rattle.lease_book.specs.declared.faults.BookFault.TheVariants.{TooManyBoards}
 use Rattle.lease_book.specs.BookFaults as books
+use Rattle.farm_threads.specs.declared.faults.StartFault.{StartFault}
+use Rattle.farm_threads.specs.declared.faults.StartFault.TheVariants as starts
 use Rattle.farm.specs.declared.faults.FarmFault.{FarmFault}
 use Rattle.farm.specs.declared.faults.FarmFault.TheVariants.{OutOfMemory, NoThread, Book}
 use Rattle.farm.specs.declared.halts.Halt.{Halt}
@@ -34,6 +36,11 @@ abbrev pub IsFaultOf : List Board → FarmFault → Type 0
 IsFaultOf boards OutOfMemory = ⊤
 IsFaultOf boards NoThread = ⊤
 IsFaultOf boards (Book fault) = (fault ≡ TooManyBoards) × (4096 < length boards)
+
+-- why threads were not started
+abbrev pub start_halt : StartFault → Halt
+start_halt starts.OutOfMemory = halts.OutOfMemory
+start_halt starts.NoThread = halts.NoThread
 
 -- why a run ended before its time
 abbrev pub halt_fault : Halt → FarmFault

@@ -1,6 +1,6 @@
 -- What becomes of the leases of a history. They are told apart by weights: whoever weighs leases by their numbers, however they
 -- like.
-use Rattle.std.specs.Prelude.{ℕ, ◌+◌, ◌≤◌, List, sum_by}
+use Rattle.std.specs.Prelude.{ℕ, ◌≤◌, List, sum_by}
 use Rattle.lease_book.specs.declared.events.Asked.{Asked}
 use Rattle.lease_book.specs.declared.events.Asked.TheVariants.{Lease, Expire, GiveUp, HandIn}
 use Rattle.lease_book.specs.declared.events.Reply.{Reply}
@@ -19,31 +19,21 @@ given_by weight (Expire now) reply = 0
 given_by weight (GiveUp lease) reply = 0
 given_by weight (HandIn lease entry evidence) reply = 0
 
--- the lease that a request gives up
-abbrev pub given_up_by : (ℕ → ℕ) → Asked → ℕ
-given_up_by weight (Lease now) = 0
-given_up_by weight (Expire now) = 0
-given_up_by weight (GiveUp lease) = weight lease
-given_up_by weight (HandIn lease entry evidence) = 0
+-- the lease that a request settles: it is given up, or handed in under
+abbrev pub settled_by : (ℕ → ℕ) → Asked → ℕ
+settled_by weight (Lease now) = 0
+settled_by weight (Expire now) = 0
+settled_by weight (GiveUp lease) = weight lease
+settled_by weight (HandIn lease entry evidence) = weight lease
 
--- the lease under which a request hands in
-abbrev pub handed_in_by : (ℕ → ℕ) → Asked → ℕ
-handed_in_by weight (Lease now) = 0
-handed_in_by weight (Expire now) = 0
-handed_in_by weight (GiveUp lease) = 0
-handed_in_by weight (HandIn lease entry evidence) = weight lease
-
--- all leases that events give, give up, and hand in under
+-- all leases that events give, and that they settle
 abbrev pub given_in : (ℕ → ℕ) → List Event → ℕ
 given_in weight events = sum_by (λ event. given_by weight event.asked event.reply) events
 
-abbrev pub given_up_in : (ℕ → ℕ) → List Event → ℕ
-given_up_in weight events = sum_by (λ event. given_up_by weight event.asked) events
+abbrev pub settled_in : (ℕ → ℕ) → List Event → ℕ
+settled_in weight events = sum_by (λ event. settled_by weight event.asked) events
 
-abbrev pub handed_in_in : (ℕ → ℕ) → List Event → ℕ
-handed_in_in weight events = sum_by (λ event. handed_in_by weight event.asked) events
-
--- Each lease that was given was given up, or handed in under, or neither, and at most once: those given up and those handed in
--- under weigh together no more than those given, whatever they weigh.
+-- Each lease that was given was given up, or handed in under, or neither, and at most once; no other was: those settled weigh no
+-- more than those given, whatever they weigh.
 abbrev pub AreSettledOnce : List Event → Type 0
-AreSettledOnce events = (weight : ℕ → ℕ) → given_up_in weight events + handed_in_in weight events ≤ given_in weight events
+AreSettledOnce events = (weight : ℕ → ℕ) → settled_in weight events ≤ given_in weight events

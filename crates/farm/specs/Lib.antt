@@ -5,11 +5,12 @@ pub mod Faults
 pub mod Moments
 pub mod Publications
 pub mod Runs
+pub mod Requests
 pub mod Working
 pub mod Leases
 pub mod Flows
-pub mod Ending
-pub mod Promises
+pub mod Groups
+pub mod Findings
+pub mod Posts
 pub mod Relaying
-pub mod Starting
-pub mod Passing
+pub mod Running

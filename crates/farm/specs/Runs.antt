@@ -1,8 +1,10 @@
 -- A run of a farm.
 use Rattle.std.specs.Prelude.{◌≡◌, List}
+use Rattle.pbn_deals.specs.declared.boards.Board.{Board}
 use Rattle.lease_book.specs.declared.events.Event.{Event}
 use Rattle.lease_book.specs.Histories.{Terms}
 use Rattle.lease_book.specs.Books.{Ledger}
+use Rattle.farm.specs.declared.settings.Settings.{Settings}
 use Rattle.farm.specs.Moments.{MayTell, AreTimed}
 use Rattle.farm.specs.Publications.{IsTrueHistory, IsGivenOut}
 
@@ -16,3 +18,7 @@ pub record IsRun (may_tell : MayTell) (terms : Terms) (events : List Event) : Ty
 pub record IsBookOf (may_tell : MayTell) (terms : Terms) (book : Ledger) : Type 0 where
   pub terms_are : book.terms ≡ terms
   pub run : IsRun may_tell terms book.events
+
+-- boards with the term and the tries of settings
+abbrev pub terms_for : List Board → Settings → Terms
+terms_for boards settings = record { boards = boards; term = settings.term; tries = settings.tries }

@@ -1,14 +1,18 @@
 //! The work of a checker.
 
-ghost use Rattle.std.specs.Prelude.{◌+◌, ◌≤◌, ℕ};
-ghost use Rattle.farm_relay.specs.Relays.{PutsAtSame, TakesAtSame, put_by, taken_by};
-ghost use Rattle.farm.specs.Flows.{IsCheckers, claimed_in, of_found};
+ghost use Rattle.std.specs.Prelude.{◌≡◌, ◌+◌, ◌≤◌, ℕ, IfOk};
+ghost use Rattle.farm_relay.specs.Relays.{PutsAtSame, put_by, taken_by, marks_of};
+ghost use Rattle.farm.specs.Findings.{graph_in, IsPairOf, IsClaimedOf, PutsClaim};
+ghost use Rattle.farm.specs.Flows.{ClaimsOwn, of_found, all_claimed};
+ghost use Rattle.farm.specs.Posts.{StaysChecker};
 
-use crate::tasks::{Answered, Found, Task};
+use crate::crews::Crew;
+use crate::posts::CheckerPost;
+use crate::tasks::{CheckedClaim, FoundBundle, Task};
 use cards::Side;
 use certificate_graph::Graph;
 use checker::{CheckedGraph, Claimed, Rooted};
-use farm_relay::{Putter, Taker};
+use farm_relay::Putter;
 use lease_desk::Gate;
 use partition_solver::{Bundle, Claim};
 use std::alloc::{AllocError, Global};
@@ -17,9 +21,9 @@ use std::thread::Threads;
 
 /// The graphs of a bundle, each checked once.
 #[derive(Drop)]
-struct Pair {
-    ns: Arc<CheckedGraph>,
-    ew: Arc<CheckedGraph>,
+pub(crate) struct CheckedPair {
+    pub(crate) ns: Arc<CheckedGraph>,
+    pub(crate) ew: Arc<CheckedGraph>,
 }
 
 /// Checks a graph, once: a large one with as many threads as there are processors.
@@ -27,22 +31,32 @@ fn checked<R: Threads + Sync>(
     rt: &R,
     alloc: Global,
     graph: &Arc<Graph>,
-) -> Result<Arc<CheckedGraph>, AllocError> {
+) -> Result<Arc<CheckedGraph>, AllocError>
+    ensures { IfOk result (λ checked. checked.value ≡ graph.now.value) }
+{
     let graph = graph.clone()?;
     Ok(Arc::new(alloc, CheckedGraph::of_wide(graph, rt))?)
 }
 
-impl Pair {
+impl CheckedPair {
     /// Checks both graphs.
-    fn of<R: Threads + Sync>(rt: &R, alloc: Global, bundle: &Bundle) -> Result<Pair, AllocError> {
-        Ok(Pair {
+    fn of<R: Threads + Sync>(
+        rt: &R,
+        alloc: Global,
+        bundle: &Bundle,
+    ) -> Result<CheckedPair, AllocError>
+        ensures { IfOk result (IsPairOf bundle.now) }
+    {
+        Ok(CheckedPair {
             ns: checked(rt, alloc, &bundle.ns)?,
             ew: checked(rt, alloc, &bundle.ew)?,
         })
     }
 
     /// The graph of a side.
-    fn of_side(&self, side: Side) -> Result<Arc<CheckedGraph>, AllocError> {
+    fn of_side(&self, side: Side) -> Result<Arc<CheckedGraph>, AllocError>
+        ensures { IfOk result (λ graph. graph.value ≡ graph_in self.now side) }
+    {
         match side {
             Side::NorthSouth => self.ns.clone(),
             Side::EastWest => self.ew.clone(),
@@ -50,16 +64,20 @@ impl Pair {
     }
 
     /// The claim on these graphs.
-    fn claimed(&self, claim: Claim) -> Result<Claimed, AllocError> {
+    fn claimed(&self, claim: Claim) -> Result<Claimed, AllocError>
+        ensures { IfOk result (IsClaimedOf self.now claim) }
+    {
         let side = claim.declarer.side();
+        let declarer = self.of_side(side)?;
+        let defenders = self.of_side(side.other())?;
         Ok(Claimed {
             k: claim.k,
             declarer: Rooted {
-                graph: self.of_side(side)?,
+                graph: declarer,
                 root: claim.declarer_root,
             },
             defenders: Rooted {
-                graph: self.of_side(side.other())?,
+                graph: defenders,
                 root: claim.defenders_root,
             },
         })
@@ -70,63 +88,63 @@ impl Pair {
 fn put_claim<R: Wait>(
     rt: &R,
     bundle: &Bundle,
-    pair: &Pair,
+    pair: &CheckedPair,
     task: Task,
-    answers: &mut Putter<Answered>,
+    claims: &mut Putter<CheckedClaim>,
 ) -> Result<(), AllocError>
-    ensures leases { (weight : ℕ → ℕ) → claimed_in weight (put_by answers.new) ≤ claimed_in weight (put_by answers.old) + weight task.lease }
-    ensures same { PutsAtSame answers.old answers.new }
+    ensures puts { PutsClaim bundle.now pair.now task (put_by claims.old) (put_by claims.new) }
+    ensures leases { (weight : ℕ → ℕ) →
+        all_claimed weight (put_by claims.new) ≤ all_claimed weight (put_by claims.old) + weight task.lease }
+    ensures same { PutsAtSame claims.old claims.new }
 {
     let Some(claim) = bundle.claim_for(task.entry.declarer) else {
         return Ok(());
     };
     let claimed = pair.claimed(claim)?;
-    let Err(_back) = answers.put(rt, Answered { task, claimed }) else {
+    let Err(_back) = claims.put(rt, CheckedClaim { task, claimed }) else {
         return Ok(());
     };
     Ok(())
 }
 
 /// Tells the gate of the leases of a message, checks its graphs, and puts each claim.
-fn check_found<G: Gate, R: Threads + Wait + Sync>(
+fn check_found<S, G: Gate, C, R: Threads + Wait + Sync>(
     rt: &R,
-    alloc: Global,
-    gate: &G,
-    found: Found,
-    answers: &mut Putter<Answered>,
+    crew: &Crew<'_, S, G, C>,
+    found: FoundBundle,
+    claims: &mut Putter<CheckedClaim>,
 ) -> Result<(), AllocError>
-    ensures leases { (weight : ℕ → ℕ) → claimed_in weight (put_by answers.new) ≤ claimed_in weight (put_by answers.old) + of_found weight found }
-    ensures same { PutsAtSame answers.old answers.new }
+    ensures leases { (weight : ℕ → ℕ) →
+        all_claimed weight (put_by claims.new) ≤ all_claimed weight (put_by claims.old) + of_found weight found }
+    ensures same { PutsAtSame claims.old claims.new }
 {
-    let Found { tasks, bundle } = found;
+    let FoundBundle { tasks, bundle } = found;
     for task in tasks.iter() {
-        gate.before_graphs(task.lease);
+        crew.gate.before_graphs(task.lease);
     }
-    let pair = Pair::of(rt, alloc, &bundle)?;
+    let pair = CheckedPair::of(rt, crew.alloc, &bundle)?;
     for task in tasks.iter() {
-        put_claim(rt, &bundle, &pair, *task, answers)?;
+        put_claim(rt, &bundle, &pair, *task, claims)?;
     }
     Ok(())
 }
 
-/// Takes what was found until nothing comes, checks the graphs, and puts the claims. What is refused for memory is dropped; its
-/// leases stay.
-pub(crate) fn check_all<G: Gate, R: Threads + Wait + Sync>(
+/// Takes what was found until an end mark comes, checks the graphs, and puts the claims. What is refused for memory is dropped;
+/// its leases stay.
+pub(crate) fn check_all<S, G: Gate, C, R: Threads + Wait + Sync>(
     rt: &R,
-    alloc: Global,
-    gate: &G,
-    found: &mut Taker<Found>,
-    answers: &mut Putter<Answered>,
+    crew: &Crew<'_, S, G, C>,
+    post: &mut CheckerPost,
 )
-    requires { (weight : ℕ → ℕ) → IsCheckers weight (taken_by found.old) (put_by answers.old) }
-    ensures leases { (weight : ℕ → ℕ) → IsCheckers weight (taken_by found.new) (put_by answers.new) }
-    ensures found { TakesAtSame found.old found.new }
-    ensures answers { PutsAtSame answers.old answers.new }
+    requires { (weight : ℕ → ℕ) → ClaimsOwn weight post.old }
+    ensures stays { StaysChecker post.old post.new }
+    ensures ended { marks_of post.new.found ≡ marks_of post.old.found + 1 }
+    ensures leases { (weight : ℕ → ℕ) → ClaimsOwn weight post.new }
 {
     for _ in rt.forever() {
-        let Some(message) = found.take(rt) else {
+        let Some(message) = post.found.take(rt) else {
             return;
         };
-        let _ = check_found(rt, alloc, gate, message, answers);
+        let _ = check_found(rt, crew, message, &mut post.claims);
     }
 }

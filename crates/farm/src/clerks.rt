@@ -1,92 +1,90 @@
 //! The work of a clerk.
 
-ghost use Rattle.std.specs.Prelude.{◌≡◌, ◌∷◌, ◌++◌, [], ℕ, List, OnOk};
-ghost use Rattle.lease_desk.specs.Desks.{number_of, receipts_in};
-ghost use Rattle.farm_relay.specs.Relays.{TakesAtSame, taken_by};
-ghost use Rattle.farm.specs.Working.{IsWorker, never};
-ghost use Rattle.farm.specs.declared.tasks.Answered.{Answered as Claim};
-ghost use Rattle.farm.specs.Flows.{IsClerks};
+ghost use Rattle.std.specs.Prelude.{◌≡◌, ◌+◌, ℕ, OnOk, OnErr};
+ghost use Rattle.lease_desk.specs.Desks.{receipts_in, terms_of};
+ghost use Rattle.farm_relay.specs.Relays.{TakesAtSame, marks_of};
+ghost use Rattle.farm.specs.Working.{IsOnDuty, StaysOnDuty};
+ghost use Rattle.farm.specs.Requests.{HandsIn};
+ghost use Rattle.farm.specs.Posts.{StaysClerk};
+ghost use Rattle.farm.specs.Flows.{SettlesClaims};
 
-use crate::tasks::Answered;
+use crate::clocks::Clock;
+use crate::crews::Crew;
+use crate::posts::ClerkPost;
+use crate::tasks::CheckedClaim;
 use farm_relay::Taker;
 use lease_book::OutOfMemory;
-use lease_desk::{Chair, Desk, Gate};
+use lease_desk::{Chair, Gate};
 use std::sync::Wait;
 
-/// Hands a claim in.
-fn hand_in<G: Gate, R: Wait>(
+/// Hands a claim in, and tells the gate of the reply.
+fn hand_in<S, G: Gate, C: Clock, R: Wait>(
     rt: &R,
-    desk: &Desk,
-    gate: &G,
+    crew: &Crew<'_, S, G, C>,
     chair: &mut Chair,
-    answered: &Answered,
+    claim: &CheckedClaim,
 ) -> Result<(), OutOfMemory>
-    requires worker { IsWorker never desk.now chair.old }
-    ensures worker { IsWorker never desk.now chair.new }
-    ensures number { number_of chair.new ≡ number_of chair.old }
-    ensures leases { OnOk result ((weight : ℕ → ℕ) (claims : List Claim) → IsClerks weight (receipts_in chair.old) claims → IsClerks weight (receipts_in chair.new) (claims ++ answered.now ∷ [])) }
+    requires { IsOnDuty C.may_tell crew.now chair.old }
+    ensures stays { StaysOnDuty C.may_tell crew.now chair.old chair.new }
+    ensures told { OnOk result (HandsIn (terms_of crew.now.desk.now) claim.now (receipts_in chair.old) (receipts_in chair.new)) }
 {
-    let task = answered.task;
-    let told = desk.hand_in(rt, chair, task.lease, task.entry, &answered.claimed, gate)?;
-    gate.after_check(task.entry, told.event.reply);
+    let task = claim.task;
+    let told = crew.desk.hand_in(rt, chair, task.lease, task.entry, &claim.claimed, crew.gate)?;
+    crew.gate.after_check(task.entry, told.event.reply);
     Ok(())
 }
 
-/// Takes claims and hands each in, until nothing comes or memory has run out.
-fn hand_in_all<G: Gate, R: Wait>(
+/// Takes claims and hands each in, until an end mark comes or memory has run out.
+fn hand_in_all<S, G: Gate, C: Clock, R: Wait>(
     rt: &R,
-    desk: &Desk,
-    gate: &G,
-    chair: &mut Chair,
-    answered: &mut Taker<Answered>,
+    crew: &Crew<'_, S, G, C>,
+    post: &mut ClerkPost,
 ) -> Result<(), OutOfMemory>
-    requires leases { (weight : ℕ → ℕ) → IsClerks weight (receipts_in chair.old) (taken_by answered.old) }
-    requires worker { IsWorker never desk.now chair.old }
-    ensures worker { IsWorker never desk.now chair.new }
-    ensures number { number_of chair.new ≡ number_of chair.old }
-    ensures leases { OnOk result ((weight : ℕ → ℕ) → IsClerks weight (receipts_in chair.new) (taken_by answered.new)) }
-    ensures same { TakesAtSame answered.old answered.new }
+    requires duty { IsOnDuty C.may_tell crew.now post.old.chair }
+    requires leases { (weight : ℕ → ℕ) → SettlesClaims weight post.old }
+    ensures stays { StaysClerk C.may_tell crew.now post.old post.new }
+    ensures ended { OnOk result (marks_of post.new.claims ≡ marks_of post.old.claims + 1) }
+    ensures going { OnErr result (marks_of post.new.claims ≡ marks_of post.old.claims) }
+    ensures leases { OnOk result ((weight : ℕ → ℕ) → SettlesClaims weight post.new) }
 {
     for _ in rt.forever() {
-        let Some(claim) = answered.take(rt) else {
+        let Some(claim) = post.claims.take(rt) else {
             return Ok(());
         };
-        hand_in(rt, desk, gate, chair, &claim)?;
+        hand_in(rt, crew, &mut post.chair, &claim)?;
     }
     unreachable!()
 }
 
-/// Takes claims until nothing comes, and lets them go.
-fn take_rest<R: Wait>(rt: &R, answered: &mut Taker<Answered>)
-    ensures { TakesAtSame answered.old answered.new }
+/// Takes claims until an end mark comes, and lets them go.
+fn take_rest<R: Wait>(rt: &R, claims: &mut Taker<CheckedClaim>)
+    ensures same { TakesAtSame claims.old claims.new }
+    ensures ended { marks_of claims.new ≡ marks_of claims.old + 1 }
 {
     for _ in rt.forever() {
-        if answered.take(rt).is_none() {
+        if claims.take(rt).is_none() {
             return;
         }
     }
 }
 
-/// Takes claims until nothing comes, and hands each in. Once memory has run out it only goes on taking, so that no checker waits
-/// for room.
-pub(crate) fn settle_all<G: Gate, R: Wait>(
+/// Takes claims until an end mark comes, and hands each in. Once memory has run out it only goes on taking, so that no checker
+/// waits for room.
+pub(crate) fn settle_all<S, G: Gate, C: Clock, R: Wait>(
     rt: &R,
-    desk: &Desk,
-    gate: &G,
-    chair: &mut Chair,
-    answered: &mut Taker<Answered>,
+    crew: &Crew<'_, S, G, C>,
+    post: &mut ClerkPost,
 ) -> Result<(), OutOfMemory>
-    requires leases { (weight : ℕ → ℕ) → IsClerks weight (receipts_in chair.old) (taken_by answered.old) }
-    requires worker { IsWorker never desk.now chair.old }
-    ensures worker { IsWorker never desk.now chair.new }
-    ensures number { number_of chair.new ≡ number_of chair.old }
-    ensures leases { OnOk result ((weight : ℕ → ℕ) → IsClerks weight (receipts_in chair.new) (taken_by answered.new)) }
-    ensures same { TakesAtSame answered.old answered.new }
+    requires duty { IsOnDuty C.may_tell crew.now post.old.chair }
+    requires leases { (weight : ℕ → ℕ) → SettlesClaims weight post.old }
+    ensures stays { StaysClerk C.may_tell crew.now post.old post.new }
+    ensures ended { marks_of post.new.claims ≡ marks_of post.old.claims + 1 }
+    ensures leases { OnOk result ((weight : ℕ → ℕ) → SettlesClaims weight post.new) }
 {
-    match hand_in_all(rt, desk, gate, chair, answered) {
+    match hand_in_all(rt, crew, post) {
         Ok(()) => Ok(()),
         Err(fault) => {
-            take_rest(rt, answered);
+            take_rest(rt, &mut post.claims);
             Err(fault)
         }
     }

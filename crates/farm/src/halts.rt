@@ -2,7 +2,9 @@
 
 ghost use Rattle.std.specs.Prelude.{◌≡◌};
 ghost use Rattle.farm.specs.declared.halts.Halt.TheVariants as halts;
+ghost use Rattle.farm.specs.Faults.{start_halt};
 
+use farm_threads::StartFault;
 use lease_book::OutOfMemory;
 use std::alloc::{AllocError, AllocFailed};
 
@@ -44,5 +46,16 @@ impl<T: Drop> From<AllocFailed<T>> for Halt {
 
     fn from(_fault: AllocFailed<T>) -> Halt {
         Halt::OutOfMemory
+    }
+}
+
+impl From<StartFault> for Halt {
+    ghost from_gives = { λ fault answer. answer ≡ start_halt fault };
+
+    fn from(fault: StartFault) -> Halt {
+        match fault {
+            StartFault::OutOfMemory => Halt::OutOfMemory,
+            StartFault::NoThread => Halt::NoThread,
+        }
     }
 }

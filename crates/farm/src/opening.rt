@@ -1,8 +1,9 @@
 //! The opening of the desk.
 
-ghost use Rattle.std.specs.Prelude.{◌≡◌, ◌+◌, IfOk, IfErr};
+ghost use Rattle.std.specs.Prelude.{◌≡◌, ◌+◌, IfOk, IfErr, map};
 ghost use Rattle.lease_desk.specs.Desks.{IsOpened};
 ghost use Rattle.farm.specs.Faults.{IsFaultOf};
+ghost use Rattle.farm.specs.Runs.{terms_for};
 
 use crate::faults::FarmFault;
 use crate::settings::Settings;
@@ -14,7 +15,9 @@ use std::alloc::{AllocError, Global};
 use std::sync::Wait;
 
 /// The deals of boards, by their numbers.
-pub(crate) fn deals_of(alloc: Global, boards: &[Board]) -> Result<Vec<Option<Layout>>, AllocError> {
+pub(crate) fn deals_of(alloc: Global, boards: &[Board]) -> Result<Vec<Option<Layout>>, AllocError>
+    ensures { IfOk result (λ deals. deals.items ≡ map (λ board. board.deal) boards.now) }
+{
     boards.iter().map(|board| board.deal).collect(alloc)
 }
 
@@ -25,7 +28,7 @@ pub(crate) fn open_desk<R: Wait>(
     boards: Vec<Board>,
     settings: Settings,
 ) -> Result<(Desk, Vec<Chair>), FarmFault>
-    ensures desk { IfOk result (λ made. IsOpened (record { boards = boards.items; term = settings.term; tries = settings.tries }) (settings.solvers + settings.checkers) made.0 made.1.items) }
+    ensures desk { IfOk result (λ made. IsOpened (terms_for boards.items settings) (settings.solvers + settings.checkers) made.0 made.1.items) }
     ensures fault { IfErr result (IsFaultOf boards.items) }
 {
     let chairs = settings.solvers + settings.checkers;

@@ -1,9 +1,9 @@
 //! What a solver asks at the desk.
 
-ghost use Rattle.std.specs.Prelude.{◌≡◌, ℕ, IfOk, OnOk, IfNone};
-ghost use Rattle.lease_desk.specs.Desks.{number_of, receipts_in};
-ghost use Rattle.farm.specs.Working.{IsWorker, SawNothing};
-ghost use Rattle.farm.specs.Flows.{Moves, of_next};
+ghost use Rattle.std.specs.Prelude.{IfOk, OnOk};
+ghost use Rattle.lease_desk.specs.Desks.{receipts_in};
+ghost use Rattle.farm.specs.Working.{IsOnDuty, StaysOnDuty};
+ghost use Rattle.farm.specs.Requests.{IsNextTask, FreesLeases, GivesUp};
 
 use crate::clocks::Clock;
 use crate::crews::Crew;
@@ -18,11 +18,9 @@ pub(crate) fn next_task<S, G, C: Clock, R: Wait>(
     crew: &Crew<'_, S, G, C>,
     chair: &mut Chair,
 ) -> Result<Option<Task>, OutOfMemory>
-    requires worker { IsWorker (C.may_tell crew.now.clock.now) crew.now.desk.now chair.old }
-    ensures worker { IsWorker (C.may_tell crew.now.clock.now) crew.now.desk.now chair.new }
-    ensures number { number_of chair.new ≡ number_of chair.old }
-    ensures nothing { IfOk result (λ task. IfNone task (SawNothing (receipts_in chair.new))) }
-    ensures leases { IfOk result (λ task. (weight : ℕ → ℕ) → Moves weight (receipts_in chair.old) (receipts_in chair.new) 0 (of_next weight task)) }
+    requires { IsOnDuty C.may_tell crew.now chair.old }
+    ensures stays { StaysOnDuty C.may_tell crew.now chair.old chair.new }
+    ensures told { IfOk result (IsNextTask (receipts_in chair.old) (receipts_in chair.new)) }
 {
     let told = crew.desk.lease(rt, chair, crew.clock.now())?;
     match told.event.reply {
@@ -37,11 +35,9 @@ pub(crate) fn frees_a_lease<S, G, C: Clock, R: Wait>(
     crew: &Crew<'_, S, G, C>,
     chair: &mut Chair,
 ) -> Result<bool, OutOfMemory>
-    requires worker { IsWorker (C.may_tell crew.now.clock.now) crew.now.desk.now chair.old }
-    ensures worker { IsWorker (C.may_tell crew.now.clock.now) crew.now.desk.now chair.new }
-    ensures number { number_of chair.new ≡ number_of chair.old }
-    ensures nothing { SawNothing (receipts_in chair.old) → SawNothing (receipts_in chair.new) }
-    ensures leases { OnOk result ((weight : ℕ → ℕ) → Moves weight (receipts_in chair.old) (receipts_in chair.new) 0 0) }
+    requires { IsOnDuty C.may_tell crew.now chair.old }
+    ensures stays { StaysOnDuty C.may_tell crew.now chair.old chair.new }
+    ensures told { IfOk result (FreesLeases (receipts_in chair.old) (receipts_in chair.new)) }
 {
     let told = crew.desk.expire(rt, chair, crew.clock.now())?;
     match told.event.reply {
@@ -57,10 +53,9 @@ pub(crate) fn give_up<S, G, C: Clock, R: Wait>(
     chair: &mut Chair,
     lease: u64,
 ) -> Result<(), OutOfMemory>
-    requires worker { IsWorker (C.may_tell crew.now.clock.now) crew.now.desk.now chair.old }
-    ensures worker { IsWorker (C.may_tell crew.now.clock.now) crew.now.desk.now chair.new }
-    ensures number { number_of chair.new ≡ number_of chair.old }
-    ensures leases { OnOk result ((weight : ℕ → ℕ) → Moves weight (receipts_in chair.old) (receipts_in chair.new) (weight lease) 0) }
+    requires { IsOnDuty C.may_tell crew.now chair.old }
+    ensures stays { StaysOnDuty C.may_tell crew.now chair.old chair.new }
+    ensures told { OnOk result (GivesUp lease (receipts_in chair.old) (receipts_in chair.new)) }
 {
     let _told = crew.desk.give_up(rt, chair, lease)?;
     Ok(())

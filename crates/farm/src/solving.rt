@@ -1,19 +1,22 @@
 //! The work of a solver.
 
-ghost use Rattle.std.specs.Prelude.{◌≡◌, ◌+◌, ℕ, OnOk};
-ghost use Rattle.lease_desk.specs.Desks.{number_of, receipts_in};
-ghost use Rattle.farm_relay.specs.Relays.{PutsAtSame, put_by};
-ghost use Rattle.farm.specs.Working.{IsWorker, SawNothing};
-ghost use Rattle.farm.specs.Flows.{Moves, IsSolvers, of_tasks, found_in};
+ghost use Rattle.std.specs.Prelude.{◌+◌, ℕ, OnOk};
+ghost use Rattle.lease_desk.specs.Desks.{receipts_in};
+ghost use Rattle.farm_relay.specs.Relays.{put_by};
+ghost use Rattle.farm.specs.Working.{IsOnDuty, StaysOnDuty};
+ghost use Rattle.farm.specs.Requests.{EndsIdle};
+ghost use Rattle.farm.specs.Posts.{StaysSolver};
+ghost use Rattle.farm.specs.Findings.{IsFoundFor};
+ghost use Rattle.farm.specs.Flows.{Moves, SettlesOwn, of_tasks, all_found};
 
 use crate::batches::lease_batch;
 use crate::clocks::Clock;
 use crate::crews::Crew;
 use crate::groups::{by_claims, declarers_of, first_group};
 use crate::halts::Halt;
+use crate::posts::SolverPost;
 use crate::requests::{frees_a_lease, give_up, next_task};
-use crate::tasks::{Found, Tasks};
-use farm_relay::Putter;
+use crate::tasks::{FoundBundle, Tasks};
 use lease_book::OutOfMemory;
 use lease_desk::{Chair, Gate};
 use partition_solver::{Bundle, Solver};
@@ -22,8 +25,10 @@ use std::sync::atomic::Ordering::SeqCst;
 
 /// What the solver finds for leases of a board and denomination. There is nothing where it has no answer within the budget, or
 /// no memory.
-fn found_for<S: Solver, G, C>(crew: &Crew<'_, S, G, C>, group: &Tasks) -> Option<Bundle> {
-    let entry = group.first()?.entry;
+fn found_for<S: Solver, G, C>(crew: &Crew<'_, S, G, C>, group: &Tasks) -> Option<Bundle>
+    ensures { IsFoundFor (S.may_find crew.now.solver.now) crew.now.deals.now crew.now.settings.budget group.now.items result }
+{
+    let entry = group.as_slice().first()?.entry;
     let layout = crew.deals.get(entry.board)?.as_ref()?;
     let declarers = declarers_of(group);
     crew.solver
@@ -32,7 +37,7 @@ fn found_for<S: Solver, G, C>(crew: &Crew<'_, S, G, C>, group: &Tasks) -> Option
             layout,
             declarers.as_slice(),
             entry.trump,
-            crew.budget,
+            crew.settings.budget,
         )
         .ok()?
 }
@@ -44,11 +49,12 @@ fn give_up_all<S, G, C: Clock, R: Wait>(
     chair: &mut Chair,
     tasks: &Tasks,
 ) -> Result<(), OutOfMemory>
-    requires worker { IsWorker (C.may_tell crew.now.clock.now) crew.now.desk.now chair.old }
-    ensures worker { IsWorker (C.may_tell crew.now.clock.now) crew.now.desk.now chair.new }
-    ensures number { number_of chair.new ≡ number_of chair.old }
-    ensures leases { OnOk result ((weight : ℕ → ℕ) → Moves weight (receipts_in chair.old) (receipts_in chair.new) (of_tasks weight tasks.now.items) 0) }
+    requires { IsOnDuty C.may_tell crew.now chair.old }
+    ensures stays { StaysOnDuty C.may_tell crew.now chair.old chair.new }
+    ensures leases { OnOk result ((weight : ℕ → ℕ) →
+        Moves weight (receipts_in chair.old) (receipts_in chair.new) (of_tasks weight tasks.now.items) 0) }
 {
+    let tasks = tasks.as_slice();
     for task in tasks.iter() {
         give_up(rt, crew, chair, task.lease)?;
     }
@@ -60,31 +66,30 @@ fn give_up_all<S, G, C: Clock, R: Wait>(
 fn work_on<S: Solver, G: Gate, C: Clock, R: Wait>(
     rt: &R,
     crew: &Crew<'_, S, G, C>,
-    chair: &mut Chair,
+    post: &mut SolverPost,
     group: &Tasks,
-    found: &mut Putter<Found>,
 ) -> Result<(), OutOfMemory>
-    requires worker { IsWorker (C.may_tell crew.now.clock.now) crew.now.desk.now chair.old }
-    ensures worker { IsWorker (C.may_tell crew.now.clock.now) crew.now.desk.now chair.new }
-    ensures number { number_of chair.new ≡ number_of chair.old }
-    ensures leases { OnOk result ((weight : ℕ → ℕ) → Moves weight (receipts_in chair.old) (receipts_in chair.new) (of_tasks weight group.now.items + found_in weight (put_by found.old)) (found_in weight (put_by found.new))) }
-    ensures same { PutsAtSame found.old found.new }
+    requires { IsOnDuty C.may_tell crew.now post.old.chair }
+    ensures stays { StaysSolver C.may_tell crew.now post.old post.new }
+    ensures leases { OnOk result ((weight : ℕ → ℕ) →
+        Moves weight (receipts_in post.old.chair) (receipts_in post.new.chair)
+        (of_tasks weight group.now.items + all_found weight (put_by post.old.found)) (all_found weight (put_by post.new.found))) }
 {
     for task in group.iter() {
         crew.gate.before_solve(task.lease);
     }
     let Some(bundle) = found_for(crew, group) else {
-        return give_up_all(rt, crew, chair, group);
+        return give_up_all(rt, crew, &mut post.chair, group);
     };
     let (tasks, others) = by_claims(group, &bundle);
-    give_up_all(rt, crew, chair, &others)?;
+    give_up_all(rt, crew, &mut post.chair, &others)?;
     if tasks.is_empty() {
         return Ok(());
     }
-    let Err(back) = found.put(rt, Found { tasks, bundle }) else {
+    let Err(back) = post.found.put(rt, FoundBundle { tasks, bundle }) else {
         return Ok(());
     };
-    give_up_all(rt, crew, chair, &back.tasks)
+    give_up_all(rt, crew, &mut post.chair, &back.tasks)
 }
 
 /// Works on leases, one group that a search serves after another, in the order of their first leases. Once none is left, what is
@@ -92,20 +97,19 @@ fn work_on<S: Solver, G: Gate, C: Clock, R: Wait>(
 fn work_on_all<S: Solver, G: Gate, C: Clock, R: Wait>(
     rt: &R,
     crew: &Crew<'_, S, G, C>,
-    chair: &mut Chair,
+    post: &mut SolverPost,
     batch: Tasks,
-    found: &mut Putter<Found>,
 ) -> Result<(), OutOfMemory>
-    requires worker { IsWorker (C.may_tell crew.now.clock.now) crew.now.desk.now chair.old }
-    ensures worker { IsWorker (C.may_tell crew.now.clock.now) crew.now.desk.now chair.new }
-    ensures number { number_of chair.new ≡ number_of chair.old }
-    ensures leases { OnOk result ((weight : ℕ → ℕ) → Moves weight (receipts_in chair.old) (receipts_in chair.new) (of_tasks weight batch.items + found_in weight (put_by found.old)) (found_in weight (put_by found.new))) }
-    ensures same { PutsAtSame found.old found.new }
+    requires { IsOnDuty C.may_tell crew.now post.old.chair }
+    ensures stays { StaysSolver C.may_tell crew.now post.old post.new }
+    ensures leases { OnOk result ((weight : ℕ → ℕ) →
+        Moves weight (receipts_in post.old.chair) (receipts_in post.new.chair)
+        (of_tasks weight batch.items + all_found weight (put_by post.old.found)) (all_found weight (put_by post.new.found))) }
 {
     let mut rest = batch;
     for _turn in 0..rest.len() {
         let (group, others) = first_group(&rest);
-        work_on(rt, crew, chair, &group, found)?;
+        work_on(rt, crew, post, &group)?;
         rest = others;
     }
     Ok(())
@@ -116,25 +120,22 @@ fn work_on_all<S: Solver, G: Gate, C: Clock, R: Wait>(
 pub(crate) fn solve_all<S: Solver, G: Gate, C: Clock, R: Wait>(
     rt: &R,
     crew: &Crew<'_, S, G, C>,
-    chair: &mut Chair,
-    found: &mut Putter<Found>,
+    post: &mut SolverPost,
 ) -> Result<(), Halt>
-    requires leases { (weight : ℕ → ℕ) → IsSolvers weight (receipts_in chair.old) (put_by found.old) }
-    requires worker { IsWorker (C.may_tell crew.now.clock.now) crew.now.desk.now chair.old }
-    ensures worker { IsWorker (C.may_tell crew.now.clock.now) crew.now.desk.now chair.new }
-    ensures number { number_of chair.new ≡ number_of chair.old }
-    ensures leases { OnOk result ((weight : ℕ → ℕ) → IsSolvers weight (receipts_in chair.new) (put_by found.new)) }
-    ensures same { PutsAtSame found.old found.new }
-    ensures nothing { OnOk result (SawNothing (receipts_in chair.new)) }
+    requires duty { IsOnDuty C.may_tell crew.now post.old.chair }
+    requires leases { (weight : ℕ → ℕ) → SettlesOwn weight post.old }
+    ensures stays { StaysSolver C.may_tell crew.now post.old post.new }
+    ensures leases { OnOk result ((weight : ℕ → ℕ) → SettlesOwn weight post.new) }
+    ensures idle { OnOk result (EndsIdle (receipts_in post.new.chair)) }
 {
     for _turn in rt.forever() {
         if crew.stop.load(SeqCst) {
             return Err(Halt::NoThread);
         }
-        if let Some(first) = next_task(rt, crew, chair)? {
-            let batch = lease_batch(rt, crew, chair, first)?;
-            work_on_all(rt, crew, chair, batch, found)?;
-        } else if !frees_a_lease(rt, crew, chair)? {
+        if let Some(first) = next_task(rt, crew, &mut post.chair)? {
+            let batch = lease_batch(rt, crew, &mut post.chair, first)?;
+            work_on_all(rt, crew, post, batch)?;
+        } else if !frees_a_lease(rt, crew, &mut post.chair)? {
             return Ok(());
         }
     }

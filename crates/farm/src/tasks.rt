@@ -35,14 +35,14 @@ pub(crate) type Tasks = ArrayVec<Task, MOST_LEASES>;
 
 /// What a solver found for entries of one board and denomination. It has a claim for each.
 #[derive(Drop)]
-pub(crate) struct Found {
+pub(crate) struct FoundBundle {
     pub(crate) tasks: Tasks,
     pub(crate) bundle: Bundle,
 }
 
 /// A claim for an entry that was leased, on graphs that were checked.
 #[derive(Drop)]
-pub(crate) struct Answered {
+pub(crate) struct CheckedClaim {
     pub(crate) task: Task,
     pub(crate) claimed: Claimed,
 }

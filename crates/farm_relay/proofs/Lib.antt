@@ -1,4 +1,5 @@
 pub mod Sums
+pub mod Parts
 pub mod Moves
 pub mod Whole
 pub mod Joining

@@ -6,9 +6,9 @@ use Rattle.crossbeam_channel.specs.Fifo.{Pushes, Pops, Forks, Merges, Learns}
 use Rattle.farm_relay.specs.declared.items.Item.{Item}
 use Rattle.farm_relay.specs.declared.tallies.Tally.{Tally}
 use Rattle.farm_relay.specs.Tallies.{fresh, spent, sharing, joined, with_put, with_taken}
-use Rattle.farm_relay.specs.Rule.{weight_of, IsBalanced, IsIdle, IsAt}
+use Rattle.farm_relay.specs.Rule.{IsBalanced, IsIdle, IsAt}
 use Rattle.farm_relay.specs.Steps.{Put, Took, Silent}
-use Rattle.farm_relay.proofs.Sums.{sum_set, put_shares, put_weighs, put_leaves, taken_shares, taken_weighs, taken_leaves}
+use Rattle.farm_relay.proofs.Sums.{sum_set}
 
 module _ {T : Type 0} where
   -- whose tally changes has a share
@@ -20,13 +20,13 @@ module _ {T : Type 0} where
       let w : Tally T = with_put v item in (
         w,
         record {
-          shared = (let s = sum_set (λ (u : Tally T). u.shares) tallies pass v w at in let k = put_shares (λ _. 0) v item in let p = b.shared in omega arith);
+          shared = (let s = sum_set (λ (u : Tally T). u.shares) tallies pass v w at in let p = b.shared in omega arith);
           even = λ weight.
               let s = sum_set (λ (u : Tally T). sum_by weight u.put) tallies pass v w at in
               let t = sum_set (λ (u : Tally T). sum_by weight u.taken) tallies pass v w at in
               let p = b.even weight in
-              omega (arith, put_weighs weight v item, put_leaves weight v item, sum_by_push (weight_of weight) items item);
-          idle = All-set IsIdle tallies pass w (has_share v w (put_shares (λ _. 0) v item) some_share) b.idle;
+              omega (arith, sum_by_push weight v.put item, sum_by_push weight items item);
+          idle = All-set IsIdle tallies pass w (has_share v w refl some_share) b.idle;
         },
         refl,
       )
@@ -36,13 +36,13 @@ module _ {T : Type 0} where
       let w : Tally T = with_taken v item in (
         w,
         record {
-          shared = (let s = sum_set (λ (u : Tally T). u.shares) tallies pass v w at in let k = taken_shares (λ _. 0) v item in let p = b.shared in omega arith);
+          shared = (let s = sum_set (λ (u : Tally T). u.shares) tallies pass v w at in let p = b.shared in omega arith);
           even = λ weight.
               let s = sum_set (λ (u : Tally T). sum_by weight u.put) tallies pass v w at in
               let t = sum_set (λ (u : Tally T). sum_by weight u.taken) tallies pass v w at in
               let p = b.even weight in
-              omega (arith, taken_weighs weight v item, taken_leaves weight v item, sum_by-cons (weight_of weight) item items);
-          idle = All-set IsIdle tallies pass w (has_share v w (taken_shares (λ _. 0) v item) some_share) b.idle;
+              omega (arith, sum_by_push weight v.taken item, sum_by-cons weight item items);
+          idle = All-set IsIdle tallies pass w (has_share v w refl some_share) b.idle;
         },
         refl,
       )

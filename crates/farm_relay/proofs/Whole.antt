@@ -5,9 +5,10 @@ use Rattle.std.proofs.lemmas.List.Sums.{sum_by-cons}
 use mathlib.Core.Option.{some, some-injective, some-ne-none}
 use lib.ListN.{get_elem?}
 use Rattle.crossbeam_channel.specs.Fifo.{Held}
+use Rattle.farm_relay.specs.declared.items.Item.{Item}
 use Rattle.farm_relay.specs.declared.tallies.Tally.{Tally}
 use Rattle.farm_relay.specs.Tallies.{all_shares}
-use Rattle.farm_relay.specs.Rule.{IsIdle, IsAt, weight_of}
+use Rattle.farm_relay.specs.Rule.{IsIdle, IsAt}
 use Rattle.farm_relay.proofs.Sums.{one_of}
 
 module _ {T : Type 0} (f : Tally T → ℕ) (nothing : (u : Tally T) → u.shares ≡ 0 → IsIdle u → f u ≡ 0) where
@@ -37,7 +38,7 @@ module _ {T : Type 0} (f : Tally T → ℕ) (nothing : (u : Tally T) → u.share
       let others = only xs pass v (All-tail IsIdle x xs idle) e (omega arith) in
       omega (arith, sum_by-cons f x xs)
 
-module _ {T : Type 0} (weight : T → ℕ) where
+module _ {T : Type 0} (weight : Item T → ℕ) where
   no_put : (u : Tally T) → u.shares ≡ 0 → IsIdle u → sum_by weight u.put ≡ 0
   no_put u none idle = ap (sum_by weight) (idle none).0
 
@@ -55,6 +56,6 @@ module _ {T : Type 0} (weight : T → ℕ) where
       let empty = no_items held.0 held.1 in
       omega arith
     where
-      no_items : (items : _) → length items ≡ 0 → sum_by (weight_of weight) items ≡ 0
+      no_items : (items : _) → length items ≡ 0 → sum_by weight items ≡ 0
       no_items [] e = refl
       no_items (x ∷ xs) e = absurd (omega arith)

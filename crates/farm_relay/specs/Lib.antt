@@ -1,3 +1,4 @@
+pub mod Items
 pub mod Tallies
 pub mod Rule
 pub mod Steps

@@ -1,24 +1,18 @@
--- The rule of a relay's channel: what was put is what was taken and what the channel holds, each message as often.
+-- The rule of a relay's channel: what was put is what was taken and what the channel holds, each item as often.
 use Rattle.std.specs.Prelude.{◌≡◌, ℕ, ◌+◌, List, [], All, sum_by}
 use mathlib.Core.Option.{some}
 use lib.ListN.{get_elem?}
 use Rattle.farm_relay.specs.declared.items.Item.{Item}
-use Rattle.farm_relay.specs.declared.items.Item.TheVariants.{Message, EndMark}
 use Rattle.farm_relay.specs.declared.tallies.Tally.{Tally}
 use Rattle.farm_relay.specs.Tallies.{all_shares}
 
--- the weight of an item: an end mark has none
-abbrev pub weight_of : {T : Type 0} → (T → ℕ) → Item T → ℕ
-weight_of weight (Message message) = weight message
-weight_of weight EndMark = 0
-
--- Each message is as often among those put as among those taken and those in the channel: so it is where every weight of
--- messages gives the same sum.
+-- Each item is as often among those put as among those taken and those in the channel: so it is where every weight of items
+-- gives the same sum.
 abbrev pub IsEven : {T : Type 0} → List (Item T) → List (Tally T) → Type 0
 IsEven {T} items tallies =
-    (weight : T → ℕ)
+    (weight : Item T → ℕ)
     → sum_by (λ v. sum_by weight v.put) tallies
-    ≡ sum_by (λ v. sum_by weight v.taken) tallies + sum_by (weight_of weight) items
+    ≡ sum_by (λ v. sum_by weight v.taken) tallies + sum_by weight items
 
 -- a pass without a share has put and taken nothing
 abbrev pub IsIdle : {T : Type 0} → Tally T → Type 0

@@ -1,10 +1,10 @@
 //! The closing of a relay.
 
-ghost use Rattle.std.specs.Prelude.{◌≡◌, ◌<◌, All, IfOk};
+ghost use Rattle.std.specs.Prelude.{◌≡◌, ◌<◌, All, IfOk, OnOk, length};
 ghost use Rattle.crossbeam_channel.specs.Claims.{view, IsSeatAt};
 ghost use Rattle.crossbeam_channel.specs.Ends.{sends_on, receives_on};
 ghost use Rattle.farm_relay.specs.Tallies.{all_shares};
-ghost use Rattle.farm_relay.specs.Relays.{AreAllOf, IsNothingLost};
+ghost use Rattle.farm_relay.specs.Relays.{AreAllOf, IsNothingLost, AreMarksPut};
 ghost use Rattle.farm_relay.specs.Closing.{HasJoinedPutters, HasJoinedTakers, IsLeft};
 
 use crate::faults::OutOfMemory;
@@ -29,20 +29,34 @@ fn join_putters<T: Drop>(sender: &RelaySender<T>, pass: &mut RelayPass<T>, putte
     }
 }
 
-/// Joins the passes of all takers to this one.
-fn join_takers<T: Drop>(sender: &RelaySender<T>, pass: &mut RelayPass<T>, takers: Vec<Taker<T>>)
+/// Joins the passes of all takers to this one, and keeps the end of one of them, to take what is left.
+fn join_takers<T: Drop>(
+    sender: &RelaySender<T>,
+    pass: &mut RelayPass<T>,
+    takers: Vec<Taker<T>>,
+) -> RelayReceiver<T>
     requires seat { IsSeatAt (sends_on sender.now) pass.old }
     requires share { 0 < (view pass.old).shares }
+    requires some { 0 < length takers.items }
     requires of { All (λ taker. receives_on taker.receiver ≡ sends_on sender.now) takers.items }
+    ensures of { receives_on result ≡ sends_on sender.now }
     ensures seat { IsSeatAt (sends_on sender.now) pass.new }
     ensures joined { HasJoinedTakers (view pass.old) takers.items (view pass.new) }
 {
+    let mut takers = takers;
+    let Some(last) = takers.pop() else {
+        unreachable!()
+    };
     for taker in takers {
-        sender.absorb::<Shares>(pass, taker.into_pass());
+        let (_receiver, own) = taker.into_parts();
+        sender.absorb::<Shares>(pass, own);
     }
+    let (receiver, own) = last.into_parts();
+    sender.absorb::<Shares>(pass, own);
+    receiver
 }
 
-/// Takes all that is left, front first, with the pass that has all shares.
+/// Takes all that is left, front first, with the pass that has all shares, and keeps the messages.
 fn drain<T: Drop, R: Wait>(
     rt: &R,
     alloc: Global,
@@ -75,21 +89,22 @@ impl<T: Drop> Relay<T> {
         takers: Vec<Taker<T>>,
     ) -> Result<Vec<T>, OutOfMemory>
         requires { AreAllOf self putters.items takers.items }
-        // Every message that was put was taken or is left, as often as it was put. Whoever weighs messages, however they like,
-        // finds that those put weigh as much as those taken and those left. End marks weigh nothing.
-        ensures { IfOk result (λ left. IsNothingLost putters.items takers.items left.items) }
+        // Every message that was put was taken or is left, as often as it was put: whoever weighs messages, however they like,
+        // finds that those put weigh as much as those taken and those left.
+        ensures messages { IfOk result (λ left. IsNothingLost putters.items takers.items left.items) }
+        ensures marks { OnOk result (AreMarksPut self putters.items takers.items) }
     {
         let Relay {
             alloc,
-            ends,
+            sender,
             pass,
+            unfinished: _,
             putters: _,
             takers: _,
         } = self;
         let mut pass = pass;
-        join_putters(&ends.sender, &mut pass, putters);
-        join_takers(&ends.sender, &mut pass, takers);
-        let left = drain(rt, alloc, &ends.receiver, pass)?;
-        Ok(left)
+        join_putters(&sender, &mut pass, putters);
+        let receiver = join_takers(&sender, &mut pass, takers);
+        drain(rt, alloc, &receiver, pass)
     }
 }

@@ -17,11 +17,12 @@ use std::alloc::Global;
 use std::sync::Arc;
 use std::sync::atomic::AtomicU64;
 
-/// So many putters, with shares of this pass.
+/// So many putters with one count of who is not finished, and with shares of this pass.
 fn new_putters<T: Drop>(
     alloc: Global,
     ends: &Ends<T>,
     pass: &mut RelayPass<T>,
+    unfinished: &Arc<AtomicU64, Global>,
     count: usize,
     takers: usize,
 ) -> Result<Vec<Putter<T>>, OutOfMemory>
@@ -32,10 +33,9 @@ fn new_putters<T: Drop>(
     ensures new { IfOk result (λ putters. All (IsNewPutter ends.now takers) putters.items) }
     ensures count { IfOk result (λ putters. length putters.items ≡ count) }
 {
-    let unfinished = Arc::new(alloc, AtomicU64::new(count as u64))?;
     let mut putters = Vec::new(alloc);
     for _putter in 0..count {
-        putters.push(Putter::new(ends, pass, &unfinished, takers)?)?;
+        putters.push(Putter::new(ends, pass, unfinished, takers)?)?;
     }
     Ok(putters)
 }
@@ -76,12 +76,18 @@ impl<T: Drop> Relay<T> {
     {
         let (ends, pass) = new_ends(alloc, places)?;
         let mut pass = pass;
-        let all_putters = new_putters(alloc, &ends, &mut pass, putters, takers)?;
+        let unfinished = Arc::new(alloc, AtomicU64::new(putters as u64))?;
+        let all_putters = new_putters(alloc, &ends, &mut pass, &unfinished, putters, takers)?;
         let all_takers = new_takers(alloc, &ends, &mut pass, takers)?;
+        let Ends {
+            sender,
+            receiver: _,
+        } = ends;
         let relay = Relay {
             alloc,
-            ends,
+            sender,
             pass,
+            unfinished,
             putters,
             takers,
         };

@@ -17,7 +17,7 @@ use std::sync::{Arc, Wait};
 pub struct Putter<T: Drop> {
     pub(crate) sender: RelaySender<T>,
     pub(crate) pass: RelayPass<T>,
-    /// How many putters of the relay are not finished.
+    /// How many putters of the relay are not finished, or 0 once it is ended.
     pub(crate) unfinished: Arc<AtomicU64, Global>,
     /// How many takers the relay has.
     pub(crate) takers: usize,
@@ -28,9 +28,9 @@ pub struct Putter<T: Drop> {
 }
 
 impl<T: Drop> Putter<T> {
-    ghost use Rattle.std.specs.Prelude.{◌<◌, ◌∷◌, ◌++◌, true, IsErr, IfErr, IfOk, OnOk};
+    ghost use Rattle.std.specs.Prelude.{◌+◌, ◌<◌, ◌≤◌, ◌∷◌, ◌++◌, true, IsErr, IfErr, IfOk, OnOk};
     ghost use Rattle.farm_relay.specs.Tallies.{sharing};
-    ghost use Rattle.farm_relay.specs.Relays.{put_by, is_finished, PutsAtSame};
+    ghost use Rattle.farm_relay.specs.Relays.{put_by, marks_by, is_finished, PutsAtSame};
     ghost use Rattle.farm_relay.specs.Opening.{IsNewPutter};
 
     /// A new putter, with a share of this pass.
@@ -71,6 +71,7 @@ impl<T: Drop> Putter<T> {
         ensures back { IfErr result (λ back. back ≡ message) }
         ensures err { IfErr result (λ back. put_by self.new ≡ put_by self.old) }
         ensures late { is_finished self.old ≡ true → IsErr result }
+        ensures marks { marks_by self.new ≡ marks_by self.old }
         ensures finished { is_finished self.new ≡ is_finished self.old }
         ensures same { PutsAtSame self.old self.new }
     {
@@ -81,10 +82,11 @@ impl<T: Drop> Putter<T> {
     }
 
     /// Ends this putter. The last one to end puts one end mark for each taker, and waits while all places are full. A second
-    /// call does nothing.
+    /// call does nothing, and after [`Relay::end`] no putter puts a mark.
     pub fn finish<R: Wait>(&mut self, rt: &R)
         ensures finished { is_finished self.new ≡ true }
         ensures put { put_by self.new ≡ put_by self.old }
+        ensures marks { marks_by self.new ≤ marks_by self.old + self.old.takers }
         ensures again { is_finished self.old ≡ true → self.new ≡ self.old }
         ensures same { PutsAtSame self.old self.new }
     {
@@ -92,8 +94,14 @@ impl<T: Drop> Putter<T> {
             return;
         }
         self.finished = true;
-        if self.unfinished.fetch_sub(1, SeqCst) == 1 {
+        if is_last(&self.unfinished) {
             send_marks(rt, &self.sender, &mut self.pass, self.takers);
         }
     }
+}
+
+/// Counts one putter as finished, and says whether it was the last. Where none is left to count it was not.
+fn is_last(unfinished: &AtomicU64) -> bool {
+    let counted = unfinished.fetch_update(SeqCst, SeqCst, |count| count.checked_sub(1));
+    counted == Ok(1)
 }

@@ -3,16 +3,15 @@
 ghost use Rattle.std.specs.Prelude.{◌≡◌, ◌<◌, IfSome, IfNone};
 ghost use Rattle.crossbeam_channel.specs.Claims.{view, IsSeatAt};
 ghost use Rattle.crossbeam_channel.specs.Ends.{receives_on};
-ghost use Rattle.farm_relay.specs.declared.items.Item.TheVariants.{Message};
+ghost use Rattle.farm_relay.specs.declared.items.Item.TheVariants.{Message, EndMark};
 ghost use Rattle.farm_relay.specs.Tallies.{with_taken};
-ghost use Rattle.farm_relay.specs.Steps.{SawEnd};
 
 use crate::items::Item;
 use crate::rule::{RelayPass, RelayReceiver, Takes};
 use std::sync::Wait;
+use std::thread;
 
-/// Takes the message at the front. None where an end mark was there, or nothing. Waits while there is nothing and somebody
-/// may still put.
+/// Takes what is at the front: None for an end mark. Waits while there is nothing.
 pub(crate) fn receive<T: Drop, R: Wait>(
     rt: &R,
     receiver: &RelayReceiver<T>,
@@ -22,11 +21,14 @@ pub(crate) fn receive<T: Drop, R: Wait>(
     requires share { 0 < (view pass.old).shares }
     ensures seat { IsSeatAt (receives_on receiver.now) pass.new }
     ensures some { IfSome result (λ message. view pass.new ≡ with_taken (view pass.old) (Message message)) }
-    ensures none { IfNone result (SawEnd (view pass.old) (view pass.new)) }
+    ensures none { IfNone result (view pass.new ≡ with_taken (view pass.old) EndMark) }
 {
-    match receiver.recv_as::<Takes, R>(rt, pass) {
-        Ok(Item::Message(message)) => Some(message),
-        Ok(Item::EndMark) => None,
-        Err(_) => None,
+    for _ in rt.forever() {
+        match receiver.recv_as::<Takes, R>(rt, pass) {
+            Ok(Item::Message(message)) => return Some(message),
+            Ok(Item::EndMark) => return None,
+            Err(_) => thread::yield_now(),
+        }
     }
+    unreachable!()
 }

@@ -5,6 +5,7 @@ ghost use Rattle.crossbeam_channel.specs.Claims.{view, IsSeatAt};
 ghost use Rattle.crossbeam_channel.specs.Ends.{sends_on};
 ghost use Rattle.farm_relay.specs.declared.items.Item.TheVariants.{Message};
 ghost use Rattle.farm_relay.specs.Tallies.{with_put};
+ghost use Rattle.farm_relay.specs.Steps.{PutMarks};
 
 use crate::items::Item;
 use crate::rule::{Puts, RelayPass, RelaySender};
@@ -42,11 +43,11 @@ pub(crate) fn send_marks<T: Drop, R: Wait>(
     requires seat { IsSeatAt (sends_on sender.now) pass.old }
     requires share { 0 < (view pass.old).shares }
     ensures seat { IsSeatAt (sends_on sender.now) pass.new }
-    ensures view { view pass.new ≡ view pass.old }
+    ensures marks { PutMarks count (view pass.old) (view pass.new) }
 {
     for _mark in 0..count {
-        if sender.send_as::<Puts, R>(rt, pass, Item::EndMark).is_err() {
+        let Ok(()) = sender.send_as::<Puts, R>(rt, pass, Item::EndMark) else {
             return;
-        }
+        };
     }
 }

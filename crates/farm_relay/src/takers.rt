@@ -21,10 +21,10 @@ pub struct Taker<T: Drop> {
 }
 
 impl<T: Drop> Taker<T> {
-    ghost use Rattle.std.specs.Prelude.{◌<◌, ◌∷◌, ◌++◌, IfSome, IfNone, IsSome, IfOk, OnOk};
+    ghost use Rattle.std.specs.Prelude.{◌+◌, ◌<◌, ◌∷◌, ◌++◌, IfSome, IfNone, IsSome, IfOk, OnOk};
     ghost use Rattle.crossbeam_channel.specs.Ends.{sends_on};
     ghost use Rattle.farm_relay.specs.Tallies.{sharing};
-    ghost use Rattle.farm_relay.specs.Relays.{taken_by, marks_of, TakesAtSame, IsAtEnd};
+    ghost use Rattle.farm_relay.specs.Relays.{taken_by, marks_of, TakesAtSame};
     ghost use Rattle.farm_relay.specs.Opening.{IsNewTaker};
 
     /// A new taker, with a share of this pass.
@@ -42,20 +42,20 @@ impl<T: Drop> Taker<T> {
         })
     }
 
-    /// The taker's pass, once its work is done.
-    pub(crate) fn into_pass(self) -> RelayPass<T>
-        ensures { result ≡ self.pass }
+    /// The taker's end and pass, once its work is done.
+    pub(crate) fn into_parts(self) -> (RelayReceiver<T>, RelayPass<T>)
+        ensures receiver { result.0 ≡ self.receiver }
+        ensures pass { result.1 ≡ self.pass }
     {
-        self.pass
+        (self.receiver, self.pass)
     }
 
-    /// Takes the message at the front. None says that an end mark was there, or that the relay was empty at one moment of the
-    /// call. Waits while the relay is empty.
+    /// Takes the message at the front. None says that an end mark was there, which is then taken. Waits while the relay is empty.
     pub fn take<R: Wait>(&mut self, rt: &R) -> Option<T>
         ensures some { IfSome result (λ message. taken_by self.new ≡ taken_by self.old ++ message ∷ []) }
         ensures none { IfNone result (taken_by self.new ≡ taken_by self.old) }
         ensures marks { IsSome result → marks_of self.new ≡ marks_of self.old }
-        ensures end { IfNone result (IsAtEnd self.old self.new) }
+        ensures end { IfNone result (marks_of self.new ≡ marks_of self.old + 1) }
         ensures same { TakesAtSame self.old self.new }
     {
         receive(rt, &self.receiver, &mut self.pass)

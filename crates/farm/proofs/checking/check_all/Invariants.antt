@@ -1,10 +1,11 @@
-use Rattle.std.proofs.Common.{ℕ}
-use Rattle.farm_relay.specs.Relays.{PutsAtSame, TakesAtSame, put_by, taken_by}
-use Rattle.farm.specs.Flows.{IsCheckers}
+use Rattle.std.proofs.Common.{◌≡◌, ℕ}
+use Rattle.farm_relay.specs.Relays.{marks_of}
+use Rattle.farm.specs.Posts.{StaysChecker}
+use Rattle.farm.specs.Flows.{ClaimsOwn}
 use Rattle.farm.proofs.checking.check_all.Given as goal
 
 abbrev pub invariant-loop : goal.invariant-loop
 invariant-loop g l =
-    TakesAtSame l.initial.found l.found
-    × PutsAtSame l.initial.answers l.answers
-    × ((weight : ℕ → ℕ) → IsCheckers weight (taken_by l.found) (put_by l.answers))
+    StaysChecker l.initial.post l.post
+    × (marks_of l.post.found ≡ marks_of l.initial.post.found)
+    × ((weight : ℕ → ℕ) → ClaimsOwn weight l.post)

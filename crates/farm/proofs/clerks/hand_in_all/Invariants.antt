@@ -1,13 +1,11 @@
 use Rattle.std.proofs.Common.{◌≡◌, ℕ}
-use Rattle.lease_desk.specs.Desks.{number_of, receipts_in}
-use Rattle.farm_relay.specs.Relays.{TakesAtSame, taken_by}
-use Rattle.farm.specs.Working.{IsWorker, never}
-use Rattle.farm.specs.Flows.{IsClerks}
+use Rattle.farm_relay.specs.Relays.{marks_of}
+use Rattle.farm.specs.Posts.{StaysClerk}
+use Rattle.farm.specs.Flows.{SettlesClaims}
 use Rattle.farm.proofs.clerks.hand_in_all.Given as goal
 
 abbrev pub invariant-loop : goal.invariant-loop
 invariant-loop g l =
-    IsWorker never l.desk l.chair
-    × (number_of l.chair ≡ number_of l.initial.chair)
-    × TakesAtSame l.initial.answered l.answered
-    × ((weight : ℕ → ℕ) → IsClerks weight (receipts_in l.chair) (taken_by l.answered))
+    StaysClerk g.C.Clock.may_tell l.crew l.initial.post l.post
+    × (marks_of l.post.claims ≡ marks_of l.initial.post.claims)
+    × ((weight : ℕ → ℕ) → SettlesClaims weight l.post)

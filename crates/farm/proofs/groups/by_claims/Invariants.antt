@@ -1,8 +1,9 @@
-use Rattle.std.proofs.Common.{◌≡◌, ℕ, ◌+◌, length, take}
-use Rattle.farm.specs.Flows.{of_tasks}
+use Rattle.std.proofs.Common.{◌≡◌, ◌+◌, not, filter, take, length}
+use Rattle.farm.specs.Groups.{is_claimed}
 use Rattle.farm.proofs.groups.by_claims.Given as goal
 
 abbrev pub invariant-loop-task : goal.invariant-loop-task
 invariant-loop-task l =
-    ((weight : ℕ → ℕ) → of_tasks weight l.claimed.items + of_tasks weight l.others.items ≡ of_tasks weight (take l.task-index l.tasks))
+    (l.claimed.items ≡ filter (is_claimed l.bundle) (take l.task-index l.tasks))
+    × (l.others.items ≡ filter (λ task. not (is_claimed l.bundle task)) (take l.task-index l.tasks))
     × (length l.claimed.items + length l.others.items ≡ l.task-index)

@@ -1,9 +1,9 @@
-use Rattle.std.proofs.Common.{◌≡◌, ℕ, ◌+◌, ◌≤◌, length, take}
-use Rattle.farm.specs.Flows.{of_tasks}
+use Rattle.std.proofs.Common.{◌≡◌, ◌+◌, not, filter, take, length}
+use Rattle.farm.specs.Groups.{is_with}
 use Rattle.farm.proofs.groups.first_group.Given as goal
 
 abbrev pub invariant-loop-task : goal.invariant-loop-task
 invariant-loop-task l =
-    ((weight : ℕ → ℕ) → of_tasks weight l.group.items + of_tasks weight l.others.items ≡ weight l.first.lease + of_tasks weight (take l.task-index l.rest))
-    × (length l.group.items + length l.others.items ≡ l.task-index + 1)
-    × (1 ≤ length l.group.items)
+    (l.group.items ≡ filter (is_with l.first) (take l.task-index l.tasks))
+    × (l.others.items ≡ filter (λ task. not (is_with l.first task)) (take l.task-index l.tasks))
+    × (length l.group.items + length l.others.items ≡ l.task-index)

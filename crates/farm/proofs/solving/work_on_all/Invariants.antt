@@ -1,14 +1,16 @@
-use Rattle.std.proofs.Common.{◌≡◌, ℕ, ◌+◌, ◌≤◌, length}
-use Rattle.lease_desk.specs.Desks.{number_of, receipts_in}
-use Rattle.farm_relay.specs.Relays.{PutsAtSame, put_by}
-use Rattle.farm.specs.Working.{IsWorker}
-use Rattle.farm.specs.Flows.{Moves, of_tasks, found_in}
+use Rattle.std.proofs.Common.{ℕ, ◌+◌, ◌≤◌, ◌-◌, length}
+use Rattle.lease_desk.specs.Desks.{receipts_in}
+use Rattle.farm_relay.specs.Relays.{put_by}
+use Rattle.farm.specs.Posts.{StaysSolver}
+use Rattle.farm.specs.Flows.{Moves, of_tasks, all_found}
 use Rattle.farm.proofs.solving.work_on_all.Given as goal
 
 abbrev pub invariant-loop-turn : goal.invariant-loop-turn
 invariant-loop-turn g l =
-    IsWorker (g.C.Clock.may_tell l.crew.clock.now) l.crew.desk.now l.chair
-    × (number_of l.chair ≡ number_of l.initial.chair)
-    × PutsAtSame l.initial.found l.found
-    × (length l.rest.items + l._turn ≤ l._turn-end)
-    × ((weight : ℕ → ℕ) → Moves weight (receipts_in l.initial.chair) (receipts_in l.chair) (of_tasks weight l.initial.rest.items + found_in weight (put_by l.initial.found)) (of_tasks weight l.rest.items + found_in weight (put_by l.found)))
+    StaysSolver g.C.Clock.may_tell l.crew l.initial.post l.post
+    × (length l.rest.items ≤ length l.fn.batch.items - l._turn)
+    × (
+    (weight : ℕ → ℕ) → Moves weight (receipts_in l.initial.post.chair) (receipts_in l.post.chair)
+    (of_tasks weight l.fn.batch.items + all_found weight (put_by l.initial.post.found))
+    (of_tasks weight l.rest.items + all_found weight (put_by l.post.found))
+    )

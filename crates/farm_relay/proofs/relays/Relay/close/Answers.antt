@@ -1,7 +1,7 @@
+use Rattle.std.proofs.lemmas.Result.{IfOk-weaker}
 use Rattle.farm_relay.proofs.Joining.{closed}
 use Rattle.farm_relay.proofs.relays.Relay.close.Goals as goal
 
-pub returns : goal.returns
-returns g c =
-    let relay = c.args.self in
-    closed _ _ _ _ _ c.in_ok-left.left.items relay.put relay.taken c.join_putters.ensures.joined c.join_takers.ensures.joined c.in_ok-left.ensures
+pub returns-clause-messages : goal.returns-clause-messages
+returns-clause-messages g c =
+    IfOk-weaker c.drain.result _ _ (λ left. closed c.args.self _ _ _ _ left.items c.join_putters.ensures.joined c.join_takers-receiver.ensures.joined) c.drain.ensures

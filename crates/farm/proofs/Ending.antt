@@ -1,0 +1,224 @@
+-- What follows from the posts of a run for its chairs and its relays.
+use Rattle.std.proofs.Common.{◌≡◌, ℕ, ◌+◌, ◌<◌, ◌≤◌, List, [], ◌∷◌, ◌++◌, All, Contains, map, length, sum_by, refl, sym, ap, ◌∙◌, subst, arith}
+use Rattle.std.proofs.lemmas.List.{map-append, length-map}
+use Rattle.std.proofs.lemmas.List.Elements.{All-nil, All-cons, All-head, All-tail, All-append, Contains-append_left, Contains-push}
+use Rattle.std.proofs.lemmas.List.Sums.{sum_by-append}
+use Rattle.lease_desk.specs.declared.chairs.Chair.{Chair}
+use Rattle.lease_desk.specs.declared.desk.Desk.{Desk}
+use Rattle.lease_desk.specs.Desks.{number_of, receipts_in}
+use Rattle.farm_relay.specs.declared.putters.Putter.{Putter}
+use Rattle.farm_relay.specs.declared.takers.Taker.{Taker}
+use Rattle.farm_relay.specs.Relays.{IsPutterOf, IsTakerOf, put_by, taken_by}
+use Rattle.farm_relay.proofs.RelayLaws.{still_putter, still_taker}
+use Rattle.farm_threads.specs.Beside.{AreBeside}
+use Rattle.farm.specs.declared.crews.Crew.{Crew}
+use Rattle.farm.specs.declared.settings.Settings.{Settings}
+use Rattle.farm.specs.declared.tasks.FoundBundle.{FoundBundle}
+use Rattle.farm.specs.declared.tasks.CheckedClaim.{CheckedClaim}
+use Rattle.farm.specs.declared.posts.SolverPost.{SolverPost}
+use Rattle.farm.specs.declared.posts.CheckerPost.{CheckerPost}
+use Rattle.farm.specs.declared.posts.ClerkPost.{ClerkPost}
+use Rattle.farm.specs.declared.posts.Posts.{Posts}
+use Rattle.farm.specs.declared.relays.Relays.{Relays}
+use Rattle.farm.specs.declared.relays.Ends.{Ends}
+use Rattle.farm.specs.Moments.{MayTell}
+use Rattle.farm.specs.Working.{IsNew, IsOnDuty}
+use Rattle.farm.specs.Requests.{EndsIdle}
+use Rattle.farm.specs.Flows.{given, settled, of_found, of_claim, all_found, all_claimed}
+use Rattle.farm.specs.Posts.{IsNewSolver, IsNewChecker, IsNewClerk, HasSolved, HasChecked, HasSettled, CanBeManned, AreManned}
+use Rattle.farm.specs.Relaying.{AreOpened, AreAllEndsOf, IsRelayed}
+use Rattle.farm.specs.Running.{AreNewPosts, HaveEnded, HaveWorked}
+use Rattle.farm.proofs.Beside.{carried, each_after, as_many, same_of_each}
+use Rattle.farm.proofs.Sums.{sums_below, sum_of_nothing, sum_of_parts}
+
+module _ {X : Type 0} (P : X → Type 0) where
+  all_left : (xs ys : List X) → All P (xs ++ ys) → All P xs
+  all_left [] ys all = All-nil P
+  all_left (x ∷ xs) ys all = All-cons P x xs (All-head P x (xs ++ ys) all) (all_left xs ys (All-tail P x (xs ++ ys) all))
+
+  all_right : (xs ys : List X) → All P (xs ++ ys) → All P ys
+  all_right [] ys all = all
+  all_right (x ∷ xs) ys all = all_right xs ys (All-tail P x (xs ++ ys) all)
+
+-- what holds of things by two of their parts
+of_parts : {X A B : Type 0} (P : A → Type 0) (Q : B → Type 0) (N : X → Type 0) (f : X → A) (g : X → B) → ((x : X) → P (f x) → Q (g x) → N x) → (xs : List X) → All P (map f xs) → All Q (map g xs) → All N xs
+of_parts P Q N f g make [] one other = All-nil N
+of_parts P Q N f g make (x ∷ xs) one other =
+    All-cons N x xs
+    (make x (All-head P (f x) (map f xs) one) (All-head Q (g x) (map g xs) other))
+    (of_parts P Q N f g make xs (All-tail P (f x) (map f xs) one) (All-tail Q (g x) (map g xs) other))
+
+-- and of a part of things that it holds of
+to_parts : {X Y : Type 0} (P : Y → Type 0) (f : X → Y) (xs : List X) → All (λ x. P (f x)) xs → All P (map f xs)
+to_parts P f [] all = All-nil P
+to_parts {X = X} P f (x ∷ xs) all =
+    let Of : X → Type 0 = λ x. P (f x) in
+    All-cons P (f x) (map f xs) (All-head Of x xs all) (to_parts P f xs (All-tail Of x xs all))
+
+parts_of_parts : {X Y Z : Type 0} (g : Y → Z) (f : X → Y) (xs : List X) → map g (map f xs) ≡ map (λ x. g (f x)) xs
+parts_of_parts g f [] = refl
+parts_of_parts g f (x ∷ xs) = ap (λ l. g (f x) ∷ l) (parts_of_parts g f xs)
+
+as_many_parts : {X Y : Type 0} (R : X → X → Type 0) (f : X → Y) (xs ys : List X) (l m : List Y) → l ≡ map f xs → m ≡ map f ys → AreBeside R xs ys → length m ≡ length l
+as_many_parts R f xs ys l m l_is m_is are =
+    let a = ap length l_is in
+    let b = ap length m_is in
+    omega (arith, length-map xs f, length-map ys f, as_many R xs ys are)
+
+-- posts at new chairs with new ends are new
+module _ (settings : Settings) (desk : Desk) (relays : Relays) (chairs : List Chair) (ends : Ends) (posts : Posts)
+    (new : All (IsNew desk) chairs) (opened : AreOpened settings relays ends) (manned : AreManned chairs ends posts) where
+  new_chairs : All (IsNew desk) (map (λ (p : SolverPost). p.chair) posts.solvers.items ++ map (λ (p : ClerkPost). p.chair) posts.clerks.items)
+  new_chairs = subst (λ (l : List Chair). All (IsNew desk) l) manned.chairs_are new
+
+  pub new_posts : AreNewPosts desk posts
+  new_posts = record {
+    solvers =
+        of_parts (IsNew desk) (λ (p : Putter FoundBundle). put_by p ≡ []) (IsNewSolver desk) (λ (p : SolverPost). p.chair) (λ (p : SolverPost). p.found) (λ p chair none. record { chair = chair; none_put = none }) posts.solvers.items
+        (all_left (IsNew desk) _ _ new_chairs)
+        (subst (λ (l : List (Putter FoundBundle)). All (λ (p : Putter FoundBundle). put_by p ≡ []) l) manned.finds opened.found.none_put);
+    checkers =
+        of_parts (λ (t : Taker FoundBundle). taken_by t ≡ []) (λ (p : Putter CheckedClaim). put_by p ≡ []) IsNewChecker (λ (p : CheckerPost). p.found) (λ (p : CheckerPost). p.claims) (λ p none no. record { none_taken = none; none_put = no }) posts.checkers.items
+        (subst (λ (l : List (Taker FoundBundle)). All (λ (t : Taker FoundBundle). taken_by t ≡ []) l) manned.found opened.found.none_taken)
+        (subst (λ (l : List (Putter CheckedClaim)). All (λ (p : Putter CheckedClaim). put_by p ≡ []) l) manned.claims opened.claims.none_put);
+    clerks =
+        of_parts (IsNew desk) (λ (t : Taker CheckedClaim). taken_by t ≡ []) (IsNewClerk desk) (λ (p : ClerkPost). p.chair) (λ (p : ClerkPost). p.claims) (λ p chair none. record { chair = chair; none_taken = none }) posts.clerks.items
+        (all_right (IsNew desk) _ _ new_chairs)
+        (subst (λ (l : List (Taker CheckedClaim)). All (λ (t : Taker CheckedClaim). taken_by t ≡ []) l) manned.heard opened.claims.none_taken);
+  }
+
+-- each post gets what it needs
+pub can_be_manned : (settings : Settings) (relays : Relays) (chairs : List Chair) (ends : Ends) → AreOpened settings relays ends → length chairs ≡ settings.solvers + settings.checkers → CanBeManned chairs ends
+can_be_manned settings relays chairs ends opened count =
+    let a = opened.found.ends in
+    let b = opened.claims.ends in
+    let a' = opened.found.putters_are in
+    let a'' = opened.found.takers_are in
+    let b' = opened.claims.putters_are in
+    let b'' = opened.claims.takers_are in
+    let c = a.all_putters in
+    let c' = a.all_takers in
+    let d = b.all_putters in
+    let d' = b.all_takers in
+    record { chairs_are = omega arith; ends_are = omega arith }
+
+module _ {S G C : Type 0} (may_tell : C → MayTell) (crew : Crew S G C) (relays : Relays) (chairs after : List Chair) (ends back : Ends) (before worked : Posts)
+    (opened : AreOpened crew.settings relays ends) (manned : AreManned chairs ends before)
+    (ended : HaveEnded (HasSolved may_tell crew) HasChecked (HasSettled may_tell crew) before worked) (apart : AreManned after back worked) where
+  -- all ends are back
+  pub all_ends : AreAllEndsOf relays back
+  all_ends =
+      let found = opened.found.ends in
+      let claims = opened.claims.ends in
+      let finds_many = as_many_parts (HasSolved may_tell crew) (λ (p : SolverPost). p.found) _ _ _ _ manned.finds apart.finds ended.solvers in
+      let found_many = as_many_parts HasChecked (λ (p : CheckerPost). p.found) _ _ _ _ manned.found apart.found ended.checkers in
+      let claims_many = as_many_parts HasChecked (λ (p : CheckerPost). p.claims) _ _ _ _ manned.claims apart.claims ended.checkers in
+      let heard_many = as_many_parts (HasSettled may_tell crew) (λ (p : ClerkPost). p.claims) _ _ _ _ manned.heard apart.heard ended.clerks in
+      record {
+        found = record {
+          putters_are = subst (λ (l : List (Putter FoundBundle)). All (IsPutterOf relays.found) l) (sym apart.finds)
+              (carried (HasSolved may_tell crew) (IsPutterOf relays.found) (λ (p : SolverPost). p.found) (λ x y has is. still_putter relays.found x.found y.found has.stays.found is) _ _ ended.solvers
+              (subst (λ (l : List (Putter FoundBundle)). All (IsPutterOf relays.found) l) manned.finds found.putters_are));
+          takers_are = subst (λ (l : List (Taker FoundBundle)). All (IsTakerOf relays.found) l) (sym apart.found)
+              (carried HasChecked (IsTakerOf relays.found) (λ (p : CheckerPost). p.found) (λ x y has is. still_taker relays.found x.found y.found has.stays.found is) _ _ ended.checkers
+              (subst (λ (l : List (Taker FoundBundle)). All (IsTakerOf relays.found) l) manned.found found.takers_are));
+          all_putters = finds_many ∙ found.all_putters;
+          all_takers = found_many ∙ found.all_takers;
+        };
+        claims = record {
+          putters_are = subst (λ (l : List (Putter CheckedClaim)). All (IsPutterOf relays.claims) l) (sym apart.claims)
+              (carried HasChecked (IsPutterOf relays.claims) (λ (p : CheckerPost). p.claims) (λ x y has is. still_putter relays.claims x.claims y.claims has.stays.claims is) _ _ ended.checkers
+              (subst (λ (l : List (Putter CheckedClaim)). All (IsPutterOf relays.claims) l) manned.claims claims.putters_are));
+          takers_are = subst (λ (l : List (Taker CheckedClaim)). All (IsTakerOf relays.claims) l) (sym apart.heard)
+              (carried (HasSettled may_tell crew) (IsTakerOf relays.claims) (λ (p : ClerkPost). p.claims) (λ x y has is. still_taker relays.claims x.claims y.claims has.stays.claims is) _ _ ended.clerks
+              (subst (λ (l : List (Taker CheckedClaim)). All (IsTakerOf relays.claims) l) manned.heard claims.takers_are));
+          all_putters = claims_many ∙ claims.all_putters;
+          all_takers = heard_many ∙ claims.all_takers;
+        };
+      }
+
+  abbrev Solved : List SolverPost
+  Solved = worked.solvers.items
+
+  abbrev Settled : List ClerkPost
+  Settled = worked.clerks.items
+
+  abbrev chair_of : SolverPost → Chair
+  chair_of post = post.chair
+
+  abbrev desk_chair_of : ClerkPost → Chair
+  desk_chair_of post = post.chair
+
+  -- a number of each chair, summed up
+  sum_apart : (f : Chair → ℕ) → sum_by f after ≡ sum_by (λ (p : SolverPost). f p.chair) Solved + sum_by (λ (p : ClerkPost). f p.chair) Settled
+  sum_apart f =
+      let a = ap (sum_by f) apart.chairs_are in
+      omega (arith, sum_by-append f (map chair_of Solved) (map desk_chair_of Settled), sum_of_parts f chair_of Solved, sum_of_parts f desk_chair_of Settled)
+
+  some_idle : (solved : List SolverPost) (others : List Chair) → 0 < length solved → All (λ (p : SolverPost). EndsIdle (receipts_in p.chair)) solved → (chair : Chair) × Contains (map chair_of solved ++ others) chair × EndsIdle (receipts_in chair)
+  some_idle [] others some idle = absurd (omega arith)
+  some_idle (p ∷ ps) others some idle =
+      let all : List Chair = map chair_of ps ++ others in
+      (p.chair, Contains-append_left (p.chair ∷ []) all p.chair (Contains-push [] p.chair), All-head (λ (p : SolverPost). EndsIdle (receipts_in p.chair)) p ps idle)
+
+  -- what was settled was given
+  leases : IsRelayed back → (weight : ℕ → ℕ) → sum_by (λ chair. settled weight (receipts_in chair)) after ≤ sum_by (λ chair. given weight (receipts_in chair)) after
+  leases relayed weight =
+      let S1 : SolverPost → ℕ = λ p. settled weight (receipts_in p.chair) in
+      let G1 : SolverPost → ℕ = λ p. given weight (receipts_in p.chair) in
+      let F : SolverPost → ℕ = λ p. all_found weight (put_by p.found) in
+      let T : CheckerPost → ℕ = λ p. all_found weight (taken_by p.found) in
+      let Q : CheckerPost → ℕ = λ p. all_claimed weight (put_by p.claims) in
+      let S2 : ClerkPost → ℕ = λ p. settled weight (receipts_in p.chair) in
+      let G2 : ClerkPost → ℕ = λ p. given weight (receipts_in p.chair) in
+      let K : ClerkPost → ℕ = λ p. all_claimed weight (taken_by p.claims) in
+      let none1 : SolverPost → ℕ = λ p. 0 in
+      let none2 : CheckerPost → ℕ = λ p. 0 in
+      let none3 : ClerkPost → ℕ = λ p. 0 in
+      let checked = worked.checkers.items in
+      let solvers = sums_below S1 F G1 none1 Solved (each_after (HasSolved may_tell crew) (λ p. S1 p + F p ≤ G1 p + none1 p) (λ x y has. let own = has.leases weight in omega arith) before.solvers.items Solved ended.solvers) in
+      let checkers = sums_below Q none2 T none2 checked (each_after HasChecked (λ p. Q p + none2 p ≤ T p + none2 p) (λ x y has. let own = has.leases weight in omega arith) before.checkers.items checked ended.checkers) in
+      let clerks = sums_below S2 none3 G2 K Settled (each_after (HasSettled may_tell crew) (λ p. S2 p + none3 p ≤ G2 p + K p) (λ x y has. let own = has.leases weight in omega arith) before.clerks.items Settled ended.clerks) in
+      let n1 = sum_of_nothing Solved in
+      let n2 = sum_of_nothing checked in
+      let n3 = sum_of_nothing Settled in
+      let found = relayed.found (of_found weight) in
+      let claims = relayed.claims (of_claim weight) in
+      let f1 = ap (sum_by (λ (p : Putter FoundBundle). all_found weight (put_by p))) apart.finds ∙ sum_of_parts (λ (p : Putter FoundBundle). all_found weight (put_by p)) (λ (p : SolverPost). p.found) Solved in
+      let f2 = ap (sum_by (λ (t : Taker FoundBundle). all_found weight (taken_by t))) apart.found ∙ sum_of_parts (λ (t : Taker FoundBundle). all_found weight (taken_by t)) (λ (p : CheckerPost). p.found) checked in
+      let f3 = ap (sum_by (λ (p : Putter CheckedClaim). all_claimed weight (put_by p))) apart.claims ∙ sum_of_parts (λ (p : Putter CheckedClaim). all_claimed weight (put_by p)) (λ (p : CheckerPost). p.claims) checked in
+      let f4 = ap (sum_by (λ (t : Taker CheckedClaim). all_claimed weight (taken_by t))) apart.heard ∙ sum_of_parts (λ (t : Taker CheckedClaim). all_claimed weight (taken_by t)) (λ (p : ClerkPost). p.claims) Settled in
+      let s = sum_apart (λ chair. settled weight (receipts_in chair)) in
+      let g = sum_apart (λ chair. given weight (receipts_in chair)) in
+      omega arith
+
+  pub have_worked : IsRelayed back → HaveWorked may_tell crew chairs after
+  have_worked relayed =
+      let some : 0 < length Solved = (
+      let a = opened.found.ends.all_putters in
+      let b = opened.found.putters_are in
+      let c = ap length manned.finds in
+      let d = as_many (HasSolved may_tell crew) before.solvers.items Solved ended.solvers in
+      let e = crew.settings.solvers_are in
+      omega (arith, length-map before.solvers.items (λ (p : SolverPost). p.found))
+      ) in
+      let idle = some_idle Solved (map desk_chair_of Settled) some (each_after (HasSolved may_tell crew) (λ p. EndsIdle (receipts_in p.chair)) (λ x y has. has.idle) before.solvers.items Solved ended.solvers) in
+      record {
+        duty = subst (λ (l : List Chair). All (IsOnDuty may_tell crew) l) (sym apart.chairs_are)
+            (All-append (IsOnDuty may_tell crew) (map chair_of Solved) (map desk_chair_of Settled)
+            (to_parts (IsOnDuty may_tell crew) chair_of Solved (each_after (HasSolved may_tell crew) (λ p. IsOnDuty may_tell crew p.chair) (λ x y has. has.stays.chair.duty) before.solvers.items Solved ended.solvers))
+            (to_parts (IsOnDuty may_tell crew) desk_chair_of Settled (each_after (HasSettled may_tell crew) (λ p. IsOnDuty may_tell crew p.chair) (λ x y has. has.stays.chair.duty) before.clerks.items Settled ended.clerks)));
+        numbers =
+            let solved = same_of_each (HasSolved may_tell crew) (λ (p : SolverPost). number_of p.chair) (λ x y has. has.stays.chair.number) before.solvers.items Solved ended.solvers in
+            let settled = same_of_each (HasSettled may_tell crew) (λ (p : ClerkPost). number_of p.chair) (λ x y has. has.stays.chair.number) before.clerks.items Settled ended.clerks in
+            ap (map number_of) apart.chairs_are ∙ numbers_apart Solved Settled
+            ∙ (λ i. solved i ++ settled i)
+            ∙ sym (ap (map number_of) manned.chairs_are ∙ numbers_apart before.solvers.items before.clerks.items);
+        idle = (idle.0, subst (λ (l : List Chair). Contains l idle.0) (sym apart.chairs_are) idle.1, idle.2);
+        leases = leases relayed;
+      }
+    where
+      numbers_apart : (solved : List SolverPost) (settled : List ClerkPost) → map number_of (map chair_of solved ++ map desk_chair_of settled) ≡ map (λ (p : SolverPost). number_of p.chair) solved ++ map (λ (p : ClerkPost). number_of p.chair) settled
+      numbers_apart solved settled =
+          map-append number_of (map chair_of solved) (map desk_chair_of settled)
+          ∙ (λ i. parts_of_parts number_of chair_of solved i ++ parts_of_parts number_of desk_chair_of settled i)

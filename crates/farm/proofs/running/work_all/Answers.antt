@@ -1,0 +1,19 @@
+use Rattle.std.proofs.Common.{sym, subst}
+use Rattle.farm.specs.declared.relays.Relays.{Relays}
+use Rattle.farm.specs.Relaying.{AreAllEndsOf}
+use Rattle.farm.proofs.Ending.{all_ends, have_worked}
+use Rattle.farm.proofs.running.work_all.Goals as goal
+
+pub close-requires : goal.close-requires
+close-requires g c =
+    let ready = c.in_ok-opened.ensures in
+    let worked = c.in_ok-relays.ensures in
+    subst (λ (relays : Relays). AreAllEndsOf relays c.in_ok-chairs.ends) (sym worked.relays)
+    (all_ends g.C.Clock.may_tell c.args.crew.now c.in_ok-opened.opened.0 c.args.chairs.items c.in_ok-chairs.chairs.items ready.ends c.in_ok-chairs.ends c.in_ok-opened.opened.1 c.in_ok-relays.posts ready.opened ready.manned worked.posts c.in_ok-chairs.ensures)
+
+pub returns : goal.returns
+returns g c =
+    let ready = c.in_ok-opened.ensures in
+    let worked = c.in_ok-relays.ensures in
+    have_worked g.C.Clock.may_tell c.args.crew.now c.in_ok-opened.opened.0 c.args.chairs.items c.in_ok-chairs.chairs.items ready.ends c.in_ok-chairs.ends c.in_ok-opened.opened.1 c.in_ok-relays.posts ready.opened ready.manned worked.posts c.in_ok-chairs.ensures
+    c.in_ok-close.ensures
