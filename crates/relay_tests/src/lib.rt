@@ -13,3 +13,5 @@ mod runs;
 mod thread_tests;
 #[cfg(test)]
 mod wait_tests;
+#[cfg(test)]
+mod watch;

@@ -15,3 +15,17 @@ fn ten_of_twenty(rt: HostRuntime) -> Result<(), Fail> {
     expect_eq(&rt, &left, &numbers(rt.alloc(), 11, 21)?);
     Ok(())
 }
+
+/// No take ends before a putter does, however many come.
+#[test]
+fn two_thousand_in_turn(rt: HostRuntime) -> Result<(), Fail> {
+    let (_relay, mut putters, mut takers) = Relay::<u64>::open(rt.alloc(), 2, 1, 1)?;
+    let (Some(mut putter), Some(mut taker)) = (putters.pop(), takers.pop()) else {
+        unreachable!()
+    };
+    for number in 0..2000u64 {
+        expect_eq(&rt, &putter.put(&rt, number), &Ok(()));
+        expect_eq(&rt, &taker.take(&rt), &Some(number));
+    }
+    Ok(())
+}

@@ -1,6 +1,8 @@
-//! Calls that wait: a take at an empty relay, a put at a full one. And that they don't where nobody is left.
+//! Calls that wait: a take at an empty relay, a put at a full one. And that no put waits where nobody is left to take, and no
+//! take where the relay is ended.
 
 use crate::expect::expect_eq;
+use crate::watch::{soon, take_soon};
 use farm_relay::{OutOfMemory, Putter, Relay, Taker};
 use std::alloc::Global;
 use std::sync::Wait;
@@ -27,11 +29,12 @@ fn look_for(flag: &AtomicBool) {
     }
 }
 
-/// Takes, and says before that it is about to.
-fn take_now<R: Wait>(rt: &R, taker: Taker<u64>, begun: &AtomicBool) -> Option<u64> {
+/// Takes, and says before that it is about to. The taker is kept, so that a put does not come back.
+fn take_now<R: Wait>(rt: &R, taker: Taker<u64>, begun: &AtomicBool) -> (Taker<u64>, Option<u64>) {
     let mut taker = taker;
     begun.store(true, SeqCst);
-    taker.take(rt)
+    let taken = taker.take(rt);
+    (taker, taken)
 }
 
 /// Puts a number, and says before that it is about to. Says whether it was put.
@@ -52,7 +55,7 @@ fn taken_when_empty<R: Threads + Wait + Sync>(
     };
     let flag = AtomicBool::new(false);
     let begun = &flag;
-    let (taken, _put) = thread::join(
+    let (took, _put) = thread::join(
         rt,
         move || take_now(rt, taker, begun),
         move || {
@@ -60,7 +63,7 @@ fn taken_when_empty<R: Threads + Wait + Sync>(
             put_now(rt, putter, 3, begun)
         },
     );
-    Ok(taken)
+    Ok(took.1)
 }
 
 /// Whether a number is put into a full relay, from which one is taken only once the put is under way.
@@ -76,14 +79,15 @@ fn put_when_full<R: Threads + Wait + Sync>(
     let _first = putter.put(rt, 4);
     let flag = AtomicBool::new(false);
     let begun = &flag;
-    Ok(thread::join(
+    let (put, took) = thread::join(
         rt,
         move || put_now(rt, putter, 5, begun),
         move || {
             look_for(begun);
             take_now(rt, taker, begun)
         },
-    ))
+    );
+    Ok((put, took.1))
 }
 
 #[test]
@@ -98,15 +102,64 @@ fn a_put_waits(rt: HostRuntime) -> Result<(), Fail> {
     Ok(())
 }
 
+/// What a taker takes from an empty relay, whose putter is dropped unfinished once the take is under way, in a thread of its own.
+/// Then the relay is ended.
+fn taken_when_ended<R: Threads + Wait + Sync>(
+    rt: &R,
+    alloc: Global,
+) -> Result<Option<u64>, OutOfMemory> {
+    let (mut relay, mut putters, mut takers) = Relay::<u64>::open(alloc, 1, 1, 1)?;
+    let (Some(putter), Some(taker)) = (putters.pop(), takers.pop()) else {
+        return Ok(Some(0));
+    };
+    let flag = AtomicBool::new(false);
+    let begun = &flag;
+    let (took, _relay) = thread::join(
+        rt,
+        move || take_now(rt, taker, begun),
+        move || {
+            thread::join(
+                rt,
+                move || {
+                    look_for(begun);
+                    drop(putter);
+                },
+                || (),
+            );
+            relay.end(rt);
+            relay
+        },
+    );
+    Ok(took.1)
+}
+
+#[test]
+fn an_end_wakes_a_taker(rt: HostRuntime) -> Result<(), Fail> {
+    expect_eq(&rt, &taken_when_ended(&rt, rt.alloc())?, &None);
+    Ok(())
+}
+
+/// Where all takers were dropped a put comes back, and an end returns, though the one place is full.
 #[test]
 fn nobody_is_left(rt: HostRuntime) -> Result<(), Fail> {
     let (relay, mut putters, takers) = Relay::<u64>::open(rt.alloc(), 4, 1, 1)?;
     drop(relay);
     drop(takers);
     expect_eq(&rt, &putters[0].put(&rt, 9), &Err(9));
-    let (relay, putters, mut takers) = Relay::<u64>::open(rt.alloc(), 4, 1, 1)?;
-    drop(relay);
+    let (mut relay, mut putters, takers) = Relay::<u64>::open(rt.alloc(), 1, 1, 1)?;
+    expect_eq(&rt, &putters[0].put(&rt, 8), &Ok(()));
+    drop(takers);
+    expect_eq(&rt, &soon(&rt, || putters[0].put(&rt, 9)), &Err(9));
+    soon(&rt, || relay.end(&rt));
+    Ok(())
+}
+
+/// Where all putters were dropped unfinished, a take waits for the relay's end.
+#[test]
+fn nobody_finishes(rt: HostRuntime) -> Result<(), Fail> {
+    let (mut relay, putters, mut takers) = Relay::<u64>::open(rt.alloc(), 4, 1, 1)?;
     drop(putters);
-    expect_eq(&rt, &takers[0].take(&rt), &None);
+    relay.end(&rt);
+    expect_eq(&rt, &take_soon(&rt, &mut takers[0]), &None);
     Ok(())
 }

@@ -10,5 +10,5 @@ invariant-loop-taker g l = record {
   seat : IsSeatAt (sends_on l.sender) l.pass;
   joined : HasJoinedTakers (view l.initial.pass) l.yielded (view l.pass);
   of : All (λ (taker : Taker g.row.T.Denot). receives_on taker.receiver ≡ sends_on l.sender) l.taker-iterator.rest.items;
-  whole : l.yielded ++ l.taker-iterator.rest.items ≡ l.initial.taker-iterator.rest.items
+  whole : l.yielded ++ l.taker-iterator.rest.items ≡ l.initial.taker-iterator.rest.items;
 }

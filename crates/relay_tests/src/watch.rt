@@ -1,0 +1,53 @@
+//! Calls that have nothing to wait for.
+
+use farm_relay::Taker;
+use std::process::Abort;
+use std::sync::Wait;
+use std::sync::atomic::AtomicBool;
+use std::sync::atomic::Ordering::SeqCst;
+use std::thread;
+use std::thread::Threads;
+use std::time::{Clock, Duration};
+
+/// For how many milliseconds a call is looked at.
+const LIMIT: u64 = 20_000;
+
+/// Waits until it is set. Where that takes too long, the test fails.
+fn look_at<R: Abort + Clock>(rt: &R, done: &AtomicBool) {
+    for _turn in 0..LIMIT {
+        if done.load(SeqCst) {
+            return;
+        }
+        thread::sleep(rt, Duration::from_millis(1));
+    }
+    panic!(rt; "a call waits that has nothing to wait for");
+}
+
+/// Runs a call that has nothing to wait for. Where it waits, the test fails.
+pub fn soon<X: Send, F: FnOnce() -> X + Send, R: Threads + Abort + Clock + Sync>(
+    rt: &R,
+    call: F,
+) -> X
+    requires { F.pre call }
+{
+    let flag = AtomicBool::new(false);
+    let done = &flag;
+    let (got, ()) = thread::join(
+        rt,
+        move || {
+            let got = call();
+            done.store(true, SeqCst);
+            got
+        },
+        move || look_at(rt, done),
+    );
+    got
+}
+
+/// What is taken where something is there, if only an end mark.
+pub fn take_soon<R: Threads + Wait + Abort + Clock + Sync>(
+    rt: &R,
+    taker: &mut Taker<u64>,
+) -> Option<u64> {
+    soon(rt, || taker.take(rt))
+}
