@@ -4,7 +4,6 @@ ghost use Rattle.std.specs.Prelude.{◌≡◌, IfOk, IfErr};
 ghost use Rattle.lease_book.specs.Books.{AreBoards};
 ghost use Rattle.farm.specs.Runs.{IsBookOf, IsRun};
 ghost use Rattle.farm.specs.Leases.{AreSettledOnce};
-ghost use Rattle.farm.specs.Passing.{IsPassedOn};
 ghost use Rattle.tournaments.specs.Making.{MakesTables};
 ghost use Rattle.tournaments.specs.Texts.{IsHalted};
 
@@ -35,7 +34,6 @@ fn farmed_book<S: Solver + Sync, G: Gate + Sync, C: Clock + Sync, R: Threads + W
     requires { AreBoards boards.items }
     ensures book { IfOk result (IsBookOf (C.may_tell clock.now) (record { boards = boards.items; term = settings.term; tries = settings.tries })) }
     ensures fault { IfErr result IsHalted }
-    ensures passed { IfOk result (λ book. IsPassedOn settings book.events) }
     ensures once { IfOk result (λ book. AreSettledOnce book.events) }
 {
     match run_farm(rt, alloc, boards, settings, solver, gate, clock) {
@@ -51,8 +49,7 @@ fn farmed_book<S: Solver + Sync, G: Gate + Sync, C: Clock + Sync, R: Threads + W
 ///
 /// Whatever the solver answers, the gate does and the clock tells, and in whatever order the threads work, a number that is
 /// written is the double-dummy value of its deal, and is written once: an answer whose certificates don't show it gives none.
-/// No lease is settled twice, and nothing that a thread put for another was lost, as `run_farm` tells. With all refusals but a
-/// failed sink nothing was written.
+/// No lease is settled twice. With all refusals but a failed sink nothing was written.
 pub fn make_tables<
     I: Source,
     O: Sink,
@@ -72,7 +69,6 @@ pub fn make_tables<
 ) -> Result<(Report, Book), MakeFault>
     ensures tables { MakesTables (IsRun (C.may_tell clock.now)) settings.term settings.tries (I.state input.old) (I.state input.new)
         (O.state output.old) (O.state output.new) result }
-    ensures passed { IfOk result (λ made. IsPassedOn settings made.1.events) }
     ensures once { IfOk result (λ made. AreSettledOnce made.1.events) }
 {
     let text = read_all(alloc, input)?;
