@@ -9,7 +9,7 @@ use std::alloc::{AllocError, Global};
 use std::process::Abort;
 use std::test::Fail;
 use tables::Report;
-use tournaments::{MakeFault, make_tables_on_one_thread};
+use tournaments::{MakeFault, make_single};
 
 /// A clock that stands still.
 #[derive(Drop)]
@@ -101,7 +101,7 @@ fn answers_for_another_entry(rt: HostRuntime) -> Result<(), Fail> {
     let written = incomplete(alloc, b"; table incomplete: 1 of 20\n")?;
     let mut source = Bytes::new(ONE_SUIT_EACH, 7);
     let mut sink = Buffer::new(alloc, 2000, 5)?;
-    let made = make_tables_on_one_thread(
+    let made = make_single(
         alloc,
         &mut source,
         &mut sink,
@@ -127,7 +127,7 @@ fn expect_fault(
     written: &[u8],
 ) -> Result<(), Fail> {
     let mut sink = Buffer::new(alloc, room, 7)?;
-    let made = make_tables_on_one_thread(
+    let made = make_single(
         alloc,
         source,
         &mut sink,

@@ -9,7 +9,7 @@ use std::process::Abort;
 use std::test::Fail;
 use subcommands::Subcommand;
 use tables::Report;
-use tournaments::{MakeFault, make_tables_on_one_thread};
+use tournaments::{MakeFault, make_single};
 
 const TERM: u64 = 600;
 
@@ -60,7 +60,7 @@ fn expect_made(
     output: &mut Buffer,
     wanted: Result<Report, MakeFault>,
 ) {
-    let made = make_tables_on_one_thread(
+    let made = make_single(
         alloc, &mut input, output, TERM, TRIES, STEPS, &Nothing, &Stopped,
     );
     expect_eq(rt, &made.map(|made| made.0), &wanted);

@@ -22,7 +22,7 @@ use tables::{Report, write_tables};
 /// Whatever the solver answers and the clock tells, a number that is written is the double-dummy value of its deal: an
 /// answer whose certificates don't show it gives none. Right after each lease the checker's verdict on what the solver
 /// found is handed in. With all refusals but a failed sink nothing was written.
-pub fn make_tables_on_one_thread<I: Source, O: Sink, S: Solver, C: Clock>(
+pub fn make_single<I: Source, O: Sink, S: Solver, C: Clock>(
     alloc: Global,
     input: &mut I,
     output: &mut O,

@@ -7,7 +7,7 @@ use partition_solver::Solver;
 use pbn_deals::{Board, read_boards, read_layout};
 use std::alloc::{AllocError, Global};
 use tables::Report;
-use tournaments::{MakeFault, make_tables_on_one_thread};
+use tournaments::{MakeFault, make_single};
 
 /// Room for the tables of a case.
 const ROOM: usize = 4096;
@@ -67,7 +67,7 @@ pub fn answer_tables<S: Solver>(
     let text = repeated(alloc, case)?;
     let mut source = Bytes::new(text.as_slice(), 7);
     let mut sink = Buffer::new(alloc, ROOM, 5)?;
-    let made = make_tables_on_one_thread(
+    let made = make_single(
         alloc,
         &mut source,
         &mut sink,
