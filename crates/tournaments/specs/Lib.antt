@@ -5,3 +5,4 @@ pub mod Replaying
 pub mod Texts
 pub mod Asking
 pub mod Working
+pub mod Pages

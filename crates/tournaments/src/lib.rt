@@ -7,6 +7,7 @@
 #![tactic(auto)]
 
 mod faults;
+mod laws;
 mod making;
 mod replaying;
 mod single;
@@ -14,6 +15,7 @@ mod texts;
 mod working;
 
 pub use faults::MakeFault;
+pub use laws::tables_are_read;
 pub use making::make_tables;
 pub use replaying::replay_tables;
 pub use single::make_single;

@@ -1,0 +1,41 @@
+-- What is read, line by line, of the page of a whole tournament (`PageReading` of `tables` says how a page is read).
+use Rattle.std.specs.Prelude.{◌≡◌, ℕ, List, Some, Ok, All, ⊤}
+use Rattle.std.specs.List.{AllZip, enumerate_from}
+use Rattle.cards.specs.Deal.{Deal}
+use Rattle.pbn_deals.specs.declared.boards.Board.{Board}
+use Rattle.pbn_deals.specs.Lines.{lines_of}
+use Rattle.pbn_deals.specs.Reading.{TextAnswers}
+use Rattle.strategies.specs.Values.{IsValue}
+use Rattle.lease_book.specs.declared.events.Event.{Event}
+use Rattle.lease_book.specs.Histories.{Terms}
+use Rattle.farm.specs.Publications.{IsTrueHistory}
+use Rattle.tables.specs.BookResults.{book_results}
+use Rattle.tables.specs.PageReading.{Row, Table, Rows, Incomplete, Block, page_in}
+use Rattle.tables.specs.WrittenOnce.{SayBoards}
+use Rattle.tournaments.specs.Making.{history_text}
+
+-- the row's number is the double-dummy value of the board's deal, for the row's declarer and denomination
+abbrev pub IsTrueRow : Board → Row → Type 0
+IsTrueRow board row =
+    (deal : Deal) × (board.deal ≡ Some deal) × IsValue deal row.declarer row.denomination row.tricks
+
+-- so is each number of a table; where some are not known, none stands in it
+abbrev pub IsTrueTable : Board → Table → Type 0
+IsTrueTable board (Rows rows) = All (IsTrueRow board) rows
+IsTrueTable board (Incomplete count) = ⊤
+
+-- The page is read as one block for each board, in their order, and no other. A block has the board's name and its deal, and
+-- twenty rows in which each declarer and denomination stands once, with the number that the history publishes; or it says
+-- how many of the twenty are published (`SaysBoard`). Each number in it is the double-dummy value.
+pub record IsReadOnce (boards : List Board) (events : List Event) (page : List ℕ) : Type 0 where
+  pub blocks : List Block
+  pub read : page_in (lines_of page) ≡ Some blocks
+  pub boards_said : SayBoards (book_results boards events) (enumerate_from 0 boards) blocks
+  pub values : AllZip (λ board block. IsTrueTable board block.table) boards blocks
+
+-- so is the page that is written of the boards that any text says, after any true history over them
+abbrev pub TablesAreRead : Type 0
+TablesAreRead =
+    (text : List ℕ) (terms : Terms) (events : List Event) →
+    TextAnswers text (Ok terms.boards) → IsTrueHistory terms events →
+    IsReadOnce terms.boards events (history_text terms.boards events)

@@ -1,0 +1,13 @@
+//! What holds of the pages that are written.
+
+ghost use Rattle.tournaments.specs.Pages.{TablesAreRead};
+
+/// The page that is written of the boards that a text says, after a true history over them, is read line by line as one
+/// block a board, in their order, and nothing else: its name, its deal, and twenty rows of which each declarer and
+/// denomination has one, with the double-dummy value of that deal, or how many of the twenty numbers are known.
+///
+/// [`make_tables`](crate::make_tables), [`make_single`](crate::make_single) and [`replay_tables`](crate::replay_tables)
+/// write such a page: what `Ok` says of each gives the text, the terms and the history.
+pub fn tables_are_read()
+    ensures { TablesAreRead }
+{}
