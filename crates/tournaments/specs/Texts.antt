@@ -20,14 +20,6 @@ TakesBoards text (Err (Pbn fault)) = TextAnswers text (Err fault)
 TakesBoards text (Err NoThread) = ⊥
 TakesBoards text (Err Write) = ⊥
 
--- memory ran out, or a thread could not be started
-abbrev pub IsHalted : MakeFault → Type 0
-IsHalted OutOfMemory = ⊤
-IsHalted Read = ⊥
-IsHalted (Pbn fault) = ⊥
-IsHalted NoThread = ⊤
-IsHalted Write = ⊥
-
 -- a book that has answered these requests
 abbrev pub IsReplayedBook : Terms → List Request → Ledger → Type 0
 IsReplayedBook terms requests book = (replies : List Reply) × IsReplayed terms requests book replies

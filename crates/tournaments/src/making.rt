@@ -1,11 +1,11 @@
 //! The tables by many threads.
 
-ghost use Rattle.std.specs.Prelude.{◌≡◌, IfOk, IfErr};
+ghost use Rattle.std.specs.Prelude.{◌≡◌, IfOk, IfErr, IsSome};
 ghost use Rattle.lease_book.specs.Books.{AreBoards};
 ghost use Rattle.farm.specs.Runs.{IsBookOf, IsRun};
 ghost use Rattle.farm.specs.Leases.{AreSettledOnce};
+ghost use Rattle.tournaments.specs.Faults.{halted_fault, IsHalted};
 ghost use Rattle.tournaments.specs.Making.{MakesTables};
-ghost use Rattle.tournaments.specs.Texts.{IsHalted};
 
 use crate::faults::{MakeFault, write_failed};
 use crate::texts::take_boards;
@@ -20,6 +20,18 @@ use std::sync::Wait;
 use std::thread::Threads;
 use streams::read_all;
 use tables::{Report, write_tables};
+
+/// Why nothing is made where a farm over boards of a text was halted.
+fn halted(fault: FarmFault) -> MakeFault
+    requires { IsSome (halted_fault fault) }
+    ensures { halted_fault fault ≡ Some result }
+{
+    match fault {
+        FarmFault::OutOfMemory => MakeFault::OutOfMemory,
+        FarmFault::NoThread => MakeFault::NoThread,
+        FarmFault::Book(_) => unreachable!(),
+    }
+}
 
 /// The book of a farm over boards of a text, unless memory runs out or a thread can't be started.
 fn farmed_book<S: Solver + Sync, G: Gate + Sync, C: Clock + Sync, R: Threads + Wait + Sync>(
@@ -38,9 +50,7 @@ fn farmed_book<S: Solver + Sync, G: Gate + Sync, C: Clock + Sync, R: Threads + W
 {
     match run_farm(rt, alloc, boards, settings, solver, gate, clock) {
         Ok(book) => Ok(book),
-        Err(FarmFault::OutOfMemory) => Err(MakeFault::OutOfMemory),
-        Err(FarmFault::NoThread) => Err(MakeFault::NoThread),
-        Err(FarmFault::Book(_)) => unreachable!(),
+        Err(fault) => Err(halted(fault)),
     }
 }
 
