@@ -1,6 +1,7 @@
 -- What is told of the work.
-use Rattle.std.specs.Prelude.{ℕ, ◌-◌, List, ◌++◌, codes}
+use Rattle.std.specs.Prelude.{ℕ, ◌-◌, List, ◌++◌, codes, ◌⊎◌}
 use Rattle.std.specs.Fmt.{decimal}
+use Rattle.cards.specs.Devices.{Device, Adds, AddsBeginning}
 use Rattle.progress.specs.declared.counts.Counts.{Counts}
 
 -- `37 of 200 results, `
@@ -21,3 +22,7 @@ abbrev pub last_line_text : Counts → ℕ → List ℕ
 last_line_text counts seconds =
     counts_text counts
     ++ (decimal seconds ++ (codes " s, " ++ (decimal (counts.boards - counts.finished) ++ codes " tables incomplete\n")))
+
+-- a text goes out, or a beginning of it where the sink fails
+abbrev pub Tells : Device → Device → List ℕ → Type 0
+Tells old new text = Adds old new text ⊎ AddsBeginning old new text

@@ -1,6 +1,8 @@
 //! What of the work is done.
 
 ghost use Rattle.std.specs.Prelude.{◌≡◌, ◌-◌};
+ghost use Rattle.std.specs.List.{position_or_len};
+ghost use Rattle.lease_book.specs.Twins.{is_dealt};
 
 use cards::Layout;
 use pbn_deals::Board;
@@ -28,7 +30,9 @@ pub(crate) struct Counts {
 }
 
 /// The number of the first board with this deal, or how many boards there are.
-fn first_with(boards: &[Board], deal: Layout) -> usize {
+fn first_with(boards: &[Board], deal: Layout) -> usize
+    ensures { result ≡ position_or_len (is_dealt deal) boards.now }
+{
     for (number, board) in boards.iter().enumerate() {
         if board.deal == Some(deal) {
             return number;
@@ -38,8 +42,13 @@ fn first_with(boards: &[Board], deal: Layout) -> usize {
 }
 
 impl Counts {
+    ghost use Rattle.std.specs.Prelude.{ℕ, ◌<◌, [], slice_index};
+    ghost use Rattle.progress.specs.Counts.{AreCounted, IsBegun, AddsResult, with_one_more};
+
     /// Of no boards.
-    pub(crate) const fn none() -> Counts {
+    pub(crate) const fn none() -> Counts
+        ensures { AreCounted [] [] result }
+    {
         Counts {
             of_board: [0; MOST_BOARDS],
             sharing: [0; MOST_BOARDS],
@@ -51,7 +60,9 @@ impl Counts {
     }
 
     /// Of these boards, before the work on them.
-    pub(crate) fn begin(&mut self, boards: &[Board]) {
+    pub(crate) fn begin(&mut self, boards: &[Board])
+        ensures { IsBegun boards.now self.new }
+    {
         *self = Counts::none();
         self.boards = boards.len() as u64;
         for board in boards {
@@ -63,14 +74,20 @@ impl Counts {
     }
 
     /// One board more has the deal of this one.
-    fn share(&mut self, first: usize) {
+    fn share(&mut self, first: usize)
+        ensures sharing { (number : ℕ) → number < 4096
+            → slice_index self.new.sharing number ≡ with_one_more self.old.sharing first number }
+        ensures rest { self.new ≡ record self.old { sharing = self.new.sharing } }
+    {
         if first < MOST_BOARDS {
             self.sharing[first] = self.sharing[first].saturating_add(1);
         }
     }
 
     /// A result of this board was published, and so of all that share its deal.
-    pub(crate) fn publish(&mut self, board: usize) {
+    pub(crate) fn publish(&mut self, board: usize)
+        ensures { AddsResult self.old self.new board }
+    {
         if board >= MOST_BOARDS {
             return;
         }

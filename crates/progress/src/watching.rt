@@ -1,5 +1,7 @@
 //! The gate that tells of the work.
 
+ghost use Rattle.std.specs.Prelude.{◌≡◌, ◌<◌, ◌≤◌, max};
+
 use crate::counts::Counts;
 use crate::lines::{write_last_line, write_line};
 use cards::Sink;
@@ -16,6 +18,43 @@ struct Told<S> {
     /// When the last line was written, or the work began.
     moment: u64,
     sink: S,
+}
+
+impl<S: Sink> Told<S> {
+    ghost use Rattle.progress.specs.Counts.{IsBegun, AddsResult};
+    ghost use Rattle.progress.specs.Lines.{Tells, line_text, last_line_text};
+
+    /// The work on these boards begins at this moment.
+    fn begin(&mut self, boards: &[Board], now: u64)
+        ensures counts { IsBegun boards.now self.new.counts }
+        ensures moment { self.new.moment ≡ now }
+        ensures sink { self.new.sink ≡ self.old.sink }
+    {
+        self.counts.begin(boards);
+        self.moment = now;
+    }
+
+    /// A result of this board was published at this moment: a line is written, unless one was in the same moment.
+    fn publish(&mut self, board: usize, now: u64)
+        ensures counts { AddsResult self.old.counts self.new.counts board }
+        ensures moment { self.new.moment ≡ max self.old.moment now }
+        ensures line { self.old.moment < now
+            → Tells (S.state self.old.sink) (S.state self.new.sink) (line_text self.new.counts now) }
+        ensures no_line { now ≤ self.old.moment → self.new.sink ≡ self.old.sink }
+    {
+        self.counts.publish(board);
+        if now > self.moment {
+            self.moment = now;
+            let _ = write_line(&self.counts, now, &mut self.sink);
+        }
+    }
+
+    /// All work has ended at this moment.
+    fn end(&mut self, now: u64)
+        ensures { Tells (S.state self.old.sink) (S.state self.new.sink) (last_line_text self.old.counts now) }
+    {
+        let _ = write_last_line(&self.counts, now, &mut self.sink);
+    }
 }
 
 /// A gate that tells how far the work has come: a line after each moment of the clock in which a result was published, and one
@@ -61,8 +100,7 @@ impl<'a, R: Wait, C: Clock, S: Sink> Progress<'a, R, C, S> {
 impl<R: Wait, C: Clock, S: Sink> Gate for Progress<'_, R, C, S> {
     fn before_work(&self, boards: &[Board]) {
         let mut told = self.told.lock(self.rt);
-        told.counts.begin(boards);
-        told.moment = self.clock.now();
+        told.begin(boards, self.clock.now());
     }
 
     fn before_solve(&self, _lease: u64) {}
@@ -74,26 +112,11 @@ impl<R: Wait, C: Clock, S: Sink> Gate for Progress<'_, R, C, S> {
             return;
         };
         let mut told = self.told.lock(self.rt);
-        let Told {
-            counts,
-            moment,
-            sink,
-        } = &mut *told;
-        counts.publish(entry.board);
-        let now = self.clock.now();
-        if now > *moment {
-            *moment = now;
-            let _ = write_line(counts, now, sink);
-        }
+        told.publish(entry.board, self.clock.now());
     }
 
     fn after_work(&self) {
         let mut told = self.told.lock(self.rt);
-        let Told {
-            counts,
-            moment: _,
-            sink,
-        } = &mut *told;
-        let _ = write_last_line(counts, self.clock.now(), sink);
+        told.end(self.clock.now());
     }
 }
