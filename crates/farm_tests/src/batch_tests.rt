@@ -2,12 +2,14 @@
 
 use crate::expect::expect_eq;
 use crate::gates::{Open, TellsAll, Told};
-use crate::remembers::Remembers;
+use crate::remembers::{Call, Remembers, declarers_of, trumps_of};
 use crate::solvers::{ACE, StandsStill};
 use crate::tables::{ONE_SUIT_EACH, Tally, boards_of, one_board, tally_of};
+use cards::{Seat, Trump};
 use farm::{Settings, run_farm};
-use lease_book::Book;
+use lease_book::{Book, Reply};
 use partition_solver::Partition;
+use pbn_deals::read_layout;
 use std::alloc::Global;
 use std::process::Abort;
 use std::sync::Wait;
@@ -89,7 +91,7 @@ fn expect_groups<R: Threads + Wait + Abort + Sync>(
     alloc: Global,
     row: &Row,
 ) -> Result<(), Fail> {
-    let (solver, gate) = (Remembers::new(), TellsAll::new());
+    let (solver, gate) = (Remembers::new(rt, alloc), TellsAll::new());
     let settings = Settings::new(1, 1, 600, 1, BUDGET, row.batch)?;
     let boards = one_board(alloc, ONE_SUIT_EACH)?;
     let book = run_farm(rt, alloc, boards, settings, &solver, &gate, &StandsStill)?;
@@ -103,8 +105,9 @@ fn expect_groups<R: Threads + Wait + Abort + Sync>(
         others: 0,
     };
     expect_eq(rt, &tally_of(&book), &wanted);
-    expect_eq(rt, &solver.trumps.number(), &row.calls);
-    expect_eq(rt, &solver.declarers.number(), &row.declarers);
+    let calls = solver.into_calls();
+    expect_eq(rt, &trumps_of(calls.as_slice()), &row.calls);
+    expect_eq(rt, &declarers_of(calls.as_slice()), &row.declarers);
     expect_told(rt, &gate.solved, row.leases);
     expect_told(rt, &gate.checked, row.leases);
     expect_told(rt, &gate.handed_in, row.leases);
@@ -121,6 +124,68 @@ fn leases_are_grouped_by_denominations(rt: HostRuntime) -> Result<(), Fail> {
 
 /// The cards of North's ace, each at the next seat.
 const TURNED: &[u8] = b"N:J... A... K... Q...";
+
+/// What the leases of a history say, each alone: the deal of its board, its declarer, its denomination, and the budget.
+fn said_one_by_one(alloc: Global, book: &Book, budget: u64) -> Result<Vec<Call>, Fail> {
+    let mut said = Vec::new(alloc);
+    for event in book.history() {
+        let Reply::Given { entry, .. } = event.reply else {
+            continue;
+        };
+        let board = book.boards().get(entry.board).ok_or("no such board")?;
+        said.push(Call {
+            layout: board.deal.ok_or("no deal")?,
+            declarers: Vec::from_slice(alloc, &[entry.declarer])?,
+            trump: entry.trump,
+            budget,
+        })?;
+    }
+    Ok(said)
+}
+
+/// What the twenty leases of each of two boards say together: in each denomination the deal for all its declarers.
+fn said_board_by_board(alloc: Global, budget: u64) -> Result<Vec<Call>, Fail> {
+    let mut said = Vec::new(alloc);
+    for deal in [ACE, TURNED] {
+        let layout = read_layout(deal)?;
+        for trump in Trump::ALL {
+            said.push(Call {
+                layout,
+                declarers: Vec::from_slice(alloc, &Seat::ALL)?,
+                trump,
+                budget,
+            })?;
+        }
+    }
+    Ok(said)
+}
+
+/// These are the calls that are wanted, in their order.
+fn expect_calls(rt: &impl Abort, calls: &[Call], wanted: &[Call]) {
+    expect_eq(rt, &calls.len(), &wanted.len());
+    for (call, wanted) in calls.iter().zip(wanted) {
+        expect_eq(rt, call, wanted);
+    }
+}
+
+/// The solver is asked for what the leases say, with the budget of the settings, and for nothing else.
+#[test]
+fn leases_say_what_is_asked(rt: HostRuntime) -> Result<(), Fail> {
+    let alloc = rt.alloc();
+    for (batch, budget) in [(1, 1_234_567), (20, 7_654_321)] {
+        let settings = Settings::new(1, 1, 600, 1, budget, batch)?;
+        let boards = boards_of(alloc, &[ACE, TURNED])?;
+        let solver = Remembers::new(&rt, alloc);
+        let book = run_farm(&rt, alloc, boards, settings, &solver, &Open, &StandsStill)?;
+        let said = if batch == 1 {
+            said_one_by_one(alloc, &book, budget)?
+        } else {
+            said_board_by_board(alloc, budget)?
+        };
+        expect_calls(&rt, solver.into_calls().as_slice(), said.as_slice());
+    }
+    Ok(())
+}
 
 /// The book of one card each, and of the same cards one seat further on.
 fn book_of_two_boards<R: Threads + Wait + Sync>(

@@ -1,9 +1,12 @@
 //! Gates for tests.
 
 use crate::digits::Digits;
+use lease_book::{Entry, Reply};
 use lease_desk::Gate;
+use std::alloc::Global;
 use std::sync::atomic::Ordering::SeqCst;
 use std::sync::atomic::{AtomicBool, AtomicU64};
+use std::sync::{Mutex, Wait};
 
 /// A gate that does nothing.
 #[derive(Drop)]
@@ -19,7 +22,7 @@ impl Gate for Open {
 const TURNS: u64 = 1_000_000_000;
 
 /// Waits until it is set, and says whether it was.
-fn waits_for(flag: &AtomicBool) -> bool {
+pub fn waits_for(flag: &AtomicBool) -> bool {
     for _ in 0..TURNS {
         if flag.load(SeqCst) {
             return true;
@@ -35,7 +38,7 @@ pub struct TwoSolvers {
     first: AtomicBool,
     second: AtomicBool,
     /// Whether it has waited in vain.
-    pub failed: AtomicBool,
+    failed: AtomicBool,
 }
 
 impl TwoSolvers {
@@ -45,6 +48,11 @@ impl TwoSolvers {
             second: AtomicBool::new(false),
             failed: AtomicBool::new(false),
         }
+    }
+
+    /// Whether both were worked on at once.
+    pub fn have_met(&self) -> bool {
+        self.first.load(SeqCst) && self.second.load(SeqCst) && !self.failed.load(SeqCst)
     }
 }
 
@@ -104,9 +112,9 @@ impl Meeting {
         }
     }
 
-    /// Whether both have come in time.
-    fn was_in_time(&self) -> bool {
-        !self.failed.load(SeqCst)
+    /// Whether both have come, and in time.
+    fn have_met(&self) -> bool {
+        self.first.load(SeqCst) && self.second.load(SeqCst) && !self.failed.load(SeqCst)
     }
 }
 
@@ -121,7 +129,7 @@ impl TwoCheckers {
 
     /// Whether both were about to be checked at once.
     pub fn have_met(&self) -> bool {
-        self.0.was_in_time()
+        self.0.have_met()
     }
 }
 
@@ -146,7 +154,7 @@ impl TwoClerks {
 
     /// Whether both were about to be checked at once.
     pub fn have_met(&self) -> bool {
-        self.0.was_in_time()
+        self.0.have_met()
     }
 }
 
@@ -156,6 +164,34 @@ impl Gate for TwoClerks {
     fn before_check(&self, lease: u64) {
         self.0.comes(lease);
     }
+}
+
+/// The first lease is worked on only once the last of forty is.
+#[derive(Drop)]
+pub struct HoldsTheFirst {
+    last: AtomicBool,
+}
+
+impl HoldsTheFirst {
+    pub fn new() -> HoldsTheFirst {
+        HoldsTheFirst {
+            last: AtomicBool::new(false),
+        }
+    }
+}
+
+impl Gate for HoldsTheFirst {
+    fn before_solve(&self, lease: u64) {
+        match lease {
+            1 => {
+                waits_for(&self.last);
+            }
+            40 => self.last.store(true, SeqCst),
+            _ => {}
+        }
+    }
+
+    fn before_check(&self, _lease: u64) {}
 }
 
 /// The leases of a board of which a thread was told, one after the other.
@@ -211,5 +247,37 @@ impl Gate for TellsAll {
 
     fn before_check(&self, lease: u64) {
         self.handed_in.add(lease);
+    }
+}
+
+/// Remembers the entries and replies of which it was told after checks.
+#[derive(Drop)]
+pub struct Hears<'a, R> {
+    rt: &'a R,
+    told: Mutex<Vec<(Entry, Reply)>>,
+}
+
+impl<'a, R: Wait> Hears<'a, R> {
+    pub fn new(rt: &'a R, alloc: Global) -> Hears<'a, R> {
+        Hears {
+            rt,
+            told: Mutex::new(Vec::new(alloc)),
+        }
+    }
+
+    /// What it was told, in order, as far as there was memory.
+    pub fn into_told(self) -> Vec<(Entry, Reply)> {
+        let Hears { rt: _, told } = self;
+        told.into_inner()
+    }
+}
+
+impl<R: Wait> Gate for Hears<'_, R> {
+    fn before_solve(&self, _lease: u64) {}
+
+    fn before_check(&self, _lease: u64) {}
+
+    fn after_check(&self, entry: Entry, reply: Reply) {
+        let _ = self.told.lock(self.rt).push((entry, reply));
     }
 }

@@ -13,6 +13,8 @@ mod flaw_tests;
 #[cfg(test)]
 mod flawed;
 #[cfg(test)]
+mod gate_tests;
+#[cfg(test)]
 mod gates;
 #[cfg(test)]
 mod remembers;
@@ -20,6 +22,8 @@ mod remembers;
 mod run_tests;
 #[cfg(test)]
 mod settings_tests;
+#[cfg(test)]
+mod sharing;
 #[cfg(test)]
 mod solvers;
 #[cfg(test)]

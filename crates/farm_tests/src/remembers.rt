@@ -1,26 +1,44 @@
 //! A solver that remembers what it was asked.
 
-use crate::digits::Digits;
 use cards::{Layout, Seat, Suit, Trump};
 use partition_solver::{Bundle, Partition, Solver};
 use std::alloc::{AllocError, Global};
+use std::sync::{Mutex, Wait};
 
-/// The partition search, which one thread calls. Of each call it remembers the denomination, no-trump, spades, hearts, diamonds
-/// and clubs being 1 to 5, and how many declarers there were.
-#[derive(Drop)]
-pub struct Remembers {
-    search: Partition,
-    pub trumps: Digits,
-    pub declarers: Digits,
+/// What a solver was asked.
+#[derive(Debug, PartialEq, Drop)]
+pub struct Call {
+    pub layout: Layout,
+    pub declarers: Vec<Seat>,
+    pub trump: Trump,
+    pub budget: u64,
 }
 
-impl Remembers {
-    pub fn new() -> Remembers {
+/// The partition search, with all that it was asked, in order.
+#[derive(Drop)]
+pub struct Remembers<'a, R> {
+    rt: &'a R,
+    search: Partition,
+    calls: Mutex<Vec<Call>>,
+}
+
+impl<'a, R: Wait> Remembers<'a, R> {
+    pub fn new(rt: &'a R, alloc: Global) -> Remembers<'a, R> {
         Remembers {
+            rt,
             search: Partition::new(),
-            trumps: Digits::new(),
-            declarers: Digits::new(),
+            calls: Mutex::new(Vec::new(alloc)),
         }
+    }
+
+    /// What it was asked.
+    pub fn into_calls(self) -> Vec<Call> {
+        let Remembers {
+            rt: _,
+            search: _,
+            calls,
+        } = self;
+        calls.into_inner()
     }
 }
 
@@ -50,7 +68,31 @@ fn count_of(declarers: &[Seat]) -> u64 {
     }
 }
 
-impl Solver for Remembers {
+/// The number of these digits before, and one more.
+fn with_digit(digits: u64, digit: u64) -> u64 {
+    digits.wrapping_mul(10).wrapping_add(digit)
+}
+
+/// The denominations of up to twenty calls as the digits of one number, no-trump, spades, hearts, diamonds and clubs
+/// being 1 to 5.
+pub fn trumps_of(calls: &[Call]) -> u64 {
+    let mut digits = 0;
+    for call in calls {
+        digits = with_digit(digits, digit_of(call.trump));
+    }
+    digits
+}
+
+/// How many declarers they were for, likewise.
+pub fn declarers_of(calls: &[Call]) -> u64 {
+    let mut digits = 0;
+    for call in calls {
+        digits = with_digit(digits, count_of(call.declarers.as_slice()));
+    }
+    digits
+}
+
+impl<R: Wait> Solver for Remembers<'_, R> {
     fn solve(
         &self,
         alloc: Global,
@@ -59,8 +101,13 @@ impl Solver for Remembers {
         trump: Trump,
         budget: u64,
     ) -> Result<Option<Bundle>, AllocError> {
-        self.trumps.add(digit_of(trump));
-        self.declarers.add(count_of(declarers));
+        let call = Call {
+            layout: *layout,
+            declarers: Vec::from_slice(alloc, declarers)?,
+            trump,
+            budget,
+        };
+        self.calls.lock(self.rt).push(call)?;
         self.search.solve(alloc, layout, declarers, trump, budget)
     }
 }

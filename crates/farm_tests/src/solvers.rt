@@ -4,6 +4,7 @@ use arrayvec::ArrayVec;
 use cards::{Layout, Seat, Side, Trump};
 use certificate_graph::Graph;
 use farm::Clock;
+use lease_book::Entry;
 use partition_solver::{Bundle, Claim, Solver};
 use std::alloc::{AllocError, Global};
 use std::sync::Arc;
@@ -54,6 +55,13 @@ impl Solver for HasNoMemory {
 
 /// The deal of one card each on which North's ace wins the only trick.
 pub const ACE: &[u8] = b"N:A... K... Q... J...";
+
+/// North declares no-trump on the first board: the first entry.
+pub const NT: Entry = Entry {
+    board: 0,
+    declarer: Seat::North,
+    trump: Trump::Nt,
+};
 
 /// North's ace wins the only trick.
 const ACE_WINS: &[u8] = b"DDC 1

@@ -1,6 +1,7 @@
 //! Boards for tests, and what is in a book.
 
-use lease_book::{Asked, Book, Reply};
+use cards::{Seat, Trump};
+use lease_book::{Asked, Book, Entry, Reply};
 use pbn_deals::{Board, BoardName, read_layout};
 use std::alloc::{AllocError, Global};
 use std::test::Fail;
@@ -85,6 +86,35 @@ pub fn tally_of(book: &Book) -> Tally {
         *count = count.saturating_add(1);
     }
     tally
+}
+
+/// The entries of the first board that have a number, each with it, clockwise from North, in no-trump first.
+pub fn published_in(alloc: Global, book: &Book) -> Result<Vec<(Entry, u8)>, AllocError> {
+    let mut published = Vec::new(alloc);
+    for declarer in Seat::ALL {
+        for trump in Trump::ALL {
+            let entry = Entry {
+                board: 0,
+                declarer,
+                trump,
+            };
+            if let Some(tricks) = book.published(entry) {
+                published.push((entry, tricks))?;
+            }
+        }
+    }
+    Ok(published)
+}
+
+/// The entries for which something was handed in, each with the reply, in their order.
+pub fn hand_ins_of(alloc: Global, book: &Book) -> Result<Vec<(Entry, Reply)>, AllocError> {
+    let mut hand_ins = Vec::new(alloc);
+    for event in book.history() {
+        if let Asked::HandIn { entry, .. } = event.asked {
+            hand_ins.push((entry, event.reply))?;
+        }
+    }
+    Ok(hand_ins)
 }
 
 /// The leases that were given up, by their numbers.

@@ -1,19 +1,21 @@
 //! That threads work side by side: each of these runs would wait in vain if one thread did all.
 
 use crate::expect::expect_eq;
-use crate::gates::{TwoCheckers, TwoClerks, TwoSolvers};
-use crate::solvers::{ACE, FindsTheAce, StandsStill};
-use crate::tables::one_board;
+use crate::gates::{HoldsTheFirst, TwoCheckers, TwoClerks, TwoSolvers};
+use crate::solvers::{ACE, FindsNothing, FindsTheAce, NT, StandsStill};
+use crate::tables::{one_board, published_in, tally_of};
 use farm::{Settings, run_farm};
+use lease_book::{Asked, Book, Reply};
 use lease_desk::Gate;
 use std::alloc::Global;
+use std::process::Abort;
 use std::sync::Wait;
-use std::sync::atomic::Ordering::SeqCst;
 use std::test::Fail;
 use std::thread::Threads;
 
-/// A run over the board of one card each, whose entries are leased one by one.
-fn run_on_the_ace<G: Gate + Sync, R: Threads + Wait + Sync>(
+/// A run over the board of one card each, whose entries are leased one by one. What the solver answers is right for
+/// North in no-trump alone: else it is for another denomination, side or opening lead.
+fn run_on_the_ace<G: Gate + Sync, R: Threads + Wait + Abort + Sync>(
     rt: &R,
     alloc: Global,
     solvers: usize,
@@ -22,7 +24,7 @@ fn run_on_the_ace<G: Gate + Sync, R: Threads + Wait + Sync>(
 ) -> Result<(), Fail> {
     let settings = Settings::new(solvers, checkers, 600, 1, 1, 1)?;
     let boards = one_board(alloc, ACE)?;
-    let _book = run_farm(
+    let book = run_farm(
         rt,
         alloc,
         boards,
@@ -31,6 +33,10 @@ fn run_on_the_ace<G: Gate + Sync, R: Threads + Wait + Sync>(
         gate,
         &StandsStill,
     )?;
+    let tally = tally_of(&book);
+    expect_eq(rt, &(tally.given, tally.published, tally.bad), &(20, 1, 19));
+    let published = published_in(alloc, &book)?;
+    expect_eq(rt, &published.as_slice(), &[(NT, 1)].as_slice());
     Ok(())
 }
 
@@ -38,7 +44,7 @@ fn run_on_the_ace<G: Gate + Sync, R: Threads + Wait + Sync>(
 fn two_solvers(rt: HostRuntime) -> Result<(), Fail> {
     let gate = TwoSolvers::new();
     run_on_the_ace(&rt, rt.alloc(), 2, 1, &gate)?;
-    expect_eq(&rt, &gate.failed.load(SeqCst), &false);
+    expect_eq(&rt, &gate.have_met(), &true);
     Ok(())
 }
 
@@ -55,5 +61,45 @@ fn two_clerks(rt: HostRuntime) -> Result<(), Fail> {
     let gate = TwoClerks::new();
     run_on_the_ace(&rt, rt.alloc(), 1, 2, &gate)?;
     expect_eq(&rt, &gate.have_met(), &true);
+    Ok(())
+}
+
+/// Whether the last of forty leases is of the first one's entry, and was given before the first was given up.
+fn first_is_leased_again(book: &Book) -> bool {
+    let mut is_leased_again = false;
+    for event in book.history() {
+        match (event.asked, event.reply) {
+            (
+                _,
+                Reply::Given {
+                    lease: 40,
+                    entry,
+                    ..
+                },
+            ) => is_leased_again = entry == NT,
+            (Asked::GiveUp { lease: 1 }, _) => return is_leased_again,
+            _ => {}
+        }
+    }
+    false
+}
+
+/// A lease that has run out while its solver works on it. The other solver, which has given up each other entry
+/// twice, frees it, and goes on with its entry.
+#[test]
+fn a_freed_entry_is_leased_again(rt: HostRuntime) -> Result<(), Fail> {
+    let settings = Settings::new(2, 1, 0, 2, 1, 1)?;
+    let boards = one_board(rt.alloc(), ACE)?;
+    let book = run_farm(
+        &rt,
+        rt.alloc(),
+        boards,
+        settings,
+        &FindsNothing,
+        &HoldsTheFirst::new(),
+        &StandsStill,
+    )?;
+    expect_eq(&rt, &tally_of(&book).given, &40);
+    expect_eq(&rt, &first_is_leased_again(&book), &true);
     Ok(())
 }

@@ -1,0 +1,48 @@
+//! What a gate is told by a checker and by a clerk, and what it sees.
+
+use crate::expect::expect_eq;
+use crate::gates::Hears;
+use crate::sharing::CountsHolders;
+use crate::solvers::{ACE, FindsTheAce, StandsStill};
+use crate::tables::{hand_ins_of, one_board, tally_of};
+use farm::{Settings, run_farm};
+use std::test::Fail;
+
+/// One clerk's claims, of which one is published and the others are refused: each is told once with its reply, in the
+/// order of the history.
+#[test]
+fn hand_ins_are_told_with_their_replies(rt: HostRuntime) -> Result<(), Fail> {
+    let alloc = rt.alloc();
+    let settings = Settings::new(1, 1, 600, 1, 1, 1)?;
+    let boards = one_board(alloc, ACE)?;
+    let gate = Hears::new(&rt, alloc);
+    let book = run_farm(
+        &rt,
+        alloc,
+        boards,
+        settings,
+        &FindsTheAce,
+        &gate,
+        &StandsStill,
+    )?;
+    let tally = tally_of(&book);
+    expect_eq(&rt, &(tally.published, tally.bad), &(1, 19));
+    let told = gate.into_told();
+    expect_eq(&rt, &told.len(), &20);
+    expect_eq(&rt, &told, &hand_ins_of(alloc, &book)?);
+    Ok(())
+}
+
+/// The claims in a denomination for all four declarers hold one graph a side with what its check found: so it was
+/// checked for all of them at once.
+#[test]
+fn claims_share_what_was_checked(rt: HostRuntime) -> Result<(), Fail> {
+    let alloc = rt.alloc();
+    let settings = Settings::new(1, 1, 600, 1, 1, 20)?;
+    let boards = one_board(alloc, ACE)?;
+    let counts = CountsHolders::new(alloc)?;
+    let book = run_farm(&rt, alloc, boards, settings, &counts, &counts, &StandsStill)?;
+    expect_eq(&rt, &tally_of(&book).bad, &20);
+    expect_eq(&rt, &counts.holders(), &(2, 2));
+    Ok(())
+}
