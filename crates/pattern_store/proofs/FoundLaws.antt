@@ -10,7 +10,7 @@ use Rattle.pattern_store.specs.declared.blocks.Block.{Block}
 use Rattle.pattern_store.specs.Blocks.{record_at, Has, IsBlockOf, Passes}
 use Rattle.pattern_store.specs.Shapes.{Shapes}
 use Rattle.pattern_store.specs.Found.{Kept, IsBlockIn, Finds, record_of, nothing, Holds, HoldNothing, HoldsToo, Keeps, Puts, Goes}
-use Rattle.pattern_store.proofs.ShapeLaws.{some_is, set_else, set_here}
+use Rattle.pattern_store.proofs.ShapeLaws.{some_is, set_else, set_here, slice_get_set}
 
 -- what is there where one more is added was, or is the one added
 pushed_was : {A : Type 0} (xs : List A) (i : ℕ) (y x : A) → slice_get (xs ++ (y ∷ [])) i ≡ Some x → (slice_get xs i ≡ Some x) ⊎ (x ≡ y)
@@ -44,6 +44,16 @@ holds_put blocks number new list told is_new other r holds = elim (set_was block
   | inr e ↦ inr (sym holds.of_list ∙ (ap (λ (b : Block). b.list) e ∙ is_new.of_list), is_new.only r (subst (λ (b : Block). Has b r) e holds.has))
 ]
 
+-- this one has what it is told
+pub holds_there : (blocks : List Block) (number : ℕ) (new : Block) (list : lists.List) (told : Record) → IsBlockOf new list told → number < length blocks → 0 < told.need → Holds (set blocks number new) list told
+holds_there blocks number new list told is_new within known = record {
+  number = number;
+  block = new;
+  is = slice_get_set blocks number new within;
+  of_list = is_new.of_list;
+  has = record { place = 0; is_place = omega arith; is = is_new.first; known = known };
+}
+
 -- or is added
 pub holds_pushed : (blocks : List Block) (new : Block) (list : lists.List) (told : Record) → IsBlockOf new list told → HoldsToo blocks (blocks ++ (new ∷ [])) list told
 holds_pushed blocks new list told is_new other r holds = elim (pushed_was blocks holds.number new holds.block holds.is) [
@@ -75,8 +85,8 @@ pub keeps_same : (blocks : List Block) (room : ℕ) → Keeps blocks blocks room
 keeps_same blocks room = record { stays = λ list r holds. holds; within = inl (omega arith) }
 
 -- a record that is told of no need keeps all
-pub keeps_put : (old new : List Block) (list : lists.List) (told : Record) (room : ℕ) → Puts old new list told → told.need ≡ 0 → Keeps old new room
-keeps_put old new list told room puts none = record { stays = keeps_of old new list told puts.stays none; within = inl (omega (arith, puts.count)) }
+pub keeps_put : (old new : List Block) (number : ℕ) (list : lists.List) (told : Record) (room : ℕ) → Puts old new number list told → told.need ≡ 0 → Keeps old new room
+keeps_put old new number list told room puts none = record { stays = keeps_of old new list told puts.stays none; within = inl (omega (arith, puts.count)) }
 
 -- a block that is added with no record keeps all
 pub keeps_pushed : (blocks : List Block) (new : Block) (list : lists.List) (told : Record) (room : ℕ) → IsBlockOf new list told → told.need ≡ 0 → length blocks < room → Keeps blocks (blocks ++ (new ∷ [])) room

@@ -4,6 +4,7 @@ use Rattle.pattern_store.specs.declared.records.Record.{Record}
 use Rattle.pattern_store.specs.declared.blocks.Facts.{Facts}
 use Rattle.pattern_store.specs.declared.blocks.List.{List}
 use Rattle.pattern_store.specs.declared.blocks.Block.{Block}
+use Rattle.pattern_store.specs.Records.{IsServed}
 
 -- what a place past the last one would have
 abbrev pub no_facts : Facts
@@ -33,14 +34,21 @@ pub record Has (block : Block) (r : Record) : Type 0 where
   pub is : record_at block place ≡ r
   pub known : 0 < r.need
 
--- a block of a list has no record but this one
+-- a block of a list has this record in its first place, and no other
 pub record IsBlockOf (block : Block) (list : List) (r : Record) : Type 0 where
   pub of_list : block.list ≡ list
+  pub first : record_at block 0 ≡ r
   pub only : (other : Record) → Has block other → other ≡ r
 
--- A record goes past a block, and one goes on. What the block has then it had before, or it is the one that came; so is what
--- goes on.
+-- A record goes past a block, and one goes on. What the block has then it had before, or it is the one that came; so is
+-- what goes on.
 pub record Passes (old new : Block) (came goes : Record) : Type 0 where
   pub stays : (r : Record) → Has new r → Has old r ⊎ (r ≡ came)
   pub moved : Has old goes ⊎ (goes ≡ came)
   pub list : new.list ≡ old.list
+
+-- Only such a record is lost as the one told serves: each other one that the block had, or that came, the block has
+-- then, or it goes on.
+abbrev pub LosesServed : Record → Block → Block → Record → Record → Type 0
+LosesServed told old new came goes = (r : Record) → 0 < r.need → Has old r ⊎ (r ≡ came)
+    → (Has new r ⊎ (r ≡ goes)) ⊎ IsServed told r

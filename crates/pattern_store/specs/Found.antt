@@ -6,7 +6,7 @@ use Rattle.pattern_store.specs.declared.records.Record.{Record}
 use Rattle.pattern_store.specs.declared.blocks.List.{List}
 use Rattle.pattern_store.specs.declared.blocks.Block.{Block}
 use Rattle.pattern_store.specs.Blocks.{record_at, Has}
-use Rattle.pattern_store.specs.Shapes.{Shapes, ShapeIs, KeepsShapes}
+use Rattle.pattern_store.specs.Shapes.{Shapes, ShapeIs, KeepsShapes, span_of}
 
 -- what is kept: the shapes by number, the blocks, and how many of these there may be
 pub record Kept : Type 0 where
@@ -17,6 +17,10 @@ pub record Kept : Type 0 where
 -- the number of a list of its shape: that of the seat that leads and of the side that wins, North's and South's first
 abbrev pub list_number : ℕ → Bool → ℕ
 list_number leader ours = leader % 4 * 2 + (if ours then 0 else 1)
+
+-- a list has no blocks
+abbrev pub IsEmpty : Kept → List → Type 0
+IsEmpty kept list = (span_of kept.shapes list).used ≡ 0
 
 -- the block with this number is one of the list
 pub record IsBlockIn (blocks : std.List Block) (list : List) (number : ℕ) (block : Block) : Type 0 where
@@ -46,7 +50,7 @@ nothing = record { near = 0; mask = 0; deep = 0; depths = 0; need = 0; first_car
 abbrev pub record_of : std.List Block → ℕ → Record
 record_of blocks number = option_map_or (λ block. record_at block (number % 4)) (slice_get blocks (number / 4)) nothing
 
--- the record with this number is one of the list, with which the side gets as many tricks, and of which this can be said
+-- the record with this number is one of the list, with it the side gets as many tricks, and this can be said of it
 pub record Finds (kept : Kept) (list : List) (need : ℕ) (Agrees : Record → Type 0) (number : ℕ) : Type 0 where
   pub holds : Holds kept.blocks list (record_of kept.blocks number)
   pub enough : need ≤ (record_of kept.blocks number).need
@@ -63,15 +67,17 @@ pub record Keeps (old new : std.List Block) (room : ℕ) : Type 0 where
 
 -- what a list has then it had before, or it is the record told, in this list
 abbrev pub HoldsToo : std.List Block → std.List Block → List → Record → Type 0
-HoldsToo old new list told = (other : List) (r : Record) → Holds new other r → Holds old other r ⊎ ((other ≡ list) × (r ≡ told))
+HoldsToo old new list told = (other : List) (r : Record) → Holds new other r
+    → Holds old other r ⊎ ((other ≡ list) × (r ≡ told))
 
--- a record is put into a block of a list
-pub record Puts (old new : std.List Block) (list : List) (told : Record) : Type 0 where
+-- a record is put into the block with this number, which is one of a list then
+pub record Puts (old new : std.List Block) (number : ℕ) (list : List) (told : Record) : Type 0 where
   pub stays : HoldsToo old new list told
+  pub there : number < length old → 0 < told.need → Holds new list told
   pub count : length new ≡ length old
 
--- What a list has then it had before, or it is the record told, in the list of the lengths told and of this number. Shapes keep
--- their numbers. There are no more blocks than before, or than there is room for.
+-- What a list has then it had before, or it is the record told, in the list of the lengths told and of this number.
+-- Shapes keep their numbers. There are no more blocks than before, or than there is room for.
 pub record Adds (old new : Kept) (lengths number : ℕ) (told : Record) : Type 0 where
   pub keeps : KeepsShapes old.shapes new.shapes
   pub told_only : (list : List) (r : Record) → Holds new.blocks list r → Holds old.blocks list r
@@ -79,8 +85,8 @@ pub record Adds (old new : Kept) (lengths number : ℕ) (told : Record) : Type 0
   pub within : Within old.blocks new.blocks old.room
   pub room : new.room ≡ old.room
 
--- A record goes along a list, and one goes on. What the list has then it had before, or it is the one that came; so is what goes
--- on. All else stays.
+-- A record goes along a list, and one goes on. What the list has then it had before, or it is the one that came; so
+-- is what goes on. All else stays.
 pub record Goes (old new : Kept) (list : List) (came goes : Record) : Type 0 where
   pub shapes : new.shapes ≡ old.shapes
   pub stays : HoldsToo old.blocks new.blocks list came

@@ -1,8 +1,8 @@
 //! How records are kept: four in a block.
 
-ghost use Rattle.std.specs.Prelude.{◌≡◌, ◌<◌, ◌≤◌, IsTrue};
+ghost use Rattle.std.specs.Prelude.{◌≡◌, ◌↔◌, ◌<◌, ◌≤◌, ℕ, IsTrue, IsFalse};
 ghost use Rattle.pattern_store.specs.Blocks.{record_at, IsBlockOf, SetsPlace};
-ghost use Rattle.pattern_store.specs.Records.{AgreesNear, AgreesDeep, IsKnown};
+ghost use Rattle.pattern_store.specs.Records.{AgreesNear, AgreesDeep, Differs, IsKnown};
 
 use crate::records::{FREE, Owners, Record, deep_mask};
 
@@ -27,7 +27,8 @@ pub struct List {
 /// Records of a list, those that name the fewest owners first. A need of 0 is a free place.
 #[derive(Clone, Copy)]
 pub struct Block {
-    /// The owners of the first eight cards of each suit, and the bits of those that are named: what a look-up reads of each.
+    /// The owners of the first eight cards of each suit, and the bits of those that are named: a look-up reads these
+    /// of each.
     near: [u64; 4],
     masks: [u64; 4],
     list: List,
@@ -44,7 +45,7 @@ const NO_FACTS: Facts = Facts {
 impl List {
     /// Whether both are the same list.
     fn is(&self, other: List) -> bool
-        ensures { IsTrue result → self.now ≡ other }
+        ensures { IsTrue result ↔ self.now ≡ other }
     {
         self.shape == other.shape && self.number == other.number
     }
@@ -68,13 +69,15 @@ impl Block {
 
     /// Whether it is of this list.
     pub(crate) fn is_of(&self, list: List) -> bool
-        ensures { IsTrue result → self.now.list ≡ list }
+        ensures { IsTrue result ↔ self.now.list ≡ list }
     {
         self.list.is(list)
     }
 
     /// The shape of its list.
-    pub(crate) fn shape(&self) -> u32 {
+    pub(crate) fn shape(&self) -> u32
+        ensures { result ≡ self.now.list.shape }
+    {
         self.list.shape
     }
 
@@ -116,9 +119,11 @@ impl Block {
         self.deep[place] = told.deep;
     }
 
-    /// Whether the owners of the first eight cards of each suit may be those that some record names. All are looked at, without
-    /// a jump for each.
-    pub(crate) fn may_agree(&self, near: u64) -> bool {
+    /// Whether the owners of the first eight cards of each suit may be those that some record names. All are looked at,
+    /// without a jump for each.
+    pub(crate) fn may_agree(&self, near: u64) -> bool
+        ensures { IsTrue result ↔ ((place : ℕ) × (place < 4) × AgreesNear (record_at self.now place) near) }
+    {
         let mut agrees = false;
         for place in 0..PLACES {
             agrees |= (self.near[place] ^ near) & self.masks[place] == 0;
@@ -126,12 +131,14 @@ impl Block {
         agrees
     }
 
-    /// Whether these are the owners that the record in a place names. Those after the eighth of a suit are asked for where it
-    /// names some.
+    /// Whether these are the owners that the record in a place names. Those after the eighth of a suit are asked for
+    /// where it names some.
     pub(crate) fn agrees<F: Fn() -> u64>(&self, place: usize, near: u64, deep: &F) -> bool
         requires is_place { place < 4 }
         requires asks { F.IsAlwaysCallable deep.now }
-        ensures { IsTrue result → AgreesNear (record_at self.now place) near × AgreesDeep (record_at self.now place) (F.post deep.now) }
+        ensures agrees { IsTrue result → AgreesNear (record_at self.now place) near
+            × AgreesDeep (record_at self.now place) (F.post deep.now) }
+        ensures differs { IsFalse result → Differs (record_at self.now place) near (F.post deep.now) }
     {
         if (self.near[place] ^ near) & self.masks[place] != 0 {
             return false;
@@ -143,7 +150,7 @@ impl Block {
     /// Whether the record in a place names only owners that are known, and those as they are.
     pub(crate) fn is_known(&self, place: usize, owners: Owners, known: Owners) -> bool
         requires { place < 4 }
-        ensures { IsTrue result → IsKnown (record_at self.now place) owners known }
+        ensures { IsTrue result ↔ IsKnown (record_at self.now place) owners known }
     {
         let named = self.masks[place];
         if (self.near[place] ^ owners.near) & named != 0 || named & known.near != named {

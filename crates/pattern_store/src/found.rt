@@ -1,10 +1,12 @@
 //! What a search remembers: for each shape, leader and side the records found, those that name the fewest owners first.
 
-ghost use Rattle.std.specs.Prelude.{◌≡◌, ◌↔◌, ◌<◌, ◌≤◌, ◌⊎◌, ◌+◌, ◌-◌, ◌*◌, ◌^◌, ℕ, IfOk, IfSome, IsTrue, Some, length, min, max};
+ghost use Rattle.std.specs.Prelude.{◌≡◌, ◌↔◌, ◌<◌, ◌≤◌, ◌⊎◌, ◌+◌, ◌-◌, ◌*◌, ◌^◌, ℕ, min, max};
+ghost use Rattle.std.specs.Prelude.{[], IfOk, IfNone, IfSome, IsTrue, Some, length};
 ghost use Rattle.pattern_store.specs.Blocks.{record_at};
-ghost use Rattle.pattern_store.specs.Records.{AgreesNear, AgreesDeep, IsKnown};
+ghost use Rattle.pattern_store.specs.Records.{AgreesNear, AgreesDeep, Differs, IsKnown};
 ghost use Rattle.pattern_store.specs.Shapes.{ShapeIs, KeepsShapes};
-ghost use Rattle.pattern_store.specs.Found.{HoldsNothing, Finds, Adds, Goes, Appends, IsBlockIn, list_number, record_of};
+ghost use Rattle.pattern_store.specs.Found.{HoldsNothing, Finds, Adds, Goes, Appends, IsBlockIn, IsEmpty};
+ghost use Rattle.pattern_store.specs.Found.{list_number, record_of};
 
 use crate::blocks::{Block, List, PLACES};
 use crate::records::{Owners, Record};
@@ -43,7 +45,8 @@ fn number_in_shape(leader: usize, ours: bool) -> u32
 /// The number of the record in a place of a block.
 fn number_of(block: u32, place: usize) -> Option<u32>
     requires { place < 4 }
-    ensures { IfSome result (λ number. number ≡ block * 4 + place) }
+    ensures some { IfSome result (λ number. number ≡ block * 4 + place) }
+    ensures none { IfNone result (2 ^ 32 ≤ block * 4 + place) }
 {
     u32::try_from(block as usize * 4 + place).ok()
 }
@@ -51,8 +54,10 @@ fn number_of(block: u32, place: usize) -> Option<u32>
 /// The first place of a block whose record names these owners and lets the side win as much.
 fn place_of<F: Fn() -> u64>(block: &Block, near: u64, deep: &F, need: u8) -> Option<usize>
     requires { F.IsAlwaysCallable deep.now }
-    ensures { IfSome result (λ place. (place < 4) × (need ≤ (record_at block.now place).need)
+    ensures some { IfSome result (λ place. (place < 4) × (need ≤ (record_at block.now place).need)
         × AgreesNear (record_at block.now place) near × AgreesDeep (record_at block.now place) (F.post deep.now)) }
+    ensures none { IfNone result ((place : ℕ) → place < 4 → need ≤ (record_at block.now place).need
+        → Differs (record_at block.now place) near (F.post deep.now)) }
 {
     if !block.may_agree(near) {
         return None;
@@ -68,7 +73,8 @@ fn place_of<F: Fn() -> u64>(block: &Block, near: u64, deep: &F, need: u8) -> Opt
 impl Records {
     /// Nothing is remembered.
     pub fn new(alloc: Global) -> Result<Records, AllocError>
-        ensures { IfOk result HoldsNothing }
+        ensures nothing { IfOk result HoldsNothing }
+        ensures room { IfOk result (λ kept. (kept.shapes ≡ []) × (kept.room ≡ 800000)) }
     {
         Ok(Records {
             shapes: Shapes::new(alloc),
@@ -111,9 +117,12 @@ impl Records {
         self.shapes.number(lengths)
     }
 
-    /// The list of a shape, a seat that leads and a side that wins, North's and South's where it is ours. None where it is empty.
+    /// The list of a shape, a seat that leads and a side that wins, North's and South's where it is ours. None where
+    /// it is empty.
     pub fn list(&self, shape: Option<u32>, leader: usize, ours: bool) -> Option<List>
-        ensures { IfSome result (λ list. (shape ≡ Some list.shape) × (list.number ≡ list_number leader ours)) }
+        ensures some { IfSome result (λ list. (shape ≡ Some list.shape) × (list.number ≡ list_number leader ours)) }
+        ensures none { IfNone result ((number : ℕ) → shape ≡ Some number
+            → IsEmpty self.now (record { shape = number; number = list_number leader ours })) }
     {
         let list = List {
             shape: shape?,
@@ -125,8 +134,8 @@ impl Records {
         Some(list)
     }
 
-    /// The number of the first record of a list that names these owners and lets the side win as many tricks. The owners after
-    /// the eighth of a suit are asked for where they matter.
+    /// The number of the first record of a list that names these owners and lets the side win as many tricks. The
+    /// owners after the eighth of a suit are asked for where they matter.
     pub fn find<F: Fn() -> u64>(&self, list: List, near: u64, deep: F, need: u8) -> Option<u32>
         requires { F.IsAlwaysCallable deep }
         ensures { IfSome result (Finds self.now list need (λ r. AgreesNear r near × AgreesDeep r (F.post deep))) }
@@ -141,8 +150,8 @@ impl Records {
         None
     }
 
-    /// The number of the first record of a list that names only owners that are known, and those as they are, and lets the side
-    /// win as many tricks: of those that are liked, else of all.
+    /// The number of the first record of a list that names only owners that are known, and those as they are, and
+    /// lets the side win as many tricks: of those that are liked, else of all.
     pub fn find_known<F: Fn(u32) -> bool>(
         &self,
         list: List,
@@ -199,9 +208,9 @@ impl Records {
         }
     }
 
-    /// Adds a record to the list of a shape, a seat that leads and a side that wins, after those that name fewer owners, or as
-    /// many; those that it serves are dropped. Where there is no room the one that names the most is lost. The shape may have this
-    /// number.
+    /// Adds a record to the list of a shape, a seat that leads and a side that wins, after those that name fewer
+    /// owners, or as many; those that it serves are dropped. Where there is no room the one that names the most is
+    /// lost. The shape may have this number.
     pub fn add(
         &mut self,
         shape: Option<u32>,

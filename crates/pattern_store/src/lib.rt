@@ -1,8 +1,8 @@
 //! Patterns that were found, each with the seat that leads, a side and how many tricks the side can win.
 //!
-//! [`Records`] are what a search remembers: for each shape, leader and side those that name the fewest owners first, of which
-//! what a new one serves is dropped. A [`Store`] holds for the lengths of each pattern, each lead and each side the list of its
-//! adds, in their order, and answers for a layout with the first of them that serves.
+//! [`Records`] are what a search remembers: for each shape, leader and side those that name the fewest owners first,
+//! of which what a new one serves is dropped. A [`Store`] holds for the lengths of each pattern, each lead and each
+//! side the list of its adds, in their order, and answers for a layout with the first of them that serves.
 #![tactic(auto)]
 
 mod blocks;
@@ -19,6 +19,6 @@ mod waiting;
 pub use blocks::List;
 pub use found::{MOST_BLOCKS, Records};
 pub use keys::{Added, Key};
-pub use laws::equal_keys_are_one;
+pub use laws::{equal_keys_are_one, masks_name_owners};
 pub use records::{NO_CARD, Owners, Record};
 pub use stores::Store;

@@ -1,13 +1,14 @@
 //! What is remembered of a position: who owns the highest cards of each suit, and what a side then wins.
 
-ghost use Rattle.std.specs.Prelude.{◌≡◌, ◌<◌, ◌^◌, ◌⊎◌, ℕ, bit_and};
-ghost use Rattle.pattern_store.specs.Records.{deep_bits, deep_mask, OwnersKept};
+ghost use Rattle.std.specs.Prelude.{◌≡◌, ◌↔◌, ◌<◌, ◌^◌, ◌⊎◌, ℕ, IsTrue, bit_and};
+ghost use Rattle.pattern_store.specs.Records.{MarksSuit, Marks, KeepsOwners, DeepKept, IsMasked};
+ghost use Rattle.pattern_store.specs.Records.{NamesNoMore, Serves, named_in};
 
 /// The first card of a record that names none.
 pub const NO_CARD: u8 = 0xff;
 
-/// Owners of cards, two bits each, in every suit the highest card first: `near` has the first eight of each suit, `deep` the
-/// others.
+/// Owners of cards, two bits each, in every suit the highest card first: `near` has the first eight of each suit,
+/// `deep` the others.
 #[derive(Clone, Copy, Default)]
 pub struct Owners {
     pub near: u64,
@@ -42,23 +43,27 @@ pub(crate) const FREE: Record = Record {
 };
 
 /// The bits of the first owners of a suit, up to eight, down to this depth.
-fn near_bits(depth: u16) -> u64 {
-    1u64.wrapping_shl(u32::from(depth.min(8)) * 2)
-        .wrapping_sub(1)
+fn near_bits(depth: u16) -> u64
+    ensures marks { MarksSuit 0 depth result }
+    ensures small { result < 2 ^ 16 }
+{
+    (1 << (2 * depth.min(8))) - 1
 }
 
 /// The bits of the first owners, up to eight a suit, down to these depths.
-fn near_mask(depths: u16) -> u64 {
-    near_bits(depths & 15)
-        | near_bits(depths >> 4 & 15).wrapping_shl(16)
-        | near_bits(depths >> 8 & 15).wrapping_shl(32)
-        | near_bits(depths >> 12).wrapping_shl(48)
+fn near_mask(depths: u16) -> u64
+    ensures { Marks 0 depths result }
+{
+    near_bits(depths % 16)
+        + near_bits(depths / 16 % 16) * (1 << 16)
+        + near_bits(depths / 256 % 16) * (1 << 32)
+        + near_bits(depths / 4096) * (1 << 48)
 }
 
 /// The bits of a suit's owners after the eighth, down to this depth.
 fn deep_bits(depth: u16) -> u64
     requires { depth < 16 }
-    ensures value { result ≡ deep_bits depth }
+    ensures marks { MarksSuit 8 depth result }
     ensures small { result < 2 ^ 16 }
 {
     (1 << (2 * depth.saturating_sub(8))) - 1
@@ -66,7 +71,7 @@ fn deep_bits(depth: u16) -> u64
 
 /// The bits of the owners after the eighth, down to these depths.
 pub(crate) fn deep_mask(depths: u16) -> u64
-    ensures { result ≡ deep_mask depths }
+    ensures { Marks 8 depths result }
 {
     deep_bits(depths % 16)
         + deep_bits(depths / 16 % 16) * (1 << 16)
@@ -83,13 +88,14 @@ fn kept<F: Fn() -> u64>(mask: u64, deep: F) -> u64
 }
 
 impl Record {
-    /// A record with the owners that are named down to these depths, four bits a suit. Those after the eighth of a suit are
-    /// asked for where some are named.
+    /// A record with the owners that are named down to these depths, four bits a suit. Those after the eighth of a suit
+    /// are asked for where some are named.
     pub fn new<F: Fn() -> u64>(near: u64, deep: F, depths: u16, need: u8, first_card: u8) -> Record
         requires { F.IsAlwaysCallable deep }
         ensures facts { (result.depths ≡ depths) × (result.need ≡ need) × (result.first_card ≡ first_card) }
-        ensures near { result.near ≡ bit_and near result.mask }
-        ensures deep { OwnersKept result (F.post deep) }
+        ensures mask { IsMasked result }
+        ensures near { KeepsOwners 0 depths near result.near }
+        ensures deep { DeepKept result (F.post deep) }
     {
         let mask = near_mask(depths);
         Record {
@@ -103,13 +109,17 @@ impl Record {
     }
 
     /// How many owners it names. The fewer, the more positions it serves.
-    pub fn owners_named(&self) -> u16 {
+    pub fn owners_named(&self) -> u16
+        ensures { result ≡ named_in self.now.depths }
+    {
         let pairs = (self.depths & 0x0f0f).wrapping_add(self.depths >> 4 & 0x0f0f);
         pairs.wrapping_add(pairs >> 8) & 0xff
     }
 
     /// Whether the record says at least what the other says.
-    pub(crate) fn serves(&self, other: &Record) -> bool {
+    pub(crate) fn serves(&self, other: &Record) -> bool
+        ensures { IsMasked self.now → IsMasked other.now → (IsTrue result ↔ Serves self.now other.now) }
+    {
         self.need >= other.need
             && self.mask & !other.mask == 0
             && (self.near ^ other.near) & self.mask == 0
@@ -117,7 +127,9 @@ impl Record {
     }
 
     /// Whether it says no more of the owners after the eighth than the other.
-    fn serves_deep(&self, other: &Record) -> bool {
+    fn serves_deep(&self, other: &Record) -> bool
+        ensures { IsTrue result ↔ NamesNoMore 8 16 self.now other.now }
+    {
         let deep = deep_mask(self.depths);
         deep & !deep_mask(other.depths) == 0 && (self.deep ^ other.deep) & deep == 0
     }

@@ -1,6 +1,7 @@
-//! Where blocks lie: in runs, each of a power of two of them, which a list leaves for a longer one, and another list takes again.
+//! Where blocks lie: in runs, each of a power of two of them, which a list leaves for a longer one, and another list
+//! takes again.
 
-ghost use Rattle.std.specs.Prelude.{◌≡◌, IfOk};
+ghost use Rattle.std.specs.Prelude.{◌≡◌, ◌-◌, ◌^◌, IfOk, IfSome};
 ghost use Rattle.pattern_store.specs.Found.{Keeps, Puts, HoldNothing};
 
 use crate::blocks::{Block, List};
@@ -14,13 +15,15 @@ pub struct Runs {
     pub(crate) blocks: Vec<Block>,
     /// How many blocks there may be.
     pub(crate) room: usize,
-    /// By the doublings of its length the first run that no list has, 0 where there is none. The number of the next one stands
-    /// in the first block of a run, in place of a shape.
+    /// By the doublings of its length the first run that no list has, 0 where there is none. The number of the next one
+    /// stands in the first block of a run, in place of a shape.
     left: [u32; LENGTHS],
 }
 
 /// No list: that of a block which no list has.
-fn no_list(next: u32) -> List {
+fn no_list(next: u32) -> List
+    ensures { result ≡ record { shape = next; number = 2 ^ 32 - 1 } }
+{
     List {
         shape: next,
         number: u32::MAX,
@@ -30,7 +33,8 @@ fn no_list(next: u32) -> List {
 impl Runs {
     /// No runs. The block 0 is in none.
     pub(crate) fn new(alloc: Global, room: usize) -> Result<Runs, AllocError>
-        ensures { IfOk result (λ runs. HoldNothing runs.blocks.items) }
+        ensures nothing { IfOk result (λ runs. HoldNothing runs.blocks.items) }
+        ensures room { IfOk result (λ runs. runs.room ≡ room) }
     {
         let mut blocks = Vec::new(alloc);
         blocks.push(Block::new(no_list(0), FREE))?;
@@ -41,8 +45,10 @@ impl Runs {
         })
     }
 
-    /// The span with room for a block more: where its run is full, the list moves to one twice as long. None where there is no room.
+    /// The span with room for a block more: where its run is full, the list moves to one twice as long. None where
+    /// there is no room.
     pub(crate) fn with_room(&mut self, span: Span) -> Result<Option<Span>, AllocError>
+        ensures blocks { IfOk result (λ found. IfSome found (λ found. found.used ≡ span.used)) }
         ensures keeps { Keeps self.old.blocks.items self.new.blocks.items self.old.room }
         ensures room { self.new.room ≡ self.old.room }
     {
@@ -154,7 +160,7 @@ impl Runs {
 
     /// Has a block be one of this list, with this record alone.
     pub(crate) fn put(&mut self, number: u32, list: List, told: Record)
-        ensures puts { Puts self.old.blocks.items self.new.blocks.items list told }
+        ensures puts { Puts self.old.blocks.items self.new.blocks.items number list told }
         ensures room { self.new.room ≡ self.old.room }
     {
         if let Some(block) = self.blocks.get_mut(number as usize) {

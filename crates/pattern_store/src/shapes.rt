@@ -1,7 +1,7 @@
 //! The shapes of which something is remembered, each with its eight lists.
 
-ghost use Rattle.std.specs.Prelude.{◌≡◌, [], IfSome, IfOk, IsTrue, length};
-ghost use Rattle.pattern_store.specs.Shapes.{ShapeIs, KeepsShapes};
+ghost use Rattle.std.specs.Prelude.{◌≡◌, ◌↔◌, [], IfSome, IfOk, IsTrue, length};
+ghost use Rattle.pattern_store.specs.Shapes.{ShapeIs, KeepsShapes, SetsSpan, span_of};
 
 use crate::blocks::List;
 use crate::spans::{EMPTY, Span};
@@ -47,7 +47,7 @@ impl Shapes {
 
     /// Whether the shape with this number has these lengths.
     pub(crate) fn is_shape(&self, shape: u32, lengths: u64) -> bool
-        ensures { IsTrue result → ShapeIs self.now.map.entries shape lengths }
+        ensures { IsTrue result ↔ ShapeIs self.now.map.entries shape lengths }
     {
         match self.map.get_index(shape as usize) {
             Some((key, _)) if *key == lengths => true,
@@ -56,7 +56,9 @@ impl Shapes {
     }
 
     /// Where the blocks of a list lie.
-    pub(crate) fn span(&self, list: List) -> Span {
+    pub(crate) fn span(&self, list: List) -> Span
+        ensures { result ≡ span_of self.now.map.entries list }
+    {
         match self.map.get_index(list.shape as usize) {
             Some((_, spans)) => spans.get(list.number as usize).copied().unwrap_or(EMPTY),
             None => EMPTY,
@@ -65,17 +67,18 @@ impl Shapes {
 
     /// Has the blocks of a list lie there.
     pub(crate) fn set_span(&mut self, list: List, span: Span)
-        ensures { KeepsShapes self.old.map.entries self.new.map.entries }
+        ensures { SetsSpan self.old.map.entries self.new.map.entries list span }
     {
         if let Some(spans) = self.map.get_index_mut(list.shape as usize) {
-            if let Some(old) = spans.get_mut(list.number as usize) {
-                *old = span;
+            let number = list.number as usize;
+            if number < spans.len() {
+                spans[number] = span;
             }
         }
     }
 
-    /// The number of a shape, which gets one where it has none: this one where it is the shape's. None where there are too many
-    /// shapes.
+    /// The number of a shape, which gets one where it has none: this one where it is the shape's. None where there
+    /// are too many shapes.
     pub(crate) fn make(
         &mut self,
         shape: Option<u32>,

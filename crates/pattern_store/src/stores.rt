@@ -38,8 +38,8 @@ impl Store {
         }
     }
 
-    /// Adds that the side can win `need` tricks of what the pattern stands for, with this seat to lead. Where memory runs
-    /// out the store stays as it was.
+    /// Adds that the side can win `need` tricks of what the pattern stands for, with this seat to lead. Where memory
+    /// runs out the store stays as it was.
     pub fn add(
         &mut self,
         pattern: Pattern,
@@ -75,7 +75,8 @@ impl Store {
     /// The number of the first add with this lead and side, a need of at least this one, and a pattern that the layout
     /// matches. Takes no memory.
     pub fn find(&self, layout: &Layout, lead: Seat, side: Side, need: u8) -> Option<u32>
-        ensures { let list = list_at (⟦<Key as PartialEq>⟧.eq (key_with (layout_lengths layout.now) lead side)) self.now in
+        ensures { let key = key_with (layout_lengths layout.now) lead side in
+            let list = list_at (⟦<Key as PartialEq>⟧.eq key) self.now in
             MatchOption result (NoneServes layout.now need list) (FirstServes layout.now need list) }
     {
         let key = key_of(&Pattern::of_layout(layout, [0; 4]), lead, side);

@@ -1,7 +1,7 @@
 //! How a record comes to its place in a list.
 
-ghost use Rattle.std.specs.Prelude.{◌≡◌, ◌<◌};
-ghost use Rattle.pattern_store.specs.Blocks.{SetsPlace, Passes};
+ghost use Rattle.std.specs.Prelude.{◌≡◌, ◌<◌, false, true};
+ghost use Rattle.pattern_store.specs.Blocks.{SetsPlace, Passes, LosesServed};
 
 use crate::blocks::{Block, PLACES};
 use crate::records::{FREE, Record};
@@ -22,7 +22,7 @@ pub(crate) struct Waiting {
 impl Waiting {
     /// A record before the first block of its list.
     pub(crate) fn of(told: Record) -> Waiting
-        ensures { result.moved ≡ told }
+        ensures { result ≡ record { told = told; moved = told; stands = false; waits = true } }
     {
         Waiting {
             told,
@@ -36,7 +36,7 @@ impl Waiting {
     fn lie_down(&mut self, block: &mut Block, place: usize)
         requires { place < 4 }
         ensures block { SetsPlace block.old block.new place self.old.moved }
-        ensures moved { self.new.moved ≡ self.old.moved }
+        ensures waiting { self.new ≡ record self.old { waits = false } }
     {
         block.set(place, self.moved);
         self.waits = false;
@@ -45,7 +45,9 @@ impl Waiting {
     /// Goes past a place of a block: it may be taken, and what lies there may have to go on, or be dropped.
     fn pass(&mut self, block: &mut Block, place: usize)
         requires { place < 4 }
-        ensures { Passes block.old block.new self.old.moved self.new.moved }
+        ensures passes { Passes block.old block.new self.old.moved self.new.moved }
+        ensures loses { LosesServed self.old.told block.old block.new self.old.moved self.new.moved }
+        ensures told { self.new.told ≡ self.old.told }
     {
         let other = block.record(place);
         if other.need == 0 {
@@ -67,7 +69,9 @@ impl Waiting {
 
     /// Goes past a block. In the last one of its list what waits takes the first free place.
     pub(crate) fn pass_block(&mut self, block: &mut Block, is_last: bool)
-        ensures { Passes block.old block.new self.old.moved self.new.moved }
+        ensures passes { Passes block.old block.new self.old.moved self.new.moved }
+        ensures loses { LosesServed self.old.told block.old block.new self.old.moved self.new.moved }
+        ensures told { self.new.told ≡ self.old.told }
     {
         for place in 0..PLACES {
             self.pass(block, place);
@@ -80,7 +84,9 @@ impl Waiting {
     /// Takes a place, if it is free and something waits.
     fn take_free(&mut self, block: &mut Block, place: usize)
         requires { place < 4 }
-        ensures { Passes block.old block.new self.old.moved self.new.moved }
+        ensures passes { Passes block.old block.new self.old.moved self.new.moved }
+        ensures loses { LosesServed self.old.told block.old block.new self.old.moved self.new.moved }
+        ensures told { self.new.told ≡ self.old.told }
     {
         if self.waits && block.need(place) == 0 {
             self.lie_down(block, place);
@@ -89,7 +95,9 @@ impl Waiting {
 
     /// Takes the first free place of a block.
     fn end(&mut self, block: &mut Block)
-        ensures { Passes block.old block.new self.old.moved self.new.moved }
+        ensures passes { Passes block.old block.new self.old.moved self.new.moved }
+        ensures loses { LosesServed self.old.told block.old block.new self.old.moved self.new.moved }
+        ensures told { self.new.told ≡ self.old.told }
     {
         for place in 0..PLACES {
             self.take_free(block, place);

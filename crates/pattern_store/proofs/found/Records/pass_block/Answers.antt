@@ -13,4 +13,4 @@ returns c =
     let goes = c.pass_block.new.self.moved in
     let at = slice_get_read blocks (length blocks) c.args.number c.in-Some.block.now refl c.in-Some.ensures.item.3.0 c.in-Some.ensures.value in
     subst (λ (kept : Kept). Goes kept (record { shapes = shapes; blocks = set blocks c.args.number c.pass_block.new.block; room = room }) c.args.list came goes) c.self.view_is
-    (goes_past shapes blocks room c.args.number c.in-Some.block.now c.pass_block.new.block came goes at c.pass_block.ensures c.args.list (search rules))
+    (goes_past shapes blocks room c.args.number c.in-Some.block.now c.pass_block.new.block came goes at c.pass_block.ensures.passes c.args.list (search rules))

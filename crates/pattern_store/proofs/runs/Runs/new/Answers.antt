@@ -4,7 +4,7 @@ use Rattle.pattern_store.specs.Found.{HoldNothing}
 use Rattle.pattern_store.proofs.FoundLaws.{holds_nothing}
 use Rattle.pattern_store.proofs.runs.Runs.new.Goals as goal
 
-pub returns : goal.returns
-returns c =
+pub returns-clause-nothing : goal.returns-clause-nothing
+returns-clause-nothing c =
     subst HoldNothing (sym (c.in_ok-push.ensures.items ∙ ap (λ (b : List Block). b ++ (c.new.result ∷ [])) c.new-blocks.ensures.items))
     (holds_nothing c.new.result c.no_list.result _ c.new.ensures refl)

@@ -1,8 +1,12 @@
-use Rattle.pattern_store.proofs.ShapeLaws.{keeps_set}
+use Rattle.std.proofs.Common.{refl}
+use Rattle.pattern_store.proofs.ShapeLaws.{sets_span, no_ninth, no_shape}
 use Rattle.pattern_store.proofs.shapes.Shapes.set_span.Goals as goal
 
-pub returns-in-Some-get_mut : goal.returns-in-Some-get_mut
-returns-in-Some-get_mut c = keeps_set c.args.self.now.map.entries c.args.list.shape _
+pub returns-then-number-lt8 : goal.returns-then-number-lt8
+returns-then-number-lt8 c = sets_span c.args.self.now.map.entries c.args.list c.args.span c.in-Some.spans.now _ c.in-Some.ensures.value refl
 
-pub returns-in_default-get_mut : goal.returns-in_default-get_mut
-returns-in_default-get_mut c = keeps_set c.args.self.now.map.entries c.args.list.shape _
+pub returns-else-number-lt8 : goal.returns-else-number-lt8
+returns-else-number-lt8 c = no_ninth c.args.self.now.map.entries c.args.list c.args.span c.in-Some.spans.now c.in-Some.ensures.value c.if-number-lt8.false
+
+pub returns-in_default : goal.returns-in_default
+returns-in_default c = no_shape c.args.self.now.map.entries c.args.list c.args.span c.in_default.ensures.value
