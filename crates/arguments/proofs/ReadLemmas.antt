@@ -5,7 +5,7 @@ use Rattle.clap.proofs.OnLiterals.{clap_on_literals}
 use Rattle.clap.specs.Words.{HasKind, IsAmong, Kinds, Text, fault_of, is_simple, is_simple_and_free, kind_of, subcommand_of}
 use Rattle.clap.specs.declared.error.Error.{Error}
 use Rattle.clap.specs.declared.error.kind.ErrorKind.TheVariants.{MissingSubcommand}
-use Rattle.subcommands.specs.declared.running.Subcommand.{Subcommand}
+use Rattle.asked.specs.declared.subcommands.Subcommand.{Subcommand}
 use Rattle.arguments.specs.CommandLine.{command_line}
 use Rattle.arguments.specs.Words.{AreReadBy, AskFor, HasNone, reasons}
 use Rattle.matched_words.specs.Matches.{SaysMatched}

@@ -1,6 +1,6 @@
--- The command line in the terms of `clap`: its subcommands, the words that each has to have, and its options with their ranges
--- and defaults.
-use Rattle.std.specs.Prelude.{◌≡◌, List, [], ◌∷◌, ◌++◌, Some, map, fold, codes, true, false, pos}
+-- The command line in the terms of `clap`: its subcommands, the words that each has to have, and its options, of which `asked` has
+-- the ranges and defaults.
+use Rattle.std.specs.Prelude.{◌≡◌, ℕ, Bool, List, [], ◌∷◌, ◌++◌, Some, map, fold, codes, true, false, pos}
 use Rattle.std.specs.Borrow.{Bor}
 use Rattle.clap.specs.Words.{App, Rule, Shape, Text, app_of, new_rule, rule_of, with_rule}
 use Rattle.clap.specs.Simple.{new_shape}
@@ -10,6 +10,7 @@ use Rattle.clap.specs.declared.builder.command.Command.{Command}
 use Rattle.clap.specs.declared.builder.command.Command.TheViews.{out-Command as fields_of}
 use Rattle.clap.specs.declared.builder.value_parser.ValueParser.{ValueParser}
 use Rattle.clap.specs.declared.builder.value_parser.ValueParser.TheVariants.{Names, Signed, Unsigned}
+use Rattle.asked.specs.Options.{OptionNumbers, table_options, budget_option, progress_option}
 use Rattle.cards.specs.Seats.{seat_letter}
 use Rattle.cards.specs.Pack.{trump_letters}
 use Rattle.cards.specs.declared.seats.Seat.TheVariants.{North, East, South, West}
@@ -35,37 +36,19 @@ choice name texts = record (word name) { parser = Some (Names texts) }
 abbrev pub hand_words : Letters → Text → List Rule
 hand_words letters seat = word (codes "LAYOUT") ∷ choice seat letters.seats ∷ choice (codes "TRUMP") letters.trumps ∷ []
 
+-- the numbers of a range, which may be typed with a sign or may not
+abbrev pub numbers_in_range : Bool → ℕ → ℕ → ValueParser
+numbers_in_range true least most = Signed (pos least) (pos most)
+numbers_in_range false least most = Unsigned least most
+
 -- `--name NUMBER`, with the number that stands for a missing one
-abbrev pub option : Text → ValueParser → Text → Rule
-option name numbers default = record (new_rule name) {
-  long = Some name;
-  parser = Some numbers;
-  defaults = default ∷ [];
+abbrev pub number_rule : OptionNumbers → Rule
+number_rule option = record (new_rule option.name) {
+  long = Some option.name;
+  parser = Some (numbers_in_range option.is_signed option.least option.most);
+  defaults = option.default ∷ [];
   value_names = 1;
 }
-
--- how many threads look for answers, and how many check them
-abbrev pub solvers : Rule
-solvers = option (codes "solvers") (Unsigned 1 64) (codes "2")
-
-abbrev pub checkers : Rule
-checkers = option (codes "checkers") (Unsigned 1 64) (codes "2")
-
--- how many steps a search may take
-abbrev pub budget : Rule
-budget = option (codes "budget") (Unsigned 1 1000000000) (codes "10000000")
-
--- how many seconds an entry is lent
-abbrev pub term : Rule
-term = option (codes "term") (Unsigned 0 1000000000) (codes "600")
-
--- how often an entry is searched
-abbrev pub tries : Rule
-tries = option (codes "tries") (Signed (pos 1) (pos 1000)) (codes "3")
-
--- how many entries are lent to a search at a time
-abbrev pub batch : Rule
-batch = option (codes "batch") (Unsigned 1 20) (codes "20")
 
 -- `--name` alone
 abbrev pub flag : Text → Rule
@@ -74,13 +57,9 @@ flag name = record (new_rule name) {
   action = Some SetTrue;
 }
 
--- whether it is told how far the work has come
-abbrev pub progress : Rule
-progress = flag (codes "progress")
-
 -- how tables are made
 abbrev pub settings : List Rule
-settings = solvers ∷ checkers ∷ term ∷ tries ∷ budget ∷ batch ∷ progress ∷ []
+settings = map number_rule table_options ++ flag progress_option ∷ []
 
 abbrev pub subcommand : Text → List Rule → Shape
 subcommand name rules = record (new_shape name) { rules = rules }
@@ -90,7 +69,7 @@ plain letters = subcommand (codes "plain") (hand_words letters (codes "LEADER"))
 
 abbrev pub solve : Letters → Shape
 solve letters = subcommand (codes "solve")
-    (hand_words letters (codes "DECLARER") ++ budget ∷ [])
+    (hand_words letters (codes "DECLARER") ++ number_rule budget_option ∷ [])
 
 abbrev pub table : Shape
 table = subcommand (codes "table") settings

@@ -5,7 +5,7 @@ use Rattle.clap.specs.Kinds.{or_else}
 use Rattle.clap.specs.declared.error.Error.{Error}
 use Rattle.clap.specs.declared.error.kind.ErrorKind.{ErrorKind}
 use Rattle.clap.specs.declared.error.kind.ErrorKind.TheVariants.{MissingSubcommand, OutOfMemory}
-use Rattle.subcommands.specs.declared.running.Subcommand.{Subcommand}
+use Rattle.asked.specs.declared.subcommands.Subcommand.{Subcommand}
 use Rattle.matched_words.specs.Matches.{SaysMatched}
 use Rattle.arguments.specs.CommandLine.{AreLetters, command_line}
 use Rattle.arguments.specs.declared.command.Letters.{Letters}

@@ -1,12 +1,15 @@
 //! The command line as `clap` is told of it.
 
-ghost use Rattle.std.specs.Prelude.{◌≡◌, IfOk, codes};
+ghost use Rattle.std.specs.Prelude.{◌≡◌, IfOk, codes, map};
 ghost use Rattle.clap.specs.Words.{app_of};
-ghost use Rattle.arguments.specs.CommandLine.{AddsRules, AreLetters, IsArg, IsLeaf, batch, budget, check, checkers, choice, command_line};
-ghost use Rattle.arguments.specs.CommandLine.{hand_words, plain, progress, settings, solve, solvers, table, term, tries, word};
+ghost use Rattle.asked.specs.Options.{numbers_of};
+ghost use Rattle.arguments.specs.CommandLine.{AddsRules, AreLetters, IsArg, IsLeaf, check, choice, command_line, flag, hand_words, numbers_in_range};
+ghost use Rattle.arguments.specs.CommandLine.{number_rule, plain, settings, solve, table, word};
 
 use crate::help;
-use clap::{Arg, ArgAction, Command, value_parser};
+use asked::options::{self, FlagOption, NumberOption};
+use clap::builder::ValueParser;
+use clap::{Arg, ArgAction, Command};
 use std::alloc::{AllocError, Global};
 
 static SEATS: [&str; 4] = ["N", "E", "S", "W"];
@@ -63,7 +66,10 @@ fn solve_command<'a>(alloc: Global, letters: Letters<'a>) -> Result<Command<'a>,
         .about(help::SOLVE_ABOUT)
         .override_usage(help::SOLVE_USAGE)
         .after_help(help::SOLVE_EXAMPLE);
-    with_hand(alloc, command, letters, "DECLARER", help::DECLARER)?.arg(budget_arg(alloc))
+    with_hand(alloc, command, letters, "DECLARER", help::DECLARER)?.arg(number_arg(
+        alloc,
+        &options::BUDGET,
+    ))
 }
 
 fn check_command<'a>(alloc: Global, letters: Letters<'a>) -> Result<Command<'a>, AllocError>
@@ -106,14 +112,21 @@ fn with_hand<'a>(
 fn with_settings<'a>(alloc: Global, command: Command<'a>) -> Result<Command<'a>, AllocError>
     ensures { IfOk result (AddsRules command.entry settings) }
 {
-    command
-        .arg(solvers_arg(alloc))?
-        .arg(checkers_arg(alloc))?
-        .arg(term_arg(alloc))?
-        .arg(tries_arg(alloc))?
-        .arg(budget_arg(alloc))?
-        .arg(batch_arg(alloc))?
-        .arg(progress_arg(alloc))
+    with_numbers(alloc, command, options::table_options())?.arg(flag_arg(alloc, &options::PROGRESS))
+}
+
+/// The command with these options.
+fn with_numbers<'a>(
+    alloc: Global,
+    mut command: Command<'a>,
+    options: &[NumberOption],
+) -> Result<Command<'a>, AllocError>
+    ensures { IfOk result (AddsRules command.entry (map number_rule (map numbers_of options.now))) }
+{
+    for option in options {
+        command = command.arg(number_arg(alloc, option))?;
+    }
+    Ok(command)
 }
 
 fn layout_arg<'a>(alloc: Global) -> Arg<'a>
@@ -132,77 +145,33 @@ fn choice_arg<'a>(alloc: Global, name: &'a str, texts: &'a [&'a str], help: &'a 
         .help(help)
 }
 
-fn solvers_arg<'a>(alloc: Global) -> Arg<'a>
-    ensures { IsArg solvers result }
+/// The numbers that an option takes.
+fn numbers_of_option<'a>(option: &NumberOption) -> ValueParser<'a>
+    ensures { result ≡ numbers_in_range option.now.is_signed option.now.least option.now.most }
 {
-    Arg::new(alloc, "solvers")
-        .long("solvers")
-        .value_name("THREADS")
-        .value_parser(value_parser!(u64).range(1..=64))
-        .default_value("2")
-        .help(help::SOLVERS)
+    if option.is_signed {
+        ValueParser::signed(i64::from(option.least), i64::from(option.most))
+    } else {
+        ValueParser::unsigned(u64::from(option.least), u64::from(option.most))
+    }
 }
 
-fn checkers_arg<'a>(alloc: Global) -> Arg<'a>
-    ensures { IsArg checkers result }
+fn number_arg<'a>(alloc: Global, option: &NumberOption) -> Arg<'a>
+    ensures { IsArg (number_rule (numbers_of option.now)) result }
 {
-    Arg::new(alloc, "checkers")
-        .long("checkers")
-        .value_name("THREADS")
-        .value_parser(value_parser!(u64).range(1..=64))
-        .default_value("2")
-        .help(help::CHECKERS)
+    Arg::new(alloc, option.name)
+        .long(option.name)
+        .value_name(option.value_name)
+        .value_parser(numbers_of_option(option))
+        .default_value(option.default_text)
+        .help(option.help)
 }
 
-fn progress_arg<'a>(alloc: Global) -> Arg<'a>
-    ensures { IsArg progress result }
+fn flag_arg<'a>(alloc: Global, option: &FlagOption) -> Arg<'a>
+    ensures { IsArg (flag option.now.name.now) result }
 {
-    Arg::new(alloc, "progress")
-        .long("progress")
+    Arg::new(alloc, option.name)
+        .long(option.name)
         .action(ArgAction::SetTrue)
-        .help(help::PROGRESS)
-}
-
-fn budget_arg<'a>(alloc: Global) -> Arg<'a>
-    ensures { IsArg budget result }
-{
-    Arg::new(alloc, "budget")
-        .long("budget")
-        .value_name("STEPS")
-        .value_parser(value_parser!(u64).range(1..=1_000_000_000))
-        .default_value("10000000")
-        .help(help::BUDGET)
-}
-
-fn term_arg<'a>(alloc: Global) -> Arg<'a>
-    ensures { IsArg term result }
-{
-    Arg::new(alloc, "term")
-        .long("term")
-        .value_name("SECONDS")
-        .value_parser(value_parser!(u64).range(0..=1_000_000_000))
-        .default_value("600")
-        .help(help::TERM)
-}
-
-fn tries_arg<'a>(alloc: Global) -> Arg<'a>
-    ensures { IsArg tries result }
-{
-    Arg::new(alloc, "tries")
-        .long("tries")
-        .value_name("TRIES")
-        .value_parser(value_parser!(u32).range(1..=1000))
-        .default_value("3")
-        .help(help::TRIES)
-}
-
-fn batch_arg<'a>(alloc: Global) -> Arg<'a>
-    ensures { IsArg batch result }
-{
-    Arg::new(alloc, "batch")
-        .long("batch")
-        .value_name("ENTRIES")
-        .value_parser(value_parser!(u64).range(1..=20))
-        .default_value("20")
-        .help(help::BATCH)
+        .help(option.help)
 }

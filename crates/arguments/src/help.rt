@@ -37,9 +37,6 @@ Exit status:
   2  the command line or the layout is refused
   3  no answer was found in so many steps";
 
-pub const BUDGET: &str = "\
-How many steps a search for an answer may take, each one card tried: 1 to 1000000000";
-
 pub const TABLE_ABOUT: &str = "\
 Reads the boards of a tournament in PBN and writes their double-dummy tables";
 
@@ -69,24 +66,6 @@ Exit status:
      could not be started
   2  the command line or the text is refused
   3  a table is incomplete: steps or memory ran out in a search";
-
-pub const SOLVERS: &str = "\
-How many searches go on at a time: 1 to 64";
-
-pub const CHECKERS: &str = "\
-How many answers are checked at a time: 1 to 64";
-
-pub const PROGRESS: &str = "\
-Tells on the error output how far the work has come, at most once a second and at the end";
-
-pub const TERM: &str = "\
-How many seconds an entry is lent to a search before it is free again: 0 to 1000000000";
-
-pub const TRIES: &str = "\
-How often an entry is searched before it is left without a number: 1 to 1000";
-
-pub const BATCH: &str = "\
-How many entries are lent to a search at a time: 1 to 20";
 
 pub const CHECK_ABOUT: &str = "\
 Checks an answer: that declarer's side takes just so many tricks of a layout";

@@ -6,12 +6,12 @@ ghost use Rattle.clap.specs.declared.error.kind.ErrorKind.TheVariants.{MissingSu
 ghost use Rattle.arguments.specs.Words.{AreReadAs};
 
 use crate::command::{Letters, command, known_letters};
+use asked::Subcommand;
 use clap::Error;
 use clap::error::ErrorKind;
 use matched_words::matched_subcommand;
 use std::alloc::{AllocError, Global};
 use std::convert::AsStr;
-use subcommands::Subcommand;
 
 /// The subcommand that the words ask for, the first of them being the program's name.
 ///

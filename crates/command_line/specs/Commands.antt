@@ -1,5 +1,5 @@
 -- What a run does for the words of a command line.
-use Rattle.std.specs.Prelude.{◌≡◌, ℕ, List, [], ◌∷◌, ◌++◌, ◌⊎◌}
+use Rattle.std.specs.Prelude.{◌≡◌, ℕ, List, [], ◌∷◌, ◌++◌, ◌⊎◌, Option, Some, None, IfSome, codes}
 use Rattle.clap.specs.declared.error.kind.ErrorKind.{ErrorKind}
 use Rattle.clap.specs.declared.error.kind.ErrorKind.TheVariants as kinds
 use Rattle.cards.specs.Devices.{Device}
@@ -11,8 +11,8 @@ use Rattle.arguments.specs.declared.command.Letters.{Letters}
 use Rattle.subcommands.specs.declared.faults.RunFault.TheVariants.{OutOfMemory}
 use Rattle.subcommands.specs.declared.statuses.Status.{Status}
 use Rattle.subcommands.specs.declared.statuses.Status.TheVariants.{Failed, Refused}
-use Rattle.subcommands.specs.declared.running.Subcommand.{Subcommand}
-use Rattle.subcommands.specs.Statuses.{told_line, IsTold}
+use Rattle.asked.specs.declared.subcommands.Subcommand.{Subcommand}
+use Rattle.subcommands.specs.Statuses.{status_code, told_line, IsTold}
 use Rattle.subcommands.specs.Runs.{Shows, RunsSubcommand}
 
 -- help or the version is asked for
@@ -23,25 +23,35 @@ IsAsked kind = (kind ≡ kinds.DisplayHelp) ⊎ (kind ≡ kinds.DisplayVersion)
 abbrev pub AreLines : List ℕ → Type 0
 AreLines text = (beginning : List ℕ) × (text ≡ beginning ++ 10 ∷ [])
 
+-- what is said, with the end of its last line, which may be missing
+pub record IsInLines (said lines : List ℕ) : Type 0 where
+  pub ended : AreLines said → lines ≡ said
+  pub unended : (AreLines said → ⊥) → lines ≡ said ++ 10 ∷ []
+
 -- nothing is written, and that memory ran out is told
 abbrev pub TellsNoMemory : Device → Device → Device → Device → Status → Type 0
 TellsNoMemory sink sink' errors errors' status = (status ≡ Failed) × (sink' ≡ sink) × IsTold errors errors' (told_line OutOfMemory)
 
--- lines of help are written, or memory ran out
-abbrev pub ShowsHelp : Device → Device → Device → Device → Status → Type 0
-ShowsHelp sink sink' errors errors' status =
-    ((text : List ℕ) × AreLines text × Shows sink sink' errors errors' text status) ⊎ TellsNoMemory sink sink' errors errors' status
+-- the lines of help are written, unless memory ran out for them
+abbrev pub ShowsHelp : Option (List ℕ) → Device → Device → Device → Device → Status → Type 0
+ShowsHelp (Some lines) sink sink' errors errors' status = Shows sink sink' errors errors' lines status
+ShowsHelp None sink sink' errors errors' status = TellsNoMemory sink sink' errors errors' status
 
--- lines tell why the words are refused
-abbrev pub TellsRefusal : Device → Device → Status → Type 0
-TellsRefusal errors errors' status = (status ≡ Refused) × ((text : List ℕ) × AreLines text × IsTold errors errors' text)
+-- what is told of refused words: the lines of why, or where memory ran out for them that they are refused
+abbrev pub refusal_lines : Option (List ℕ) → List ℕ
+refusal_lines (Some lines) = lines
+refusal_lines None = codes "ddfarm: the command line is refused" ++ 10 ∷ []
 
--- What comes of words that ask for no subcommand, by the kind of the error: help that was asked for is written; a refusal is told
--- on the error output alone; or memory ran out.
+abbrev pub TellsRefusal : Option (List ℕ) → Device → Device → Status → Type 0
+TellsRefusal lines errors errors' status = (status ≡ Refused) × IsTold errors errors' (refusal_lines lines)
+
+-- What comes of words that ask for no subcommand, by the kind of the error and the lines that it says, if memory held them: help
+-- that was asked for is written; a refusal is told on the error output alone; or memory ran out.
 pub data EndsWords (sink sink' errors errors' : Device) (kind : ErrorKind) (status : Status) : Type 0 where
-  is_shown : IsAsked kind → ShowsHelp sink sink' errors errors' status → EndsWords sink sink' errors errors' kind status
-  is_refused : (IsAsked kind → ⊥) → (kind ≡ kinds.OutOfMemory → ⊥) → sink' ≡ sink → TellsRefusal errors errors' status
+  is_shown : IsAsked kind → (lines : Option (List ℕ)) → IfSome lines AreLines → ShowsHelp lines sink sink' errors errors' status
       → EndsWords sink sink' errors errors' kind status
+  is_refused : (IsAsked kind → ⊥) → (kind ≡ kinds.OutOfMemory → ⊥) → (lines : Option (List ℕ)) → IfSome lines AreLines
+      → sink' ≡ sink → TellsRefusal lines errors errors' status → EndsWords sink sink' errors errors' kind status
   is_without_memory : kind ≡ kinds.OutOfMemory → TellsNoMemory sink sink' errors errors' status
       → EndsWords sink sink' errors errors' kind status
 
@@ -54,3 +64,7 @@ pub data MeetsWords (may_find : MayFind) (may_tell : MayTell) (words : List (Lis
   is_none : (letters : Letters) → AreLetters letters → (kind : ErrorKind) → HasNone letters words kind → source' ≡ source
       → EndsWords sink sink' errors errors' kind status
       → MeetsWords may_find may_tell words source source' sink sink' errors errors' status
+
+-- the exit status is the number of the status that the run ends with
+abbrev pub ExitsBy : (Status → Type 0) → ℕ → Type 0
+ExitsBy Ends code = (status : Status) × Ends status × (code ≡ status_code status)

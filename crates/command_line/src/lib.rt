@@ -3,27 +3,29 @@
 //! [`run_command`] works over any input, output and error output, so that tests can run it over memory.
 #![tactic(auto)]
 
-ghost use Rattle.std.specs.Prelude.{IfSome, map};
+ghost use Rattle.std.specs.Prelude.{IfSome, map, option_map};
 ghost use Rattle.clap.specs.Values.{kind_of};
-ghost use Rattle.command_line.specs.Commands.{AreLines, EndsWords, MeetsWords, TellsRefusal, ShowsHelp};
+ghost use Rattle.command_line.specs.Commands.{AreLines, EndsWords, ExitsBy, IsInLines, MeetsWords, ShowsHelp, TellsRefusal};
 
 use arguments::parse_arguments;
 use cards::{Sink, Source, write_all};
 use clap::Error;
 use clap::error::ErrorKind;
-use farm::Clock;
+use farm::{Clock, Means};
 use lease_desk::Gate;
 use partition_solver::Solver;
 use std::alloc::Global;
 use std::convert::AsStr;
+use std::fmt::Display;
 use std::sync::Wait;
 use std::thread::Threads;
+use streams::Streams;
 use subcommands::{RunFault, Status, run_subcommand, show, tell};
 
 /// What is told of refused words where there is no memory for more.
 const REFUSED: &str = "ddfarm: the command line is refused\n";
 
-/// Does what the words ask for, the first of them being the program's name, and answers how the run ends.
+/// Does what the words ask for, the first of them being the program's name, and answers the exit status.
 ///
 /// What can't be done is told on the error output, with nothing on the output but the beginning that a failed output has
 /// taken; else the error output is as it was. Where the error output fails, nobody is left to be told.
@@ -41,19 +43,16 @@ pub fn run_command<
     rt: &R,
     alloc: Global,
     words: &'a [S],
-    solver: &P,
-    gate: &G,
-    clock: &C,
-    input: &mut I,
-    output: &mut O,
-    errors: &mut E,
-) -> Status
-    ensures { MeetsWords (P.may_find solver.now) (C.may_tell clock.now) (map S.text words.entry.now) (I.state input.old)
-        (I.state input.new) (O.state output.old) (O.state output.new) (E.state errors.old) (E.state errors.new) result }
+    means: &Means<'_, P, G, C>,
+    streams: &mut Streams<I, O, E>,
+) -> u8
+    ensures { ExitsBy (MeetsWords (P.may_find means.now.solver.now) (C.may_tell means.now.clock.now) (map S.text words.entry.now)
+        (I.state streams.old.input) (I.state streams.new.input) (O.state streams.old.output) (O.state streams.new.output)
+        (E.state streams.old.errors) (E.state streams.new.errors)) result }
 {
     match parse_arguments(alloc, words) {
-        Ok(asked) => run_subcommand(rt, alloc, asked, solver, gate, clock, input, output, errors),
-        Err(error) => tell_words(alloc, error, output, errors),
+        Ok(asked) => run_subcommand(rt, alloc, asked, means, streams).code(),
+        Err(error) => { tell_words(alloc, error, &mut streams.output, &mut streams.errors).code() }
     }
 }
 
@@ -69,43 +68,42 @@ fn tell_words<O: Sink, E: Sink>(
     match error.kind() {
         ErrorKind::OutOfMemory => tell(RunFault::OutOfMemory, errors),
         ErrorKind::DisplayHelp | ErrorKind::DisplayVersion => {
-            show_help(alloc, error, output, errors)
+            show_help(lines_of(alloc, error), output, errors)
         }
-        _ => tell_refusal(alloc, error, errors),
+        _ => tell_refusal(lines_of(alloc, error), errors),
     }
 }
 
-/// Writes the help that was asked for.
-fn show_help<O: Sink, E: Sink>(
-    alloc: Global,
-    error: Error,
-    output: &mut O,
-    errors: &mut E,
-) -> Status
-    ensures { ShowsHelp (O.state output.old) (O.state output.new) (E.state errors.old) (E.state errors.new) result }
+/// Writes the lines of the help that was asked for, if there was memory for them.
+fn show_help<O: Sink, E: Sink>(lines: Option<String>, output: &mut O, errors: &mut E) -> Status
+    ensures { ShowsHelp (option_map (λ text. text.bytes.items) lines) (O.state output.old) (O.state output.new)
+        (E.state errors.old) (E.state errors.new) result }
 {
-    match lines_of(alloc, error) {
+    match lines {
         Some(text) => show(text.as_bytes(), output, errors),
         None => tell(RunFault::OutOfMemory, errors),
     }
 }
 
-/// Tells why the words are refused.
-fn tell_refusal<E: Sink>(alloc: Global, error: Error, errors: &mut E) -> Status
-    ensures { TellsRefusal (E.state errors.old) (E.state errors.new) result }
+/// Tells the lines of why the words are refused, or, if there was no memory for them, that they are.
+fn tell_refusal<E: Sink>(lines: Option<String>, errors: &mut E) -> Status
+    ensures { TellsRefusal (option_map (λ text. text.bytes.items) lines) (E.state errors.old) (E.state errors.new) result }
 {
-    let _ = match lines_of(alloc, error) {
+    let _ = match lines {
         Some(text) => write_all(errors, text.as_bytes()),
         None => write_all(errors, REFUSED.as_bytes()),
     };
     Status::Refused
 }
 
-/// What `clap` says of the words, in whole lines; `None` where there is no memory for it.
-fn lines_of(alloc: Global, error: Error) -> Option<String>
-    ensures { IfSome result (λ text. AreLines text.bytes.items) }
+/// What is said of the words, in whole lines; `None` where there is no memory for it.
+fn lines_of<D: Display + Drop>(alloc: Global, said: D) -> Option<String>
+    ensures lines { IfSome result (λ text. AreLines text.bytes.items) }
+    ensures said { IfSome result (λ text. IfSome (D.output said) (λ bytes. IsInLines bytes text.bytes.items)) }
 {
-    let text = format!(in alloc; "{error}").ok()?;
-    let lines = text.strip_suffix("\n").unwrap_or(text.as_str());
-    format!(in alloc; "{lines}\n").ok()
+    let mut text = format!(in alloc; "{said}").ok()?;
+    if !text.as_str().ends_with("\n") {
+        text.push_str("\n").ok()?;
+    }
+    Some(text)
 }

@@ -4,13 +4,13 @@
 #![tactic(auto)]
 
 use command_line::run_command;
-use farm::Clock;
+use farm::{Clock, Means};
 use partition_solver::Partition;
 use progress::Progress;
 use std::io::{BufWriter, ErrorKind};
 use std::process::ExitCode;
 use std::time::Instant;
-use streams::{ReaderSource, WriterSink};
+use streams::{ReaderSource, Streams, WriterSink};
 use subcommands::{RunFault, close_output, tell};
 
 /// Whole seconds since the program's start.
@@ -47,26 +47,24 @@ fn main(rt: HostRuntime) -> ExitCode {
         rt: &rt,
         start: Instant::now(&rt).ok(),
     };
-    let mut input = ReaderSource::new(rt.stdin());
     let mut errors = WriterSink::new(rt.stderr());
     let Ok(buffered) = BufWriter::new(rt.alloc(), rt.stdout()) else {
         return ExitCode::from(tell(RunFault::OutOfMemory, &mut errors).code());
     };
-    let mut output = WriterSink::new(buffered);
     let progress = Progress::new(&rt, &clock, WriterSink::new(rt.stderr()));
-    let status = match words_of_process(&rt) {
-        Ok(words) => run_command(
-            &rt,
-            rt.alloc(),
-            words.as_slice(),
-            &Partition::new(),
-            &progress,
-            &clock,
-            &mut input,
-            &mut output,
-            &mut errors,
-        ),
-        Err(fault) => tell(fault, &mut errors),
+    let means = Means {
+        solver: &Partition::new(),
+        gate: &progress,
+        clock: &clock,
     };
-    ExitCode::from(close_output(status, &mut output, &mut errors).code())
+    let mut streams = Streams {
+        input: ReaderSource::new(rt.stdin()),
+        output: WriterSink::new(buffered),
+        errors,
+    };
+    let status = match words_of_process(&rt) {
+        Ok(words) => run_command(&rt, rt.alloc(), words.as_slice(), &means, &mut streams),
+        Err(fault) => tell(fault, &mut streams.errors).code(),
+    };
+    ExitCode::from(close_output(status, &mut streams.output, &mut streams.errors))
 }

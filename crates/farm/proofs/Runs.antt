@@ -41,9 +41,9 @@ module _ {S G C : Type 0} (may_tell : C → MayTell) (crew : Crew S G C) where
   module _ (terms : Terms) (first chairs closed : List Chair) (book : Ledger)
       (have : HaveWorked may_tell crew first chairs) (is : IsClosed terms chairs book closed) where
     -- the request in each place is that of a receipt
-    timed : AreTimed (may_tell crew.clock.now) book.events
+    timed : AreTimed (may_tell crew.means.clock.now) book.events
     timed place d within =
-        let Of : Receipt → Type 0 = λ receipt. IsTimed (may_tell crew.clock.now) receipt.event.asked in
+        let Of : Receipt → Type 0 = λ receipt. IsTimed (may_tell crew.means.clock.now) receipt.event.asked in
         let once = is.once place within in
         let chair = above_zero (λ (c : Chair). count_by (is_for place) (receipts_in c)) closed (omega arith) in
         let receipt = counted_is_there (is_for place) (receipts_in chair.0) chair.2 in
@@ -52,7 +52,7 @@ module _ {S G C : Type 0} (may_tell : C → MayTell) (crew : Crew S G C) where
         let at : receipt.0.place ≡ place = eqb-true receipt.0.place place receipt.2 in
         let stands = All-contains (Stands book.events) (receipts_in chair.0) receipt.0 (All-contains (λ (c : Chair). All (Stands book.events) (receipts_in c)) closed chair.0 is.stand chair.1) receipt.1 in
         let event : get_or book.events place d ≡ receipt.0.event = ap (λ k. get_or book.events k d) (sym at) ∙ get_or_from_slice_get book.events receipt.0.place receipt.0.event d stands in
-        subst (λ (e : Event). IsTimed (may_tell crew.clock.now) e.asked) (sym event) may
+        subst (λ (e : Event). IsTimed (may_tell crew.means.clock.now) e.asked) (sym event) may
 
     -- one of the chairs saw that no entry was open
     given_out : IsGivenOut book.events
@@ -66,7 +66,7 @@ module _ {S G C : Type 0} (may_tell : C → MayTell) (crew : Crew S G C) where
         let stands : Stands book.events told = All-contains (Stands book.events) (receipts_in chair) told (All-contains (λ (c : Chair). All (Stands book.events) (receipts_in c)) chairs chair stand there) nothing.2 in
         (nothing.0, (nothing.1, slice_get_within book.events nothing.1 event stands, get_or_from_slice_get book.events nothing.1 event event stands))
 
-    pub is_run : IsTrueHistory book.terms book.events → IsBookOf (may_tell crew.clock.now) terms book
+    pub is_run : IsTrueHistory book.terms book.events → IsBookOf (may_tell crew.means.clock.now) terms book
     is_run history =
         record { terms_are = is.terms_are; run = record { history = subst (λ (t : Terms). IsTrueHistory t book.events) is.terms_are history; given_out = given_out; timed = timed } }
 

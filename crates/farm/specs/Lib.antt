@@ -1,6 +1,3 @@
-pub mod Counts
-pub mod SettingsFaults
-pub mod MakingSettings
 pub mod Faults
 pub mod Moments
 pub mod Publications

@@ -1,7 +1,7 @@
 -- The relays of a run, and what went through them.
 use Rattle.std.specs.Prelude.{List}
 use Rattle.farm_relay.specs.Relays.{IsOpened, AreAllOf, IsNothingLost}
-use Rattle.farm.specs.declared.settings.Settings.{Settings}
+use Rattle.asked.specs.declared.settings.Settings.{Settings}
 use Rattle.farm.specs.declared.tasks.FoundBundle.{FoundBundle}
 use Rattle.farm.specs.declared.tasks.CheckedClaim.{CheckedClaim}
 use Rattle.farm.specs.declared.relays.Relays.{Relays}

@@ -12,7 +12,7 @@ use Rattle.farm.specs.declared.posts.ClerkPost.{ClerkPost}
 use Rattle.farm.specs.declared.posts.Posts.{Posts}
 use Rattle.farm.specs.declared.relays.Ends.{Ends}
 use Rattle.farm.specs.declared.relays.Relays.{Relays}
-use Rattle.farm.specs.declared.settings.Settings.{Settings}
+use Rattle.asked.specs.declared.settings.Settings.{Settings}
 use Rattle.farm.specs.declared.started.Started.{Started}
 use Rattle.farm.specs.Moments.{MayTell}
 use Rattle.farm.specs.Working.{IsOnDuty}

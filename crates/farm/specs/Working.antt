@@ -19,7 +19,7 @@ pub record IsWorker (may_tell : MayTell) (desk : Desk) (chair : Chair) : Type 0 
 module _ {S G C : Type 0} (may_tell : C → MayTell) (crew : Crew S G C) where
   -- the chair is one at the crew's desk, with the crew's clock
   abbrev pub IsOnDuty : Chair → Type 0
-  IsOnDuty chair = IsWorker (may_tell crew.clock.now) crew.desk.now chair
+  IsOnDuty chair = IsWorker (may_tell crew.means.clock.now) crew.desk.now chair
 
   -- the chair still is, under its number
   pub record StaysOnDuty (old new : Chair) : Type 0 where

@@ -120,7 +120,7 @@ fn check_found<S, G: Gate, C, R: Threads + Wait + Sync>(
 {
     let FoundBundle { tasks, bundle } = found;
     for task in tasks.iter() {
-        crew.gate.before_graphs(task.lease);
+        crew.means.gate.before_graphs(task.lease);
     }
     let pair = CheckedPair::of(rt, crew.alloc, &bundle)?;
     for task in tasks.iter() {

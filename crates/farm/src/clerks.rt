@@ -29,8 +29,15 @@ fn hand_in<S, G: Gate, C: Clock, R: Wait>(
     ensures told { OnOk result (HandsIn (terms_of crew.now.desk.now) claim.now (receipts_in chair.old) (receipts_in chair.new)) }
 {
     let task = claim.task;
-    let told = crew.desk.hand_in(rt, chair, task.lease, task.entry, &claim.claimed, crew.gate)?;
-    crew.gate.after_check(task.entry, told.event.reply);
+    let told = crew.desk.hand_in(
+        rt,
+        chair,
+        task.lease,
+        task.entry,
+        &claim.claimed,
+        crew.means.gate,
+    )?;
+    crew.means.gate.after_check(task.entry, told.event.reply);
     Ok(())
 }
 

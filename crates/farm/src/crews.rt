@@ -1,6 +1,7 @@
 //! What the threads of a run work with.
 
-use crate::settings::Settings;
+use crate::means::Means;
+use asked::Settings;
 use cards::Layout;
 use lease_desk::Desk;
 use std::alloc::Global;
@@ -13,9 +14,7 @@ pub(crate) struct Crew<'a, S, G, C> {
     /// The deals of the boards, by their numbers.
     pub(crate) deals: &'a [Option<Layout>],
     pub(crate) settings: Settings,
-    pub(crate) solver: &'a S,
-    pub(crate) gate: &'a G,
-    pub(crate) clock: &'a C,
+    pub(crate) means: Means<'a, S, G, C>,
     /// Whether the run has failed, so that no more is to be leased.
     pub(crate) stop: &'a AtomicBool,
 }
@@ -27,9 +26,7 @@ impl<S, G, C> Drop for Crew<'_, S, G, C> {
             desk: _,
             deals: _,
             settings: _,
-            solver: _,
-            gate: _,
-            clock: _,
+            means: _,
             stop: _,
         } = self;
     }

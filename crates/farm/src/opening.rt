@@ -6,7 +6,7 @@ ghost use Rattle.farm.specs.Faults.{IsFaultOf};
 ghost use Rattle.farm.specs.Runs.{terms_for};
 
 use crate::faults::FarmFault;
-use crate::settings::Settings;
+use asked::Settings;
 use cards::Layout;
 use lease_book::BookFault;
 use lease_desk::{Chair, Desk};

@@ -3,8 +3,8 @@
 ghost use Rattle.std.specs.Prelude.{OnOk, IfOk};
 ghost use Rattle.farm.specs.Relaying.{AreOpened, AreAllEndsOf, IsRelayed};
 
-use crate::settings::Settings;
 use crate::tasks::{CheckedClaim, FoundBundle};
+use asked::Settings;
 use farm_relay::{OutOfMemory, Putter, Relay, Taker};
 use std::alloc::Global;
 use std::sync::Wait;

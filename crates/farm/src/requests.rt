@@ -22,7 +22,7 @@ pub(crate) fn next_task<S, G, C: Clock, R: Wait>(
     ensures stays { StaysOnDuty C.may_tell crew.now chair.old chair.new }
     ensures told { IfOk result (IsNextTask (receipts_in chair.old) (receipts_in chair.new)) }
 {
-    let told = crew.desk.lease(rt, chair, crew.clock.now())?;
+    let told = crew.desk.lease(rt, chair, crew.means.clock.now())?;
     match told.event.reply {
         Reply::Given { lease, entry, .. } => Ok(Some(Task { lease, entry })),
         _ => Ok(None),
@@ -39,7 +39,7 @@ pub(crate) fn frees_a_lease<S, G, C: Clock, R: Wait>(
     ensures stays { StaysOnDuty C.may_tell crew.now chair.old chair.new }
     ensures told { IfOk result (FreesLeases (receipts_in chair.old) (receipts_in chair.new)) }
 {
-    let told = crew.desk.expire(rt, chair, crew.clock.now())?;
+    let told = crew.desk.expire(rt, chair, crew.means.clock.now())?;
     match told.event.reply {
         Reply::Freed(0) => Ok(false),
         _ => Ok(true),

@@ -12,11 +12,12 @@ use crate::crews::Crew;
 use crate::faults::FarmFault;
 use crate::halts::Halt;
 use crate::histories::is_true_history;
+use crate::means::Means;
 use crate::opening::{deals_of, open_desk};
 use crate::posts::{CheckerPost, ClerkPost, Posts, SolverPost};
 use crate::relays::Relays;
-use crate::settings::Settings;
 use crate::started::{Started, end_all, join_all, start_all};
+use asked::Settings;
 use farm_threads::Work;
 use lease_book::Book;
 use lease_desk::{Chair, Closed, Gate};
@@ -145,7 +146,7 @@ fn work_all<S: Solver + Sync, G: Gate + Sync, C: Clock + Sync, R: Threads + Wait
 /// each in a thread of its own, and hands out the book when all have ended.
 ///
 /// A solver leases a batch of entries, each at the clock's moment. For those of a board and denomination it tells the gate of
-/// each lease, has `solver` look for what shows their results, once, and puts it for the checkers, or gives the leases up for
+/// each lease, has the solver look for what shows their results, once, and puts it for the checkers, or gives the leases up for
 /// which nothing is claimed. Where no entry is open it has the leases freed that have run out, and ends where there is none.
 /// A checker tells the gate of the leases, checks both graphs, and puts each claim for the clerks. A clerk hands in one claim
 /// after another, of which the desk tells the gate. What memory is refused to on the way is dropped, and its leases stay. The
@@ -155,16 +156,14 @@ pub fn run_farm<S: Solver + Sync, G: Gate + Sync, C: Clock + Sync, R: Threads + 
     alloc: Global,
     boards: Vec<Board>,
     settings: Settings,
-    solver: &S,
-    gate: &G,
-    clock: &C,
+    means: &Means<'_, S, G, C>,
 ) -> Result<Book, FarmFault>
-    ensures book { IfOk result (IsBookOf (C.may_tell clock.now) (terms_for boards.items settings)) }
+    ensures book { IfOk result (IsBookOf (C.may_tell means.now.clock.now) (terms_for boards.items settings)) }
     ensures fault { IfErr result (IsFaultOf boards.items) }
     ensures once { IfOk result (λ book. AreSettledOnce book.events) }
 {
     let deals = deals_of(alloc, boards.as_slice())?;
-    gate.before_work(boards.as_slice());
+    means.gate.before_work(boards.as_slice());
     let (desk, chairs) = open_desk(rt, alloc, boards, settings)?;
     let stop = AtomicBool::new(false);
     let crew = Crew {
@@ -172,14 +171,12 @@ pub fn run_farm<S: Solver + Sync, G: Gate + Sync, C: Clock + Sync, R: Threads + 
         desk: &desk,
         deals: deals.as_slice(),
         settings,
-        solver,
-        gate,
-        clock,
+        means: *means,
         stop: &stop,
     };
     let chairs = work_all(rt, &crew, chairs)?;
     drop(crew);
-    gate.after_work();
+    means.gate.after_work();
     let Closed { book, chairs: _ } = desk.close(rt, chairs);
     is_true_history(&book);
     Ok(book)

@@ -26,12 +26,13 @@ use std::sync::atomic::Ordering::SeqCst;
 /// What the solver finds for leases of a board and denomination. There is nothing where it has no answer within the budget, or
 /// no memory.
 fn found_for<S: Solver, G, C>(crew: &Crew<'_, S, G, C>, group: &Tasks) -> Option<Bundle>
-    ensures { IsFoundFor (S.may_find crew.now.solver.now) crew.now.deals.now crew.now.settings.budget group.now.items result }
+    ensures { IsFoundFor (S.may_find crew.now.means.solver.now) crew.now.deals.now crew.now.settings.budget group.now.items result }
 {
     let entry = group.as_slice().first()?.entry;
     let layout = crew.deals.get(entry.board)?.as_ref()?;
     let declarers = declarers_of(group);
-    crew.solver
+    crew.means
+        .solver
         .solve(
             crew.alloc,
             layout,
@@ -76,7 +77,7 @@ fn work_on<S: Solver, G: Gate, C: Clock, R: Wait>(
         (of_tasks weight group.now.items + all_found weight (put_by post.old.found)) (all_found weight (put_by post.new.found))) }
 {
     for task in group.iter() {
-        crew.gate.before_solve(task.lease);
+        crew.means.gate.before_solve(task.lease);
     }
     let Some(bundle) = found_for(crew, group) else {
         return give_up_all(rt, crew, &mut post.chair, group);

@@ -1,11 +1,15 @@
 -- What the words of a subcommand say, from what its matches hold.
-use Rattle.std.proofs.Common.{◌≡◌, ◌∙◌, ℕ, List, Option, Some, None, sym, refl, Bool, false, true, codes, option_map}
+use Rattle.std.proofs.Common.{◌≡◌, ◌∙◌, ℕ, List, Option, Some, None, Result, Ok, Err, sym, refl, ap, subst, Bool, false, true, codes, option_map}
+use Rattle.std.specs.Result.{result_ok}
 use Rattle.std.specs.Str.{bytes_eq}
 use Rattle.std.proofs.lemmas.Slice.Eq.{bytes_eq-Decides}
 use Rattle.clap.specs.Words.{Row, Text}
-use Rattle.farm.specs.declared.settings.Settings.{Settings}
-use Rattle.subcommands.specs.declared.running.Subcommand.{Subcommand}
-use Rattle.subcommands.specs.declared.running.Subcommand.TheVariants.{Plain, Solve, Table, Check}
+use Rattle.asked.specs.declared.settings.Settings.{Settings}
+use Rattle.asked.specs.declared.subcommands.Subcommand.{Subcommand}
+use Rattle.asked.specs.declared.subcommands.Subcommand.TheVariants.{Plain, Solve, Table, Check}
+use Rattle.asked.specs.declared.settings.SettingsFault.{SettingsFault}
+use Rattle.asked.specs.Settings.{Numbers, Sets, numbers_in}
+use Rattle.asked.specs.Options.{budget_option, progress_option}
 use Rattle.matched_words.specs.Matches.{IsRead, Says, SaysDeal, SaysMatched, SaysFlag, SaysNumber, SaysSettings}
 use Rattle.matched_words.specs.declared.matched.NamedDeal.{NamedDeal}
 
@@ -28,14 +32,14 @@ no_plain said none (Table settings progress) h = absurd (apart (codes "plain") (
 no_plain said none (Check layout declarer trump) h = absurd (apart (codes "plain") (codes "check") refl h.0)
 
 pub no_solve : (said : List Row)
-    → ((deal : NamedDeal) (budget : ℕ) → SaysDeal said (codes "DECLARER") deal → SaysNumber said (codes "budget") 1 1000000000 budget → ⊥)
+    → ((deal : NamedDeal) (budget : ℕ) → SaysDeal said (codes "DECLARER") deal → SaysNumber said budget_option budget → ⊥)
     → (read : Subcommand) → Says (codes "solve") said read → ⊥
 no_solve said none (Plain layout leader trump) h = absurd (apart (codes "solve") (codes "plain") refl h.0)
 no_solve said none (Solve layout declarer trump budget) h = none (record { layout = layout; seat = declarer; trump = trump }) budget h.1 h.2
 no_solve said none (Table settings progress) h = absurd (apart (codes "solve") (codes "table") refl h.0)
 no_solve said none (Check layout declarer trump) h = absurd (apart (codes "solve") (codes "check") refl h.0)
 
-pub no_table : (said : List Row) → ((settings : Settings) (progress : Bool) → SaysSettings said settings → SaysFlag said (codes "progress") progress → ⊥)
+pub no_table : (said : List Row) → ((settings : Settings) (progress : Bool) → SaysSettings said settings → SaysFlag said progress_option progress → ⊥)
     → (read : Subcommand) → Says (codes "table") said read → ⊥
 no_table said none (Plain layout leader trump) h = absurd (apart (codes "table") (codes "plain") refl h.0)
 no_table said none (Solve layout declarer trump budget) h = absurd (apart (codes "table") (codes "solve") refl h.0)
@@ -61,6 +65,19 @@ pub says_matched : {B : Type 0} (f : B → Text) (g : B → List Row) (o : Optio
     → Some name ≡ option_map f o → Some rows ≡ option_map (λ (p : Text × List Row). p.1) (option_map {U = Text × List Row} (λ b. (f b, g b)) o)
     → name ≡ word → IsRead (Says word rows) read → IsRead (SaysMatched (option_map {U = Text × List Row} (λ b. (f b, g b)) o)) read
 says_matched f g o name word rows read n r is said = rw (named_rows f g o name rows n r, is) said
+
+-- ---- settings
+
+-- settings that a setter has made of others with these numbers
+pub set_to : (InRange : Type 0) (set : Numbers → Numbers) (made : Settings) (from numbers : Numbers) (fault : SettingsFault)
+    (answer : Result Settings SettingsFault) (kept : Option Settings) → Sets InRange (set from) fault answer
+    → kept ≡ result_ok answer → kept ≡ Some made → from ≡ numbers → numbers_in made ≡ set numbers
+set_to InRange set made from numbers fault (Ok settings) kept h of is before =
+    let all : Some settings ≡ Some made = sym of ∙ is in
+    let same : settings ≡ made = cc in
+    let now : numbers_in made ≡ set from = subst (λ (s : Settings). numbers_in s ≡ set from) same h.1 in
+    now ∙ ap set before
+set_to InRange set made from numbers fault (Err told) kept h of is before = cc
 
 -- ---- texts
 

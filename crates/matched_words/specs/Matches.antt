@@ -1,12 +1,14 @@
 -- What the words of a subcommand say, and what `clap`'s matches are read as.
-use Rattle.std.specs.Prelude.{◌≡◌, ◌≤◌, ℕ, Bool, true, false, List, Option, Some, None, codes}
+use Rattle.std.specs.Prelude.{◌≡◌, ℕ, Bool, true, false, List, Option, Some, None, codes}
 use Rattle.std.specs.Str.Parse.{IsNumeral, digits_value, without_leading_plus}
 use Rattle.clap.specs.Words.{Row, Text, first_of, one_of}
 use Rattle.cards.specs.Seats.{seat_letter}
 use Rattle.cards.specs.Pack.{trump_letters}
-use Rattle.farm.specs.declared.settings.Settings.{Settings}
-use Rattle.subcommands.specs.declared.running.Subcommand.{Subcommand}
-use Rattle.subcommands.specs.declared.running.Subcommand.TheVariants.{Plain, Solve, Table, Check}
+use Rattle.asked.specs.declared.settings.Settings.{Settings}
+use Rattle.asked.specs.declared.subcommands.Subcommand.{Subcommand}
+use Rattle.asked.specs.declared.subcommands.Subcommand.TheVariants.{Plain, Solve, Table, Check}
+use Rattle.asked.specs.Options.{OptionNumbers, IsIn, budget_option, progress_option}
+use Rattle.asked.specs.Settings.{OfEach, numbers_in}
 use Rattle.matched_words.specs.declared.matched.NamedDeal.{NamedDeal}
 
 -- the digits, which a plus may precede, write the number
@@ -20,18 +22,13 @@ SaysDeal said name deal = (first_of (codes "LAYOUT") said ≡ Some deal.layout.n
     × (first_of (codes "TRUMP") said ≡ Some (trump_letters deal.trump))
 
 -- the words have an option's number, or it is the default; it is in its range
-abbrev pub SaysNumber : List Row → Text → ℕ → ℕ → ℕ → Type 0
-SaysNumber said name least most number =
-    (text : Text) × (one_of name said ≡ Some text) × Writes text number × (least ≤ number) × (number ≤ most)
+abbrev pub SaysNumber : List Row → OptionNumbers → ℕ → Type 0
+SaysNumber said option number =
+    (text : Text) × (one_of option.name said ≡ Some text) × Writes text number × IsIn option number
 
 -- the words say the numbers of the settings
-pub record SaysSettings (said : List Row) (settings : Settings) : Type 0 where
-  pub solvers : SaysNumber said (codes "solvers") 1 64 settings.solvers
-  pub checkers : SaysNumber said (codes "checkers") 1 64 settings.checkers
-  pub term : SaysNumber said (codes "term") 0 1000000000 settings.term
-  pub tries : SaysNumber said (codes "tries") 1 1000 settings.tries
-  pub budget : SaysNumber said (codes "budget") 1 1000000000 settings.budget
-  pub batch : SaysNumber said (codes "batch") 1 20 settings.batch
+abbrev pub SaysSettings : List Row → Settings → Type 0
+SaysSettings said settings = OfEach (SaysNumber said) (numbers_in settings)
 
 -- an option without a value stands among the words, or does not
 abbrev pub flag_letters : Bool → Text
@@ -46,8 +43,8 @@ abbrev pub Says : Text → List Row → Subcommand → Type 0
 Says name said (Plain layout leader trump) = (name ≡ codes "plain")
     × SaysDeal said (codes "LEADER") (record { layout = layout; seat = leader; trump = trump })
 Says name said (Solve layout declarer trump budget) = (name ≡ codes "solve")
-    × SaysDeal said (codes "DECLARER") (record { layout = layout; seat = declarer; trump = trump }) × SaysNumber said (codes "budget") 1 1000000000 budget
-Says name said (Table settings progress) = (name ≡ codes "table") × SaysSettings said settings × SaysFlag said (codes "progress") progress
+    × SaysDeal said (codes "DECLARER") (record { layout = layout; seat = declarer; trump = trump }) × SaysNumber said budget_option budget
+Says name said (Table settings progress) = (name ≡ codes "table") × SaysSettings said settings × SaysFlag said progress_option progress
 Says name said (Check layout declarer trump) = (name ≡ codes "check")
     × SaysDeal said (codes "DECLARER") (record { layout = layout; seat = declarer; trump = trump })
 

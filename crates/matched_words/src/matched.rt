@@ -4,27 +4,13 @@ ghost use Rattle.std.specs.Prelude.{◌≡◌, ◌↔◌, Some, codes, option_ma
 ghost use Rattle.clap.specs.Words.{first_of, found_of, rows_of, subcommand_rows_of};
 ghost use Rattle.cards.specs.Seats.{seat_letter};
 ghost use Rattle.cards.specs.Pack.{trump_letters};
+ghost use Rattle.asked.specs.Options.{numbers_of};
 ghost use Rattle.matched_words.specs.Matches.{IsRead, flag_letters, Says, SaysDeal, SaysMatched, SaysNumber, SaysSettings};
 
+use asked::options::{self, NumberOption};
+use asked::{Settings, Subcommand};
 use cards::{Seat, Trump};
 use clap::ArgMatches;
-use farm::Settings;
-use subcommands::Subcommand;
-
-/// The most threads of a kind.
-const MOST_THREADS: u64 = 64;
-
-/// The most steps of a search.
-const MOST_STEPS: u64 = 1_000_000_000;
-
-/// The most seconds that an entry is lent.
-const LONGEST_TERM: u64 = 1_000_000_000;
-
-/// How often an entry is searched at most.
-const MOST_TRIES: u64 = 1000;
-
-/// The most entries that are lent to a search at a time.
-const MOST_ENTRIES: u64 = 20;
 
 /// What the words of `plain`, `solve` and `check` name.
 #[derive(Clone, Copy)]
@@ -65,7 +51,7 @@ fn solve_subcommand<'a>(said: &ArgMatches<'a>) -> Option<Subcommand<'a>>
     ensures { IsRead (Says (codes "solve") (rows_of (found_of said.now))) result }
 {
     let deal = deal_of(said, "DECLARER")?;
-    let budget = number_of(said, "budget", 1, MOST_STEPS)?;
+    let budget = number_of(said, &options::BUDGET)?;
     Some(Subcommand::Solve {
         layout: deal.layout,
         declarer: deal.seat,
@@ -78,7 +64,7 @@ fn table_subcommand<'a>(said: &ArgMatches<'a>) -> Option<Subcommand<'a>>
     ensures { IsRead (Says (codes "table") (rows_of (found_of said.now))) result }
 {
     let settings = settings_of(said)?;
-    let progress = flag_of(said, "progress")?;
+    let progress = flag_of(said, options::PROGRESS.name)?;
     Some(Subcommand::Table { settings, progress })
 }
 
@@ -86,21 +72,19 @@ fn table_subcommand<'a>(said: &ArgMatches<'a>) -> Option<Subcommand<'a>>
 fn settings_of(said: &ArgMatches<'_>) -> Option<Settings>
     ensures { IsRead (SaysSettings (rows_of (found_of said.now))) result }
 {
-    let solvers = number_of(said, "solvers", 1, MOST_THREADS)?;
-    let checkers = number_of(said, "checkers", 1, MOST_THREADS)?;
-    let term = number_of(said, "term", 0, LONGEST_TERM)?;
-    let tries = number_of(said, "tries", 1, MOST_TRIES)?;
-    let budget = number_of(said, "budget", 1, MOST_STEPS)?;
-    let batch = number_of(said, "batch", 1, MOST_ENTRIES)?;
-    Settings::new(
-        solvers as usize,
-        checkers as usize,
-        term,
-        tries as u32,
-        budget,
-        batch as usize,
-    )
-    .ok()
+    let solvers = number_of(said, &options::SOLVERS)?;
+    let checkers = number_of(said, &options::CHECKERS)?;
+    let term = number_of(said, &options::TERM)?;
+    let tries = number_of(said, &options::TRIES)?;
+    let budget = number_of(said, &options::BUDGET)?;
+    let batch = number_of(said, &options::BATCH)?;
+    let settings = Settings::new().with_term(term);
+    let settings = settings.with_solvers(solvers as usize).ok()?;
+    let settings = settings.with_checkers(checkers as usize).ok()?;
+    let settings = settings.with_tries(tries as u32).ok()?;
+    let settings = settings.with_budget(budget).ok()?;
+    let settings = settings.with_batch(batch as usize).ok()?;
+    Some(settings)
 }
 
 fn check_subcommand<'a>(said: &ArgMatches<'a>) -> Option<Subcommand<'a>>
@@ -166,11 +150,12 @@ fn word_of<'a>(said: &ArgMatches<'a>, name: &str) -> Option<&'a str>
     said.get_str(name)
 }
 
-/// The number of an option, where it is from `least` to `most`.
-fn number_of(said: &ArgMatches<'_>, name: &str, least: u64, most: u64) -> Option<u64>
-    ensures { IsRead (SaysNumber (rows_of (found_of said.now)) name.now least most) result }
+/// The number of an option, where it is in its range.
+fn number_of(said: &ArgMatches<'_>, option: &NumberOption) -> Option<u64>
+    ensures { IsRead (SaysNumber (rows_of (found_of said.now)) (numbers_of option.now)) result }
 {
-    let number = said.get_one::<u64>(name)?;
+    let (least, most) = (u64::from(option.least), u64::from(option.most));
+    let number = said.get_one::<u64>(option.name)?;
     if number < least || most < number {
         return None;
     }

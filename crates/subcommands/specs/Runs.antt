@@ -3,7 +3,7 @@ use Rattle.std.specs.Prelude.{◌≡◌, Result, Ok, Err, nat_lt, if◌then◌el
 use Rattle.lease_book.specs.Books.{Ledger}
 use Rattle.farm.specs.Moments.{MayTell}
 use Rattle.farm.specs.Runs.{IsRun}
-use Rattle.farm.specs.declared.settings.Settings.{Settings}
+use Rattle.asked.specs.declared.settings.Settings.{Settings}
 use Rattle.tables.specs.declared.sheets.Report.{Report}
 use Rattle.tournaments.specs.declared.faults.MakeFault.{MakeFault}
 use Rattle.tournaments.specs.Making.{MakesTables}
@@ -14,9 +14,9 @@ use Rattle.subcommands.specs.declared.faults.RunFault.{RunFault}
 use Rattle.subcommands.specs.declared.faults.RunFault.TheVariants.{Write}
 use Rattle.subcommands.specs.declared.statuses.Status.{Status}
 use Rattle.subcommands.specs.declared.statuses.Status.TheVariants.{Done, Failed, Refused, Incomplete, Rejected}
-use Rattle.subcommands.specs.declared.running.Subcommand.{Subcommand}
-use Rattle.subcommands.specs.declared.running.Subcommand.TheVariants.{Plain, Solve, Table, Check}
-use Rattle.subcommands.specs.Statuses.{fault_status, make_fault, told_line, IsTold}
+use Rattle.asked.specs.declared.subcommands.Subcommand.{Subcommand}
+use Rattle.asked.specs.declared.subcommands.Subcommand.TheVariants.{Plain, Solve, Table, Check}
+use Rattle.subcommands.specs.Statuses.{fault_status, make_fault, status_code, told_line, IsTold}
 use Rattle.subcommands.specs.PlainLine.{MeetsPlainLine}
 use Rattle.subcommands.specs.Checks.{ChecksAnswer}
 use Rattle.subcommands.specs.Solves.{SolvesLayout}
@@ -70,11 +70,15 @@ Shows sink sink' errors errors' text Refused = ⊥
 Shows sink sink' errors errors' text Incomplete = ⊥
 Shows sink sink' errors errors' text Rejected = ⊥
 
--- The end of a run that was done: the writer below the output's buffer has got all that was written, or that failed and
--- was told. A run that failed or was refused stays so, and nothing more is done.
-abbrev pub Closes : Device → Device → Option (List ℕ) → Device → Device → Status → Status → Type 0
-Closes sink sink' below errors errors' Failed ended = (ended ≡ Failed) × (sink' ≡ sink) × (errors' ≡ errors)
-Closes sink sink' below errors errors' Refused ended = (ended ≡ Refused) × (sink' ≡ sink) × (errors' ≡ errors)
-Closes sink sink' below errors errors' status ended =
-    ((ended ≡ status) × HandsOn sink sink' below × (errors' ≡ errors))
-    ⊎ ((ended ≡ Failed) × Fails sink sink' × IsTold errors errors' (told_line Write))
+-- the exit status of a run that failed or was refused
+abbrev pub IsUndone : ℕ → Type 0
+IsUndone code = (code ≡ status_code Failed) ⊎ (code ≡ status_code Refused)
+
+-- The end of a run with this exit status. Where it was done, the writer below the output's buffer has got all that was written,
+-- or that failed and was told. A run that failed or was refused stays so, and nothing more is done.
+pub data Closes (sink sink' : Device) (below : Option (List ℕ)) (errors errors' : Device) (code ended : ℕ) : Type 0 where
+  stays : IsUndone code → ended ≡ code → sink' ≡ sink → errors' ≡ errors → Closes sink sink' below errors errors' code ended
+  is_flushed : (IsUndone code → ⊥) → ended ≡ code → HandsOn sink sink' below → errors' ≡ errors
+      → Closes sink sink' below errors errors' code ended
+  fails : (IsUndone code → ⊥) → ended ≡ status_code Failed → Fails sink sink' → IsTold errors errors' (told_line Write)
+      → Closes sink sink' below errors errors' code ended

@@ -13,9 +13,10 @@ mod statuses;
 mod verdict_lines;
 
 pub use answers::{read_answer, text_is_one_answer};
+pub use asked::Subcommand;
 pub use checks::check_answer;
 pub use faults::{RunFault, tell};
 pub use plain::plain_line;
-pub use running::{Subcommand, close_output, run_subcommand, show};
+pub use running::{close_output, run_subcommand, show};
 pub use solves::{answers_are_read_back, solve_layout};
 pub use statuses::Status;

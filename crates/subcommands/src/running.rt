@@ -9,58 +9,18 @@ use crate::faults::{RunFault, tell};
 use crate::plain::plain_line;
 use crate::solves::solve_layout;
 use crate::statuses::Status;
-use cards::{Seat, Sink, Source, Trump, write_all};
-use farm::{Clock, Settings};
+use asked::{Settings, Subcommand};
+use cards::{Sink, Source, write_all};
+use farm::{Clock, Means};
 use lease_desk::Gate;
 use partition_solver::Solver;
 use std::alloc::Global;
 use std::io::{BufWriter, Write};
 use std::sync::Wait;
 use std::thread::Threads;
-use streams::WriterSink;
+use streams::{Streams, WriterSink};
 use tables::Report;
 use tournaments::make_tables;
-
-/// What is asked of a run.
-#[derive(Clone, Copy)]
-pub enum Subcommand<'a> {
-    /// The tricks of North and South in a layout.
-    Plain {
-        /// The layout, in the form of a Deal value (PBN 2.1, 3.4.11).
-        layout: &'a str,
-        /// Who leads.
-        leader: Seat,
-        /// The denomination.
-        trump: Trump,
-    },
-    /// An answer for a layout.
-    Solve {
-        /// The layout, in the form of a Deal value.
-        layout: &'a str,
-        /// Who declares; the seat at declarer's left leads.
-        declarer: Seat,
-        /// The denomination.
-        trump: Trump,
-        /// How many steps the solver may take.
-        budget: u64,
-    },
-    /// The tables of the boards of the input.
-    Table {
-        /// How many threads work on them, how often, and how long.
-        settings: Settings,
-        /// Whether the gate is told of the work.
-        progress: bool,
-    },
-    /// Whether the answer that is the input is right.
-    Check {
-        /// The layout, in the form of a Deal value.
-        layout: &'a str,
-        /// Who declares; the seat at declarer's left leads.
-        declarer: Seat,
-        /// The denomination.
-        trump: Trump,
-    },
-}
 
 /// Does what is asked, and answers how the run ends.
 ///
@@ -78,19 +38,23 @@ pub fn run_subcommand<
     rt: &R,
     alloc: Global,
     asked: Subcommand<'_>,
-    solver: &P,
-    gate: &G,
-    clock: &C,
-    input: &mut I,
-    output: &mut O,
-    errors: &mut E,
+    means: &Means<'_, P, G, C>,
+    streams: &mut Streams<I, O, E>,
 ) -> Status
-    ensures { RunsSubcommand (P.may_find solver.now) (C.may_tell clock.now) asked.entry (I.state input.old) (I.state input.new)
-        (O.state output.old) (O.state output.new) (E.state errors.old) (E.state errors.new) result }
+    ensures { RunsSubcommand (P.may_find means.now.solver.now) (C.may_tell means.now.clock.now) asked.entry
+        (I.state streams.old.input) (I.state streams.new.input) (O.state streams.old.output) (O.state streams.new.output)
+        (E.state streams.old.errors) (E.state streams.new.errors) result }
 {
-    match try_subcommand(rt, alloc, asked, solver, gate, clock, input, output) {
+    match try_subcommand(
+        rt,
+        alloc,
+        asked,
+        means,
+        &mut streams.input,
+        &mut streams.output,
+    ) {
         Ok(status) => status,
-        Err(fault) => tell(fault, errors),
+        Err(fault) => tell(fault, &mut streams.errors),
     }
 }
 
@@ -106,13 +70,11 @@ fn try_subcommand<
     rt: &R,
     alloc: Global,
     asked: Subcommand<'_>,
-    solver: &P,
-    gate: &G,
-    clock: &C,
+    means: &Means<'_, P, G, C>,
     input: &mut I,
     output: &mut O,
 ) -> Result<Status, RunFault>
-    ensures { Does (P.may_find solver.now) (C.may_tell clock.now) asked.entry (I.state input.old) (I.state input.new)
+    ensures { Does (P.may_find means.now.solver.now) (C.may_tell means.now.clock.now) asked.entry (I.state input.old) (I.state input.new)
         (O.state output.old) (O.state output.new) result }
 {
     match asked {
@@ -131,12 +93,12 @@ fn try_subcommand<
             budget,
         } => {
             let value = layout.as_bytes();
-            solve_layout(alloc, value, declarer, trump, budget, solver, output)?;
+            solve_layout(alloc, value, declarer, trump, budget, means.solver, output)?;
             Ok(Status::Done)
         }
-        Subcommand::Table { settings, progress } => write_tables(
-            rt, alloc, settings, progress, solver, gate, clock, input, output,
-        ),
+        Subcommand::Table { settings, progress } => {
+            write_tables(rt, alloc, settings, progress, means, input, output)
+        }
         Subcommand::Check {
             layout,
             declarer,
@@ -168,21 +130,23 @@ fn write_tables<
     alloc: Global,
     settings: Settings,
     progress: bool,
-    solver: &P,
-    gate: &G,
-    clock: &C,
+    means: &Means<'_, P, G, C>,
     input: &mut I,
     output: &mut O,
 ) -> Result<Status, RunFault>
-    ensures { WritesTables (C.may_tell clock.now) settings (I.state input.old) (I.state input.new) (O.state output.old)
+    ensures { WritesTables (C.may_tell means.now.clock.now) settings (I.state input.old) (I.state input.new) (O.state output.old)
         (O.state output.new) result }
 {
     if progress {
-        let made = make_tables(rt, alloc, input, output, settings, solver, gate, clock)?;
+        let made = make_tables(rt, alloc, input, output, settings, means)?;
         return Ok(status_of(made.0));
     }
-    let gate = &Unwatched;
-    let made = make_tables(rt, alloc, input, output, settings, solver, gate, clock)?;
+    let unwatched = Means {
+        solver: means.solver,
+        gate: &Unwatched,
+        clock: means.clock,
+    };
+    let made = make_tables(rt, alloc, input, output, settings, &unwatched)?;
     Ok(status_of(made.0))
 }
 
@@ -207,20 +171,20 @@ pub fn show<O: Sink, E: Sink>(text: &[u8], output: &mut O, errors: &mut E) -> St
     }
 }
 
-/// Flushes the output of a run that was done, and answers how the run ends: a flush that failed is told on the error output.
+/// Flushes the output of a run that was done, and answers the exit status: a flush that failed is told on the error output.
 pub fn close_output<W: Write + Drop, E: Sink>(
-    status: Status,
+    code: u8,
     output: &mut WriterSink<BufWriter<W>>,
     errors: &mut E,
-) -> Status
+) -> u8
     ensures { Closes (⟦<WriterSink<BufWriter<W>> as Sink>⟧.state output.old) (⟦<WriterSink<BufWriter<W>> as Sink>⟧.state output.new)
-        (inner_contents W.contents output.new) (E.state errors.old) (E.state errors.new) status result }
+        (inner_contents W.contents output.new) (E.state errors.old) (E.state errors.new) code result }
 {
-    match status {
-        Status::Failed | Status::Refused => status,
-        Status::Done | Status::Incomplete | Status::Rejected => match output.flush() {
-            Ok(()) => status,
-            Err(_) => tell(RunFault::Write, errors),
-        },
+    if code == Status::Failed.code() || code == Status::Refused.code() {
+        return code;
+    }
+    match output.flush() {
+        Ok(()) => code,
+        Err(_) => tell(RunFault::Write, errors).code(),
     }
 }

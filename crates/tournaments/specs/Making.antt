@@ -9,7 +9,7 @@ use Rattle.lease_book.specs.Books.{Ledger}
 use Rattle.lease_book.specs.Histories.{Terms}
 use Rattle.tables.specs.declared.sheets.Report.{Report}
 use Rattle.tables.specs.BookResults.{book_results}
-use Rattle.tables.specs.TablesText.{tables_text, complete_count}
+use Rattle.tables.specs.TablesText.{complete_count}
 use Rattle.tournaments.specs.declared.faults.MakeFault.{MakeFault}
 use Rattle.tournaments.specs.declared.faults.MakeFault.TheVariants.{OutOfMemory, Read, Pbn, NoThread, Write}
 use Rattle.farm.specs.Publications.{IsTrueHistory, IsGivenOut}
@@ -17,6 +17,7 @@ use Rattle.tournaments.specs.Done.{IsDone}
 use Rattle.partition_solver.specs.Answers.{MayFind}
 use Rattle.tournaments.specs.Asking.{AreWorkedOn}
 use Rattle.farm.specs.Moments.{MayTell, AreTimed}
+use Rattle.tournaments.specs.Pages.{history_text, IsReadOnce}
 
 -- what is so of the history of a run, over the terms of its book
 abbrev pub RunFact : Type 1
@@ -27,10 +28,6 @@ pub record HasBoards (old new : Device) (boards : List Board) : Type 0 where
   pub text : List ℕ
   pub all : IsReadToEnd old new text
   pub read : TextAnswers text (Ok boards)
-
--- the text of the boards, with the numbers that the history publishes
-abbrev pub history_text : List Board → List Event → List ℕ
-history_text boards events = tables_text boards (book_results boards events)
 
 -- the report counts the boards, and those of which all twenty numbers are published
 pub record Counts (boards : List Board) (events : List Event) (report : Report) : Type 0 where
@@ -47,7 +44,8 @@ pub record IsWholeRun (may_find : MayFind) (may_tell : MayTell) (budget : ℕ) (
   pub timed : AreTimed may_tell events
 
 -- The source was read to its end, the book is one over the boards of its text, with this term and these tries, after such
--- a run, and the sink has got the text of the boards with the numbers that the book's history publishes.
+-- a run, and the sink has got the text of the boards with the numbers that the book's history publishes: a page that is read
+-- as these boards, each number of which is the double-dummy value of its deal, and stands there once.
 pub record FillsTables (is_run : RunFact) (term tries : ℕ) (source source' sink sink' : Device) (report : Report) (book : Ledger)
     : Type 0 where
   pub boards : List Board
@@ -55,6 +53,7 @@ pub record FillsTables (is_run : RunFact) (term tries : ℕ) (source source' sin
   pub terms : book.terms ≡ record { boards = boards; term = term; tries = tries }
   pub run : is_run book.terms book.events
   pub written : Adds sink sink' (history_text boards book.events)
+  pub page : IsReadOnce boards book.events (history_text boards book.events)
   pub counts : Counts boards book.events report
 
 -- after such a run a beginning of the text was written, before the sink failed

@@ -10,9 +10,13 @@ use Rattle.lease_book.specs.declared.events.Event.{Event}
 use Rattle.lease_book.specs.Histories.{Terms}
 use Rattle.farm.specs.Publications.{IsTrueHistory}
 use Rattle.tables.specs.BookResults.{book_results}
+use Rattle.tables.specs.TablesText.{tables_text}
 use Rattle.tables.specs.PageReading.{Row, Table, Rows, Incomplete, Block, page_in}
 use Rattle.tables.specs.WrittenOnce.{SayBoards}
-use Rattle.tournaments.specs.Making.{history_text}
+
+-- the text of the boards, with the numbers that the history publishes
+abbrev pub history_text : List Board → List Event → List ℕ
+history_text boards events = tables_text boards (book_results boards events)
 
 -- the row's number is the double-dummy value of the board's deal, for the row's declarer and denomination
 abbrev pub IsTrueRow : Board → Row → Type 0
@@ -33,7 +37,7 @@ pub record IsReadOnce (boards : List Board) (events : List Event) (page : List �
   pub boards_said : SayBoards (book_results boards events) (enumerate_from 0 boards) blocks
   pub values : AllZip (λ board block. IsTrueTable board block.table) boards blocks
 
--- so is the page that is written of the boards that any text says, after any true history over them
+-- that is how the page is read that is written of the boards that any text says, after any true history over them
 abbrev pub TablesAreRead : Type 0
 TablesAreRead =
     (text : List ℕ) (terms : Terms) (events : List Event) →

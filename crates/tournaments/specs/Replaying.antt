@@ -11,7 +11,8 @@ use Rattle.tables.specs.declared.sheets.Report.{Report}
 use Rattle.tournaments.specs.declared.faults.MakeFault.{MakeFault}
 use Rattle.tournaments.specs.declared.faults.MakeFault.TheVariants.{OutOfMemory, Read, Pbn, NoThread, Write}
 use Rattle.farm.specs.Publications.{IsTrueHistory}
-use Rattle.tournaments.specs.Making.{history_text, Counts}
+use Rattle.tournaments.specs.Making.{Counts}
+use Rattle.tournaments.specs.Pages.{history_text, IsReadOnce}
 
 -- The boards are those of the text, and the history is that of the requests, each hand-in judged by its texts: it is
 -- legal, and it publishes exactly the numbers of the first good hand-ins, each of them the double-dummy value, once.
@@ -24,13 +25,14 @@ pub record IsHistoryOf (text : List ℕ) (term tries : ℕ) (requests : List Req
       (record { terms = record { boards = boards; term = term; tries = tries }; events = events }) replies
   pub history : IsTrueHistory (record { boards = boards; term = term; tries = tries }) events
 
--- the sink has got the text of the boards with the numbers of that history
+-- the sink has got the text of the boards with the numbers of that history: a page that is read as them, each number once
 pub record FillsFromRequests (text : List ℕ) (term tries : ℕ) (requests : List Request) (sink sink' : Device) (report : Report)
     : Type 0 where
   pub boards : List Board
   pub events : List Event
   pub history : IsHistoryOf text term tries requests boards events
   pub written : Adds sink sink' (history_text boards events)
+  pub page : IsReadOnce boards events (history_text boards events)
   pub counts : Counts boards events report
 
 -- a beginning of that text was written, before the sink failed

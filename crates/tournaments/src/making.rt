@@ -1,20 +1,19 @@
 //! The tables by many threads.
 
-ghost use Rattle.std.specs.Prelude.{◌≡◌, IfOk, IfErr, IsSome};
-ghost use Rattle.lease_book.specs.Books.{AreBoards};
-ghost use Rattle.farm.specs.Runs.{IsBookOf, IsRun};
+ghost use Rattle.std.specs.Prelude.{◌≡◌, IfOk, IsSome, Some};
+ghost use Rattle.farm.specs.Runs.{IsRun};
 ghost use Rattle.farm.specs.Leases.{AreSettledOnce};
-ghost use Rattle.tournaments.specs.Faults.{halted_fault, IsHalted};
+ghost use Rattle.tournaments.specs.Faults.{halted_fault};
 ghost use Rattle.tournaments.specs.Making.{MakesTables};
 
 use crate::faults::{MakeFault, write_failed};
+use crate::laws::tables_are_read;
 use crate::texts::take_boards;
 use cards::{Sink, Source};
-use farm::{Clock, FarmFault, Settings, run_farm};
+use farm::{Clock, FarmFault, Means, Settings, run_farm};
 use lease_book::Book;
 use lease_desk::Gate;
 use partition_solver::Solver;
-use pbn_deals::Board;
 use std::alloc::Global;
 use std::sync::Wait;
 use std::thread::Threads;
@@ -30,27 +29,6 @@ fn halted(fault: FarmFault) -> MakeFault
         FarmFault::OutOfMemory => MakeFault::OutOfMemory,
         FarmFault::NoThread => MakeFault::NoThread,
         FarmFault::Book(_) => unreachable!(),
-    }
-}
-
-/// The book of a farm over boards of a text, unless memory runs out or a thread can't be started.
-fn farmed_book<S: Solver + Sync, G: Gate + Sync, C: Clock + Sync, R: Threads + Wait + Sync>(
-    rt: &R,
-    alloc: Global,
-    boards: Vec<Board>,
-    settings: Settings,
-    solver: &S,
-    gate: &G,
-    clock: &C,
-) -> Result<Book, MakeFault>
-    requires { AreBoards boards.items }
-    ensures book { IfOk result (IsBookOf (C.may_tell clock.now) (record { boards = boards.items; term = settings.term; tries = settings.tries })) }
-    ensures fault { IfErr result IsHalted }
-    ensures once { IfOk result (λ book. AreSettledOnce book.events) }
-{
-    match run_farm(rt, alloc, boards, settings, solver, gate, clock) {
-        Ok(book) => Ok(book),
-        Err(fault) => Err(halted(fault)),
     }
 }
 
@@ -73,17 +51,19 @@ pub fn make_tables<
     input: &mut I,
     output: &mut O,
     settings: Settings,
-    solver: &S,
-    gate: &G,
-    clock: &C,
+    means: &Means<'_, S, G, C>,
 ) -> Result<(Report, Book), MakeFault>
-    ensures tables { MakesTables (IsRun (C.may_tell clock.now)) settings.term settings.tries (I.state input.old) (I.state input.new)
+    ensures tables { MakesTables (IsRun (C.may_tell means.now.clock.now)) settings.term settings.tries (I.state input.old) (I.state input.new)
         (O.state output.old) (O.state output.new) result }
     ensures once { IfOk result (λ made. AreSettledOnce made.1.events) }
 {
     let text = read_all(alloc, input)?;
     let boards = take_boards(alloc, text.as_slice())?;
-    let book = farmed_book(rt, alloc, boards, settings, solver, gate, clock)?;
+    let book = match run_farm(rt, alloc, boards, settings, means) {
+        Ok(book) => book,
+        Err(fault) => return Err(halted(fault)),
+    };
+    tables_are_read();
     let report = write_tables(&book, output).map_err(write_failed)?;
     Ok((report, book))
 }

@@ -6,6 +6,7 @@ ghost use Rattle.tournaments.specs.declared.faults.MakeFault.TheVariants.{NoThre
 ghost use Rattle.tournaments.specs.Making.{MakesTables, IsWholeRun};
 
 use crate::faults::{MakeFault, write_failed};
+use crate::laws::tables_are_read;
 use crate::texts::{open_book, take_boards};
 use crate::working::work_through;
 use cards::{Sink, Source};
@@ -43,6 +44,7 @@ pub fn make_single<I: Source, O: Sink, S: Solver, C: Clock>(
     let mut book = open_book(alloc, boards, term, tries)?;
     work_through(alloc, &mut book, budget, solver, clock)?;
     is_true_history(&book);
+    tables_are_read();
     let report = write_tables(&book, output).map_err(write_failed)?;
     Ok((report, book))
 }

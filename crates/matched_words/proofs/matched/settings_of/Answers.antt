@@ -1,4 +1,8 @@
-use Rattle.matched_words.proofs.SaysLemmas.{nothing_read}
+use Rattle.std.proofs.Common.{◌≡◌, ◌∙◌, ap, sym, subst}
+use Rattle.asked.specs.Settings.{OfEach}
+use Rattle.clap.specs.Words.{found_of, rows_of}
+use Rattle.matched_words.specs.Matches.{SaysNumber}
+use Rattle.matched_words.proofs.SaysLemmas.{nothing_read, set_to}
 use Rattle.matched_words.proofs.matched.settings_of.Goals as goal
 
 pub returns-in_err-solvers : goal.returns-in_err-solvers
@@ -18,3 +22,20 @@ returns-in_err-budget c = nothing_read _ _ c.from_residual-in_err-budget.ensures
 
 pub returns-in_err-batch : goal.returns-in_err-batch
 returns-in_err-batch c = nothing_read _ _ c.from_residual-in_err-batch.ensures (λ settings said. c.in_err-batch.ensures settings.batch said.batch)
+
+pub returns : goal.returns
+returns c =
+    let term = c.with_term-settings.ensures in
+    let solvers = set_to _ (λ n. record n { solvers = c.in_ok-solvers.solvers }) _ _ _ _ _ _ c.with_solvers.ensures c.ok.ensures.value c.in_ok-settings.was term in
+    let checkers = set_to _ (λ n. record n { checkers = c.in_ok-checkers.checkers }) _ _ _ _ _ _ c.with_checkers.ensures c.ok-2.ensures.value c.in_ok-settings-2.was solvers in
+    let tries = set_to _ (λ n. record n { tries = c.in_ok-tries.tries }) _ _ _ _ _ _ c.with_tries.ensures c.ok-3.ensures.value c.in_ok-settings-3.was checkers in
+    let budget = set_to _ (λ n. record n { budget = c.in_ok-budget.budget }) _ _ _ _ _ _ c.with_budget.ensures c.ok-4.ensures.value c.in_ok-settings-4.was tries in
+    let batch = set_to _ (λ n. record n { batch = c.in_ok-batch.batch }) _ _ _ _ _ _ c.with_batch.ensures c.ok-5.ensures.value c.in_ok-settings-5.was budget in
+    subst (λ n. OfEach (SaysNumber (rows_of (found_of c.args.said.now))) n) (sym batch) (record {
+      solvers = c.in_ok-solvers.ensures;
+      checkers = c.in_ok-checkers.ensures;
+      term = c.in_ok-term.ensures;
+      tries = c.in_ok-tries.ensures;
+      budget = c.in_ok-budget.ensures;
+      batch = c.in_ok-batch.ensures;
+    })

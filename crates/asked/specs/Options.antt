@@ -1,0 +1,65 @@
+-- The options with a number: how each is named, its range, and the number that stands for a missing one.
+use Rattle.std.specs.Prelude.{ℕ, Bool, true, false, ◌≤◌, List, [], ◌∷◌, codes}
+use Rattle.asked.specs.declared.options.NumberOption.{NumberOption}
+
+pub record OptionNumbers : Type 0 where
+  pub name : List ℕ
+  pub least : ℕ
+  pub most : ℕ
+  -- whether it may be typed with a sign
+  pub is_signed : Bool
+  -- in digits
+  pub default : List ℕ
+
+-- what a row of the table says
+abbrev pub numbers_of : NumberOption → OptionNumbers
+numbers_of row = record {
+  name = row.name.now;
+  least = row.least;
+  most = row.most;
+  is_signed = row.is_signed;
+  default = row.default_text.now;
+}
+
+-- the number is in the option's range
+abbrev pub IsIn : OptionNumbers → ℕ → Type 0
+IsIn option number = (option.least ≤ number) × (number ≤ option.most)
+
+-- how many threads look for answers
+abbrev pub solvers_option : OptionNumbers
+solvers_option = record { name = codes "solvers"; least = 1; most = 64; is_signed = false; default = codes "2" }
+
+-- how many threads check them
+abbrev pub checkers_option : OptionNumbers
+checkers_option = record { name = codes "checkers"; least = 1; most = 64; is_signed = false; default = codes "2" }
+
+-- how many seconds an entry is lent
+abbrev pub term_option : OptionNumbers
+term_option = record { name = codes "term"; least = 0; most = 1000000000; is_signed = false; default = codes "600" }
+
+-- how often an entry is searched
+abbrev pub tries_option : OptionNumbers
+tries_option = record { name = codes "tries"; least = 1; most = 1000; is_signed = true; default = codes "3" }
+
+-- how many steps a search may take
+abbrev pub budget_option : OptionNumbers
+budget_option = record {
+  name = codes "budget";
+  least = 1;
+  most = 1000000000;
+  is_signed = false;
+  default = codes "10000000";
+}
+
+-- how many entries are lent to a search at a time
+abbrev pub batch_option : OptionNumbers
+batch_option = record { name = codes "batch"; least = 1; most = 20; is_signed = false; default = codes "20" }
+
+-- the options of `table` that have a number, in the order of its help
+abbrev pub table_options : List OptionNumbers
+table_options =
+    solvers_option ∷ checkers_option ∷ term_option ∷ tries_option ∷ budget_option ∷ batch_option ∷ []
+
+-- the option of `table` that has none: whether it is told how far the work has come
+abbrev pub progress_option : List ℕ
+progress_option = codes "progress"

@@ -1,0 +1,130 @@
+//! The options of the command line: a row for each.
+
+ghost use Rattle.std.specs.Prelude.{◌≡◌, ◌↔◌, IsTrue, map};
+ghost use Rattle.asked.specs.Options.{IsIn, numbers_of, table_options};
+
+/// An option with a number.
+#[derive(Clone, Copy)]
+pub struct NumberOption {
+    /// What stands after `--`.
+    pub name: &'static str,
+    /// What help calls the number.
+    pub value_name: &'static str,
+    /// The least number.
+    pub least: u32,
+    /// The most.
+    pub most: u32,
+    /// Whether it may be typed with a sign: then a number below 0 is refused for its range.
+    pub is_signed: bool,
+    /// The number where the option is missing.
+    pub default: u64,
+    /// Its digits.
+    pub default_text: &'static str,
+    /// What help says of the option.
+    pub help: &'static str,
+}
+
+impl NumberOption {
+    /// Whether the number is in the option's range.
+    pub fn takes(&self, number: u64) -> bool
+        ensures { IsTrue result ↔ IsIn (numbers_of self.now) number }
+    {
+        u64::from(self.least) <= number && number <= u64::from(self.most)
+    }
+}
+
+/// An option without a value.
+#[derive(Clone, Copy)]
+pub struct FlagOption {
+    /// What stands after `--`.
+    pub name: &'static str,
+    /// What help says of the option.
+    pub help: &'static str,
+}
+
+/// How many threads look for answers.
+pub const SOLVERS: NumberOption = NumberOption {
+    name: "solvers",
+    value_name: "THREADS",
+    least: 1,
+    most: 64,
+    is_signed: false,
+    default: 2,
+    default_text: "2",
+    help: "How many searches go on at a time: 1 to 64",
+};
+
+/// How many threads check answers.
+pub const CHECKERS: NumberOption = NumberOption {
+    name: "checkers",
+    value_name: "THREADS",
+    least: 1,
+    most: 64,
+    is_signed: false,
+    default: 2,
+    default_text: "2",
+    help: "How many answers are checked at a time: 1 to 64",
+};
+
+/// How many seconds an entry is lent.
+pub const TERM: NumberOption = NumberOption {
+    name: "term",
+    value_name: "SECONDS",
+    least: 0,
+    most: 1_000_000_000,
+    is_signed: false,
+    default: 600,
+    default_text: "600",
+    help: "How many seconds an entry is lent to a search before it is free again: 0 to 1000000000",
+};
+
+/// How often an entry is searched.
+pub const TRIES: NumberOption = NumberOption {
+    name: "tries",
+    value_name: "TRIES",
+    least: 1,
+    most: 1000,
+    is_signed: true,
+    default: 3,
+    default_text: "3",
+    help: "How often an entry is searched before it is left without a number: 1 to 1000",
+};
+
+/// How many steps a search may take.
+pub const BUDGET: NumberOption = NumberOption {
+    name: "budget",
+    value_name: "STEPS",
+    least: 1,
+    most: 1_000_000_000,
+    is_signed: false,
+    default: 10_000_000,
+    default_text: "10000000",
+    help: "How many steps a search for an answer may take, each one card tried: 1 to 1000000000",
+};
+
+/// How many entries are lent to a search at a time.
+pub const BATCH: NumberOption = NumberOption {
+    name: "batch",
+    value_name: "ENTRIES",
+    least: 1,
+    most: 20,
+    is_signed: false,
+    default: 20,
+    default_text: "20",
+    help: "How many entries are lent to a search at a time: 1 to 20",
+};
+
+static TABLE: [NumberOption; 6] = [SOLVERS, CHECKERS, TERM, TRIES, BUDGET, BATCH];
+
+/// The options of `table` that have a number, in the order of its help.
+pub fn table_options() -> &'static [NumberOption]
+    ensures { map numbers_of result.now ≡ table_options }
+{
+    TABLE.as_slice()
+}
+
+/// Whether it is told how far the work has come.
+pub const PROGRESS: FlagOption = FlagOption {
+    name: "progress",
+    help: "Tells on the error output how far the work has come, at most once a second and at the end",
+};
