@@ -1,12 +1,12 @@
 //! What a solver leases at a time, and how it is grouped.
 
 use crate::expect::expect_eq;
-use crate::gates::{Open, TellsAll, Told};
+use crate::gates::{TellsAll, Told};
 use crate::remembers::{Call, Remembers, declarers_of, trumps_of};
-use crate::solvers::{ACE, StandsStill};
+use crate::solvers::ACE;
 use crate::tables::{ONE_SUIT_EACH, Tally, boards_of, one_board, tally_of};
 use cards::{Seat, Trump};
-use farm::{Settings, run_farm};
+use farm::{Means, Settings, run_farm};
 use lease_book::{Book, Reply};
 use partition_solver::Partition;
 use pbn_deals::read_layout;
@@ -16,6 +16,8 @@ use std::sync::Wait;
 use std::sync::atomic::Ordering::SeqCst;
 use std::test::Fail;
 use std::thread::Threads;
+use test_support::idle::{LetsPass, StandsStill};
+use test_support::settings::once;
 
 /// How many steps a solver has for a declarer.
 const BUDGET: u64 = 10_000_000;
@@ -92,9 +94,14 @@ fn expect_groups<R: Threads + Wait + Abort + Sync>(
     row: &Row,
 ) -> Result<(), Fail> {
     let (solver, gate) = (Remembers::new(rt, alloc), TellsAll::new());
-    let settings = Settings::new(1, 1, 600, 1, BUDGET, row.batch)?;
+    let settings = once(1, 1, BUDGET, row.batch)?;
     let boards = one_board(alloc, ONE_SUIT_EACH)?;
-    let book = run_farm(rt, alloc, boards, settings, &solver, &gate, &StandsStill)?;
+    let means = Means {
+        solver: &solver,
+        gate: &gate,
+        clock: &StandsStill,
+    };
+    let book = run_farm(rt, alloc, boards, settings, &means)?;
     let wanted = Tally {
         given: 20,
         published: 20,
@@ -173,10 +180,15 @@ fn expect_calls(rt: &impl Abort, calls: &[Call], wanted: &[Call]) {
 fn leases_say_what_is_asked(rt: HostRuntime) -> Result<(), Fail> {
     let alloc = rt.alloc();
     for (batch, budget) in [(1, 1_234_567), (20, 7_654_321)] {
-        let settings = Settings::new(1, 1, 600, 1, budget, batch)?;
+        let settings = once(1, 1, budget, batch)?;
         let boards = boards_of(alloc, &[ACE, TURNED])?;
         let solver = Remembers::new(&rt, alloc);
-        let book = run_farm(&rt, alloc, boards, settings, &solver, &Open, &StandsStill)?;
+        let means = Means {
+            solver: &solver,
+            gate: &LetsPass,
+            clock: &StandsStill,
+        };
+        let book = run_farm(&rt, alloc, boards, settings, &means)?;
         let said = if batch == 1 {
             said_one_by_one(alloc, &book, budget)?
         } else {
@@ -195,7 +207,12 @@ fn book_of_two_boards<R: Threads + Wait + Sync>(
 ) -> Result<Book, Fail> {
     let boards = boards_of(alloc, &[ACE, TURNED])?;
     let solver = Partition::new();
-    let book = run_farm(rt, alloc, boards, settings, &solver, &Open, &StandsStill)?;
+    let means = Means {
+        solver: &solver,
+        gate: &LetsPass,
+        clock: &StandsStill,
+    };
+    let book = run_farm(rt, alloc, boards, settings, &means)?;
     Ok(book)
 }
 
@@ -203,7 +220,7 @@ fn book_of_two_boards<R: Threads + Wait + Sync>(
 #[test]
 fn leases_are_grouped_by_boards(rt: HostRuntime) -> Result<(), Fail> {
     for batch in [8, 13, 20] {
-        let settings = Settings::new(1, 1, 600, 1, BUDGET, batch)?;
+        let settings = once(1, 1, BUDGET, batch)?;
         let tally = tally_of(&book_of_two_boards(&rt, rt.alloc(), settings)?);
         expect_eq(&rt, &(tally.given, tally.published), &(40, 40));
     }
@@ -214,7 +231,7 @@ fn leases_are_grouped_by_boards(rt: HostRuntime) -> Result<(), Fail> {
 #[test]
 fn late_answers_are_published(rt: HostRuntime) -> Result<(), Fail> {
     for batch in [1, 13, 20] {
-        let settings = Settings::new(2, 2, 0, 3, BUDGET, batch)?;
+        let settings = once(2, 2, BUDGET, batch)?.with_term(0).with_tries(3)?;
         let tally = tally_of(&book_of_two_boards(&rt, rt.alloc(), settings)?);
         expect_eq(
             &rt,

@@ -3,16 +3,17 @@
 
 use crate::expect::expect_eq;
 use crate::flawed::{Change, FindsSome, Flawed, Graphs};
-use crate::gates::Open;
-use crate::solvers::{ACE, StandsStill};
+use crate::solvers::ACE;
 use crate::tables::{leases_given_up, one_board, tally_of};
-use farm::{Settings, run_farm};
+use farm::{Means, run_farm};
 use lease_book::Book;
 use partition_solver::{Partition, Solver};
 use std::alloc::Global;
 use std::sync::Wait;
 use std::test::Fail;
 use std::thread::Threads;
+use test_support::idle::{LetsPass, StandsStill};
+use test_support::settings::once;
 
 /// How many steps a solver has for a declarer.
 const BUDGET: u64 = 10_000_000;
@@ -81,9 +82,14 @@ fn book_of_the_ace<S: Solver + Sync, R: Threads + Wait + Sync>(
     batch: usize,
     solver: &S,
 ) -> Result<Book, Fail> {
-    let settings = Settings::new(1, 1, 600, 1, BUDGET, batch)?;
+    let settings = once(1, 1, BUDGET, batch)?;
     let boards = one_board(alloc, ACE)?;
-    let book = run_farm(rt, alloc, boards, settings, solver, &Open, &StandsStill)?;
+    let means = Means {
+        solver,
+        gate: &LetsPass,
+        clock: &StandsStill,
+    };
+    let book = run_farm(rt, alloc, boards, settings, &means)?;
     Ok(book)
 }
 

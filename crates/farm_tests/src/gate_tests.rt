@@ -3,28 +3,27 @@
 use crate::expect::expect_eq;
 use crate::gates::Hears;
 use crate::sharing::CountsHolders;
-use crate::solvers::{ACE, FindsTheAce, StandsStill};
+use crate::solvers::{ACE, FindsTheAce};
 use crate::tables::{hand_ins_of, one_board, tally_of};
-use farm::{Settings, run_farm};
+use farm::{Means, run_farm};
 use std::test::Fail;
+use test_support::idle::StandsStill;
+use test_support::settings::once;
 
 /// One clerk's claims, of which one is published and the others are refused: each is told once with its reply, in the
 /// order of the history.
 #[test]
 fn hand_ins_are_told_with_their_replies(rt: HostRuntime) -> Result<(), Fail> {
     let alloc = rt.alloc();
-    let settings = Settings::new(1, 1, 600, 1, 1, 1)?;
+    let settings = once(1, 1, 1, 1)?;
     let boards = one_board(alloc, ACE)?;
     let gate = Hears::new(&rt, alloc);
-    let book = run_farm(
-        &rt,
-        alloc,
-        boards,
-        settings,
-        &FindsTheAce,
-        &gate,
-        &StandsStill,
-    )?;
+    let means = Means {
+        solver: &FindsTheAce,
+        gate: &gate,
+        clock: &StandsStill,
+    };
+    let book = run_farm(&rt, alloc, boards, settings, &means)?;
     let tally = tally_of(&book);
     expect_eq(&rt, &(tally.published, tally.bad), &(1, 19));
     let told = gate.into_told();
@@ -38,10 +37,15 @@ fn hand_ins_are_told_with_their_replies(rt: HostRuntime) -> Result<(), Fail> {
 #[test]
 fn claims_share_what_was_checked(rt: HostRuntime) -> Result<(), Fail> {
     let alloc = rt.alloc();
-    let settings = Settings::new(1, 1, 600, 1, 1, 20)?;
+    let settings = once(1, 1, 1, 20)?;
     let boards = one_board(alloc, ACE)?;
     let counts = CountsHolders::new(alloc)?;
-    let book = run_farm(&rt, alloc, boards, settings, &counts, &counts, &StandsStill)?;
+    let means = Means {
+        solver: &counts,
+        gate: &counts,
+        clock: &StandsStill,
+    };
+    let book = run_farm(&rt, alloc, boards, settings, &means)?;
     expect_eq(&rt, &tally_of(&book).bad, &20);
     expect_eq(&rt, &counts.holders(), &(2, 2));
     Ok(())

@@ -8,16 +8,6 @@ use std::sync::atomic::Ordering::SeqCst;
 use std::sync::atomic::{AtomicBool, AtomicU64};
 use std::sync::{Mutex, Wait};
 
-/// A gate that does nothing.
-#[derive(Drop)]
-pub struct Open;
-
-impl Gate for Open {
-    fn before_solve(&self, _lease: u64) {}
-
-    fn before_check(&self, _lease: u64) {}
-}
-
 /// How often a gate looks before it gives up.
 const TURNS: u64 = 1_000_000_000;
 

@@ -1,10 +1,9 @@
 //! Whole runs.
 
 use crate::expect::expect_eq;
-use crate::gates::Open;
-use crate::solvers::{FindsNothing, FindsTheAce, HasNoMemory, StandsStill};
+use crate::solvers::{FindsTheAce, HasNoMemory};
 use crate::tables::{ONE_SUIT_EACH, Tally, boards_of, empty_boards, one_board, tally_of};
-use farm::{FarmFault, Settings, run_farm};
+use farm::{FarmFault, Means, run_farm};
 use lease_book::{Asked, BookFault, Entry, Reply};
 use partition_solver::{Partition, Solver};
 use std::alloc::Global;
@@ -12,6 +11,8 @@ use std::process::Abort;
 use std::sync::Wait;
 use std::test::Fail;
 use std::thread::Threads;
+use test_support::idle::{FindsNothing, LetsPass, StandsStill};
+use test_support::settings::once;
 
 /// How many steps a solver has for an entry.
 const BUDGET: u64 = 10_000_000;
@@ -27,9 +28,14 @@ fn run_on_one_suit_each<S: Solver + Sync, R: Threads + Wait + Abort + Sync>(
     batch: usize,
     solver: &S,
 ) -> Result<Tally, Fail> {
-    let settings = Settings::new(threads, threads, 600, 1, BUDGET, batch)?;
+    let settings = once(threads, threads, BUDGET, batch)?;
     let boards = one_board(alloc, ONE_SUIT_EACH)?;
-    let book = run_farm(rt, alloc, boards, settings, solver, &Open, &StandsStill)?;
+    let means = Means {
+        solver,
+        gate: &LetsPass,
+        clock: &StandsStill,
+    };
+    let book = run_farm(rt, alloc, boards, settings, &means)?;
     expect_eq(rt, &book.boards().len(), &1);
     Ok(tally_of(&book))
 }
@@ -66,17 +72,14 @@ fn each_entry_is_leased_and_published_once(rt: HostRuntime) -> Result<(), Fail> 
 #[test]
 fn a_deal_of_two_boards_is_solved_once(rt: HostRuntime) -> Result<(), Fail> {
     let alloc = rt.alloc();
-    let settings = Settings::new(1, 1, 600, 1, BUDGET, 20)?;
+    let settings = once(1, 1, BUDGET, 20)?;
     let boards = boards_of(alloc, &[ONE_SUIT_EACH, ONE_SUIT_EACH])?;
-    let book = run_farm(
-        &rt,
-        alloc,
-        boards,
-        settings,
-        &Partition::new(),
-        &Open,
-        &StandsStill,
-    )?;
+    let means = Means {
+        solver: &Partition::new(),
+        gate: &LetsPass,
+        clock: &StandsStill,
+    };
+    let book = run_farm(&rt, alloc, boards, settings, &means)?;
     let wanted = Tally {
         published: 20,
         ..LEASED
@@ -129,17 +132,14 @@ fn many_threads_publish_as_much(rt: HostRuntime) -> Result<(), Fail> {
 #[test]
 fn too_many_boards(rt: HostRuntime) -> Result<(), Fail> {
     let alloc = rt.alloc();
-    let settings = Settings::new(1, 1, 0, 1, 1, 1)?;
+    let settings = once(1, 1, 1, 1)?.with_term(0);
     let boards = empty_boards(alloc, 4097)?;
-    let made = run_farm(
-        &rt,
-        alloc,
-        boards,
-        settings,
-        &FindsNothing,
-        &Open,
-        &StandsStill,
-    );
+    let means = Means {
+        solver: &FindsNothing,
+        gate: &LetsPass,
+        clock: &StandsStill,
+    };
+    let made = run_farm(&rt, alloc, boards, settings, &means);
     let wanted = FarmFault::Book(BookFault::TooManyBoards);
     expect_eq(&rt, &made.err(), &Some(wanted));
     Ok(())

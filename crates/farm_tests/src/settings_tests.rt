@@ -1,40 +1,68 @@
-//! Which settings there are.
+//! Which numbers settings take.
 
 use crate::expect::expect_eq;
 use farm::{Settings, SettingsFault};
 
-/// Solvers, checkers, tries, budget, batch, and the fault.
-type Row = (usize, usize, u32, u64, usize, Option<SettingsFault>);
+/// Of each option the two ends of its range, the numbers beyond them, and what is answered of each.
+const SOLVERS: [(usize, Result<usize, SettingsFault>); 4] = [
+    (0, Err(SettingsFault::Solvers)),
+    (1, Ok(1)),
+    (64, Ok(64)),
+    (65, Err(SettingsFault::Solvers)),
+];
 
-/// The bounds, each number beyond them, and several faults at once, of which the first is answered.
-const ROWS: [Row; 19] = [
-    (1, 1, 1, 1, 1, None),
-    (64, 64, 1000, u64::MAX, 1, None),
-    (0, 1, 1, 1, 1, Some(SettingsFault::Solvers)),
-    (65, 1, 1, 1, 1, Some(SettingsFault::Solvers)),
-    (1, 0, 1, 1, 1, Some(SettingsFault::Checkers)),
-    (1, 65, 1, 1, 1, Some(SettingsFault::Checkers)),
-    (1, 1, 0, 1, 1, Some(SettingsFault::Tries)),
-    (1, 1, 1001, 1, 1, Some(SettingsFault::Tries)),
-    (1, 1, 1, 0, 1, Some(SettingsFault::Budget)),
-    (65, 65, 1001, 0, 1, Some(SettingsFault::Solvers)),
-    (1, 65, 1001, 0, 1, Some(SettingsFault::Checkers)),
-    (1, 1, 1001, 0, 1, Some(SettingsFault::Tries)),
-    (1, 1, 1, 1, 20, None),
-    (1, 1, 1, 1, 0, Some(SettingsFault::Batch)),
-    (1, 1, 1, 1, 21, Some(SettingsFault::Batch)),
-    (1, 1, 1, 1, usize::MAX, Some(SettingsFault::Batch)),
-    (1, 1, 1, 0, 0, Some(SettingsFault::Budget)),
-    (1, 1, 1, 0, 21, Some(SettingsFault::Budget)),
-    (65, 65, 1001, 0, 21, Some(SettingsFault::Solvers)),
+const CHECKERS: [(usize, Result<usize, SettingsFault>); 4] = [
+    (0, Err(SettingsFault::Checkers)),
+    (1, Ok(1)),
+    (64, Ok(64)),
+    (65, Err(SettingsFault::Checkers)),
+];
+
+const TRIES: [(u32, Result<u32, SettingsFault>); 4] = [
+    (0, Err(SettingsFault::Tries)),
+    (1, Ok(1)),
+    (1000, Ok(1000)),
+    (1001, Err(SettingsFault::Tries)),
+];
+
+const BUDGETS: [(u64, Result<u64, SettingsFault>); 3] = [
+    (0, Err(SettingsFault::Budget)),
+    (1, Ok(1)),
+    (u64::MAX, Ok(u64::MAX)),
+];
+
+const BATCHES: [(usize, Result<usize, SettingsFault>); 5] = [
+    (0, Err(SettingsFault::Batch)),
+    (1, Ok(1)),
+    (20, Ok(20)),
+    (21, Err(SettingsFault::Batch)),
+    (usize::MAX, Err(SettingsFault::Batch)),
 ];
 
 #[test]
 fn bounds_of_settings(rt: HostRuntime) {
-    for (solvers, checkers, tries, budget, batch, fault) in ROWS {
-        let made = Settings::new(solvers, checkers, u64::MAX, tries, budget, batch);
-        expect_eq(&rt, &made.err(), &fault);
+    let settings = Settings::new();
+    for (number, wanted) in SOLVERS {
+        let made = settings.with_solvers(number);
+        expect_eq(&rt, &made.map(|made| made.solvers), &wanted);
     }
+    for (number, wanted) in CHECKERS {
+        let made = settings.with_checkers(number);
+        expect_eq(&rt, &made.map(|made| made.checkers), &wanted);
+    }
+    for (number, wanted) in TRIES {
+        let made = settings.with_tries(number);
+        expect_eq(&rt, &made.map(|made| made.tries), &wanted);
+    }
+    for (number, wanted) in BUDGETS {
+        let made = settings.with_budget(number);
+        expect_eq(&rt, &made.map(|made| made.budget), &wanted);
+    }
+    for (number, wanted) in BATCHES {
+        let made = settings.with_batch(number);
+        expect_eq(&rt, &made.map(|made| made.batch), &wanted);
+    }
+    expect_eq(&rt, &settings.with_term(u64::MAX).term, &u64::MAX);
 }
 
 /// The printed number and name of each fault.

@@ -1,40 +1,12 @@
-//! Solvers and a clock for tests.
+//! Solvers for tests.
 
 use arrayvec::ArrayVec;
 use cards::{Layout, Seat, Side, Trump};
 use certificate_graph::Graph;
-use farm::Clock;
 use lease_book::Entry;
 use partition_solver::{Bundle, Claim, Solver};
 use std::alloc::{AllocError, Global};
 use std::sync::Arc;
-
-/// A clock that stays at 0.
-#[derive(Drop)]
-pub struct StandsStill;
-
-impl Clock for StandsStill {
-    fn now(&self) -> u64 {
-        0
-    }
-}
-
-/// A solver that finds nothing.
-#[derive(Drop)]
-pub struct FindsNothing;
-
-impl Solver for FindsNothing {
-    fn solve(
-        &self,
-        _alloc: Global,
-        _layout: &Layout,
-        _declarers: &[Seat],
-        _trump: Trump,
-        _budget: u64,
-    ) -> Result<Option<Bundle>, AllocError> {
-        Ok(None)
-    }
-}
 
 /// A solver that never has memory.
 #[derive(Drop)]

@@ -2,9 +2,9 @@
 
 use crate::expect::expect_eq;
 use crate::gates::{HoldsTheFirst, TwoCheckers, TwoClerks, TwoSolvers};
-use crate::solvers::{ACE, FindsNothing, FindsTheAce, NT, StandsStill};
+use crate::solvers::{ACE, FindsTheAce, NT};
 use crate::tables::{one_board, published_in, tally_of};
-use farm::{Settings, run_farm};
+use farm::{Means, run_farm};
 use lease_book::{Asked, Book, Reply};
 use lease_desk::Gate;
 use std::alloc::Global;
@@ -12,6 +12,8 @@ use std::process::Abort;
 use std::sync::Wait;
 use std::test::Fail;
 use std::thread::Threads;
+use test_support::idle::{FindsNothing, StandsStill};
+use test_support::settings::once;
 
 /// A run over the board of one card each, whose entries are leased one by one. What the solver answers is right for
 /// North in no-trump alone: else it is for another denomination, side or opening lead.
@@ -22,17 +24,14 @@ fn run_on_the_ace<G: Gate + Sync, R: Threads + Wait + Abort + Sync>(
     checkers: usize,
     gate: &G,
 ) -> Result<(), Fail> {
-    let settings = Settings::new(solvers, checkers, 600, 1, 1, 1)?;
+    let settings = once(solvers, checkers, 1, 1)?;
     let boards = one_board(alloc, ACE)?;
-    let book = run_farm(
-        rt,
-        alloc,
-        boards,
-        settings,
-        &FindsTheAce,
+    let means = Means {
+        solver: &FindsTheAce,
         gate,
-        &StandsStill,
-    )?;
+        clock: &StandsStill,
+    };
+    let book = run_farm(rt, alloc, boards, settings, &means)?;
     let tally = tally_of(&book);
     expect_eq(rt, &(tally.given, tally.published, tally.bad), &(20, 1, 19));
     let published = published_in(alloc, &book)?;
@@ -88,17 +87,14 @@ fn first_is_leased_again(book: &Book) -> bool {
 /// twice, frees it, and goes on with its entry.
 #[test]
 fn a_freed_entry_is_leased_again(rt: HostRuntime) -> Result<(), Fail> {
-    let settings = Settings::new(2, 1, 0, 2, 1, 1)?;
+    let settings = once(2, 1, 1, 1)?.with_term(0).with_tries(2)?;
     let boards = one_board(rt.alloc(), ACE)?;
-    let book = run_farm(
-        &rt,
-        rt.alloc(),
-        boards,
-        settings,
-        &FindsNothing,
-        &HoldsTheFirst::new(),
-        &StandsStill,
-    )?;
+    let means = Means {
+        solver: &FindsNothing,
+        gate: &HoldsTheFirst::new(),
+        clock: &StandsStill,
+    };
+    let book = run_farm(&rt, rt.alloc(), boards, settings, &means)?;
     expect_eq(&rt, &tally_of(&book).given, &40);
     expect_eq(&rt, &first_is_leased_again(&book), &true);
     Ok(())

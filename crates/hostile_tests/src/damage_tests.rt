@@ -1,15 +1,19 @@
 //! A certificate of each version with one byte changed, for each place and each byte, and the beginnings of an answer.
 
-use crate::expect::{Open, Stopped, expect_bytes, expect_eq, joined};
+use crate::expect::{expect_bytes, expect_eq};
 use cards::{Buffer, Bytes, Seat, Trump};
 use certificate_graph::{Graph, TextFault};
+use farm::Means;
 use partition_solver::Partition;
 use std::alloc::{AllocError, Global};
 use std::process::Abort;
 use std::sync::Wait;
 use std::test::Fail;
 use std::thread::Threads;
+use streams::Streams;
 use subcommands::{Status, Subcommand, run_subcommand};
+use test_support::idle::{LetsPass, StandsStill};
+use test_support::texts::joined;
 
 /// A finesse: South leads, North covers West's card, and wins two tricks.
 const FINESSE: &[u8] = b"DDC 1
@@ -141,31 +145,23 @@ fn texts_with_one_byte_changed(rt: HostRuntime) -> Result<(), Fail> {
     Ok(())
 }
 
-/// How `check` ends on an answer to East's no-trump where the finesse wins, with these outputs.
+/// How `check` ends on an answer to East's no-trump where the finesse wins, over these streams, whose input is the answer.
 fn check<R: Threads + Wait + Sync>(
     rt: &R,
     alloc: Global,
-    text: &[u8],
-    output: &mut Buffer,
-    errors: &mut Buffer,
+    streams: &mut Streams<Bytes<'_>, Buffer, Buffer>,
 ) -> Status {
     let asked = Subcommand::Check {
         layout: "N:AQ... 65... 32... K4...",
         declarer: Seat::East,
         trump: Trump::Nt,
     };
-    let mut input = Bytes::new(text, 100);
-    run_subcommand(
-        rt,
-        alloc,
-        asked,
-        &Partition::new(),
-        &Open,
-        &Stopped,
-        &mut input,
-        output,
-        errors,
-    )
+    let means = Means {
+        solver: &Partition::new(),
+        gate: &LetsPass,
+        clock: &StandsStill,
+    };
+    run_subcommand(rt, alloc, asked, &means, streams)
 }
 
 /// Whether `check` accepts this in the finesse's place. It says so, or refuses it, in one line.
@@ -175,11 +171,14 @@ fn is_accepted<R: Abort + Threads + Wait + Sync>(
     text: Vec<u8>,
 ) -> Result<bool, Fail> {
     let answer = joined(alloc, &[NONE_FOR_EAST, text.as_slice()])?;
-    let mut output = Buffer::new(alloc, 100, 100)?;
-    let mut errors = Buffer::new(alloc, 100, 100)?;
-    let status = check(rt, alloc, answer.as_slice(), &mut output, &mut errors);
-    expect_bytes(rt, errors.bytes(), b"");
-    let printed = str::from_utf8(output.bytes())?;
+    let mut streams = Streams {
+        input: Bytes::new(answer.as_slice(), 100),
+        output: Buffer::new(alloc, 100, 100)?,
+        errors: Buffer::new(alloc, 100, 100)?,
+    };
+    let status = check(rt, alloc, &mut streams);
+    expect_bytes(rt, streams.errors.bytes(), b"");
+    let printed = str::from_utf8(streams.output.bytes())?;
     let is_refused = printed.starts_with("refused ");
     if is_refused {
         expect_eq(rt, &status, &Status::Rejected);
@@ -249,11 +248,14 @@ fn expect_beginnings<R: Abort + Threads + Wait + Sync>(
     expect_eq(rt, &answer.len(), &200);
     for count in 0..=answer.len() {
         let text = answer.get(..count).ok_or("a shorter answer")?;
-        let mut output = Buffer::new(alloc, 100, 3)?;
-        let mut errors = Buffer::new(alloc, 100, 3)?;
-        let status = check(rt, alloc, text, &mut output, &mut errors);
-        let printed = str::from_utf8(output.bytes())?;
-        let told = str::from_utf8(errors.bytes())?;
+        let mut streams = Streams {
+            input: Bytes::new(text, 100),
+            output: Buffer::new(alloc, 100, 3)?,
+            errors: Buffer::new(alloc, 100, 3)?,
+        };
+        let status = check(rt, alloc, &mut streams);
+        let printed = str::from_utf8(streams.output.bytes())?;
+        let told = str::from_utf8(streams.errors.bytes())?;
         expect_eq(rt, &(status, printed, told), &end_of_beginning(count));
     }
     Ok(())

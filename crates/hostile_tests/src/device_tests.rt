@@ -1,8 +1,8 @@
 //! Tables made by threads, from a source or to a sink that fails after each number of bytes.
 
-use crate::expect::{Open, Stopped, expect_bytes, expect_eq};
+use crate::expect::{expect_bytes, expect_eq};
 use cards::{Buffer, Bytes};
-use farm::Settings;
+use farm::Means;
 use partition_solver::Partition;
 use std::alloc::Global;
 use std::process::Abort;
@@ -10,6 +10,8 @@ use std::sync::Wait;
 use std::test::Fail;
 use std::thread::Threads;
 use tables::Report;
+use test_support::idle::{LetsPass, StandsStill};
+use test_support::settings::one_of_each;
 use tournaments::{MakeFault, make_tables};
 
 /// The board of four hands of one suit each.
@@ -57,17 +59,13 @@ fn expect_made<R: Abort + Threads + Wait + Sync>(
     wanted: Result<Report, MakeFault>,
     written: &[u8],
 ) -> Result<(), Fail> {
-    let settings = Settings::new(1, 1, 600, 1, BUDGET, 20)?;
-    let made = make_tables(
-        rt,
-        alloc,
-        source,
-        sink,
-        settings,
-        &Partition::new(),
-        &Open,
-        &Stopped,
-    );
+    let settings = one_of_each(1, BUDGET)?;
+    let means = Means {
+        solver: &Partition::new(),
+        gate: &LetsPass,
+        clock: &StandsStill,
+    };
+    let made = make_tables(rt, alloc, source, sink, settings, &means);
     expect_eq(rt, &made.map(|made| made.0), &wanted);
     expect_bytes(rt, sink.bytes(), written);
     Ok(())

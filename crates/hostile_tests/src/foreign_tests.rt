@@ -3,7 +3,7 @@
 ghost use Rattle.std.specs.Prelude.{◌≡◌};
 ghost use Rattle.lease_desk.specs.Desks.{IsChairOf, number_of};
 
-use crate::expect::{Open, expect_eq};
+use crate::expect::expect_eq;
 use cards::{Seat, Suit, Trump};
 use certificate_graph::Graph;
 use checker::{CheckedGraph, Claimed, EntryFault, HandFault, PartFault, Rooted};
@@ -14,6 +14,7 @@ use std::alloc::{AllocError, Global};
 use std::process::Abort;
 use std::sync::{Arc, Wait};
 use std::test::Fail;
+use test_support::idle::LetsPass;
 
 /// North has the highest card on the first two boards, and East on the third.
 const LAYOUTS: [&str; 3] = [
@@ -207,7 +208,7 @@ fn hand_in_each<R: Abort + Wait>(
 {
     for hand_in in hand_ins {
         let (lease, board, _) = hand_in;
-        let told = desk.hand_in(rt, chair, *lease, entry_on(*board), claimed, &Open);
+        let told = desk.hand_in(rt, chair, *lease, entry_on(*board), claimed, &LetsPass);
         told.expect(rt, "memory for a hand-in");
     }
 }

@@ -1,6 +1,5 @@
 //! Several declarers in one call: claims on two graphs that they share, with DDS's numbers.
 
-use crate::claimed::{checked_shared, rooted};
 use crate::expect::expect_eq;
 use crate::solver_tests::{ENDINGS, NINE, Row, SMALL, TRUMPS, expect_for, number_in};
 use cards::{Layout, Seat, Side, Trump};
@@ -12,6 +11,7 @@ use std::alloc::{AllocError, Global};
 use std::process::Abort;
 use std::sync::Arc;
 use std::test::Fail;
+use test_support::claimed::{checked_shared, rooted};
 
 /// Steps that are enough for a declarer.
 const BUDGET: u64 = 10_000_000;

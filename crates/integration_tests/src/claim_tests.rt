@@ -2,7 +2,6 @@
 //! (`worked_cases`).
 
 use crate::certificates::NOTHING;
-use crate::claimed::{checked, rooted};
 use crate::expect::expect_eq;
 use cards::{Seat, Trump};
 use certificate_graph::Graph;
@@ -12,6 +11,7 @@ use std::alloc::Global;
 use std::process::Abort;
 use std::sync::Arc;
 use std::test::Fail;
+use test_support::claimed::{checked, rooted};
 
 /// Two cards each. South leads, and North covers West's card.
 const FINESSE_DEAL: &str = "N:AQ... 65... 32... K4...";

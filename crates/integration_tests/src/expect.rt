@@ -1,6 +1,6 @@
 //! What tests expect. A call of these costs the prover next to nothing, an `assert_eq!` a second or more.
 
-use std::alloc::{AllocError, Global};
+use std::alloc::Global;
 use std::fmt::{Debug, Display};
 use std::process::Abort;
 use std::test::Fail;
@@ -38,13 +38,4 @@ pub fn expect_printed<T: Display>(
         expect_bytes(rt, text.as_bytes(), wanted.as_bytes());
     }
     Ok(())
-}
-
-/// The parts in one text.
-pub fn joined(alloc: Global, parts: &[&[u8]]) -> Result<Vec<u8>, AllocError> {
-    let mut text = Vec::new(alloc);
-    for part in parts {
-        text.extend_from_slice(part)?;
-    }
-    Ok(text)
 }

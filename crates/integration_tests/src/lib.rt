@@ -14,21 +14,11 @@ mod checker_tests;
 #[cfg(test)]
 mod claim_tests;
 #[cfg(test)]
-mod claimed;
-#[cfg(test)]
-mod desk_tests;
-#[cfg(test)]
-mod due_row_tests;
-#[cfg(test)]
 mod expect;
 #[cfg(test)]
 mod extract_tests;
 #[cfg(test)]
-mod fixed_numbers;
-#[cfg(test)]
 mod graph_tests;
-#[cfg(test)]
-mod lease_tests;
 #[cfg(test)]
 mod pattern_tests;
 #[cfg(test)]
@@ -38,8 +28,6 @@ mod play_tests;
 #[cfg(test)]
 mod record_tests;
 #[cfg(test)]
-mod request_tests;
-#[cfg(test)]
 mod small_layout_tests;
 #[cfg(test)]
 mod solver_tests;
@@ -47,10 +35,6 @@ mod solver_tests;
 mod store_tests;
 #[cfg(test)]
 mod stream_tests;
-#[cfg(test)]
-mod table_tests;
-#[cfg(test)]
-mod tournament_tests;
 #[cfg(test)]
 mod tree_tests;
 #[cfg(test)]

@@ -186,6 +186,52 @@ fn tells_its_parts(rt: HostRuntime) -> Result<(), Fail> {
     Ok(())
 }
 
+/// Lengths and owners of a suit of a rest, and the owners where it is completed: one hand alone with low cards owns
+/// each of them, below the owners before; where two hands have some nothing is known.
+const COMPLETED: [([u8; 4], &[Seat], &[Seat]); 11] = [
+    ([2, 1, 0, 0], &[], &[]),
+    ([2, 1, 0, 0], &[NORTH], &[NORTH]),
+    ([0, 0, 1, 2], &[], &[]),
+    ([2, 1, 0, 0], &[EAST], &[EAST, NORTH, NORTH]),
+    ([2, 1, 0, 0], &[NORTH, NORTH], &[NORTH, NORTH, EAST]),
+    ([2, 1, 0, 0], &[NORTH, EAST, NORTH], &[NORTH, EAST, NORTH]),
+    ([2, 0, 0, 0], &[], &[NORTH, NORTH]),
+    ([0, 2, 0, 0], &[EAST], &[EAST, EAST]),
+    ([0, 0, 2, 0], &[], &[SOUTH, SOUTH]),
+    ([0, 0, 0, 2], &[], &[WEST, WEST]),
+    (
+        [1, 1, 1, 2],
+        &[WEST, EAST, SOUTH, NORTH],
+        &[WEST, EAST, SOUTH, NORTH, WEST],
+    ),
+];
+
+/// A rest of hands of two cards: one suit of these lengths and owners, and of the next suit what the hands lack.
+fn rest_in(suit: usize, lens: [u8; 4], owners: &[Seat]) -> Result<Rest, PatternFault> {
+    let lacking = [
+        2u8.saturating_sub(lens[0]),
+        2u8.saturating_sub(lens[1]),
+        2u8.saturating_sub(lens[2]),
+        2u8.saturating_sub(lens[3]),
+    ];
+    let mut parts = [empty(), empty(), empty(), empty()];
+    parts[suit % 4] = part(lens, owners);
+    parts[suit.wrapping_add(1) % 4] = part(lacking, &[]);
+    Rest::from_parts(parts)
+}
+
+/// Each suit is completed by itself: of the other suit two hands or more have low cards, so that it stays.
+#[test]
+fn completes_rests(rt: HostRuntime) -> Result<(), Fail> {
+    for suit in 0..4 {
+        for (lens, owners, completed) in COMPLETED {
+            let rest = rest_in(suit, lens, owners)?;
+            expect_eq(&rt, &rest.completed(), &rest_in(suit, lens, completed)?);
+        }
+    }
+    Ok(())
+}
+
 const ONES: [u8; 4] = [1, 1, 1, 1];
 
 /// Four suits of a card a seat, one of which lists these owners.

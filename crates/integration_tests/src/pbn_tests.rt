@@ -1,10 +1,11 @@
 //! What stands in no worked case (`worked_cases`): long texts, and who holds the cards of a layout.
 
-use crate::expect::{expect_bytes, expect_eq, joined};
+use crate::expect::{expect_bytes, expect_eq};
 use cards::{Card, Rank, Seat, Suit};
 use pbn_deals::{read_boards, read_layout};
 use std::process::Abort;
 use std::test::Fail;
+use test_support::texts::joined;
 
 /// More than 1 MB.
 const TEXT_SIZE: usize = 2 << 20;

@@ -1,12 +1,14 @@
-//! Large graphs: several threads answer what one does.
+//! Large graphs: several threads answer what one does, and several are at work.
 
 use crate::expect::expect_eq;
 use certificate_graph::Graph;
 use checker::{CheckedGraph, NodeFault, StepFault, check_graph, check_graph_wide};
 use std::alloc::{AllocError, Global};
+use std::io;
 use std::sync::Arc;
 use std::test::Fail;
-use std::thread::Threads;
+use std::thread::{Threads, available_parallelism};
+use std::time::{CpuClock, Duration};
 
 /// The head of a graph's text, before the number of its nodes.
 const HEAD: &str = "DDC 1\ntrump NT\nside NS\nnodes ";
@@ -87,6 +89,40 @@ fn two_hundred_damaged_graphs(rt: HostRuntime) -> Result<(), Fail> {
             fault_at(count - others, StepFault::CardNotLegal)
         };
         expect_eq(&rt, &[plain, wide, kept], &[first; 3]);
+    }
+    Ok(())
+}
+
+/// How often a graph is checked while the processors' time is taken.
+const TIMES: u32 = 200;
+
+/// The processors' time that this thread has used, and what all others of the process have, those that have ended too.
+fn used(rt: &impl CpuClock) -> io::Result<(Duration, Duration)> {
+    let own = rt.thread_cpu_time()?;
+    let all = rt.process_cpu_time()?;
+    Ok((own, all.saturating_sub(own)))
+}
+
+/// Whether other threads than this one take a quarter at least of the processors' time that checks of the graph cost.
+fn is_shared<R: Threads + Sync + CpuClock>(rt: &R, graph: &Arc<Graph>) -> Result<bool, Fail> {
+    let (own_before, others_before) = used(rt)?;
+    for _ in 0..TIMES {
+        CheckedGraph::of_wide(Arc::try_clone(graph)?, rt);
+    }
+    let (own, others) = used(rt)?;
+    let own = own.saturating_sub(own_before);
+    let others = others.saturating_sub(others_before);
+    Ok(others.saturating_mul(3) >= own)
+}
+
+/// From 2,048 nodes on, where there are several processors: one half of so many is checked by a thread of its own. With one
+/// node fewer no thread is started.
+#[test]
+fn large_graphs_are_checked_by_several_threads(rt: HostRuntime) -> Result<(), Fail> {
+    let are_several = available_parallelism(&rt)?.get() > 1;
+    for (count, shared) in [(2_047u32, false), (2_048, are_several)] {
+        let graph = Arc::new(rt.alloc(), graph_of(rt.alloc(), count, count, 0)?)?;
+        expect_eq(&rt, &is_shared(&rt, &graph)?, &shared);
     }
     Ok(())
 }

@@ -1,6 +1,7 @@
 //! The calls by their names.
 
 use crate::books::{new_book, replayed};
+use crate::clerks::clerk;
 use crate::desks::{closed, desk};
 use crate::outcomes::{Outcome, Told};
 use crate::readings::{boards, extracted, graph};
@@ -11,9 +12,10 @@ use crate::without_memory::{checks, writes};
 use std::alloc::Global;
 use std::sync::Wait;
 use std::thread::Threads;
+use std::time::Clock;
 
 /// Makes the call of this name.
-pub fn call<R: Threads + Wait + Sync>(
+pub fn call<R: Threads + Wait + Clock + Sync>(
     rt: &R,
     alloc: Global,
     name: &str,
@@ -31,6 +33,7 @@ pub fn call<R: Threads + Wait + Sync>(
         "checks" => checks(alloc, spending),
         "writes" => writes(alloc, spending),
         "close" => closed(rt, alloc, spending),
+        "clerk" => clerk(rt, alloc, spending),
         _ => Ok(Told::Called(Outcome::Wrong, None)),
     };
     called.unwrap_or(Told::Before)

@@ -5,7 +5,6 @@ ghost use Rattle.lease_desk.specs.Desks.{IsChairOf, AreChairsOf, number_of};
 
 use crate::books::{NT, REPLIES, board};
 use crate::claims::ace_claim;
-use crate::idle::LetsPass;
 use crate::outcomes::{Outcome, Told};
 use crate::spending::Spending;
 use checker::{Claimed, OutOfMemory};
@@ -14,6 +13,7 @@ use lease_desk::{Chair, Closed, Desk, Receipt};
 use pbn_deals::Board;
 use std::alloc::{AllocError, Global};
 use std::sync::Wait;
+use test_support::idle::LetsPass;
 
 /// Makes the request in this place of the list.
 fn ask<R: Wait>(

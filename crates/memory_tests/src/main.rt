@@ -5,8 +5,8 @@
 mod books;
 mod calls;
 mod claims;
+mod clerks;
 mod desks;
-mod idle;
 mod outcomes;
 mod readings;
 mod searches;

@@ -1,17 +1,18 @@
 //! Tables with a solver and a checker, whose memory runs out.
 
-use crate::idle::{LetsPass, StandsStill};
 use crate::outcomes::{Outcome, Told};
 use crate::spending::Spending;
 use crate::texts::{HEAD, ONE_SUIT_EACH, TABLE};
 use cards::{Buffer, Bytes, Seat, Side, Suit, Trump};
-use farm::Settings;
+use farm::Means;
 use lease_book::{Book, Entry};
 use partition_solver::Partition;
 use std::alloc::{AllocError, Global};
 use std::sync::Wait;
 use std::thread::Threads;
 use tables::Report;
+use test_support::idle::{LetsPass, StandsStill};
+use test_support::settings::one_of_each;
 use tournaments::{MakeFault, make_tables};
 
 /// How many steps the search has.
@@ -99,21 +100,17 @@ pub fn tables<R: Threads + Wait + Sync>(
 ) -> Result<Told, AllocError> {
     let mut sink = Buffer::new(alloc, TABLE.len(), TABLE.len())?;
     let mut source = Bytes::new(ONE_SUIT_EACH, 7);
-    let Ok(settings) = Settings::new(1, 1, 600, 3, BUDGET, 20) else {
+    let Ok(settings) = one_of_each(3, BUDGET) else {
         return Ok(Told::Called(Outcome::Wrong, None));
     };
     let solver = Partition::new();
     spending.spend(alloc)?;
-    let made = make_tables(
-        rt,
-        alloc,
-        &mut source,
-        &mut sink,
-        settings,
-        &solver,
-        &LetsPass,
-        &StandsStill,
-    );
+    let means = Means {
+        solver: &solver,
+        gate: &LetsPass,
+        clock: &StandsStill,
+    };
+    let made = make_tables(rt, alloc, &mut source, &mut sink, settings, &means);
     let left = spending.left(alloc);
     let outcome = match made {
         Ok((report, book)) => written(alloc, report, &book, sink.bytes())?,

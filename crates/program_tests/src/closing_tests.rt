@@ -34,34 +34,24 @@ fn expect_closed<W: io::Write + Drop>(
     rt: &impl Abort,
     alloc: Global,
     writer: W,
-    status: Status,
-    wanted: (Status, &str),
+    code: u8,
+    wanted: (u8, &str),
 ) -> Result<(), Fail> {
     let mut errors = Buffer::new(alloc, ROOM, ROOM)?;
     let mut sink = WriterSink::new(BufWriter::new(alloc, writer)?);
     expect_eq(rt, &sink.write(b"NS 1\n"), &Ok(5));
-    expect_eq(rt, &close_output(status, &mut sink, &mut errors), &wanted.0);
+    expect_eq(rt, &close_output(code, &mut sink, &mut errors), &wanted.0);
     expect_eq(rt, &errors.bytes(), &wanted.1.as_bytes());
     Ok(())
 }
 
-/// How runs end, with which exit status, and how they end where the last bytes can't go out, and what is told of it.
-const ENDS: [(Status, u8, Status, &str); 5] = [
-    (Status::Done, 0, Status::Failed, "ddfarm: writing failed\n"),
-    (
-        Status::Incomplete,
-        3,
-        Status::Failed,
-        "ddfarm: writing failed\n",
-    ),
-    (Status::Failed, 1, Status::Failed, ""),
-    (Status::Refused, 2, Status::Refused, ""),
-    (
-        Status::Rejected,
-        4,
-        Status::Failed,
-        "ddfarm: writing failed\n",
-    ),
+/// How runs end, with which exit status, and with which they end where the last bytes can't go out, and what is told of it.
+const ENDS: [(Status, u8, u8, &str); 5] = [
+    (Status::Done, 0, 1, "ddfarm: writing failed\n"),
+    (Status::Incomplete, 3, 1, "ddfarm: writing failed\n"),
+    (Status::Failed, 1, 1, ""),
+    (Status::Refused, 2, 2, ""),
+    (Status::Rejected, 4, 1, "ddfarm: writing failed\n"),
 ];
 
 /// A run whose last bytes can't go out has failed, and is told so, once.
@@ -70,15 +60,9 @@ fn failed_flush(rt: HostRuntime) -> Result<(), Fail> {
     for &(status, code, ended, told) in &ENDS {
         expect_eq(&rt, &status.code(), &code);
         for &takes_none in &[false, true] {
-            expect_closed(
-                &rt,
-                rt.alloc(),
-                Broken { takes_none },
-                status,
-                (ended, told),
-            )?;
+            expect_closed(&rt, rt.alloc(), Broken { takes_none }, code, (ended, told))?;
         }
-        expect_closed(&rt, rt.alloc(), Vec::new(rt.alloc()), status, (status, ""))?;
+        expect_closed(&rt, rt.alloc(), Vec::new(rt.alloc()), code, (code, ""))?;
     }
     Ok(())
 }

@@ -1,6 +1,6 @@
 //! Runs on outputs that are full, after each number of bytes.
 
-use crate::expect::{Nothing, expect_run};
+use crate::expect::expect_run;
 use crate::solve_tests::{ACE, Claims, STEPS, THIRTEEN, east};
 use crate::table_tests::tables;
 use cards::{Seat, Trump};
@@ -11,6 +11,7 @@ use std::sync::Wait;
 use std::test::Fail;
 use std::thread::Threads;
 use subcommands::{Status, Subcommand};
+use test_support::idle::FindsNothing;
 
 /// A finesse: South leads, North covers West's card, and wins two tricks. East's side needs none.
 const FINESSE: &[u8] = b"result 0
@@ -57,13 +58,13 @@ fn expect_cut<R: Abort + Threads + Wait + Sync, S: Solver + Sync>(
 #[test]
 fn full_outputs(rt: HostRuntime) -> Result<(), Fail> {
     let alloc = rt.alloc();
-    expect_cut(&rt, alloc, CHECK, &Nothing, FINESSE, "accepted 0\n")?;
+    expect_cut(&rt, alloc, CHECK, &FindsNothing, FINESSE, "accepted 0\n")?;
     for batch in [1, 20] {
         expect_cut(
             &rt,
             alloc,
             tables(false, batch)?,
-            &Nothing,
+            &FindsNothing,
             b"[Deal \"?\"]",
             UNNAMED,
         )?;

@@ -14,6 +14,8 @@ mod plain_tests;
 #[cfg(test)]
 mod progress_tests;
 #[cfg(test)]
+mod settings_tests;
+#[cfg(test)]
 mod solve_tests;
 #[cfg(test)]
 mod table_tests;

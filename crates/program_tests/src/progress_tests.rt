@@ -1,21 +1,27 @@
 //! What is told of the work, when, and to whom.
 
-use crate::expect::{Nothing, ROOM, Stopped, expect_eq};
+use crate::expect::{ROOM, expect_eq, means};
 use crate::table_tests::tables;
 use cards::{Buffer, Bytes, Seat, Trump};
 use farm::Clock;
 use lease_book::{Entry, Reply};
 use lease_desk::Gate;
+use partition_solver::{Partition, Solver};
 use pbn_deals::{Board, BoardName, read_layout};
 use progress::Progress;
 use std::alloc::Global;
+use std::process::Abort;
+use std::sync::Wait;
 use std::sync::atomic::AtomicU64;
 use std::sync::atomic::Ordering::SeqCst;
 use std::test::Fail;
-use subcommands::{Status, run_subcommand};
+use std::thread::Threads;
+use streams::Streams;
+use subcommands::{Status, Subcommand, run_subcommand};
+use test_support::idle::FindsNothing;
 
 /// A board with four hands of one suit each.
-const BOARD: &[u8] =
+pub const BOARD: &[u8] =
     b"[Deal \"N:AKQJT98765432... .AKQJT98765432.. ..AKQJT98765432. ...AKQJT98765432\"]";
 
 /// Counts what it is told.
@@ -23,8 +29,37 @@ const BOARD: &[u8] =
 struct Counts {
     begun: AtomicU64,
     solved: AtomicU64,
+    graphs: AtomicU64,
     checked: AtomicU64,
+    settled: AtomicU64,
     ended: AtomicU64,
+}
+
+impl Counts {
+    /// FindsNothing was told yet.
+    fn new() -> Counts {
+        Counts {
+            begun: AtomicU64::new(0),
+            solved: AtomicU64::new(0),
+            graphs: AtomicU64::new(0),
+            checked: AtomicU64::new(0),
+            settled: AtomicU64::new(0),
+            ended: AtomicU64::new(0),
+        }
+    }
+
+    /// What was told, in the order of [`Told`].
+    fn told(&self) -> Told {
+        let counts = [
+            &self.begun,
+            &self.solved,
+            &self.graphs,
+            &self.checked,
+            &self.settled,
+            &self.ended,
+        ];
+        counts.map(|count| count.load(SeqCst))
+    }
 }
 
 impl Gate for Counts {
@@ -37,11 +72,17 @@ impl Gate for Counts {
     }
 
     fn before_graphs(&self, _lease: u64) {
-        self.checked.fetch_add(1, SeqCst);
+        self.graphs.fetch_add(1, SeqCst);
     }
 
     fn before_check(&self, _lease: u64) {
         self.checked.fetch_add(1, SeqCst);
+    }
+
+    fn after_check(&self, _entry: Entry, reply: Reply) {
+        if matches!(reply, Reply::Published(_)) {
+            self.settled.fetch_add(1, SeqCst);
+        }
     }
 
     fn after_work(&self) {
@@ -49,42 +90,50 @@ impl Gate for Counts {
     }
 }
 
-/// Whether progress is told, how many entries are leased at a time, and how many boards, leases, checks and ends are told. Each
-/// entry is tried three times.
-const TOLD: [(bool, usize, [u64; 4]); 4] = [
-    (false, 1, [0, 0, 0, 0]),
-    (true, 1, [1, 60, 0, 1]),
-    (false, 20, [0, 0, 0, 0]),
-    (true, 20, [1, 60, 0, 1]),
+/// How many boards, leases that are worked on, leases whose graphs are checked, claims that are checked, results that are
+/// published and ends are told.
+type Told = [u64; 6];
+
+const NONE: Told = [0; 6];
+
+/// Whether progress is told, how many entries are leased at a time, and what is told where nothing is found, each entry being tried
+/// three times, and where all is.
+const TOLD: [(bool, usize, Told, Told); 4] = [
+    (false, 1, NONE, NONE),
+    (true, 1, [1, 60, 0, 0, 0, 1], [1, 20, 20, 20, 20, 1]),
+    (false, 20, NONE, NONE),
+    (true, 20, [1, 60, 0, 0, 0, 1], [1, 20, 20, 20, 20, 1]),
 ];
+
+/// What a gate is told while tables are made.
+fn expect_told<R: Abort + Threads + Wait + Sync, S: Solver + Sync>(
+    rt: &R,
+    alloc: Global,
+    run: Subcommand<'_>,
+    solver: &S,
+    wanted: (Status, Told),
+) -> Result<(), Fail> {
+    let gate = Counts::new();
+    let mut streams = Streams {
+        input: Bytes::new(BOARD, 7),
+        output: Buffer::new(alloc, ROOM, ROOM)?,
+        errors: Buffer::new(alloc, ROOM, ROOM)?,
+    };
+    let status = run_subcommand(rt, alloc, run, &means(solver, &gate), &mut streams);
+    expect_eq(rt, &(status, gate.told()), &wanted);
+    Ok(())
+}
 
 /// The gate is told of the work where that is asked for, and of none of it where it isn't.
 #[test]
 fn who_asks_is_told(rt: HostRuntime) -> Result<(), Fail> {
     let alloc = rt.alloc();
-    for (progress, batch, wanted) in TOLD {
-        let gate = Counts {
-            begun: AtomicU64::new(0),
-            solved: AtomicU64::new(0),
-            checked: AtomicU64::new(0),
-            ended: AtomicU64::new(0),
-        };
-        let mut output = Buffer::new(alloc, ROOM, ROOM)?;
-        let mut errors = Buffer::new(alloc, ROOM, ROOM)?;
-        let status = run_subcommand(
-            &rt,
-            alloc,
-            tables(progress, batch)?,
-            &Nothing,
-            &gate,
-            &Stopped,
-            &mut Bytes::new(BOARD, 7),
-            &mut output,
-            &mut errors,
-        );
-        expect_eq(&rt, &status, &Status::Incomplete);
-        let counts = [&gate.begun, &gate.solved, &gate.checked, &gate.ended];
-        expect_eq(&rt, &counts.map(|count| count.load(SeqCst)), &wanted);
+    for &(progress, batch, none_found, all_found) in &TOLD {
+        let run = tables(progress, batch)?;
+        let incomplete = (Status::Incomplete, none_found);
+        expect_told(&rt, alloc, run, &FindsNothing, incomplete)?;
+        let done = (Status::Done, all_found);
+        expect_told(&rt, alloc, run, &Partition::new(), done)?;
     }
     Ok(())
 }

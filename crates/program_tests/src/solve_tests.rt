@@ -1,6 +1,6 @@
 //! Answers that are found, written and then checked.
 
-use crate::expect::{End, Nothing, Open, ROOM, Stopped, expect_eq, expect_run};
+use crate::expect::{End, ROOM, expect_eq, expect_run, means};
 use arrayvec::ArrayVec;
 use cards::{Buffer, Bytes, Layout, Seat, Side, Suit, Trump};
 use certificate_graph::{Graph, Version};
@@ -12,7 +12,9 @@ use std::sync::{Arc, Wait};
 use std::test::Fail;
 use std::thread::Threads;
 use strategies::plain_value;
-use subcommands::{Status, Subcommand, run_subcommand};
+use streams::Streams;
+use subcommands::{Status, Subcommand, read_answer, run_subcommand};
+use test_support::idle::{FindsNothing, LetsPass};
 
 /// Room for an answer of four cards a hand.
 const ANSWER_ROOM: usize = 65536;
@@ -52,6 +54,15 @@ fn tricks_of(text: &str, declarer: Seat, trump: Trump) -> Result<u8, Fail> {
     }
 }
 
+/// The answer tells this number, and both of its texts are of version 2.
+fn expect_version_two(rt: &impl Abort, answer: &[u8], tricks: u8) -> Result<(), Fail> {
+    let (told, declarers, defenders) = read_answer(answer).ok_or("no answer")?;
+    expect_eq(rt, &told, &tricks);
+    expect_eq(rt, &declarers.starts_with(b"DDC 2\n"), &true);
+    expect_eq(rt, &defenders.starts_with(b"DDC 2\n"), &true);
+    Ok(())
+}
+
 /// An answer is found, of version 2, and `check` accepts it with this number.
 fn expect_accepted<R: Abort + Threads + Wait + Sync>(
     rt: &R,
@@ -68,24 +79,17 @@ fn expect_accepted<R: Abort + Threads + Wait + Sync>(
         trump,
         budget: STEPS,
     };
-    let mut input = Bytes::new(b"", 7);
-    let mut answer = Buffer::new(alloc, ANSWER_ROOM, 300)?;
-    let mut errors = Buffer::new(alloc, ROOM, 7)?;
-    let status = run_subcommand(
-        rt,
-        alloc,
-        run,
-        &Partition::new(),
-        &Open,
-        &Stopped,
-        &mut input,
-        &mut answer,
-        &mut errors,
-    );
+    let solver = Partition::new();
+    let means = means(&solver, &LetsPass);
+    let mut streams = Streams {
+        input: Bytes::new(b"", 7),
+        output: Buffer::new(alloc, ANSWER_ROOM, 300)?,
+        errors: Buffer::new(alloc, ROOM, 7)?,
+    };
+    let status = run_subcommand(rt, alloc, run, &means, &mut streams);
+    let answer = streams.output.bytes();
     expect_eq(rt, &status, &Status::Done);
-    let beginning = format!(in alloc; "result {tricks}\nDDC 2\n")?;
-    let text = str::from_utf8(answer.bytes())?;
-    expect_eq(rt, &text.starts_with(beginning.as_str()), &true);
+    expect_version_two(rt, answer, tricks)?;
     let check = Subcommand::Check {
         layout,
         declarer,
@@ -95,8 +99,8 @@ fn expect_accepted<R: Abort + Threads + Wait + Sync>(
         rt,
         alloc,
         check,
-        &Nothing,
-        answer.bytes(),
+        &FindsNothing,
+        answer,
         ROOM,
         (Status::Done, line.as_str(), ""),
     )

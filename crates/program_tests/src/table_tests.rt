@@ -1,14 +1,19 @@
-//! Tables of an input that fails, and what is reported of tables.
+//! Tables of an input that fails, of a solver that has one proof for all, and what is reported of tables.
 
-use crate::expect::{Nothing, ROOM, Stopped, expect_eq};
-use cards::{Buffer, Bytes};
+use crate::expect::{ROOM, expect_eq, expect_run};
+use arrayvec::ArrayVec;
+use cards::{Buffer, Bytes, Layout, Seat, Trump};
+use certificate_graph::Graph;
 use farm::{Settings, SettingsFault};
+use partition_solver::{Bundle, Claim, Solver};
 use pbn_deals::PbnFault;
-use std::alloc::Global;
+use std::alloc::{AllocError, Global};
 use std::process::Abort;
+use std::sync::Arc;
 use std::test::Fail;
-use subcommands::Subcommand;
+use subcommands::{Status, Subcommand};
 use tables::Report;
+use test_support::idle::{FindsNothing, StandsStill};
 use tournaments::{MakeFault, make_single};
 
 const TERM: u64 = 600;
@@ -19,7 +24,13 @@ const STEPS: u64 = 10_000_000;
 
 /// The tables of the input, with a solver, a checker and so many leases at a time.
 pub fn tables(progress: bool, batch: usize) -> Result<Subcommand<'static>, SettingsFault> {
-    let settings = Settings::new(1, 1, TERM, TRIES, STEPS, batch)?;
+    let settings = Settings::new()
+        .with_solvers(1)?
+        .with_checkers(1)?
+        .with_term(TERM)
+        .with_tries(TRIES)?
+        .with_budget(STEPS)?
+        .with_batch(batch)?;
     Ok(Subcommand::Table { settings, progress })
 }
 
@@ -61,7 +72,14 @@ fn expect_made(
     wanted: Result<Report, MakeFault>,
 ) {
     let made = make_single(
-        alloc, &mut input, output, TERM, TRIES, STEPS, &Nothing, &Stopped,
+        alloc,
+        &mut input,
+        output,
+        TERM,
+        TRIES,
+        STEPS,
+        &FindsNothing,
+        &StandsStill,
     );
     expect_eq(rt, &made.map(|made| made.0), &wanted);
 }
@@ -84,5 +102,81 @@ fn reports(rt: HostRuntime) -> Result<(), Fail> {
     let refused = MakeFault::Pbn(PbnFault::OpenComment { line: 2 });
     expect_made(&rt, alloc, Bytes::new(b"\n{", 5), &mut output, Err(refused));
     expect_eq(&rt, &output.bytes(), &OF_CR_LF.as_bytes());
+    Ok(())
+}
+
+/// North's ace wins the only trick.
+const ACE_WINS: &[u8] = b"DDC 1
+trump NT
+side NS
+nodes 1
+E 1 1.1.1.1/N 0.0.0.0/ 0.0.0.0/ 0.0.0.0/ (SxSx(SxSa{}))
+";
+
+/// East and West need nothing.
+const NOTHING: &[u8] = b"DDC 1
+trump NT
+side EW
+nodes 0
+";
+
+/// The graph of a text.
+fn graph_of(alloc: Global, text: &[u8]) -> Result<Arc<Graph>, AllocError> {
+    match Graph::read(alloc, text) {
+        Ok(graph) => Ok(Arc::new(alloc, graph)?),
+        Err(_) => Err(AllocError),
+    }
+}
+
+/// A solver that has one proof, of the trick of North's ace, and claims it for every entry.
+#[derive(Drop)]
+struct OneProof;
+
+impl Solver for OneProof {
+    fn solve(
+        &self,
+        alloc: Global,
+        _layout: &Layout,
+        declarers: &[Seat],
+        _trump: Trump,
+        _budget: u64,
+    ) -> Result<Option<Bundle>, AllocError> {
+        let mut claims = ArrayVec::new();
+        for declarer in declarers {
+            let _ = claims.try_push(Claim {
+                declarer: *declarer,
+                k: 1,
+                declarer_root: Some(0),
+                defenders_root: None,
+            });
+        }
+        Ok(Some(Bundle {
+            ns: graph_of(alloc, ACE_WINS)?,
+            ew: graph_of(alloc, NOTHING)?,
+            claims,
+        }))
+    }
+}
+
+/// A board with four hands of one suit each.
+const ONE_SUIT_EACH: &[u8] = b"[Board \"1\"]
+[Deal \"N:AKQJT98765432... .AKQJT98765432.. ..AKQJT98765432. ...AKQJT98765432\"]
+";
+
+const OF_ONE_SUIT_EACH: &str = "% PBN 2.1
+[Board \"1\"]
+[Deal \"N:AKQJT98765432... .AKQJT98765432.. ..AKQJT98765432. ...AKQJT98765432\"]
+; table incomplete: 0 of 20
+
+";
+
+/// A proof for another deal shows no number.
+#[test]
+fn one_proof_for_every_entry(rt: HostRuntime) -> Result<(), Fail> {
+    let wanted = (Status::Incomplete, OF_ONE_SUIT_EACH, "");
+    for batch in [1, 20] {
+        let run = tables(false, batch)?;
+        expect_run(&rt, rt.alloc(), run, &OneProof, ONE_SUIT_EACH, ROOM, wanted)?;
+    }
     Ok(())
 }

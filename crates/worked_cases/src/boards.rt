@@ -1,12 +1,12 @@
 //! Cases on PBN texts.
 
-use crate::idle::StandsStill;
 use crate::texts::{bytes_of, field, repeated, say_field, say_refusal};
 use cards::{Buffer, Bytes};
 use partition_solver::Solver;
 use pbn_deals::{Board, read_boards, read_layout};
 use std::alloc::{AllocError, Global};
 use tables::Report;
+use test_support::idle::StandsStill;
 use tournaments::{MakeFault, make_single};
 
 /// Room for the tables of a case.

@@ -2,14 +2,16 @@
 
 use crate::boards::{answer_boards, answer_layout, answer_tables};
 use crate::certificates::{answer_certificate, answer_cut, answer_judge};
-use crate::idle::FindsNothing;
 use crate::requests::answer_requests;
 use crate::texts::word;
-use crate::words::{answer_check, answer_plain, answer_table, answer_told, answer_words};
+use crate::words::{
+    answer_check, answer_lines, answer_plain, answer_table, answer_told, answer_words,
+};
 use partition_solver::Partition;
 use std::alloc::{AllocError, Global};
 use std::sync::Wait;
 use std::thread::Threads;
+use test_support::idle::FindsNothing;
 
 /// Says what the libraries answer now. The first word of a case is its kind.
 pub fn answer_case<R: Threads + Wait + Sync>(
@@ -31,6 +33,7 @@ pub fn answer_case<R: Threads + Wait + Sync>(
         "plain" => answer_plain(rt, alloc, case, out),
         "words" => answer_words(rt, alloc, case, out),
         "told" => answer_told(rt, alloc, case, out),
+        "lines" => answer_lines(rt, alloc, case, out),
         "requests" => answer_requests(alloc, case, out),
         _ => out.push_str("no such kind"),
     }

@@ -6,7 +6,6 @@
 mod boards;
 mod cases;
 mod certificates;
-mod idle;
 mod replies;
 mod requests;
 mod texts;

@@ -1,54 +1,62 @@
 //! Cases on runs of the program, by the words of a command line.
 
-use crate::idle::{FindsNothing, LetsPass, StandsStill};
 use crate::texts::{bytes_of, field, number, repeated, say_field, text_of};
 use cards::{Buffer, Bytes, Source};
 use command_line::run_command;
+use farm::Means;
 use std::alloc::{AllocError, Global};
 use std::sync::Wait;
 use std::thread::Threads;
-use subcommands::Status;
+use streams::Streams;
+use test_support::idle::{FindsNothing, LetsPass, StandsStill};
 
 /// Room for what a run prints.
 const ROOM: usize = 8192;
+
+/// An input, and both outputs.
+type Memory<'a> = Streams<Bytes<'a>, Buffer, Buffer>;
+
+/// An input that gives at most so many bytes a call, and outputs with so much room.
+fn memory(
+    alloc: Global,
+    text: &[u8],
+    piece: usize,
+    rooms: [usize; 2],
+) -> Result<Memory<'_>, AllocError> {
+    Ok(Streams {
+        input: Bytes::new(text, piece),
+        output: Buffer::new(alloc, rooms[0], 3)?,
+        errors: Buffer::new(alloc, rooms[1], 3)?,
+    })
+}
 
 /// Does what words ask for, with a solver that finds nothing.
 fn run_words<R: Threads + Wait + Sync>(
     rt: &R,
     alloc: Global,
     words: &[&str],
-    input: &mut Bytes<'_>,
-    output: &mut Buffer,
-    errors: &mut Buffer,
-) -> Status {
-    run_command(
-        rt,
-        alloc,
-        words,
-        &FindsNothing,
-        &LetsPass,
-        &StandsStill,
-        input,
-        output,
-        errors,
-    )
+    streams: &mut Memory<'_>,
+) -> u8 {
+    let means = Means {
+        solver: &FindsNothing,
+        gate: &LetsPass,
+        clock: &StandsStill,
+    };
+    run_command(rt, alloc, words, &means, streams)
 }
 
-/// Says what comes of words, where both outputs have so much room: the exit status, and what is on them.
+/// Says what comes of words: the exit status, and what is on both outputs.
 fn say_run<R: Threads + Wait + Sync>(
     rt: &R,
     alloc: Global,
     words: &[&str],
-    input: &mut Bytes<'_>,
-    rooms: [usize; 2],
+    streams: &mut Memory<'_>,
     out: &mut String,
 ) -> Result<(), AllocError> {
-    let mut output = Buffer::new(alloc, rooms[0], 3)?;
-    let mut errors = Buffer::new(alloc, rooms[1], 3)?;
-    let status = run_words(rt, alloc, words, input, &mut output, &mut errors);
-    write!(out, "status {} |", status.code())?;
-    say_field(output.bytes(), out)?;
-    say_field(errors.bytes(), out)
+    let status = run_words(rt, alloc, words, streams);
+    write!(out, "status {status} |")?;
+    say_field(streams.output.bytes(), out)?;
+    say_field(streams.errors.bytes(), out)
 }
 
 /// What `plain` prints of a layout.
@@ -65,14 +73,8 @@ pub fn answer_plain<R: Threads + Wait + Sync>(
         field(case, 2),
         field(case, 3),
     ];
-    say_run(
-        rt,
-        alloc,
-        &words,
-        &mut Bytes::new(b"", 100),
-        [ROOM, ROOM],
-        out,
-    )
+    let mut streams = memory(alloc, b"", 100, [ROOM, ROOM])?;
+    say_run(rt, alloc, &words, &mut streams, out)
 }
 
 /// What `check` prints of an answer.
@@ -90,8 +92,8 @@ pub fn answer_check<R: Threads + Wait + Sync>(
         field(case, 2),
         field(case, 3),
     ];
-    let mut input = Bytes::new(text.as_slice(), 100);
-    say_run(rt, alloc, &words, &mut input, [ROOM, ROOM], out)
+    let mut streams = memory(alloc, text.as_slice(), 100, [ROOM, ROOM])?;
+    say_run(rt, alloc, &words, &mut streams, out)
 }
 
 /// What `table` prints of a PBN text.
@@ -102,15 +104,8 @@ pub fn answer_table<R: Threads + Wait + Sync>(
     out: &mut String,
 ) -> Result<(), AllocError> {
     let text = repeated(alloc, case)?;
-    let mut input = Bytes::new(text.as_slice(), 100);
-    say_run(
-        rt,
-        alloc,
-        &["ddfarm", "table"],
-        &mut input,
-        [ROOM, ROOM],
-        out,
-    )
+    let mut streams = memory(alloc, text.as_slice(), 100, [ROOM, ROOM])?;
+    say_run(rt, alloc, &["ddfarm", "table"], &mut streams, out)
 }
 
 /// The words of a line.
@@ -142,11 +137,11 @@ pub fn answer_words<R: Threads + Wait + Sync>(
     let line = bytes_of(alloc, field(case, 1))?;
     let words = words_of(alloc, text_of(line.as_slice()))?;
     let text = bytes_of(alloc, field(case, 2))?;
-    let mut input = Bytes::new(text.as_slice(), 64);
     let rooms = [room_of(field(case, 3)), room_of(field(case, 4))];
-    say_run(rt, alloc, words.as_slice(), &mut input, rooms, out)?;
+    let mut streams = memory(alloc, text.as_slice(), 64, rooms)?;
+    say_run(rt, alloc, words.as_slice(), &mut streams, out)?;
     let mut left = [0; 64];
-    match input.read(&mut left) {
+    match streams.input.read(&mut left) {
         Ok(count) => say_field(&left[..count], out),
         Err(_) => Ok(()),
     }
@@ -176,19 +171,43 @@ pub fn answer_told<R: Threads + Wait + Sync>(
     let words = words_of(alloc, field(case, 1))?;
     let text = bytes_of(alloc, field(case, 2))?;
     let told = text.as_slice();
-    let mut input = Bytes::new(b"", 1);
-    let mut output = Buffer::new(alloc, ROOM, 3)?;
-    let mut errors = Buffer::new(alloc, ROOM, 3)?;
-    let status = run_words(
-        rt,
-        alloc,
-        words.as_slice(),
-        &mut input,
-        &mut output,
-        &mut errors,
-    );
-    write!(out, "status {}, output ", status.code())?;
-    say_told(output.bytes(), told, out)?;
+    let mut streams = memory(alloc, b"", 1, [ROOM, ROOM])?;
+    let status = run_words(rt, alloc, words.as_slice(), &mut streams);
+    write!(out, "status {status}, output ")?;
+    say_told(streams.output.bytes(), told, out)?;
     out.push_str(", error output ")?;
-    say_told(errors.bytes(), told, out)
+    say_told(streams.errors.bytes(), told, out)
+}
+
+/// Says each line of what is printed on an output, if anything is.
+fn say_lines(name: &str, printed: &[u8], out: &mut String) -> Result<(), AllocError> {
+    if printed.is_empty() {
+        return Ok(());
+    }
+    write!(out, "\n= {name}")?;
+    let text = text_of(printed);
+    let lines = text.strip_suffix("\n");
+    if lines.is_none() {
+        out.push_str(", whose last line is not ended")?;
+    }
+    for line in lines.unwrap_or(text).split('\n') {
+        out.push_str("\n= |")?;
+        out.push_str(line)?;
+    }
+    Ok(())
+}
+
+/// What comes of the words of a case, over no input: the exit status, and the lines on the output and on the error output.
+pub fn answer_lines<R: Threads + Wait + Sync>(
+    rt: &R,
+    alloc: Global,
+    case: &str,
+    out: &mut String,
+) -> Result<(), AllocError> {
+    let words = words_of(alloc, field(case, 1))?;
+    let mut streams = memory(alloc, b"", 1, [ROOM, ROOM])?;
+    let status = run_words(rt, alloc, words.as_slice(), &mut streams);
+    write!(out, "status {status}")?;
+    say_lines("output", streams.output.bytes(), out)?;
+    say_lines("error output", streams.errors.bytes(), out)
 }

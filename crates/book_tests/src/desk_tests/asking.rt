@@ -3,7 +3,6 @@
 ghost use Rattle.std.specs.Prelude.{◌≡◌};
 ghost use Rattle.lease_desk.specs.Desks.{IsChairOf, number_of};
 
-use crate::claimed::claimed_of;
 use crate::expect::expect_eq;
 use crate::lease_tests::long_list::verdict_on;
 use certificate_graph::Graph;
@@ -14,6 +13,7 @@ use pbn_deals::Board;
 use std::alloc::{AllocError, Global};
 use std::process::Abort;
 use std::sync::Wait;
+use test_support::claimed::claimed_of;
 
 /// A gate that holds nobody up.
 #[derive(Drop)]

@@ -1,6 +1,6 @@
 use Rattle.std.proofs.Common.{get_or, arith}
-use Rattle.integration_tests.proofs.Chairs.{keeps_as, each_changes}
-use Rattle.integration_tests.proofs.desk_tests.shifts.work_side_by_side.Goals as goal
+use Rattle.book_tests.proofs.Chairs.{keeps_as, each_changes}
+use Rattle.book_tests.proofs.desk_tests.shifts.work_side_by_side.Goals as goal
 
 pub returns-then-count-gt0 : goal.returns-then-count-gt0
 returns-then-count-gt0 g c =

@@ -3,13 +3,14 @@
 ghost use Rattle.std.specs.Prelude.{◌≡◌, ◌<◌};
 ghost use Rattle.cards.specs.Orders.{trump_number};
 
-use crate::expect::{expect_bytes, expect_eq, joined};
+use crate::expect::{expect_bytes, expect_eq};
 use cards::{Buffer, DeviceFault, Layout, Seat, Trump};
 use pbn_deals::{Board, BoardName, read_layout};
 use std::alloc::{AllocError, Global};
 use std::process::Abort;
 use std::test::Fail;
 use tables::{Report, Sheet, write_sheet};
+use test_support::texts::joined;
 
 /// The board of four hands of one suit each, spades with North and then clockwise.
 const ONE_SUIT_EACH: &[u8] =

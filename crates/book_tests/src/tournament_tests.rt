@@ -1,42 +1,18 @@
-//! Tournaments with solvers that answer for another entry, and with devices that fail; whole ones are among `worked_cases`.
+//! Tournaments with solvers that answer for another entry, with devices that fail, and with boards of one deal; whole
+//! ones are among `worked_cases`.
 
-use crate::expect::{expect_bytes, expect_eq, joined};
+use crate::expect::{expect_bytes, expect_eq};
 use arrayvec::ArrayVec;
 use cards::{Buffer, Bytes, Layout, Seat, Side, Trump};
-use farm::Clock;
+use lease_book::{Entry, GraphText, Request};
 use partition_solver::{Bundle, Claim, Partition, Solver};
 use std::alloc::{AllocError, Global};
 use std::process::Abort;
 use std::test::Fail;
 use tables::Report;
-use tournaments::{MakeFault, make_single};
-
-/// A clock that stands still.
-#[derive(Drop)]
-struct StillClock;
-
-impl Clock for StillClock {
-    fn now(&self) -> u64 {
-        0
-    }
-}
-
-/// A solver that finds nothing.
-#[derive(Drop)]
-struct FindsNothing;
-
-impl Solver for FindsNothing {
-    fn solve(
-        &self,
-        _alloc: Global,
-        _layout: &Layout,
-        _declarers: &[Seat],
-        _trump: Trump,
-        _budget: u64,
-    ) -> Result<Option<Bundle>, AllocError> {
-        Ok(None)
-    }
-}
+use test_support::idle::{FindsNothing, StandsStill};
+use test_support::texts::joined;
+use tournaments::{MakeFault, make_single, replay_tables};
 
 /// A solver that gives the answer for North in no-trump, whatever it is asked.
 #[derive(Drop)]
@@ -109,7 +85,7 @@ fn answers_for_another_entry(rt: HostRuntime) -> Result<(), Fail> {
         3,
         BUDGET,
         &OneAnswer,
-        &StillClock,
+        &StandsStill,
     );
     let (report, book) = made?;
     expect_bytes(&rt, sink.bytes(), written.as_slice());
@@ -135,7 +111,7 @@ fn expect_fault(
         1,
         BUDGET,
         &FindsNothing,
-        &StillClock,
+        &StandsStill,
     );
     expect_eq(rt, &made.err(), &Some(wanted));
     expect_bytes(rt, sink.bytes(), written);
@@ -156,5 +132,86 @@ fn torn_sources_and_full_sinks(rt: HostRuntime) -> Result<(), Fail> {
         let written = whole.as_slice().get(..room).ok_or("a shorter text")?;
         expect_fault(&rt, alloc, &mut source, room, MakeFault::Write, written)?;
     }
+    Ok(())
+}
+
+/// Two boards of four hands of one suit each.
+const TWO_BOARDS: &[u8] = b"[Board \"1\"]
+[Deal \"N:AKQJT98765432... .AKQJT98765432.. ..AKQJT98765432. ...AKQJT98765432\"]
+
+[Board \"2\"]
+[Deal \"N:AKQJT98765432... .AKQJT98765432.. ..AKQJT98765432. ...AKQJT98765432\"]
+";
+
+/// Their tables, where each has one number.
+const ONE_NUMBER_EACH: &[u8] = b"% PBN 2.1
+[Board \"1\"]
+[Deal \"N:AKQJT98765432... .AKQJT98765432.. ..AKQJT98765432. ...AKQJT98765432\"]
+; table incomplete: 1 of 20
+
+[Board \"2\"]
+[Deal \"N:AKQJT98765432... .AKQJT98765432.. ..AKQJT98765432. ...AKQJT98765432\"]
+; table incomplete: 1 of 20
+
+";
+
+/// North and South need nothing.
+const NOTHING: &[u8] = b"DDC 1
+trump NT
+side NS
+nodes 0
+";
+
+/// Without trumps East leads a heart to each trick, to which nobody else has one.
+const ALL_HEARTS: &[u8] = b"DDC 1
+trump NT
+side EW
+nodes 13
+E 13 13.0.0.0/ 0.13.0.0/ 0.0.13.0/ 0.0.0.13/ Hx(DxCx(Sx{E1}))
+E 12 12.0.0.0/ 0.12.0.0/ 0.0.12.0/ 0.0.0.12/ Hx(DxCx(Sx{E2}))
+E 11 11.0.0.0/ 0.11.0.0/ 0.0.11.0/ 0.0.0.11/ Hx(DxCx(Sx{E3}))
+E 10 10.0.0.0/ 0.10.0.0/ 0.0.10.0/ 0.0.0.10/ Hx(DxCx(Sx{E4}))
+E 9 9.0.0.0/ 0.9.0.0/ 0.0.9.0/ 0.0.0.9/ Hx(DxCx(Sx{E5}))
+E 8 8.0.0.0/ 0.8.0.0/ 0.0.8.0/ 0.0.0.8/ Hx(DxCx(Sx{E6}))
+E 7 7.0.0.0/ 0.7.0.0/ 0.0.7.0/ 0.0.0.7/ Hx(DxCx(Sx{E7}))
+E 6 6.0.0.0/ 0.6.0.0/ 0.0.6.0/ 0.0.0.6/ Hx(DxCx(Sx{E8}))
+E 5 5.0.0.0/ 0.5.0.0/ 0.0.5.0/ 0.0.0.5/ Hx(DxCx(Sx{E9}))
+E 4 4.0.0.0/ 0.4.0.0/ 0.0.4.0/ 0.0.0.4/ Hx(DxCx(Sx{E10}))
+E 3 3.0.0.0/ 0.3.0.0/ 0.0.3.0/ 0.0.0.3/ Hx(DxCx(Sx{E11}))
+E 2 2.0.0.0/ 0.2.0.0/ 0.0.2.0/ 0.0.0.2/ Hx(DxCx(Sx{E12}))
+E 1 1.0.0.0/ 0.1.0.0/ 0.0.1.0/ 0.0.0.1/ Hx(DxCx(Sx{}))
+";
+
+/// A lease of the first entry, and what shows that North takes no trick in no-trump.
+fn lease_and_hand_in(alloc: Global) -> Result<Vec<Request>, AllocError> {
+    let mut requests = Vec::new(alloc);
+    requests.push(Request::Lease { now: 0 })?;
+    requests.push(Request::HandIn {
+        lease: 1,
+        entry: Entry {
+            board: 0,
+            declarer: Seat::North,
+            trump: Trump::Nt,
+        },
+        k: 0,
+        declarer: GraphText::new(Vec::from_slice(alloc, NOTHING)?),
+        defenders: GraphText::new(Vec::from_slice(alloc, ALL_HEARTS)?),
+    })?;
+    Ok(requests)
+}
+
+/// What is published for one of two boards of one deal is known of both.
+#[test]
+fn boards_of_one_deal_share_a_number(rt: HostRuntime) -> Result<(), Fail> {
+    let alloc = rt.alloc();
+    let requests = lease_and_hand_in(alloc)?;
+    let mut sink = Buffer::new(alloc, 2000, 5)?;
+    let made = replay_tables(alloc, TWO_BOARDS, 600, 1, requests.as_slice(), &mut sink);
+    let wanted = Report {
+        boards: 2,
+        complete: 0,
+    };
+    expect_eq(&rt, &made, &Ok(wanted));
+    expect_bytes(&rt, sink.bytes(), ONE_NUMBER_EACH);
     Ok(())
 }

@@ -1,5 +1,5 @@
 use Rattle.lease_desk.specs.Desks.{AreChairsOf}
-use Rattle.integration_tests.proofs.desk_tests.worked_list.take_turns.Given as goal
+use Rattle.book_tests.proofs.desk_tests.worked_list.take_turns.Given as goal
 
 abbrev pub invariant-loop-turn : goal.invariant-loop-turn
 invariant-loop-turn g l = AreChairsOf l.desk l.chairs

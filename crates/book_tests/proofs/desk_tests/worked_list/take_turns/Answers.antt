@@ -1,5 +1,5 @@
-use Rattle.integration_tests.proofs.Chairs.{one_changes, in_any_order}
-use Rattle.integration_tests.proofs.desk_tests.worked_list.take_turns.Goals as goal
+use Rattle.book_tests.proofs.Chairs.{one_changes, in_any_order}
+use Rattle.book_tests.proofs.desk_tests.worked_list.take_turns.Goals as goal
 
 pub loop-turn-preserved : goal.loop-turn-preserved
 loop-turn-preserved g c =

@@ -1,11 +1,11 @@
 //! Boards of one card a hand, all of a suit, and the certificates of their entries.
 
-use crate::expect::joined;
 use cards::{Seat, Side, Suit, Trump};
 use lease_book::{Entry, GraphText, Request};
 use pbn_deals::{Board, BoardName, read_layout};
 use std::alloc::{AllocError, Global};
 use std::test::Fail;
+use test_support::texts::joined;
 
 /// North has the ace.
 pub const NORTH_HIGH: &str = "N:A... K... Q... J...";

@@ -7,6 +7,7 @@ use partition_solver::{Bundle, Solver};
 use std::alloc::{AllocError, Global};
 
 /// A solver that finds nothing.
+#[derive(Drop)]
 pub struct FindsNothing;
 
 impl Solver for FindsNothing {
@@ -23,6 +24,7 @@ impl Solver for FindsNothing {
 }
 
 /// A clock that stands still.
+#[derive(Drop)]
 pub struct StandsStill;
 
 impl Clock for StandsStill {
@@ -32,6 +34,7 @@ impl Clock for StandsStill {
 }
 
 /// A gate that lets all pass.
+#[derive(Drop)]
 pub struct LetsPass;
 
 impl Gate for LetsPass {

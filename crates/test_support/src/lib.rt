@@ -1,0 +1,8 @@
+//! What several crates of tests use.
+#![tactic(auto)]
+
+pub mod claimed;
+pub mod deals;
+pub mod idle;
+pub mod settings;
+pub mod texts;
