@@ -1,5 +1,5 @@
--- The command line in the terms of `clap`: its subcommands, the words that each has to have, and its options, of which `asked` has
--- the ranges and defaults.
+-- The command line in the terms of `clap`: its subcommands, the words that each has to have, and its options, of which
+-- `asked` has the ranges and defaults.
 use Rattle.std.specs.Prelude.{◌≡◌, ℕ, Bool, List, [], ◌∷◌, ◌++◌, Some, map, fold, codes, true, false, pos}
 use Rattle.std.specs.Borrow.{Bor}
 use Rattle.clap.specs.Words.{App, Rule, Shape, Text, app_of, new_rule, rule_of, with_rule}

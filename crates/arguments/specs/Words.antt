@@ -10,8 +10,8 @@ use Rattle.matched_words.specs.Matches.{SaysMatched}
 use Rattle.arguments.specs.CommandLine.{AreLetters, command_line}
 use Rattle.arguments.specs.declared.command.Letters.{Letters}
 
--- The words, of which the first is the program's name, ask for the subcommand: `clap` takes them, and it is the one that they
--- name, with the layout, the seat, the denomination and the numbers that they give it.
+-- The words, of which the first is the program's name, ask for the subcommand: `clap` takes them, and it is the one
+-- that they name, with the layout, the seat, the denomination and the numbers that they give it.
 abbrev pub AskFor : Letters → List Text → Subcommand → Type 0
 AskFor letters words asked =
     (fault_of (command_line letters) words ≡ []) × SaysMatched (subcommand_of (command_line letters) words) asked

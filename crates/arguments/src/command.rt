@@ -3,7 +3,8 @@
 ghost use Rattle.std.specs.Prelude.{◌≡◌, IfOk, codes, map};
 ghost use Rattle.clap.specs.Words.{app_of};
 ghost use Rattle.asked.specs.Options.{numbers_of};
-ghost use Rattle.arguments.specs.CommandLine.{AddsRules, AreLetters, IsArg, IsLeaf, check, choice, command_line, flag, hand_words, numbers_in_range};
+ghost use Rattle.arguments.specs.CommandLine.{AddsRules, AreLetters, IsArg, IsLeaf, check, choice, command_line, flag};
+ghost use Rattle.arguments.specs.CommandLine.{hand_words, numbers_in_range};
 ghost use Rattle.arguments.specs.CommandLine.{number_rule, plain, settings, solve, table, word};
 
 use crate::help;

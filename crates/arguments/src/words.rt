@@ -15,8 +15,8 @@ use std::convert::AsStr;
 
 /// The subcommand that the words ask for, the first of them being the program's name.
 ///
-/// The error is what `clap` has to say where they ask for none: the help that was asked for, why they are refused, or that there is
-/// not the memory.
+/// The error is what `clap` has to say where they ask for none: the help that was asked for, why they are refused, or
+/// that there is not the memory.
 pub fn parse_arguments<'a, S: AsStr>(alloc: Global, words: &'a [S]) -> Result<Subcommand<'a>, Error>
     ensures { AreReadAs (map S.text words.entry.now) result }
 {

@@ -5,7 +5,8 @@ use Rattle.asked.specs.declared.settings.Settings.{Settings}
 use Rattle.asked.specs.declared.settings.SettingsFault.{SettingsFault}
 use Rattle.asked.specs.declared.settings.SettingsFault.TheVariants.{Solvers, Checkers, Tries, Budget, Batch}
 use Rattle.std.specs.Str.Parse.{digits_value}
-use Rattle.asked.specs.Options.{OptionNumbers, solvers_option, checkers_option, term_option, tries_option, budget_option, batch_option}
+use Rattle.asked.specs.Options.{OptionNumbers, solvers_option, checkers_option, term_option, tries_option}
+use Rattle.asked.specs.Options.{budget_option, batch_option}
 
 pub record Numbers : Type 0 where
   pub solvers : ℕ

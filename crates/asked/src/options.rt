@@ -10,9 +10,9 @@ pub struct NumberOption {
     pub name: &'static str,
     /// What help calls the number.
     pub value_name: &'static str,
-    /// The least number.
+    /// The least number that it may have.
     pub least: u32,
-    /// The most.
+    /// The greatest number that it may have.
     pub most: u32,
     /// Whether it may be typed with a sign: then a number below 0 is refused for its range.
     pub is_signed: bool,

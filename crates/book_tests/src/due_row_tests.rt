@@ -48,8 +48,8 @@ fn run<R: Abort>(rt: &R, alloc: Global, more: u8) -> Result<(), Fail> {
     Ok(())
 }
 
-/// Rows of one place, of powers of two, and of numbers beside them; a row without places, and moments at the ends of their
-/// range.
+/// Rows of one place, of powers of two, and of numbers beside them; a row without places, and moments at the ends of
+/// their range.
 #[test]
 fn finds_what_a_slow_search_finds(rt: HostRuntime) -> Result<(), Fail> {
     for more in [0, 1, 2, 3, 4, 6, 7, 8, 19] {

@@ -12,6 +12,8 @@ mod expect;
 #[cfg(test)]
 mod fixed_numbers;
 #[cfg(test)]
+mod foreign_tests;
+#[cfg(test)]
 mod lease_tests;
 #[cfg(test)]
 mod request_tests;

@@ -128,8 +128,8 @@ fn all_answers(rt: HostRuntime) -> Result<(), Fail> {
     expect_replayed(&rt, rt.alloc(), requests.as_slice(), complete, TABLE)
 }
 
-/// A lease, and a hand-in that is good for another deal. Then a good hand-in, which counts though its lease ran out; the
-/// same again does not, and one without a lease never does.
+/// A lease, and a hand-in that is good for another deal. Then a good hand-in, which counts though its lease ran out;
+/// the same again does not, and one without a lease never does.
 #[test]
 fn foreign_late_and_repeated_answers(rt: HostRuntime) -> Result<(), Fail> {
     let mut requests = Vec::new(rt.alloc());
@@ -162,7 +162,8 @@ fn foreign_late_and_repeated_answers(rt: HostRuntime) -> Result<(), Fail> {
     )
 }
 
-/// A text, how much room the sink has, and what comes of them without requests: the sink is full, or the text is refused.
+/// A text, how much room the sink has, and what comes of them without requests: the sink is full, or the text is
+/// refused.
 const REFUSED: [(&[u8], usize, MakeFault); 6] = [
     (ONE_SUIT_EACH, 0, MakeFault::Write),
     (ONE_SUIT_EACH, 1, MakeFault::Write),

@@ -61,20 +61,6 @@ pub holder_from_words : (deal : Deal) (hands : List ℕ) (card : Card) (i : ℕ)
 holder_from_words deal hands card i is e = ap (λ d. holder_of d card) (sym is) ∙ (holder_of-deal_of_words hands card ∙ ap (holder_by_words hands) (sym e))
 
 -- the holder of the card with this number, by the first word that has its bit
-pub first_of_four : (hands : List ℕ) (i : ℕ) → eqb (bit_at (slice_index hands 0) i) 1 ≡ true → holder_by_words hands i ≡ Some North
-first_of_four hands i h0 = rw h0 refl
-
-pub second_of_four : (hands : List ℕ) (i : ℕ) → eqb (bit_at (slice_index hands 0) i) 1 ≡ false → eqb (bit_at (slice_index hands 1) i) 1 ≡ true → holder_by_words hands i ≡ Some East
-second_of_four hands i h0 h1 = rw (h0, h1) refl
-
-pub third_of_four : (hands : List ℕ) (i : ℕ) → eqb (bit_at (slice_index hands 0) i) 1 ≡ false → eqb (bit_at (slice_index hands 1) i) 1 ≡ false → eqb (bit_at (slice_index hands 2) i) 1 ≡ true → holder_by_words hands i ≡ Some South
-third_of_four hands i h0 h1 h2 = rw (h0, h1, h2) refl
-
-pub fourth_of_four : (hands : List ℕ) (i : ℕ) → eqb (bit_at (slice_index hands 0) i) 1 ≡ false → eqb (bit_at (slice_index hands 1) i) 1 ≡ false → eqb (bit_at (slice_index hands 2) i) 1 ≡ false → eqb (bit_at (slice_index hands 3) i) 1 ≡ true → holder_by_words hands i ≡ Some West
-fourth_of_four hands i h0 h1 h2 h3 = rw (h0, h1, h2, h3) refl
-
-pub none_of_four : (hands : List ℕ) (i : ℕ) → eqb (bit_at (slice_index hands 0) i) 1 ≡ false → eqb (bit_at (slice_index hands 1) i) 1 ≡ false → eqb (bit_at (slice_index hands 2) i) 1 ≡ false → eqb (bit_at (slice_index hands 3) i) 1 ≡ false → holder_by_words hands i ≡ None
-none_of_four hands i h0 h1 h2 h3 = rw (h0, h1, h2, h3) refl
 
 -- what `holds` answers is whether the seat holds the card
 pub IsTrue_held : (deal : Deal) (hands : List ℕ) (seat : Seat) (card : Card) (answer : Bool) → IsDealt hands → deal_of_words hands ≡ deal → answer ≡ eqb (bit_at (word_of hands seat) (card_number card)) 1 → IsTrue answer ↔ (holder_of deal card ≡ Some seat)

@@ -52,7 +52,8 @@ pub record AreSized (hands : List ℕ) : Type 0 where
 
 -- a hand is empty, or of over 13 cards, or two are of unequal size
 abbrev pub AreMissized : List ℕ → Type 0
-AreMissized hands = (word_size hands North ≡ 0) ⊎ ((13 < word_size hands North) ⊎ ((seat : Seat) × (word_size hands seat ≢ word_size hands North)))
+AreMissized hands = (word_size hands North ≡ 0)
+    ⊎ ((13 < word_size hands North) ⊎ ((seat : Seat) × (word_size hands seat ≢ word_size hands North)))
 
 -- each seat holds the cards of its word, and no others
 pub record Deals (hands : List ℕ) (deal : Deal) : Type 0 where
@@ -70,7 +71,8 @@ holder_by_bits north east south west =
 -- the holder of the card with this number
 abbrev pub holder_by_words : List ℕ → ℕ → Option Seat
 holder_by_words hands i =
-    holder_by_bits (bit_at (slice_index hands 0) i) (bit_at (slice_index hands 1) i) (bit_at (slice_index hands 2) i) (bit_at (slice_index hands 3) i)
+    holder_by_bits (bit_at (slice_index hands 0) i) (bit_at (slice_index hands 1) i) (bit_at (slice_index hands 2) i)
+    (bit_at (slice_index hands 3) i)
 
 -- the deal that the words stand for
 unfoldable pub deal_of_words : List ℕ → Deal
@@ -82,7 +84,8 @@ pub record IsDealt (hands : List ℕ) : Type 0 where
   pub cards_alone : HaveCardsAlone hands
   pub one_holder :
       (i : ℕ) →
-      bit_at (slice_index hands 0) i + bit_at (slice_index hands 1) i + bit_at (slice_index hands 2) i + bit_at (slice_index hands 3) i ≤ 1
+      bit_at (slice_index hands 0) i + bit_at (slice_index hands 1) i + bit_at (slice_index hands 2) i
+      + bit_at (slice_index hands 3) i ≤ 1
   pub sized : AreSized hands
 
 -- the word of a seat's cards in a deal
@@ -91,4 +94,5 @@ word_of_deal seat deal = mask_l (map (is_held_by seat) deal)
 
 -- the four words of a deal
 abbrev pub words_of_deal : Deal → List ℕ
-words_of_deal deal = word_of_deal North deal ∷ word_of_deal East deal ∷ word_of_deal South deal ∷ word_of_deal West deal ∷ []
+words_of_deal deal =
+    word_of_deal North deal ∷ word_of_deal East deal ∷ word_of_deal South deal ∷ word_of_deal West deal ∷ []

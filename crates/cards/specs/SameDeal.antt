@@ -51,7 +51,8 @@ held_by_bit _ _ _ _ seat h = absurd (omega arith)
 
 pub bit_of_word :
     (hands : List ℕ) (seat : Seat) (i : ℕ) →
-    bit_of_seat seat (bit_at (slice_index hands 0) i) (bit_at (slice_index hands 1) i) (bit_at (slice_index hands 2) i) (bit_at (slice_index hands 3) i)
+    bit_of_seat seat (bit_at (slice_index hands 0) i) (bit_at (slice_index hands 1) i) (bit_at (slice_index hands 2) i)
+    (bit_at (slice_index hands 3) i)
     ≡ bit_at (word_of hands seat) i
 bit_of_word hands North i = refl
 bit_of_word hands East i = refl
@@ -67,12 +68,14 @@ pub length-deal_of_words : (hands : List ℕ) → length (deal_of_words hands) �
 unfolding deal_of_words
 length-deal_of_words hands = length-map-range_with_len (holder_by_words hands) 0 52
 
-pub get_or-deal_of_words : (hands : List ℕ) (i : ℕ) → i < 52 → get_or (deal_of_words hands) i None ≡ holder_by_words hands i
+pub get_or-deal_of_words : (hands : List ℕ) (i : ℕ) → i < 52 → get_or (deal_of_words hands) i None
+    ≡ holder_by_words hands i
 unfolding deal_of_words
 get_or-deal_of_words hands i h = get_or-map-range_with_len (holder_by_words hands) 0 52 i i None h (omega arith)
 
 -- the word of a seat in the deal is the seat's word
-pub word_of_deal_of_words : (hands : List ℕ) → IsDealt hands → (seat : Seat) → word_of_deal seat (deal_of_words hands) ≡ word_of hands seat
+pub word_of_deal_of_words : (hands : List ℕ) → IsDealt hands → (seat : Seat) → word_of_deal seat (deal_of_words hands)
+    ≡ word_of hands seat
 unfolding word_of_deal
 word_of_deal_of_words hands dealt seat =
     let bits = map (is_held_by seat) (deal_of_words hands) in
@@ -86,7 +89,8 @@ word_of_deal_of_words hands dealt seat =
     bit_mask_l bits i ∙ (ap (λ b. cond b 1 0) at ∙ held_by_word hands dealt seat i))
 
 -- how many cards the seat holds is how many bits its word has
-pub count_of-deal_of_words : (hands : List ℕ) → IsDealt hands → (seat : Seat) → count_of (deal_of_words hands) seat ≡ count_ones (word_of hands seat)
+pub count_of-deal_of_words : (hands : List ℕ) → IsDealt hands → (seat : Seat) → count_of (deal_of_words hands) seat
+    ≡ count_ones (word_of hands seat)
 unfolding word_of_deal
 count_of-deal_of_words hands dealt seat =
     sym (ones-mask_l (is_held_by seat) (deal_of_words hands)) ∙ ap count_ones (word_of_deal_of_words hands dealt seat)

@@ -6,7 +6,7 @@ ghost use Rattle.cards.specs.Deal.{IsLayout, holder_of, size_of};
 ghost use Rattle.cards.specs.FromHands.{MeetsHands};
 ghost use Rattle.cards.specs.declared.pack.Rank.{Rank};
 ghost use Rattle.cards.specs.Pack.{card_of, rank_number};
-ghost use Rattle.cards.specs.Hands.{AreSized, AreMissized};
+ghost use Rattle.cards.specs.Hands.{AreSized, AreMissized, holder_by_words};
 
 use crate::pack::{Card, Rank};
 use crate::seats::Seat;
@@ -113,26 +113,14 @@ impl Layout {
     pub fn owner(&self, card: Card) -> Option<Seat>
         ensures { result ≡ holder_of self.now card }
     {
-        let number = card.number();
-        if has_bit(self.hands[0], number) {
-            return Some(Seat::North);
-        }
-        if has_bit(self.hands[1], number) {
-            return Some(Seat::East);
-        }
-        if has_bit(self.hands[2], number) {
-            return Some(Seat::South);
-        }
-        if has_bit(self.hands[3], number) {
-            return Some(Seat::West);
-        }
-        None
+        holder_by_words(&self.hands, card.number())
     }
 
     /// The seat's cards of a suit, as bits: bit r is 1 where it holds the card with r ranks below it.
     pub fn holding(&self, seat: Seat, suit: Suit) -> u16
         ensures below { result < 2 ^ 13 }
-        ensures bits { (rank : Rank) → (bit_at result (rank_number rank) ≡ 1) ↔ (holder_of self.now (card_of suit rank) ≡ Some seat) }
+        ensures bits { (rank : Rank) → (bit_at result (rank_number rank) ≡ 1)
+            ↔ (holder_of self.now (card_of suit rank) ≡ Some seat) }
     {
         (self.hands[seat.number()] >> (Rank::COUNT * suit.number()) & SUIT) as u16
     }
@@ -159,6 +147,26 @@ fn has_bit(word: u64, number: usize) -> bool
     ensures { result ≡ (bit_at word number == 1) }
 {
     word >> number & 1 == 1
+}
+
+/// The seat whose word has the bit, of words for North, East, South and West, if one has it.
+pub fn holder_by_words(words: &[u64; 4], place: usize) -> Option<Seat>
+    requires { place < 64 }
+    ensures { result ≡ holder_by_words words.now place }
+{
+    if has_bit(words[0], place) {
+        return Some(Seat::North);
+    }
+    if has_bit(words[1], place) {
+        return Some(Seat::East);
+    }
+    if has_bit(words[2], place) {
+        return Some(Seat::South);
+    }
+    if has_bit(words[3], place) {
+        return Some(Seat::West);
+    }
+    None
 }
 
 /// Whether the four words name equally many cards, 1 to 13.

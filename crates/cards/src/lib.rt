@@ -7,6 +7,7 @@
 #![tactic(auto)]
 
 mod devices;
+mod faults;
 mod layouts;
 mod memory;
 mod numbers;
@@ -16,7 +17,8 @@ mod seats;
 mod suits;
 
 pub use devices::{DeviceFault, Sink, Source, write_all};
-pub use layouts::{Layout, LayoutFault};
+pub use faults::OutOfMemory;
+pub use layouts::{Layout, LayoutFault, holder_by_words};
 pub use memory::{Buffer, Bytes};
 pub use numbers::write_number;
 pub use orders::{compare_by_number, equals_are_one, lists_are_in_order};

@@ -31,7 +31,8 @@ impl<'a> Model for Bytes<'a> {
 impl<'a> Bytes<'a> {
     /// A source of these bytes, in pieces of at most `greatest_piece` (of 1 where that is 0). It never fails.
     pub fn new(bytes: &'a [u8], greatest_piece: usize) -> Bytes<'a>
-        ensures supply { result ≡ record { left = bytes.entry.now; greatest_piece = greatest_piece; calls_before_failure = None; failed = 0 } }
+        ensures supply { result ≡ record
+            { left = bytes.entry.now; greatest_piece = greatest_piece; calls_before_failure = None; failed = 0 } }
         ensures device { ⟦<Bytes<'a> as Source>⟧.state result ≡ record { bytes = Some bytes.entry.now; failed = 0 } }
     {
         Bytes {
@@ -44,7 +45,8 @@ impl<'a> Bytes<'a> {
 
     /// The same, but the call after `calls` calls fails, and no other.
     pub fn failing_after(bytes: &'a [u8], greatest_piece: usize, calls: u64) -> Bytes<'a>
-        ensures supply { result ≡ record { left = bytes.entry.now; greatest_piece = greatest_piece; calls_before_failure = Some calls; failed = 0 } }
+        ensures supply { result ≡ record
+            { left = bytes.entry.now; greatest_piece = greatest_piece; calls_before_failure = Some calls; failed = 0 } }
         ensures device { ⟦<Bytes<'a> as Source>⟧.state result ≡ record { bytes = Some bytes.entry.now; failed = 0 } }
     {
         Bytes {
@@ -102,7 +104,12 @@ impl Model for Buffer {
 
     ghost Value = { Stock };
 
-    ghost view = { λ buffer. record { bytes = take buffer.used buffer.bytes.items; room = vec_len buffer.bytes; greatest_piece = buffer.greatest_piece; failed = buffer.failures } };
+    ghost view = { λ buffer. record {
+      bytes = take buffer.used buffer.bytes.items;
+      room = vec_len buffer.bytes;
+      greatest_piece = buffer.greatest_piece;
+      failed = buffer.failures;
+    } };
 
     ghost invariant = { λ buffer. buffer.used ≤ vec_len buffer.bytes };
 }
@@ -110,8 +117,10 @@ impl Model for Buffer {
 impl Buffer {
     /// An empty sink with room for this many bytes, in pieces of at most `greatest_piece` (of 1 where that is 0).
     pub fn new(alloc: Global, room: usize, greatest_piece: usize) -> Result<Buffer, AllocError>
-        ensures stock { IfOk result (λ buffer. buffer ≡ record { bytes = []; room = room; greatest_piece = greatest_piece; failed = 0 }) }
-        ensures device { IfOk result (λ buffer. ⟦<Buffer as Sink>⟧.state buffer ≡ record { bytes = Some []; failed = 0 }) }
+        ensures stock { IfOk result (λ buffer. buffer
+            ≡ record { bytes = []; room = room; greatest_piece = greatest_piece; failed = 0 }) }
+        ensures device { IfOk result (λ buffer. ⟦<Buffer as Sink>⟧.state buffer
+            ≡ record { bytes = Some []; failed = 0 }) }
     {
         Ok(Buffer {
             bytes: vec![in alloc; 0; room]?,

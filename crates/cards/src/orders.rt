@@ -1,5 +1,5 @@
-//! The lists of all seats, suits, denominations and ranks, the orders in which they compare, and what `==` says. Each law
-//! is a function that does nothing: its contract is the law.
+//! The lists of all seats, suits, denominations and ranks, the orders in which they compare, and what `==` says. Each
+//! law is a function that does nothing: its contract is the law.
 
 ghost use Rattle.std.specs.Prelude.{◌≡◌, [], ◌∷◌, map};
 ghost use Rattle.cards.specs.Orders.{ComparesBy, SaysSame, trump_number};

@@ -1,5 +1,7 @@
--- The graph that begins with another node of a graph: that one and the first are exchanged, and the leaves name them so.
-use Rattle.std.specs.Prelude.{◌≡◌, ℕ, ◌<◌, List, [], map, length, Option, None, Some, slice_get, if◌then◌else◌, nat_eq, ⊤}
+-- The graph that begins with another node of a graph: that one and the first are exchanged, and the leaves name them
+-- so.
+use Rattle.std.specs.Prelude.{◌≡◌, ℕ, ◌<◌, List, [], map, length, Option, None, Some, slice_get, if◌then◌else◌, nat_eq}
+use Rattle.std.specs.Prelude.{⊤}
 use Rattle.certificate_graph.specs.declared.children.Child.{Child}
 use Rattle.certificate_graph.specs.declared.nodes.Node.{Node}
 use Rattle.certificate_graph.specs.Trees.{TrickTree, Own, Reply, Leaf, Branches, NoBranch, Branch}
@@ -24,7 +26,8 @@ abbrev mutual
   rename_branches to (Branch card tree rest) = Branch card (rename_tree to tree) (rename_branches to rest)
 
 abbrev pub rename_node : (ℕ → ℕ) → Node → Node
-rename_node to node = record { pattern = node.pattern; lead = node.lead; need = node.need; tree = rename_tree to node.tree }
+rename_node to node =
+    record { pattern = node.pattern; lead = node.lead; need = node.need; tree = rename_tree to node.tree }
 
 -- ---- the graph
 -- as many nodes, of which the first and this one are exchanged

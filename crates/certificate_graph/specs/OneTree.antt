@@ -4,7 +4,8 @@ use Rattle.certificate_graph.specs.declared.children.Child.{Child}
 use Rattle.certificate_graph.specs.declared.rows.Token.{Token}
 use Rattle.certificate_graph.specs.declared.rows.Token.TheVariants as token
 use Rattle.certificate_graph.specs.Trees.{TrickTree, Own, Reply, Leaf, Branches, NoBranch, Branch}
-use Rattle.certificate_graph.specs.Rows.{tree_row, branches_row, children_row, IsTreeRow, AreBranchesRow, AreChildrenRow}
+use Rattle.certificate_graph.specs.Rows.{tree_row, branches_row, children_row, IsTreeRow, AreBranchesRow}
+use Rattle.certificate_graph.specs.Rows.{AreChildrenRow}
 use Rattle.std.proofs.Props.{props}
 use mathlib.Core.HLevel.{Σ_prop_path}
 
@@ -15,7 +16,8 @@ pub tails : (x y : Token) (xs ys : List Token) → x ∷ xs ≡ y ∷ ys → xs 
 tails x y xs ys e = cc
 
 -- rows of the same length before others
-pub parted : (xs ys more others : List Token) → length xs ≡ length ys → xs ++ more ≡ ys ++ others → (xs ≡ ys) × (more ≡ others)
+pub parted : (xs ys more others : List Token) → length xs ≡ length ys → xs ++ more ≡ ys ++ others → (xs ≡ ys)
+    × (more ≡ others)
 parted [] [] more others l e = (refl, e)
 parted [] (y ∷ ys) more others l e = absurd (omega (arith, l))
 parted (x ∷ xs) [] more others l e = absurd (omega (arith, l))
@@ -38,17 +40,24 @@ mutual
       let first : token.Own c ≡ token.Own d = heads _ _ (tree_row t) (tree_row u) e in
       let card : c ≡ d = cc in
       ap₂ (λ z zs. Own z zs) card (same_tree t u (tails _ _ (tree_row t) (tree_row u) e))
-  same_tree (Own c t) (Reply bs) e = let apart : token.Own c ≡ token.Reply = heads _ _ (tree_row t) (branches_row bs) e in cc
+  same_tree (Own c t) (Reply bs) e =
+      let apart : token.Own c ≡ token.Reply = heads _ _ (tree_row t) (branches_row bs) e in cc
   same_tree (Own c t) (Leaf []) e = cc
-  same_tree (Own c t) (Leaf (d ∷ ds)) e = let apart : token.Own c ≡ token.Child d = heads _ _ (tree_row t) (children_row ds) e in cc
-  same_tree (Reply bs) (Own d u) e = let apart : token.Reply ≡ token.Own d = heads _ _ (branches_row bs) (tree_row u) e in cc
-  same_tree (Reply bs) (Reply cs) e = ap (λ z. Reply z) (same_branches bs cs (tails token.Reply token.Reply (branches_row bs) (branches_row cs) e))
+  same_tree (Own c t) (Leaf (d ∷ ds)) e =
+      let apart : token.Own c ≡ token.Child d = heads _ _ (tree_row t) (children_row ds) e in cc
+  same_tree (Reply bs) (Own d u) e =
+      let apart : token.Reply ≡ token.Own d = heads _ _ (branches_row bs) (tree_row u) e in cc
+  same_tree (Reply bs) (Reply cs) e =
+      ap (λ z. Reply z) (same_branches bs cs (tails token.Reply token.Reply (branches_row bs) (branches_row cs) e))
   same_tree (Reply bs) (Leaf []) e = cc
-  same_tree (Reply bs) (Leaf (d ∷ ds)) e = let apart : token.Reply ≡ token.Child d = heads _ _ (branches_row bs) (children_row ds) e in cc
+  same_tree (Reply bs) (Leaf (d ∷ ds)) e =
+      let apart : token.Reply ≡ token.Child d = heads _ _ (branches_row bs) (children_row ds) e in cc
   same_tree (Leaf []) (Own d u) e = cc
-  same_tree (Leaf (c ∷ cs)) (Own d u) e = let apart : token.Child c ≡ token.Own d = heads _ _ (children_row cs) (tree_row u) e in cc
+  same_tree (Leaf (c ∷ cs)) (Own d u) e =
+      let apart : token.Child c ≡ token.Own d = heads _ _ (children_row cs) (tree_row u) e in cc
   same_tree (Leaf []) (Reply bs) e = cc
-  same_tree (Leaf (c ∷ cs)) (Reply bs) e = let apart : token.Child c ≡ token.Reply = heads _ _ (children_row cs) (branches_row bs) e in cc
+  same_tree (Leaf (c ∷ cs)) (Reply bs) e =
+      let apart : token.Child c ≡ token.Reply = heads _ _ (children_row cs) (branches_row bs) e in cc
   same_tree (Leaf cs) (Leaf ds) e = ap (λ z. Leaf z) (same_children cs ds e)
 
   pub same_branches : (bs cs : Branches) → branches_row bs ≡ branches_row cs → bs ≡ cs
@@ -56,10 +65,12 @@ mutual
   same_branches NoBranch (Branch d u cs) e = cc
   same_branches (Branch c t bs) NoBranch e = cc
   same_branches (Branch c t bs) (Branch d u cs) e =
-      let first : token.Branch c (length (tree_row t)) ≡ token.Branch d (length (tree_row u)) = heads _ _ (tree_row t ++ branches_row bs) (tree_row u ++ branches_row cs) e in
+      let first : token.Branch c (length (tree_row t)) ≡ token.Branch d (length (tree_row u)) =
+      heads _ _ (tree_row t ++ branches_row bs) (tree_row u ++ branches_row cs) e in
       let card : c ≡ d = cc in
       let long : length (tree_row t) ≡ length (tree_row u) = cc in
-      let rest = parted (tree_row t) (tree_row u) (branches_row bs) (branches_row cs) long (tails _ _ (tree_row t ++ branches_row bs) (tree_row u ++ branches_row cs) e) in
+      let rest = parted (tree_row t) (tree_row u) (branches_row bs) (branches_row cs) long
+      (tails _ _ (tree_row t ++ branches_row bs) (tree_row u ++ branches_row cs) e) in
       let same = same_tree t u rest.0 in
       let others = same_branches bs cs rest.1 in
       ap₂ (λ z zs. z zs) (ap₂ (λ z zs. Branch z zs) card same) others

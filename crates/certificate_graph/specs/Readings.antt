@@ -30,7 +30,8 @@ abbrev pub IsShort : ℕ → Type 0
 IsShort n = n < 10 ^ 7
 
 -- the text is that of a good thing before the rest
-pub record Begins {X : Type 0} (Good : X → Type 0) (spelled : X → List ℕ → List ℕ) (text : List ℕ) (x : X) (rest : List ℕ)
+pub record Begins {X : Type 0} (Good : X → Type 0) (spelled : X → List ℕ → List ℕ) (text : List ℕ) (x : X)
+    (rest : List ℕ)
     : Type 0 where
   pub good : Good x
   pub is : text ≡ spelled x rest

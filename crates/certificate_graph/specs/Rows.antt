@@ -17,7 +17,8 @@ abbrev mutual
 
   pub branches_row : Branches → List Token
   branches_row NoBranch = []
-  branches_row (Branch card tree rest) = token.Branch card (length (tree_row tree)) ∷ (tree_row tree ++ branches_row rest)
+  branches_row (Branch card tree rest) =
+      token.Branch card (length (tree_row tree)) ∷ (tree_row tree ++ branches_row rest)
 
 -- one branch alone
 abbrev pub one_branch_row : PatCard → TrickTree → List Token

@@ -64,7 +64,8 @@ suit_text suit rest =
 -- four suits with a blank between two
 abbrev pub pattern_text : Shape → List ℕ → List ℕ
 pattern_text shape rest =
-    suit_text shape.spades (32 ∷ suit_text shape.hearts (32 ∷ suit_text shape.diamonds (32 ∷ suit_text shape.clubs rest)))
+    suit_text shape.spades (32 ∷ suit_text shape.hearts
+    (32 ∷ suit_text shape.diamonds (32 ∷ suit_text shape.clubs rest)))
 
 -- ---- lines
 -- a lead and a need, with a blank after each

@@ -99,14 +99,17 @@ seat-back West = refl
 pub children-back : (children : List Child) → children_from (child_numbers children) ≡ children
 children-back [] = refl
 children-back (child ∷ rest) =
-    ap (λ (seat : Seat). record { winner = seat; number = child.number } ∷ children_from (child_numbers rest)) (seat-back child.winner)
+    ap (λ (seat : Seat). record { winner = seat; number = child.number } ∷ children_from (child_numbers rest))
+    (seat-back child.winner)
     ∙ ap (λ (more : List Child). child ∷ more) (children-back rest)
 
-pub own-step : (card : PatCard) (more : List Token) → parts_of (card_token 0 card ∷ more) ≡ step_own card (parts_of more)
+pub own-step : (card : PatCard) (more : List Token) → parts_of (card_token 0 card ∷ more) ≡ step_own card
+    (parts_of more)
 own-step (Top suit place) more = ap (λ (c : PatCard). step_own c (parts_of more)) (card-back (Top suit place) 0)
 own-step (Low suit) more = ap (λ (c : PatCard). step_own c (parts_of more)) (card-back (Low suit) 0)
 
-pub branch-step : (card : PatCard) (more : List Token) → parts_of (card_token 4 card ∷ more) ≡ step_branch card (parts_of more)
+pub branch-step : (card : PatCard) (more : List Token) → parts_of (card_token 4 card ∷ more) ≡ step_branch card
+    (parts_of more)
 branch-step (Top suit place) more = ap (λ (c : PatCard). step_branch c (parts_of more)) (card-back (Top suit place) 4)
 branch-step (Low suit) more = ap (λ (c : PatCard). step_branch c (parts_of more)) (card-back (Low suit) 4)
 
@@ -116,15 +119,18 @@ mutual
   tree-back (Reply branches) more = ap step_reply (branches-back branches more)
   tree-back (Leaf children) more = ap (λ (list : List Child). Tree (Leaf list) (parts_of more)) (children-back children)
 
-  pub branches-back : (branches : Branches) (more : List Token) → parts_of (branch_tokens branches more) ≡ Rest branches (parts_of more)
+  pub branches-back : (branches : Branches) (more : List Token) → parts_of (branch_tokens branches more) ≡ Rest branches
+      (parts_of more)
   branches-back NoBranch more = refl
   branches-back (Branch card tree rest) more =
       branch-step card (tokens tree (branch_tokens rest more))
-      ∙ (ap (step_branch card) (tree-back tree (branch_tokens rest more)) ∙ ap (step_rest card tree) (branches-back rest more))
+      ∙ (ap (step_branch card) (tree-back tree (branch_tokens rest more))
+      ∙ ap (step_rest card tree) (branches-back rest more))
 
 abbrev pub tree_code : Coded TrickTree
 tree_code =
-    code_by (List Token) (coded_list (coded× coded_ℕ (coded× coded_ℕ (coded× coded_ℕ (coded_list (coded× coded_ℕ coded_ℕ))))))
+    code_by (List Token) (coded_list
+    (coded× coded_ℕ (coded× coded_ℕ (coded× coded_ℕ (coded_list (coded× coded_ℕ coded_ℕ))))))
     (λ tree. tokens tree []) (λ list. first_tree (parts_of list)) (λ tree. ap first_tree (tree-back tree []))
 
 abbrev pub first_branches : Parts → Branches
@@ -133,5 +139,7 @@ first_branches _ = NoBranch
 
 abbrev pub branches_code : Coded Branches
 branches_code =
-    code_by (List Token) (coded_list (coded× coded_ℕ (coded× coded_ℕ (coded× coded_ℕ (coded_list (coded× coded_ℕ coded_ℕ))))))
-    (λ branches. branch_tokens branches []) (λ list. first_branches (parts_of list)) (λ branches. ap first_branches (branches-back branches []))
+    code_by (List Token) (coded_list
+    (coded× coded_ℕ (coded× coded_ℕ (coded× coded_ℕ (coded_list (coded× coded_ℕ coded_ℕ))))))
+    (λ branches. branch_tokens branches []) (λ list. first_branches (parts_of list))
+    (λ branches. ap first_branches (branches-back branches []))

@@ -1,28 +1,11 @@
-//! Why nodes make no graph, why a text is that of none, and that memory ran out.
+//! Why nodes make no graph, and why a text is that of none.
 
 ghost use Rattle.std.specs.Prelude.{◌≡◌, Some};
-ghost use Rattle.certificate_graph.specs.FaultWords.{graph_fault_number, graph_fault_name, graph_fault_text, fault_number, fault_name, fault_line, fault_text};
+ghost use Rattle.certificate_graph.specs.FaultWords.{graph_fault_number, graph_fault_name, graph_fault_text};
+ghost use Rattle.certificate_graph.specs.FaultWords.{fault_number, fault_name, fault_line, fault_text};
 
-use std::alloc::{AllocError, AllocFailed};
 use std::error::Error;
 use std::fmt;
-
-/// Memory ran out.
-#[derive(Clone, Copy, Debug, PartialEq, Eq, thiserror::Error)]
-#[error("out of memory")]
-pub struct OutOfMemory;
-
-impl From<AllocError> for OutOfMemory {
-    fn from(_fault: AllocError) -> OutOfMemory {
-        OutOfMemory
-    }
-}
-
-impl<T: Drop> From<AllocFailed<T>> for OutOfMemory {
-    fn from(_fault: AllocFailed<T>) -> OutOfMemory {
-        OutOfMemory
-    }
-}
 
 /// Why nodes make no graph.
 #[derive(Clone, Copy, Debug, PartialEq, Eq)]

@@ -2,9 +2,10 @@
 
 ghost use Rattle.std.specs.Prelude.{◌≡◌, ◌↔◌, IsTrue, ◌<◌};
 ghost use Rattle.std.specs.List.{AllByRecursion};
-ghost use Rattle.certificate_graph.specs.Graphs.{card_place, IsCard, SeatsRise, HasForm, HaveForm, NamesBelow, NameBelow};
+ghost use Rattle.certificate_graph.specs.Graphs.{card_place, IsCard, SeatsRise, HasForm, HaveForm, NamesBelow};
+ghost use Rattle.certificate_graph.specs.Graphs.{NameBelow};
 
-use crate::places::{Branches, Children, Place, View};
+use crate::places::{Branches, Children, Place, PlaceView};
 use pattern_step::PatCard;
 
 /// The cards of a trick: so many stand one below another in a tree at most.
@@ -54,9 +55,9 @@ pub(crate) fn has_form(place: &Place<'_>, room: u8) -> bool
     ensures { IsTrue result ↔ HasForm room place.now }
 {
     match place.view() {
-        View::Own(card, below) => room > 0 && is_card(card) && has_form(&below, room - 1),
-        View::Reply(branches) => room > 0 && have_form(&branches, room - 1, 0),
-        View::Leaf(children) => seats_rise(&children, 0),
+        PlaceView::Own(card, below) => room > 0 && is_card(card) && has_form(&below, room - 1),
+        PlaceView::Reply(branches) => room > 0 && have_form(&branches, room - 1, 0),
+        PlaceView::Leaf(children) => seats_rise(&children, 0),
     }
 }
 
@@ -82,9 +83,9 @@ pub(crate) fn names_below(place: &Place<'_>, count: u32) -> bool
     ensures { IsTrue result ↔ NamesBelow count place.now }
 {
     match place.view() {
-        View::Own(_, below) => names_below(&below, count),
-        View::Reply(branches) => name_below(&branches, count),
-        View::Leaf(children) => are_below(&children, count),
+        PlaceView::Own(_, below) => names_below(&below, count),
+        PlaceView::Reply(branches) => name_below(&branches, count),
+        PlaceView::Leaf(children) => are_below(&children, count),
     }
 }
 

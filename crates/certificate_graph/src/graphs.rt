@@ -1,4 +1,4 @@
-//! Graphs.
+//! A graph of patterns, and which rows of nodes are one.
 
 ghost use Rattle.std.specs.Prelude.{◌≡◌, ◌⊎◌, Err, IfOk};
 ghost use Rattle.certificate_graph.specs.Graphs.{IsGraph};
@@ -11,13 +11,13 @@ ghost use Rattle.certificate_graph.specs.declared.faults.TextFault.TheVariants a
 
 use crate::checks::check_nodes;
 use crate::extracting::exchange_nodes;
-use crate::faults::{GraphFault, OutOfMemory, TextFault};
+use crate::faults::{GraphFault, TextFault};
+use crate::head_reading::{read_count, read_side, read_title, read_trump};
 use crate::line_writing::{write_count, write_heading, write_nodes};
 use crate::node_reading::read_nodes;
 use crate::nodes::Node;
-use crate::reading::{read_count, read_side, read_title, read_trump};
 use crate::versions::Version;
-use cards::{DeviceFault, Side, Sink, Trump};
+use cards::{DeviceFault, OutOfMemory, Side, Sink, Trump};
 use std::alloc::Global;
 use std::marker::Model;
 
@@ -39,9 +39,11 @@ impl Model for Graph {
 
     ghost coded = { Prim.hlevel (codes, tree_code) };
 
-    ghost view = { λ graph. record { version = graph.version; trump = graph.trump; side = graph.side; nodes = graph.nodes.items } };
+    ghost view = { λ graph. record
+        { version = graph.version; trump = graph.trump; side = graph.side; nodes = graph.nodes.items } };
 
-    ghost invariant = { λ graph. IsGraph (record { version = graph.version; trump = graph.trump; side = graph.side; nodes = graph.nodes.items }) };
+    ghost invariant = { λ graph. IsGraph
+        (record { version = graph.version; trump = graph.trump; side = graph.side; nodes = graph.nodes.items }) };
 }
 
 impl Graph {
@@ -71,7 +73,7 @@ impl Graph {
         self.version
     }
 
-    /// The trump.
+    /// The denomination that it is of.
     pub fn trump(&self) -> Trump
         ensures { result ≡ self.now.trump }
     {
@@ -127,8 +129,8 @@ impl Graph {
         write_nodes(sink, nodes)
     }
 
-    /// The graph with the node of this number first: that node and the first are exchanged, and the leaves name them by their
-    /// new numbers. Without a number it has no nodes. Fails only where memory runs out.
+    /// The graph with the node of this number first: that node and the first are exchanged, and the leaves name them by
+    /// their new numbers. Without a number it has no nodes. Fails only where memory runs out.
     pub fn extract(&self, alloc: Global, root: Option<u32>) -> Result<Graph, OutOfMemory>
         requires { IsRootIn self.now.nodes root }
         ensures { IfOk result (IsExtract self.now root) }

@@ -1,7 +1,8 @@
 //! What holds of graphs and texts alone.
 
 ghost use Rattle.cards.specs.Orders.{SaysSame};
-ghost use Rattle.certificate_graph.specs.Laws.{EachGraphHasOneText, NoTextHasTwoGraphs, GraphsAreReadBack, EachTextHasOneAnswer};
+ghost use Rattle.certificate_graph.specs.Laws.{EachGraphHasOneText, NoTextHasTwoGraphs, GraphsAreReadBack};
+ghost use Rattle.certificate_graph.specs.Laws.{EachTextHasOneAnswer};
 
 use crate::versions::Version;
 

@@ -1,7 +1,8 @@
 //! The children of a leaf, as they are read.
 
 ghost use Rattle.std.specs.Prelude.{◌≡◌, ◌++◌, [], List, ◌≤◌, length, MatchOption, IfOk};
-ghost use Rattle.certificate_graph.specs.Readings.{BeginsChild, LacksChild, BeginsMore, LacksMore, BeginsChildren, LacksChildren};
+ghost use Rattle.certificate_graph.specs.Readings.{BeginsChild, LacksChild, BeginsMore, LacksMore, BeginsChildren};
+ghost use Rattle.certificate_graph.specs.Readings.{LacksChildren};
 ghost use Rattle.certificate_graph.specs.Rows.{children_row};
 ghost use Rattle.certificate_graph.specs.declared.children.Child.{Child};
 
@@ -33,7 +34,9 @@ fn read_more<'a>(
 ) -> Option<&'a [u8]>
     requires room { length children.old.items ≤ least }
     requires seats { least ≤ 4 }
-    ensures { MatchOption result (LacksMore least text.now) (λ rest. (more : List Child) × BeginsMore least text.now more rest.now × (children.new.items ≡ children.old.items ++ more)) }
+    ensures { MatchOption result (LacksMore least text.now)
+        (λ rest. (more : List Child) × BeginsMore least text.now more rest.now
+        × (children.new.items ≡ children.old.items ++ more)) }
 {
     if let Some(rest) = after_byte(text, b'}') {
         return Some(rest);
@@ -55,7 +58,8 @@ fn read_more<'a>(
 /// Children whose seats rise, and the text after the closing brace.
 fn read_rising<'a>(text: &'a [u8], children: &mut ArrayVec<Child, 4>) -> Option<&'a [u8]>
     requires { children.old.items ≡ [] }
-    ensures { MatchOption result (LacksChildren text.now) (λ rest. BeginsChildren text.now children.new.items rest.now) }
+    ensures { MatchOption result (LacksChildren text.now)
+        (λ rest. BeginsChildren text.now children.new.items rest.now) }
 {
     if let Some(rest) = after_byte(text, b'}') {
         return Some(rest);
@@ -72,7 +76,9 @@ pub(crate) fn read_children<'a>(
     text: &'a [u8],
     row: &mut Vec<Token>,
 ) -> Result<Option<&'a [u8]>, AllocError>
-    ensures { IfOk result (λ read. MatchOption read (LacksChildren text.now) (λ rest. (children : List Child) × BeginsChildren text.now children rest.now × (row.new.items ≡ row.old.items ++ children_row children))) }
+    ensures { IfOk result (λ read. MatchOption read (LacksChildren text.now)
+        (λ rest. (children : List Child) × BeginsChildren text.now children rest.now
+        × (row.new.items ≡ row.old.items ++ children_row children))) }
 {
     let mut children = ArrayVec::new();
     let Some(rest) = read_rising(text, &mut children) else {

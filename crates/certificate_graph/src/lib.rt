@@ -1,10 +1,10 @@
 //! Certificates as data and as text.
 //!
-//! A graph has a version, a side, a trump and nodes. A node claims that from every layout that matches its pattern, with one
-//! seat to lead, the side can win so many tricks; its tree says how the first of them is played, and names the nodes
-//! that go on after it. The crate says which nodes make a graph, writes the one text of a graph, and reads a text as
-//! its graph or tells the first fault. Whether the claims are shown is not asked here. A tree is one row of tokens; contracts
-//! see it by its cards and children, and it is looked at place by place, without memory.
+//! A graph has a version, a side, a trump and nodes. A node claims that from every layout that matches its pattern,
+//! with one seat to lead, the side can win so many tricks; its tree says how the first of them is played, and names the
+//! nodes that go on after it. The crate says which nodes make a graph, writes the one text of a graph, and reads a text
+//! as its graph or tells the first fault. Whether the claims are shown is not asked here. A tree is one row of tokens;
+//! contracts see it by its cards and children, and it is looked at place by place, without memory.
 #![tactic(auto)]
 
 mod answers;
@@ -14,6 +14,7 @@ mod extracting;
 mod faults;
 mod forms;
 mod graphs;
+mod head_reading;
 mod laws;
 mod leaf_reading;
 mod line_reading;
@@ -22,7 +23,6 @@ mod node_reading;
 mod nodes;
 mod pattern_reading;
 mod places;
-mod reading;
 mod row_writing;
 mod rows;
 mod scanning;
@@ -32,12 +32,14 @@ mod versions;
 mod writing;
 
 pub use answers::Answer;
+pub use cards::OutOfMemory;
 pub use children::Child;
-pub use faults::{GraphFault, OutOfMemory, TextFault};
+pub use faults::{GraphFault, TextFault};
 pub use graphs::Graph;
+pub use head_reading::after_prefix;
 pub use laws::{equal_versions_are_one, graphs_are_read_back, one_answer, one_graph, one_text};
 pub use nodes::Node;
-pub use places::{Branches, Children, Place, View};
+pub use places::{Branches, Children, Place, PlaceView};
 pub use rows::Token;
 pub use trees::Tree;
 pub use versions::Version;

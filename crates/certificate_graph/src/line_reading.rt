@@ -54,7 +54,8 @@ pub(crate) fn read_line<'a>(
     text: &'a [u8],
     row: &mut Vec<Token>,
 ) -> Result<Option<(Line, &'a [u8])>, AllocError>
-    ensures { IfOk result (λ read. MatchOption read (LacksNode text.now) (λ p. BeginsNode text.now (node_read p.0) p.1.now)) }
+    ensures { IfOk result (λ read. MatchOption read (LacksNode text.now)
+        (λ p. BeginsNode text.now (node_read p.0) p.1.now)) }
 {
     let Some((lead, need, rest)) = read_claim(text) else {
         return Ok(None);

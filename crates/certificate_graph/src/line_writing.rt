@@ -4,7 +4,8 @@ ghost use Rattle.std.specs.Prelude.{◌≡◌, ◌∷◌, ◌++◌, [], length, 
 ghost use Rattle.std.specs.Fmt.{decimal};
 ghost use Rattle.cards.specs.Devices.{Writes};
 ghost use Rattle.certificate_graph.specs.Graphs.{IsTree};
-ghost use Rattle.certificate_graph.specs.Texts.{claim_text, node_text, nodes_text, title_text, trump_text, side_text, count_text};
+ghost use Rattle.certificate_graph.specs.Texts.{claim_text, node_text, nodes_text, title_text, trump_text, side_text};
+ghost use Rattle.certificate_graph.specs.Texts.{count_text};
 
 use crate::nodes::Node;
 use crate::versions::Version;
@@ -82,7 +83,8 @@ pub(crate) fn write_heading<S: Sink>(
     trump: Trump,
     side: Side,
 ) -> Result<(), DeviceFault>
-    ensures { Writes (S.state sink.old) (S.state sink.new) (title_text version (trump_text trump (side_text side []))) result }
+    ensures { Writes (S.state sink.old) (S.state sink.new)
+        (title_text version (trump_text trump (side_text side []))) result }
 {
     write_all(sink, title_line(version))?;
     write_all(sink, trump_line(trump))?;

@@ -26,7 +26,8 @@ fn read_node<'a>(
     text: &'a [u8],
     row: &mut Vec<Token>,
 ) -> Result<(Node, &'a [u8]), TextFault>
-    ensures { MatchResult result (λ p. IsNode count p.0 × (text.now ≡ node_text p.0 p.1.now)) (MayFail (IsLineFault count line text.now)) }
+    ensures { MatchResult result (λ p. IsNode count p.0 × (text.now ≡ node_text p.0 p.1.now))
+        (MayFail (IsLineFault count line text.now)) }
 {
     if text.is_empty() {
         return Err(TextFault::Count { line });

@@ -6,7 +6,8 @@ ghost use Rattle.cards.specs.declared.seats.Seat.{Seat};
 ghost use Rattle.patterns.specs.Parts.{suit_shape};
 ghost use Rattle.certificate_graph.specs.Texts.{owners_text};
 ghost use Rattle.certificate_graph.specs.Suits.{shape_read};
-ghost use Rattle.certificate_graph.specs.Readings.{LacksOwners, BeginsTwo, LacksTwo, BeginsSuit, LacksSuit, BeginsTwoSuits, LacksTwoSuits, BeginsPattern, LacksPattern};
+ghost use Rattle.certificate_graph.specs.Readings.{LacksOwners, BeginsTwo, LacksTwo, BeginsSuit, LacksSuit};
+ghost use Rattle.certificate_graph.specs.Readings.{BeginsTwoSuits, LacksTwoSuits, BeginsPattern, LacksPattern};
 
 use crate::scanning::{after_byte, read_len, read_seat};
 use arrayvec::ArrayVec;
@@ -25,7 +26,9 @@ pub(crate) struct Suits {
 /// Owners, at most so many, and the text after the blank that ends them.
 fn read_owners<'a>(text: &'a [u8], room: usize, owners: &mut ArrayVec<Seat, 13>) -> Option<&'a [u8]>
     requires { length owners.old.items + room ≡ 13 }
-    ensures { MatchOption result (LacksOwners room text.now) (λ rest. (more : List Seat) × (length more ≤ room) × (text.now ≡ owners_text more (32 ∷ rest.now)) × (owners.new.items ≡ owners.old.items ++ more)) }
+    ensures { MatchOption result (LacksOwners room text.now)
+        (λ rest. (more : List Seat) × (length more ≤ room) × (text.now ≡ owners_text more (32 ∷ rest.now))
+        × (owners.new.items ≡ owners.old.items ++ more)) }
 {
     if let Some(rest) = after_byte(text, b' ') {
         return Some(rest);
@@ -44,7 +47,8 @@ fn read_owners<'a>(text: &'a [u8], room: usize, owners: &mut ArrayVec<Seat, 13>)
 fn read_two(text: &[u8], first: u8, second: u8) -> Option<(u8, u8, &[u8])>
     requires first { 10 ≤ digit_value first }
     requires second { 10 ≤ digit_value second }
-    ensures { MatchOption result (LacksTwo first second text.now) (λ p. BeginsTwo first second text.now p.0 p.1 p.2.now) }
+    ensures { MatchOption result (LacksTwo first second text.now)
+        (λ p. BeginsTwo first second text.now p.0 p.1 p.2.now) }
 {
     let Some((one, rest)) = read_len(text, first) else {
         return None;
@@ -75,7 +79,8 @@ fn read_suit(text: &[u8]) -> Option<(SuitPart, &[u8])>
 
 /// Two suits, and the text after the blank that ends them.
 fn read_two_suits(text: &[u8]) -> Option<(SuitPart, SuitPart, &[u8])>
-    ensures { MatchOption result (LacksTwoSuits text.now) (λ p. BeginsTwoSuits text.now (suit_shape p.0) (suit_shape p.1) p.2.now) }
+    ensures { MatchOption result (LacksTwoSuits text.now)
+        (λ p. BeginsTwoSuits text.now (suit_shape p.0) (suit_shape p.1) p.2.now) }
 {
     let Some((first, rest)) = read_suit(text) else {
         return None;

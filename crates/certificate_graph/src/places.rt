@@ -3,7 +3,8 @@
 ghost use Rattle.std.specs.Prelude.{◌≡◌, MatchOption, [], ◌∷◌};
 ghost use Rattle.certificate_graph.specs.Trees.{NoBranch, Branch};
 ghost use Rattle.certificate_graph.specs.OneTree.{one_tree, one_branches, one_children};
-ghost use Rattle.certificate_graph.specs.Rows.{IsTreeRow, AreBranchesRow, AreChildrenRow, tree_row, branches_row, children_row};
+ghost use Rattle.certificate_graph.specs.Rows.{IsTreeRow, AreBranchesRow, AreChildrenRow, tree_row, branches_row};
+ghost use Rattle.certificate_graph.specs.Rows.{children_row};
 ghost use Rattle.certificate_graph.specs.Views.{tree_seen};
 
 use crate::children::Child;
@@ -34,7 +35,7 @@ pub struct Children<'a> {
 
 /// What stands in a place: a card of the side, the cards of the opponents, or the nodes after the trick.
 #[derive(Drop)]
-pub enum View<'a> {
+pub enum PlaceView<'a> {
     /// A card of the side, and the place after it.
     Own(PatCard, Place<'a>),
     /// The cards of the opponents, each with the place after it.
@@ -83,7 +84,7 @@ impl<'a> Place<'a> {
         Place { row }
     }
 
-    /// The row.
+    /// The tokens that stand there, to the end of the row.
     fn row(&self) -> &'a [Token]
         ensures { result.now ≡ tree_row self.now }
     {
@@ -91,17 +92,17 @@ impl<'a> Place<'a> {
     }
 
     /// What stands here.
-    pub fn view(&self) -> View<'a>
+    pub fn view(&self) -> PlaceView<'a>
         ensures { tree_seen result ≡ self.now }
     {
         let row = self.row();
         let Some((first, rest)) = row.split_first() else {
-            return View::Leaf(Children::of_row(row));
+            return PlaceView::Leaf(Children::of_row(row));
         };
         match first {
-            Token::Own(card) => View::Own(*card, Place::of_row(rest)),
-            Token::Reply => View::Reply(Branches::of_row(rest)),
-            Token::Child(_) => View::Leaf(Children::of_row(row)),
+            Token::Own(card) => PlaceView::Own(*card, Place::of_row(rest)),
+            Token::Reply => PlaceView::Reply(Branches::of_row(rest)),
+            Token::Child(_) => PlaceView::Leaf(Children::of_row(row)),
             Token::Branch(..) => unreachable!(),
         }
     }
@@ -116,7 +117,7 @@ impl<'a> Branches<'a> {
         Branches { row }
     }
 
-    /// The row.
+    /// The tokens that stand there, to the end of the row.
     fn row(&self) -> &'a [Token]
         ensures { result.now ≡ branches_row self.now }
     {
@@ -148,7 +149,7 @@ impl<'a> Children<'a> {
         Children { row }
     }
 
-    /// The row.
+    /// The tokens that stand there, to the end of the row.
     fn row(&self) -> &'a [Token]
         ensures { result.now ≡ children_row self.now }
     {

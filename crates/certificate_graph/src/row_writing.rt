@@ -20,7 +20,8 @@ pub(crate) fn push_children(row: &mut Vec<Token>, children: &[Child]) -> Result<
     Ok(())
 }
 
-/// Puts a branch at the end of a row. Fails where over 4,294,967,295 tokens follow its card, for which there is no memory.
+/// Puts a branch at the end of a row. Fails where over 4,294,967,295 tokens follow its card, for which there is no
+/// memory.
 fn push_branch(row: &mut Vec<Token>, card: PatCard, below: &Tree) -> Result<(), AllocError>
     ensures { OnOk result (row.new.items ≡ row.old.items ++ one_branch_row card below.now) }
 {

@@ -10,7 +10,8 @@ ghost use Rattle.cards.specs.Seats.{seat_letter};
 ghost use Rattle.certificate_graph.specs.Graphs.{IsCard};
 ghost use Rattle.certificate_graph.specs.Texts.{card_text};
 ghost use Rattle.certificate_graph.specs.TextFaults.{IsNumber};
-ghost use Rattle.certificate_graph.specs.Readings.{seat_text, len_text, StopsDigits, Always, IsLen, Begins, Lacks, BeginsNumber, LacksNumber};
+ghost use Rattle.certificate_graph.specs.Readings.{seat_text, len_text, StopsDigits, Always, IsLen, Begins, Lacks};
+ghost use Rattle.certificate_graph.specs.Readings.{BeginsNumber, LacksNumber};
 
 use cards::{Seat, Suit};
 use pattern_step::PatCard;
@@ -33,7 +34,8 @@ pub(crate) fn after_byte(text: &[u8], byte: u8) -> Option<&[u8]>
 
 /// The seat of a letter.
 fn seat_of_letter(byte: u8) -> Option<Seat>
-    ensures { MatchOption result ((seat : Seat) → seat_letter seat ≡ byte ∷ [] → ⊥) (λ seat. seat_letter seat ≡ byte ∷ []) }
+    ensures { MatchOption result ((seat : Seat) → seat_letter seat ≡ byte ∷ [] → ⊥)
+        (λ seat. seat_letter seat ≡ byte ∷ []) }
 {
     match byte {
         b'N' => Some(Seat::North),
@@ -57,7 +59,8 @@ pub(crate) fn read_seat(text: &[u8]) -> Option<(Seat, &[u8])>
 
 /// The suit of a letter.
 fn suit_of_letter(byte: u8) -> Option<Suit>
-    ensures { MatchOption result ((suit : Suit) → suit_letter suit ≡ byte ∷ [] → ⊥) (λ suit. suit_letter suit ≡ byte ∷ []) }
+    ensures { MatchOption result ((suit : Suit) → suit_letter suit ≡ byte ∷ [] → ⊥)
+        (λ suit. suit_letter suit ≡ byte ∷ []) }
 {
     match byte {
         b'S' => Some(Suit::Spades),
@@ -136,7 +139,8 @@ pub(crate) fn read_number(text: &[u8]) -> Option<(u32, &[u8])>
 /// A length of at most 13 before this byte, and the text after the byte.
 pub(crate) fn read_len(text: &[u8], byte: u8) -> Option<(u8, &[u8])>
     requires { 10 ≤ digit_value byte }
-    ensures { MatchOption result (Lacks IsLen (len_text byte) text.now) (λ p. Begins IsLen (len_text byte) text.now p.0 p.1.now) }
+    ensures { MatchOption result (Lacks IsLen (len_text byte) text.now)
+        (λ p. Begins IsLen (len_text byte) text.now p.0 p.1.now) }
 {
     let Some((len, rest)) = read_number(text) else {
         return None;

@@ -2,7 +2,9 @@
 
 ghost use Rattle.std.specs.Prelude.{◌≡◌, ◌∷◌, ◌++◌, ◌+◌, ◌-◌, ◌<◌, ◌≤◌, length, slice_set, MatchOption, IfOk, OnOk};
 ghost use Rattle.certificate_graph.specs.Graphs.{card_place};
-ghost use Rattle.certificate_graph.specs.Readings.{BeginsBranch, LacksBranch, BeginsBranches, LacksBranches, BeginsTree, LacksTree, BeginsLeaf, LacksLeaf, BeginsOwn, LacksOwn, BeginsReply, LacksReply};
+ghost use Rattle.certificate_graph.specs.Readings.{BeginsBranch, LacksBranch, BeginsBranches, LacksBranches};
+ghost use Rattle.certificate_graph.specs.Readings.{BeginsTree, LacksTree, BeginsLeaf, LacksLeaf, BeginsOwn, LacksOwn};
+ghost use Rattle.certificate_graph.specs.Readings.{BeginsReply, LacksReply};
 ghost use Rattle.certificate_graph.specs.Rows.{tree_row, branches_row};
 ghost use Rattle.certificate_graph.specs.Trees.{TrickTree, Branches};
 ghost use Rattle.certificate_graph.specs.declared.rows.Token.TheVariants as token;
@@ -21,7 +23,9 @@ pub(crate) fn read_tree<'a>(
     room: u8,
     row: &mut Vec<Token>,
 ) -> Result<Option<&'a [u8]>, AllocError>
-    ensures { IfOk result (λ read. MatchOption read (LacksTree room text.now) (λ rest. (tree : TrickTree) × BeginsTree room text.now tree rest.now × (row.new.items ≡ row.old.items ++ tree_row tree))) }
+    ensures { IfOk result (λ read. MatchOption read (LacksTree room text.now)
+        (λ rest. (tree : TrickTree) × BeginsTree room text.now tree rest.now
+        × (row.new.items ≡ row.old.items ++ tree_row tree))) }
 {
     if let Some(rest) = after_byte(text, b'{') {
         return read_leaf(rest, row);
@@ -37,7 +41,9 @@ pub(crate) fn read_tree<'a>(
 
 /// A leaf after its opening brace.
 fn read_leaf<'a>(text: &'a [u8], row: &mut Vec<Token>) -> Result<Option<&'a [u8]>, AllocError>
-    ensures { IfOk result (λ read. MatchOption read (LacksLeaf text.now) (λ rest. (tree : TrickTree) × BeginsLeaf text.now tree rest.now × (row.new.items ≡ row.old.items ++ tree_row tree))) }
+    ensures { IfOk result (λ read. MatchOption read (LacksLeaf text.now)
+        (λ rest. (tree : TrickTree) × BeginsLeaf text.now tree rest.now
+        × (row.new.items ≡ row.old.items ++ tree_row tree))) }
 {
     read_children(text, row)
 }
@@ -49,7 +55,9 @@ fn read_own<'a>(
     room: u8,
     row: &mut Vec<Token>,
 ) -> Result<Option<&'a [u8]>, AllocError>
-    ensures { IfOk result (λ read. MatchOption read (LacksOwn room text.now) (λ rest. (tree : TrickTree) × BeginsOwn room text.now tree rest.now × (row.new.items ≡ row.old.items ++ tree_row tree))) }
+    ensures { IfOk result (λ read. MatchOption read (LacksOwn room text.now)
+        (λ rest. (tree : TrickTree) × BeginsOwn room text.now tree rest.now
+        × (row.new.items ≡ row.old.items ++ tree_row tree))) }
 {
     let Some((card, rest)) = read_card(text) else {
         return Ok(None);
@@ -65,7 +73,9 @@ fn read_reply<'a>(
     room: u8,
     row: &mut Vec<Token>,
 ) -> Result<Option<&'a [u8]>, AllocError>
-    ensures { IfOk result (λ read. MatchOption read (LacksReply room text.now) (λ rest. (tree : TrickTree) × BeginsReply room text.now tree rest.now × (row.new.items ≡ row.old.items ++ tree_row tree))) }
+    ensures { IfOk result (λ read. MatchOption read (LacksReply room text.now)
+        (λ rest. (tree : TrickTree) × BeginsReply room text.now tree rest.now
+        × (row.new.items ≡ row.old.items ++ tree_row tree))) }
 {
     row.push(Token::Reply)?;
     read_branches(text, room, 0, row)
@@ -79,7 +89,9 @@ fn read_branches<'a>(
     least: u16,
     row: &mut Vec<Token>,
 ) -> Result<Option<&'a [u8]>, AllocError>
-    ensures { IfOk result (λ read. MatchOption read (LacksBranches room least text.now) (λ rest. (branches : Branches) × BeginsBranches room least text.now branches rest.now × (row.new.items ≡ row.old.items ++ branches_row branches))) }
+    ensures { IfOk result (λ read. MatchOption read (LacksBranches room least text.now)
+        (λ rest. (branches : Branches) × BeginsBranches room least text.now branches rest.now
+        × (row.new.items ≡ row.old.items ++ branches_row branches))) }
 {
     if let Some(rest) = after_byte(text, b')') {
         return Ok(Some(rest));
@@ -95,7 +107,8 @@ fn read_branches<'a>(
 
 /// The least place that a card after this one may have, where this one has at least this place itself.
 fn next_place(card: PatCard, least: u16) -> Option<u16>
-    ensures { MatchOption result (card_place card < least) (λ next. (least ≤ card_place card) × (next ≡ card_place card + 1)) }
+    ensures { MatchOption result (card_place card < least)
+        (λ next. (least ≤ card_place card) × (next ≡ card_place card + 1)) }
 {
     let place = card_place(card);
     if place < least {
@@ -111,7 +124,9 @@ fn read_branch<'a>(
     room: u8,
     row: &mut Vec<Token>,
 ) -> Result<Option<(PatCard, &'a [u8])>, AllocError>
-    ensures { IfOk result (λ read. MatchOption read (LacksBranch room text.now) (λ p. (below : TrickTree) × BeginsBranch room text.now p.0 below p.1.now × (row.new.items ≡ row.old.items ++ token.Branch p.0 (length (tree_row below)) ∷ tree_row below))) }
+    ensures { IfOk result (λ read. MatchOption read (LacksBranch room text.now)
+        (λ p. (below : TrickTree) × BeginsBranch room text.now p.0 below p.1.now
+        × (row.new.items ≡ row.old.items ++ token.Branch p.0 (length (tree_row below)) ∷ tree_row below))) }
 {
     let Some((card, rest)) = read_card(text) else {
         return Ok(None);
@@ -125,11 +140,12 @@ fn read_branch<'a>(
     Ok(Some((card, rest)))
 }
 
-/// Says in the token of a branch, which stands in this place, how many tokens it has after it. Fails where they are over
-/// 4,294,967,295, for which there is no memory.
+/// Says in the token of a branch, which stands in this place, how many tokens it has after it. Fails where they are
+/// over 4,294,967,295, for which there is no memory.
 fn end_branch(row: &mut Vec<Token>, place: usize, card: PatCard) -> Result<(), AllocError>
     requires { place < length row.old.items }
-    ensures { OnOk result (row.new.items ≡ slice_set row.old.items place (token.Branch card (length row.old.items - (place + 1)))) }
+    ensures { OnOk result (row.new.items ≡ slice_set row.old.items place
+        (token.Branch card (length row.old.items - (place + 1)))) }
 {
     let Ok(count) = u32::try_from(row.len() - (place + 1)) else {
         return Err(AllocError);

@@ -6,10 +6,10 @@ ghost use Rattle.certificate_graph.specs.Rows.{IsTreeRow, tree_row};
 ghost use Rattle.certificate_graph.specs.Trees.{Own, Reply, Leaf, branches_of};
 
 use crate::children::Child;
-use crate::faults::OutOfMemory;
 use crate::places::Place;
 use crate::row_writing::{push_branches, push_children};
 use crate::rows::{Token, is_tree_row};
+use cards::OutOfMemory;
 use pattern_step::PatCard;
 use std::alloc::Global;
 use std::marker::Model;
@@ -33,7 +33,8 @@ impl Model for Tree {
 }
 
 impl Tree {
-    /// The tree of these tokens. None where they are those of no tree. Calls lie as deep in one another as the tree's cards.
+    /// The tree of these tokens. None where they are those of no tree. Calls lie as deep in one another as the tree's
+    /// cards.
     pub fn from_tokens(row: Vec<Token>) -> Option<Tree>
         ensures { MatchOption result (IsTreeRow row.items → ⊥) (λ tree. tree_row tree ≡ row.items) }
     {

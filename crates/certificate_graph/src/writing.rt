@@ -7,10 +7,11 @@ ghost use Rattle.cards.specs.Seats.{seat_letter};
 ghost use Rattle.cards.specs.Pack.{suit_letter};
 ghost use Rattle.patterns.specs.Shapes.{suit_of};
 ghost use Rattle.certificate_graph.specs.Graphs.{IsCard, IsTree, AreBranches};
-ghost use Rattle.certificate_graph.specs.Texts.{card_text, child_text, more_children_text, children_text, tree_text, branches_text, owners_text, suit_text, pattern_text};
+ghost use Rattle.certificate_graph.specs.Texts.{card_text, child_text, more_children_text, children_text, tree_text};
+ghost use Rattle.certificate_graph.specs.Texts.{branches_text, owners_text, suit_text, pattern_text};
 
 use crate::children::Child;
-use crate::places::{Branches, Children, Place, View};
+use crate::places::{Branches, Children, Place, PlaceView};
 use cards::{DeviceFault, Seat, Sink, Suit, write_all, write_number};
 use pattern_step::PatCard;
 use patterns::Pattern;
@@ -92,15 +93,15 @@ pub(crate) fn write_tree<S: Sink>(sink: &mut S, place: &Place<'_>) -> Result<(),
     ensures { Writes (S.state sink.old) (S.state sink.new) (tree_text place.now []) result }
 {
     match place.view() {
-        View::Own(card, below) => {
+        PlaceView::Own(card, below) => {
             write_all(sink, &card_bytes(card))?;
             write_tree(sink, &below)
         }
-        View::Reply(branches) => {
+        PlaceView::Reply(branches) => {
             write_all(sink, b"(")?;
             write_branches(sink, &branches)
         }
-        View::Leaf(children) => {
+        PlaceView::Leaf(children) => {
             write_all(sink, b"{")?;
             write_children(sink, &children)
         }

@@ -26,7 +26,8 @@ HasRoot rooted deal leader (suc need) =
 
 -- The graph shows that the side wins so many tricks from the deal, with this seat to lead: by its root, and all steps.
 -- Without a root no step is owed.
-pub record Shows (rooted : RootedShape) (deal : Deal) (leader : Seat) (trump : Trump) (side : Side) (need : ℕ) : Type 0 where
+pub record Shows (rooted : RootedShape) (deal : Deal) (leader : Seat) (trump : Trump) (side : Side) (need : ℕ)
+    : Type 0 where
   pub trump_is : rooted.graph.trump ≡ trump
   pub side_is : rooted.graph.side ≡ side
   pub root : HasRoot rooted deal leader need
@@ -38,7 +39,8 @@ pub record ShowValue (deal : Deal) (declarer : Seat) (trump : Trump) (tricks : �
     : Type 0 where
   pub within : tricks ≤ size_of deal
   pub declarers_win : Shows declarers deal (next_of declarer) trump (side_of declarer) tricks
-  pub defenders_win : Shows defenders deal (next_of declarer) trump (other_side (side_of declarer)) (size_of deal - tricks)
+  pub defenders_win : Shows defenders deal (next_of declarer) trump (other_side (side_of declarer))
+      (size_of deal - tricks)
 
 -- some graphs show it
 pub record IsShown (shown : Shown) : Type 0 where

@@ -47,7 +47,8 @@ NeedsTooLittle graph node child =
 -- the pattern of the node that is named doesn't cover what is left
 abbrev pub FailsToCover : GraphShape → Node → List PatCard → Child → Type 0
 FailsToCover graph node cards child =
-    (next : Node) × (slice_get graph.nodes child.number ≡ Some next) × (CoversRest graph.version next.pattern node cards → ⊥)
+    (next : Node) × (slice_get graph.nodes child.number ≡ Some next)
+    × (CoversRest graph.version next.pattern node cards → ⊥)
 
 -- ---- the first fault of a place itself
 abbrev pub IsOwnFault : Side → Node → List PatCard → PatCard → StepFault → Type 0
@@ -85,7 +86,8 @@ HoldsFrom graph node cards tree =
 -- all is right below these branches
 abbrev pub HoldAmong : GraphShape → Node → List PatCard → Branches → Type 0
 HoldAmong graph node cards branches =
-    (card : PatCard) (below : TrickTree) → HasBranch branches card below → HoldsFrom graph node (cards ++ card ∷ []) below
+    (card : PatCard) (below : TrickTree) → HasBranch branches card below
+    → HoldsFrom graph node (cards ++ card ∷ []) below
 
 -- A place's own fault comes before those below it, and those of a branch before those of the next.
 abbrev mutual
@@ -118,4 +120,5 @@ pub record IsGraphFault (graph : GraphShape) (fault : NodeFault) : Type 0 where
 abbrev pub NodeTells : GraphShape → ℕ → Option NodeFault → Type 0
 NodeTells graph number told = MatchOption told
     ((node : Node) → slice_get graph.nodes number ≡ Some node → HoldsFrom graph node [] node.tree)
-    (λ fault. (fault.number ≡ number) × ((node : Node) → slice_get graph.nodes number ≡ Some node → IsFirstFault graph node [] node.tree fault.fault))
+    (λ fault. (fault.number ≡ number)
+    × ((node : Node) → slice_get graph.nodes number ≡ Some node → IsFirstFault graph node [] node.tree fault.fault))

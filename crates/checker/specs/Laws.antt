@@ -66,8 +66,8 @@ PlacesAreOnLines =
     → StepHolds graph node → LeadsTo node.tree cards place
     → BeginLine node cards
 
--- The card goes on in the tree: it is the side's, where the tree has one. In version 2 it has a branch, where the opponents
--- play, since legal cards may be without one there; in version 1 none is.
+-- The card goes on in the tree: it is the side's, where the tree has one. In version 2 it has a branch, where the
+-- opponents play, since legal cards may be without one there; in version 1 none is.
 abbrev pub GoesOn : Version → TrickTree → PatCard → Type 0
 GoesOn version (Own own below) card = own ≡ card
 GoesOn One (Reply branches) card = ⊤

@@ -1,7 +1,7 @@
 -- The step of a node: one trick, played on the node's pattern. At each turn of the side the tree has one legal card. At
--- each turn of the opponents its branches answer all their legal cards and are of no others. After four cards it lists the
--- seats that may win and leave something to be done, and for each a node that goes on: of what is left, with that seat to
--- lead, for no less than is still needed.
+-- each turn of the opponents its branches answer all their legal cards and are of no others. After four cards it lists
+-- the seats that may win and leave something to be done, and for each a node that goes on: of what is left, with that
+-- seat to lead, for no less than is still needed.
 --
 -- The version of the graph decides two things: which cards a branch answers, and how what is left is read.
 use Rattle.std.specs.Prelude.{◌≡◌, ◌≢◌, ℕ, ◌-◌, ◌<◌, ◌≤◌, ◌↔◌, List}
@@ -47,8 +47,8 @@ abbrev pub HasHigher : Shape → Seat → Branches → PatCard → Type 0
 HasHigher pattern seat branches card =
     (higher : PatCard) × IsLowerInRun pattern seat card higher × HasBranchOf branches higher
 
--- The branches answer a card of the seat that plays: one of them is of that card. In version 2 it is enough that one is of a
--- higher card in a run of the seat.
+-- The branches answer a card of the seat that plays: one of them is of that card. In version 2 it is enough that one is
+-- of a higher card in a run of the seat.
 abbrev pub IsAnswered : Version → Shape → Seat → Branches → PatCard → Type 0
 IsAnswered One pattern seat branches card = HasBranchOf branches card
 IsAnswered Two pattern seat branches card = HasBranchOf branches card ⊎ HasHigher pattern seat branches card
@@ -89,7 +89,8 @@ CoversRest version pattern node cards =
     (rest : Shape) × IsLeft node.pattern node.lead cards rest × Covers pattern (rest_read version rest)
 
 -- a node goes on after the four cards, where this seat has won
-pub record Continues (graph : GraphShape) (node : Node) (cards : List PatCard) (winner : Seat) (next : Node) : Type 0 where
+pub record Continues (graph : GraphShape) (node : Node) (cards : List PatCard) (winner : Seat) (next : Node)
+    : Type 0 where
   pub lead : next.lead ≡ winner
   pub need : need_after graph.side node.need winner ≤ next.need
   pub pattern : CoversRest graph.version next.pattern node cards
@@ -126,4 +127,5 @@ StepsHold graph = (number : ℕ) (node : Node) → slice_get graph.nodes number 
 abbrev pub BeginLine : Node → List PatCard → Type 0
 BeginLine node cards =
     (place : ℕ) → place < length cards
-    → IsLegal node.pattern (seat_in_place node.lead place) (suit_led_by (take place cards)) (played_in_place cards place)
+    → IsLegal node.pattern (seat_in_place node.lead place) (suit_led_by (take place cards))
+    (played_in_place cards place)

@@ -13,7 +13,8 @@ use Rattle.checker.specs.Roots.{from_first}
 use Rattle.checker.specs.EntryFaults.{EntryAnswers}
 
 -- the texts are those of two graphs, and this is the answer for them
-pub record GraphsAnswer (deal : Deal) (declarer : Seat) (trump : Trump) (tricks : ℕ) (declarer_text defenders_text : List ℕ)
+pub record GraphsAnswer (deal : Deal) (declarer : Seat) (trump : Trump) (tricks : ℕ)
+    (declarer_text defenders_text : List ℕ)
     (answer : Result Shown EntryFault) : Type 0 where
   pub declarers : GraphShape
   pub defenders : GraphShape

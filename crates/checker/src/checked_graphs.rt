@@ -38,7 +38,8 @@ impl Model for CheckedGraph {
 
     ghost view = { λ checked. checked.graph.value };
 
-    ghost invariant = { λ checked. MatchResult checked.verdict (λ _. StepsHold checked.graph.value) (IsGraphFault checked.graph.value) };
+    ghost invariant = { λ checked. MatchResult checked.verdict (λ _. StepsHold checked.graph.value)
+        (IsGraphFault checked.graph.value) };
 }
 
 impl CheckedGraph {
@@ -50,8 +51,8 @@ impl CheckedGraph {
         CheckedGraph { graph, verdict }
     }
 
-    /// Checks the graph, once, with as many threads as there are processors where it has 2,048 nodes or more and is not refused
-    /// memory for it.
+    /// Checks the graph, once, with as many threads as there are processors where it has 2,048 nodes or more and is not
+    /// refused memory for it.
     pub fn of_wide(graph: Arc<Graph>, rt: &(impl Threads + Sync)) -> CheckedGraph
         ensures { result ≡ graph.value }
     {
@@ -64,7 +65,7 @@ impl CheckedGraph {
         }
     }
 
-    /// The graph.
+    /// The graph that was checked.
     pub fn graph(&self) -> &Graph
         ensures { result.now ≡ self.now }
     {

@@ -5,7 +5,8 @@ ghost use Rattle.cards.specs.declared.seats.Seat.{Seat};
 ghost use Rattle.patterns.specs.Shapes.{Covers};
 ghost use Rattle.pattern_step.specs.SeatSets.{is_in};
 ghost use Rattle.pattern_step.specs.Tricks.{AreLegalInTurn};
-ghost use Rattle.checker.specs.Steps.{need_after, IsListed, ListsWinners, rest_read, IsRightChild, IsRightLeaf, BeginLine};
+ghost use Rattle.checker.specs.Steps.{need_after, IsListed, ListsWinners, rest_read, IsRightChild, IsRightLeaf};
+ghost use Rattle.checker.specs.Steps.{BeginLine};
 ghost use Rattle.checker.specs.Faults.{IsChildrenFault, IsLeafFault};
 
 use crate::faults::StepFault;
@@ -44,7 +45,8 @@ fn is_rightly_listed(
     children: &Children<'_>,
     seat: Seat,
 ) -> bool
-    ensures { IsTrue result ↔ (IsListed children.now seat ↔ (IsTrue (is_in winners seat) × (0 < need_after side need seat))) }
+    ensures { IsTrue result ↔ (IsListed children.now seat
+        ↔ (IsTrue (is_in winners seat) × (0 < need_after side need seat))) }
 {
     let goes_on = winners.contains(seat) && need_after(side, need, seat) > 0;
     is_listed(children, seat) == goes_on

@@ -9,7 +9,7 @@ ghost use Rattle.checker.specs.Witnesses.{rooted_shape, seen_as};
 
 use crate::claims::Claimed;
 use crate::entry_faults::EntryFault;
-use crate::parts::{Claim, check_part};
+use crate::parts::{RootClaim, check_part};
 use crate::witnesses::Witness;
 use cards::{Layout, Seat, Trump};
 use certificate_graph::Graph;
@@ -28,8 +28,8 @@ pub struct Shown {
     pub k: u8,
 }
 
-/// The proof that two graphs showed something, so that it is the double-dummy value: declarer's side has a strategy that
-/// wins so many tricks against every defence, and the defenders have one that wins the others against every play.
+/// The proof that two graphs showed something, so that it is the double-dummy value: declarer's side has a strategy
+/// that wins so many tricks against every defence, and the defenders have one that wins the others against every play.
 /// [`check_entry`] and [`check_claim`] alone make one.
 #[derive(Clone, Copy, Debug, PartialEq)]
 pub struct Proven {
@@ -68,8 +68,8 @@ impl Proven {
 
 /// Checks that the two graphs show that declarer's side takes just k tricks: the first that it can win them, the second
 /// that the defenders can win the others, each from its node 0. Else the answer is the first fault:
-/// [`EntryFault::KTooLarge`] where k exceeds the cards of a hand, then that of the first graph, then that of the second.
-/// Takes no memory.
+/// [`EntryFault::KTooLarge`] where k exceeds the cards of a hand, then that of the first graph, then that of the
+/// second. Takes no memory.
 pub fn check_entry(
     layout: &Layout,
     declarer: Seat,
@@ -121,7 +121,7 @@ fn check_both(
     }
     let leader = declarer.next();
     let side = declarer.side();
-    let claim = Claim {
+    let claim = RootClaim {
         layout,
         leader,
         trump,
@@ -129,7 +129,7 @@ fn check_both(
         need: k,
     };
     check_part(declarers, &claim).map_err(EntryFault::Declarer)?;
-    let claim = Claim {
+    let claim = RootClaim {
         layout,
         leader,
         trump,

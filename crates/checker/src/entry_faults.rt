@@ -8,8 +8,8 @@ use std::error::Error;
 use std::fmt;
 
 /// Why a graph doesn't show that its side wins the tricks that it is to win. Its root is the node that is read as its
-/// first: node 0 of a whole graph, which without nodes has none. It is printed as its number and its name, a node's fault
-/// before that of its step: `7 RootPattern`, `8 Node 12 2 BranchMissing`.
+/// first: node 0 of a whole graph, which without nodes has none. It is printed as its number and its name, a node's
+/// fault before that of its step: `7 RootPattern`, `8 Node 12 2 BranchMissing`.
 #[derive(Clone, Copy, Debug, PartialEq, Eq)]
 pub enum PartFault {
     /// Tricks are to be won, and there is no root, or no node of its number.

@@ -52,8 +52,3 @@ impl fmt::Display for TextWords<'_> {
         }
     }
 }
-
-/// Memory ran out.
-#[derive(Clone, Copy, Debug, PartialEq, Eq, thiserror::Error)]
-#[error("out of memory")]
-pub struct OutOfMemory;

@@ -5,8 +5,8 @@ ghost use Rattle.checker.specs.declared.hand_faults.HandFault.TheVariants.{NoDea
 ghost use Rattle.checker.specs.Verdicts.{IsVerdict};
 
 use crate::entries::{Proven, check_entry};
-use crate::hand_faults::{HandFault, OutOfMemory};
-use cards::{Layout, Seat, Trump};
+use crate::hand_faults::HandFault;
+use cards::{Layout, OutOfMemory, Seat, Trump};
 use certificate_graph::{Graph, TextFault};
 use std::alloc::Global;
 

@@ -1,7 +1,8 @@
 //! The laws of steps and faults. Each is a function that does nothing: its contract is the law.
 
 ghost use Rattle.checker.specs.Laws.{HasNoFaultWhereStepsHold, HasOneFirstFault, HasOneGraphFault};
-ghost use Rattle.checker.specs.Laws.{HasOneEntryAnswer, HasOneVerdict, PlacesAreOnLines, LinesLeadToPlaces, ExtractsHold, HoldAsTwo};
+ghost use Rattle.checker.specs.Laws.{HasOneEntryAnswer, HasOneVerdict, PlacesAreOnLines, LinesLeadToPlaces};
+ghost use Rattle.checker.specs.Laws.{ExtractsHold, HoldAsTwo};
 
 /// A graph has no fault exactly where all its steps hold.
 pub fn no_fault_where_steps_hold()
@@ -34,13 +35,14 @@ pub fn places_are_on_lines()
     ensures { PlacesAreOnLines }
 {}
 
-/// Where a step holds, each beginning of a line in which the side plays the cards of the tree leads to a place of it. In
-/// version 2 the line goes through branches alone, since legal cards of the opponents may be without one.
+/// Where a step holds, each beginning of a line in which the side plays the cards of the tree leads to a place of it.
+/// In version 2 the line goes through branches alone, since legal cards of the opponents may be without one.
 pub fn lines_lead_to_places()
     ensures { LinesLeadToPlaces }
 {}
 
-/// Where the steps of a graph hold, so do those of what [`Graph::extract`](certificate_graph::Graph::extract) makes of it.
+/// Where the steps of a graph hold, so do those of what [`Graph::extract`](certificate_graph::Graph::extract) makes of
+/// it.
 pub fn extracts_hold()
     ensures { ExtractsHold }
 {}

@@ -24,13 +24,14 @@ mod walks;
 mod wide;
 mod witnesses;
 
+pub use cards::OutOfMemory;
 pub use checked_graphs::CheckedGraph;
 pub use claims::{Claimed, Rooted};
 pub use entries::{Proven, Shown, check_claim, check_entry};
 pub use entry_faults::{EntryFault, PartFault};
 pub use faults::{NodeFault, StepFault};
 pub use graphs::check_graph;
-pub use hand_faults::{HandFault, OutOfMemory};
+pub use hand_faults::HandFault;
 pub use judging::{Verdict, judge};
 pub use laws::{
     extracts_hold, graph_has_one_first_fault, graphs_have_one_answer, lines_lead_to_places,

@@ -14,7 +14,7 @@ use certificate_graph::Node;
 
 /// What a graph is to show: that the side wins so many tricks of the layout, with this seat to lead.
 #[derive(Drop)]
-pub(crate) struct Claim<'a> {
+pub(crate) struct RootClaim<'a> {
     pub(crate) layout: &'a Layout,
     pub(crate) leader: Seat,
     pub(crate) trump: Trump,
@@ -23,7 +23,7 @@ pub(crate) struct Claim<'a> {
 }
 
 /// Checks that the node claims what is to be shown.
-fn check_root(root: &Node, claim: &Claim<'_>) -> Result<(), PartFault>
+fn check_root(root: &Node, claim: &RootClaim<'_>) -> Result<(), PartFault>
     ensures { MatchResult result
         (λ _. IsRootOf root.now claim.now.layout.now claim.now.leader claim.now.need)
         (IsRootFault root.now claim.now.layout.now claim.now.leader claim.now.need) }
@@ -48,10 +48,12 @@ fn node_at(nodes: &[Node], number: Option<u32>) -> Option<&Node>
 }
 
 /// Checks that the graph shows what it is to show, else tells its first fault.
-pub(crate) fn check_part(witness: &Witness<'_>, claim: &Claim<'_>) -> Result<(), PartFault>
+pub(crate) fn check_part(witness: &Witness<'_>, claim: &RootClaim<'_>) -> Result<(), PartFault>
     ensures { MatchResult result
-        (λ _. Shows (seen_as witness.now) claim.now.layout.now claim.now.leader claim.now.trump claim.now.side claim.now.need)
-        (IsPartFault (seen_as witness.now) claim.now.layout.now claim.now.leader claim.now.trump claim.now.side claim.now.need) }
+        (λ _. Shows (seen_as witness.now) claim.now.layout.now claim.now.leader claim.now.trump claim.now.side
+        claim.now.need)
+        (IsPartFault (seen_as witness.now) claim.now.layout.now claim.now.leader claim.now.trump claim.now.side
+        claim.now.need) }
 {
     let graph = witness.graph();
     let number = witness.root();

@@ -5,7 +5,8 @@ ghost use Rattle.cards.specs.Seats.{seat_in_place};
 ghost use Rattle.pattern_step.specs.declared.pat_cards.PatCard.{PatCard};
 ghost use Rattle.pattern_step.specs.declared.pat_cards.PatCard.TheVariants.{Top};
 ghost use Rattle.checker.specs.Places.{HasBranchOf};
-ghost use Rattle.checker.specs.Steps.{player_after, MayComeNext, IsOwnTurn, IsOpponentsTurn, HasHigher, IsAnswered, AreAnswers};
+ghost use Rattle.checker.specs.Steps.{player_after, MayComeNext, IsOwnTurn, IsOpponentsTurn, HasHigher, IsAnswered};
+ghost use Rattle.checker.specs.Steps.{AreAnswers};
 ghost use Rattle.checker.specs.Faults.{HasWrongBranch, IsOwnFault, IsReplyFault};
 
 use crate::faults::StepFault;

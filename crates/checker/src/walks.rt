@@ -11,7 +11,7 @@ use crate::ends::check_leaf;
 use crate::faults::StepFault;
 use crate::played::Played;
 use crate::turns::{check_own, check_reply};
-use certificate_graph::{Branches, Graph, Node, Place, View};
+use certificate_graph::{Branches, Graph, Node, Place, PlaceView};
 
 /// Checks a place of the tree, which these cards led to, and then all below it.
 #[cycle(walk)]
@@ -28,15 +28,15 @@ pub(crate) fn check_place(
         (IsFirstFault graph.now node.now played.now place.now) }
 {
     match place.view() {
-        View::Own(card, below) => {
+        PlaceView::Own(card, below) => {
             check_own(graph.side(), node, played, card)?;
             check_place(graph, node, &played.with(card), &below)
         }
-        View::Reply(branches) => {
+        PlaceView::Reply(branches) => {
             check_reply(graph.version(), graph.side(), node, played, &branches)?;
             check_branches(graph, node, played, &branches)
         }
-        View::Leaf(children) => check_leaf(graph, node, played, &children),
+        PlaceView::Leaf(children) => check_leaf(graph, node, played, &children),
     }
 }
 

@@ -7,14 +7,14 @@ ghost use Rattle.checker.specs.Faults.{IsGraphFault, NodeTells};
 
 use crate::faults::NodeFault;
 use crate::graphs::fault_of;
-use crate::hand_faults::OutOfMemory;
+use cards::OutOfMemory;
 use certificate_graph::Graph;
 use rayon::prelude::*;
 use std::thread::Threads;
 
-/// Checks that the steps of all nodes hold, as [`check_graph`](crate::check_graph) does, with as many threads as there are
-/// processors where the graph has 2,048 nodes or more. The answer is the same, to the fault. All nodes are looked at, also after
-/// one that has a fault. Nothing asks for memory today, so that it is never refused.
+/// Checks that the steps of all nodes hold, as [`check_graph`](crate::check_graph) does, with as many threads as there
+/// are processors where the graph has 2,048 nodes or more. The answer is the same, to the fault. All nodes are looked
+/// at, also after one that has a fault. Nothing asks for memory today, so that it is never refused.
 pub fn check_graph_wide(
     graph: &Graph,
     rt: &(impl Threads + Sync),

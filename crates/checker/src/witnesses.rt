@@ -20,7 +20,7 @@ pub(crate) enum Witness<'a> {
 }
 
 impl<'a> Witness<'a> {
-    /// The graph.
+    /// The graph that is shown, whether it was checked or not.
     pub(crate) fn graph(&self) -> &Graph
         ensures { result.now ≡ (seen_as self.now).graph }
     {

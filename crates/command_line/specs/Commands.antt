@@ -4,7 +4,7 @@ use Rattle.clap.specs.declared.error.kind.ErrorKind.{ErrorKind}
 use Rattle.clap.specs.declared.error.kind.ErrorKind.TheVariants as kinds
 use Rattle.cards.specs.Devices.{Device}
 use Rattle.partition_solver.specs.Answers.{MayFind}
-use Rattle.farm.specs.Moments.{MayTell}
+use Rattle.lease_desk.specs.Moments.{MayTell}
 use Rattle.arguments.specs.CommandLine.{AreLetters}
 use Rattle.arguments.specs.Words.{AskFor, HasNone}
 use Rattle.arguments.specs.declared.command.Letters.{Letters}
@@ -30,7 +30,8 @@ pub record IsInLines (said lines : List ℕ) : Type 0 where
 
 -- nothing is written, and that memory ran out is told
 abbrev pub TellsNoMemory : Device → Device → Device → Device → Status → Type 0
-TellsNoMemory sink sink' errors errors' status = (status ≡ Failed) × (sink' ≡ sink) × IsTold errors errors' (told_line OutOfMemory)
+TellsNoMemory sink sink' errors errors' status =
+    (status ≡ Failed) × (sink' ≡ sink) × IsTold errors errors' (told_line OutOfMemory)
 
 -- the lines of help are written, unless memory ran out for them
 abbrev pub ShowsHelp : Option (List ℕ) → Device → Device → Device → Device → Status → Type 0
@@ -45,10 +46,11 @@ refusal_lines None = codes "ddfarm: the command line is refused" ++ 10 ∷ []
 abbrev pub TellsRefusal : Option (List ℕ) → Device → Device → Status → Type 0
 TellsRefusal lines errors errors' status = (status ≡ Refused) × IsTold errors errors' (refusal_lines lines)
 
--- What comes of words that ask for no subcommand, by the kind of the error and the lines that it says, if memory held them: help
--- that was asked for is written; a refusal is told on the error output alone; or memory ran out.
+-- What comes of words that ask for no subcommand, by the kind of the error and the lines that it says, if memory held
+-- them: help that was asked for is written; a refusal is told on the error output alone; or memory ran out.
 pub data EndsWords (sink sink' errors errors' : Device) (kind : ErrorKind) (status : Status) : Type 0 where
-  is_shown : IsAsked kind → (lines : Option (List ℕ)) → IfSome lines AreLines → ShowsHelp lines sink sink' errors errors' status
+  is_shown : IsAsked kind → (lines : Option (List ℕ)) → IfSome lines AreLines
+      → ShowsHelp lines sink sink' errors errors' status
       → EndsWords sink sink' errors errors' kind status
   is_refused : (IsAsked kind → ⊥) → (kind ≡ kinds.OutOfMemory → ⊥) → (lines : Option (List ℕ)) → IfSome lines AreLines
       → sink' ≡ sink → TellsRefusal lines errors errors' status → EndsWords sink sink' errors errors' kind status
@@ -61,7 +63,8 @@ pub data MeetsWords (may_find : MayFind) (may_tell : MayTell) (words : List (Lis
   is_done : (letters : Letters) → AreLetters letters → (asked : Subcommand) → AskFor letters words asked
       → RunsSubcommand may_find may_tell asked source source' sink sink' errors errors' status
       → MeetsWords may_find may_tell words source source' sink sink' errors errors' status
-  is_none : (letters : Letters) → AreLetters letters → (kind : ErrorKind) → HasNone letters words kind → source' ≡ source
+  is_none : (letters : Letters) → AreLetters letters → (kind : ErrorKind) → HasNone letters words kind
+      → source' ≡ source
       → EndsWords sink sink' errors errors' kind status
       → MeetsWords may_find may_tell words source source' sink sink' errors errors' status
 

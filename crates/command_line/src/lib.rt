@@ -5,7 +5,8 @@
 
 ghost use Rattle.std.specs.Prelude.{IfSome, map, option_map};
 ghost use Rattle.clap.specs.Values.{kind_of};
-ghost use Rattle.command_line.specs.Commands.{AreLines, EndsWords, ExitsBy, IsInLines, MeetsWords, ShowsHelp, TellsRefusal};
+ghost use Rattle.command_line.specs.Commands.{AreLines, EndsWords, ExitsBy, IsInLines, MeetsWords, ShowsHelp};
+ghost use Rattle.command_line.specs.Commands.{TellsRefusal};
 
 use arguments::parse_arguments;
 use cards::{Sink, Source, write_all};
@@ -27,8 +28,8 @@ const REFUSED: &str = "ddfarm: the command line is refused\n";
 
 /// Does what the words ask for, the first of them being the program's name, and answers the exit status.
 ///
-/// What can't be done is told on the error output, with nothing on the output but the beginning that a failed output has
-/// taken; else the error output is as it was. Where the error output fails, nobody is left to be told.
+/// What can't be done is told on the error output, with nothing on the output but the beginning that a failed output
+/// has taken; else the error output is as it was. Where the error output fails, nobody is left to be told.
 pub fn run_command<
     'a,
     S: AsStr,
@@ -46,8 +47,10 @@ pub fn run_command<
     means: &Means<'_, P, G, C>,
     streams: &mut Streams<I, O, E>,
 ) -> u8
-    ensures { ExitsBy (MeetsWords (P.may_find means.now.solver.now) (C.may_tell means.now.clock.now) (map S.text words.entry.now)
-        (I.state streams.old.input) (I.state streams.new.input) (O.state streams.old.output) (O.state streams.new.output)
+    ensures { ExitsBy (MeetsWords (P.may_find means.now.solver.now) (C.may_tell means.now.clock.now)
+        (map S.text words.entry.now)
+        (I.state streams.old.input) (I.state streams.new.input) (O.state streams.old.output)
+        (O.state streams.new.output)
         (E.state streams.old.errors) (E.state streams.new.errors)) result }
 {
     match parse_arguments(alloc, words) {
@@ -63,7 +66,8 @@ fn tell_words<O: Sink, E: Sink>(
     output: &mut O,
     errors: &mut E,
 ) -> Status
-    ensures { EndsWords (O.state output.old) (O.state output.new) (E.state errors.old) (E.state errors.new) (kind_of error) result }
+    ensures { EndsWords (O.state output.old) (O.state output.new) (E.state errors.old) (E.state errors.new)
+        (kind_of error) result }
 {
     match error.kind() {
         ErrorKind::OutOfMemory => tell(RunFault::OutOfMemory, errors),
@@ -87,7 +91,8 @@ fn show_help<O: Sink, E: Sink>(lines: Option<String>, output: &mut O, errors: &m
 
 /// Tells the lines of why the words are refused, or, if there was no memory for them, that they are.
 fn tell_refusal<E: Sink>(lines: Option<String>, errors: &mut E) -> Status
-    ensures { TellsRefusal (option_map (λ text. text.bytes.items) lines) (E.state errors.old) (E.state errors.new) result }
+    ensures { TellsRefusal (option_map (λ text. text.bytes.items) lines) (E.state errors.old)
+        (E.state errors.new) result }
 {
     let _ = match lines {
         Some(text) => write_all(errors, text.as_bytes()),

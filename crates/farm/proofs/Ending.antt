@@ -20,8 +20,8 @@ use Rattle.farm.specs.declared.posts.CheckerPost.{CheckerPost}
 use Rattle.farm.specs.declared.posts.ClerkPost.{ClerkPost}
 use Rattle.farm.specs.declared.posts.Posts.{Posts}
 use Rattle.farm.specs.declared.relays.Relays.{Relays}
-use Rattle.farm.specs.declared.relays.Ends.{Ends}
-use Rattle.farm.specs.Moments.{MayTell}
+use Rattle.farm.specs.declared.relays.RelayEnds.{RelayEnds}
+use Rattle.lease_desk.specs.Moments.{MayTell}
 use Rattle.farm.specs.Working.{IsNew, IsOnDuty}
 use Rattle.farm.specs.Requests.{EndsIdle}
 use Rattle.farm.specs.Flows.{given, settled, of_found, of_claim, all_found, all_claimed}
@@ -66,7 +66,7 @@ as_many_parts R f xs ys l m l_is m_is are =
     omega (arith, length-map xs f, length-map ys f, as_many R xs ys are)
 
 -- posts at new chairs with new ends are new
-module _ (settings : Settings) (desk : Desk) (relays : Relays) (chairs : List Chair) (ends : Ends) (posts : Posts)
+module _ (settings : Settings) (desk : Desk) (relays : Relays) (chairs : List Chair) (ends : RelayEnds) (posts : Posts)
     (new : All (IsNew desk) chairs) (opened : AreOpened settings relays ends) (manned : AreManned chairs ends posts) where
   new_chairs : All (IsNew desk) (map (λ (p : SolverPost). p.chair) posts.solvers.items ++ map (λ (p : ClerkPost). p.chair) posts.clerks.items)
   new_chairs = subst (λ (l : List Chair). All (IsNew desk) l) manned.chairs_are new
@@ -88,7 +88,7 @@ module _ (settings : Settings) (desk : Desk) (relays : Relays) (chairs : List Ch
   }
 
 -- each post gets what it needs
-pub can_be_manned : (settings : Settings) (relays : Relays) (chairs : List Chair) (ends : Ends) → AreOpened settings relays ends → length chairs ≡ settings.solvers + settings.checkers → CanBeManned chairs ends
+pub can_be_manned : (settings : Settings) (relays : Relays) (chairs : List Chair) (ends : RelayEnds) → AreOpened settings relays ends → length chairs ≡ settings.solvers + settings.checkers → CanBeManned chairs ends
 can_be_manned settings relays chairs ends opened count =
     let a = opened.found.ends in
     let b = opened.claims.ends in
@@ -102,7 +102,7 @@ can_be_manned settings relays chairs ends opened count =
     let d' = b.all_takers in
     record { chairs_are = omega arith; ends_are = omega arith }
 
-module _ {S G C : Type 0} (may_tell : C → MayTell) (crew : Crew S G C) (relays : Relays) (chairs after : List Chair) (ends back : Ends) (before worked : Posts)
+module _ {S G C : Type 0} (may_tell : C → MayTell) (crew : Crew S G C) (relays : Relays) (chairs after : List Chair) (ends back : RelayEnds) (before worked : Posts)
     (opened : AreOpened crew.settings relays ends) (manned : AreManned chairs ends before)
     (ended : HaveEnded (HasSolved may_tell crew) HasChecked (HasSettled may_tell crew) before worked) (apart : AreManned after back worked) where
   -- all ends are back

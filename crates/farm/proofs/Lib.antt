@@ -1,4 +1,3 @@
-pub mod PublicationLaws
 mod Chairs
 mod Beside
 mod Dividing

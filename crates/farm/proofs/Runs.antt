@@ -13,8 +13,8 @@ use Rattle.lease_desk.specs.declared.chairs.Chair.{Chair}
 use Rattle.lease_desk.specs.Receipts.{Stands, is_for}
 use Rattle.lease_desk.specs.Desks.{IsChairOf, AreChairsOf, IsClosed, AreAll, chairs_of, receipts_in}
 use Rattle.farm.specs.declared.crews.Crew.{Crew}
-use Rattle.farm.specs.Moments.{MayTell, IsTimed, AreTimed}
-use Rattle.farm.specs.Publications.{IsTrueHistory, IsGivenOut}
+use Rattle.lease_desk.specs.Moments.{MayTell, IsTimed, AreTimed}
+use Rattle.lease_book.specs.TrueHistories.{IsTrueHistory, IsGivenOut}
 use Rattle.farm.specs.Runs.{IsBookOf}
 use Rattle.farm.specs.Working.{IsOnDuty}
 use Rattle.farm.specs.Requests.{EndsIdle}

@@ -25,7 +25,8 @@ IsFoundOn may_find budget group trump (Some deal) found = may_find deal (declare
 abbrev pub IsFoundFor : MayFind → List (Option Deal) → ℕ → List Task → Option Bundle → Type 0
 IsFoundFor may_find deals budget [] found = found ≡ None
 IsFoundFor may_find deals budget (first ∷ group) found =
-    IsFoundOn may_find budget (first ∷ group) first.entry.trump (option_flatten (slice_get deals first.entry.board)) found
+    IsFoundOn may_find budget (first ∷ group) first.entry.trump
+    (option_flatten (slice_get deals first.entry.board)) found
 
 -- the graph of a side
 abbrev pub graph_in : CheckedPair → Side → GraphShape
@@ -55,4 +56,5 @@ pub record IsClaimFor (bundle : Bundle) (pair : CheckedPair) (task : Task) (chec
 -- the claim for a lease was put, or none was
 abbrev pub PutsClaim : Bundle → CheckedPair → Task → List CheckedClaim → List CheckedClaim → Type 0
 PutsClaim bundle pair task before after =
-    (after ≡ before) ⊎ ((checked : CheckedClaim) × IsClaimFor bundle pair task checked × (after ≡ before ++ checked ∷ []))
+    (after ≡ before) ⊎ ((checked : CheckedClaim) × IsClaimFor bundle pair task checked
+    × (after ≡ before ++ checked ∷ []))

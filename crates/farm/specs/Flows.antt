@@ -52,4 +52,5 @@ module _ (weight : ℕ → ℕ) where
 
   -- all that a clerk settled are the leases of the claims that it took, beside what it was given
   abbrev pub SettlesClaims : ClerkPost → Type 0
-  SettlesClaims post = settled (receipts_in post.chair) ≡ given (receipts_in post.chair) + all_claimed (taken_by post.claims)
+  SettlesClaims post =
+      settled (receipts_in post.chair) ≡ given (receipts_in post.chair) + all_claimed (taken_by post.claims)

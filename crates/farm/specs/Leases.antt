@@ -1,5 +1,5 @@
--- What becomes of the leases of a history. They are told apart by weights: whoever weighs leases by their numbers, however they
--- like.
+-- What becomes of the leases of a history. They are told apart by weights: whoever weighs leases by their numbers,
+-- however they like.
 use Rattle.std.specs.Prelude.{ℕ, ◌≤◌, List, sum_by}
 use Rattle.lease_book.specs.declared.events.Asked.{Asked}
 use Rattle.lease_book.specs.declared.events.Asked.TheVariants.{Lease, Expire, GiveUp, HandIn}
@@ -33,7 +33,7 @@ given_in weight events = sum_by (λ event. given_by weight event.asked event.rep
 abbrev pub settled_in : (ℕ → ℕ) → List Event → ℕ
 settled_in weight events = sum_by (λ event. settled_by weight event.asked) events
 
--- Each lease that was given was given up, or handed in under, or neither, and at most once; no other was: those settled weigh no
--- more than those given, whatever they weigh.
+-- Each lease that was given was given up, or handed in under, or neither, and at most once; no other was: those settled
+-- weigh no more than those given, whatever they weigh.
 abbrev pub AreSettledOnce : List Event → Type 0
 AreSettledOnce events = (weight : ℕ → ℕ) → settled_in weight events ≤ given_in weight events

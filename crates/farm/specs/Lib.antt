@@ -1,6 +1,4 @@
 pub mod Faults
-pub mod Moments
-pub mod Publications
 pub mod Runs
 pub mod Requests
 pub mod Working

@@ -9,8 +9,8 @@ use Rattle.farm.specs.declared.posts.SolverPost.{SolverPost}
 use Rattle.farm.specs.declared.posts.CheckerPost.{CheckerPost}
 use Rattle.farm.specs.declared.posts.ClerkPost.{ClerkPost}
 use Rattle.farm.specs.declared.posts.Posts.{Posts}
-use Rattle.farm.specs.declared.relays.Ends.{Ends}
-use Rattle.farm.specs.Moments.{MayTell}
+use Rattle.farm.specs.declared.relays.RelayEnds.{RelayEnds}
+use Rattle.lease_desk.specs.Moments.{MayTell}
 use Rattle.farm.specs.Working.{IsNew, StaysOnDuty}
 use Rattle.farm.specs.Requests.{EndsIdle}
 use Rattle.farm.specs.Flows.{SettlesOwn, ClaimsOwn, SettlesClaims}
@@ -62,12 +62,12 @@ pub record HasChecked (old new : CheckerPost) : Type 0 where
   pub leases : (weight : ℕ → ℕ) → ClaimsOwn weight new
 
 -- there is a chair for each solver and each clerk, and both ends for each checker
-pub record CanBeManned (chairs : List Chair) (ends : Ends) : Type 0 where
+pub record CanBeManned (chairs : List Chair) (ends : RelayEnds) : Type 0 where
   pub chairs_are : length chairs ≡ length ends.finds.items + length ends.heard.items
   pub ends_are : length ends.found.items ≡ length ends.claims.items
 
 -- the chairs and ends are those at the posts, the solvers' chairs first
-pub record AreManned (chairs : List Chair) (ends : Ends) (posts : Posts) : Type 0 where
+pub record AreManned (chairs : List Chair) (ends : RelayEnds) (posts : Posts) : Type 0 where
   pub chairs_are : chairs ≡ map (λ post. post.chair) posts.solvers.items ++ map (λ post. post.chair) posts.clerks.items
   pub finds : ends.finds.items ≡ map (λ post. post.found) posts.solvers.items
   pub found : ends.found.items ≡ map (λ post. post.found) posts.checkers.items

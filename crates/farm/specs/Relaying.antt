@@ -5,21 +5,21 @@ use Rattle.asked.specs.declared.settings.Settings.{Settings}
 use Rattle.farm.specs.declared.tasks.FoundBundle.{FoundBundle}
 use Rattle.farm.specs.declared.tasks.CheckedClaim.{CheckedClaim}
 use Rattle.farm.specs.declared.relays.Relays.{Relays}
-use Rattle.farm.specs.declared.relays.Ends.{Ends}
+use Rattle.farm.specs.declared.relays.RelayEnds.{RelayEnds}
 
 -- relays of 64 places that were opened with these ends, through which nothing went yet
-pub record AreOpened (settings : Settings) (relays : Relays) (ends : Ends) : Type 0 where
+pub record AreOpened (settings : Settings) (relays : Relays) (ends : RelayEnds) : Type 0 where
   pub found : IsOpened 64 settings.solvers settings.checkers relays.found ends.finds.items ends.found.items
   pub claims : IsOpened 64 settings.checkers settings.checkers relays.claims ends.claims.items ends.heard.items
 
 -- these are all ends of the relays, and no others
-pub record AreAllEndsOf (relays : Relays) (ends : Ends) : Type 0 where
+pub record AreAllEndsOf (relays : Relays) (ends : RelayEnds) : Type 0 where
   pub found : AreAllOf relays.found ends.finds.items ends.found.items
   pub claims : AreAllOf relays.claims ends.claims.items ends.heard.items
 
--- Nothing that these ends put was lost: each message that solvers put was taken by a checker or was left, each claim that
--- checkers put was taken by a clerk or was left.
-pub record IsRelayed (ends : Ends) : Type 0 where
+-- Nothing that these ends put was lost: each message that solvers put was taken by a checker or was left, each claim
+-- that checkers put was taken by a clerk or was left.
+pub record IsRelayed (ends : RelayEnds) : Type 0 where
   pub unchecked : List FoundBundle
   pub unheard : List CheckedClaim
   pub found : IsNothingLost ends.finds.items ends.found.items unchecked

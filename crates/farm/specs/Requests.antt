@@ -18,7 +18,8 @@ Hears asked reply before after =
 -- a lease was asked for: the task is the one that was given, and there is none where no entry was open
 abbrev pub IsNextTask : List Receipt → List Receipt → Option Task → Type 0
 IsNextTask before after None = (now : ℕ) × Hears (Lease now) Nothing before after
-IsNextTask before after (Some task) = (now : ℕ) × (deadline : ℕ) × Hears (Lease now) (Given task.lease task.entry deadline) before after
+IsNextTask before after (Some task) =
+    (now : ℕ) × (deadline : ℕ) × Hears (Lease now) (Given task.lease task.entry deadline) before after
 
 -- an expiry was asked for, and the answer is whether it freed a lease
 abbrev pub FreesLeases : List Receipt → List Receipt → Bool → Type 0

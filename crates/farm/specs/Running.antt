@@ -10,11 +10,11 @@ use Rattle.farm.specs.declared.posts.SolverPost.{SolverPost}
 use Rattle.farm.specs.declared.posts.CheckerPost.{CheckerPost}
 use Rattle.farm.specs.declared.posts.ClerkPost.{ClerkPost}
 use Rattle.farm.specs.declared.posts.Posts.{Posts}
-use Rattle.farm.specs.declared.relays.Ends.{Ends}
+use Rattle.farm.specs.declared.relays.RelayEnds.{RelayEnds}
 use Rattle.farm.specs.declared.relays.Relays.{Relays}
 use Rattle.asked.specs.declared.settings.Settings.{Settings}
 use Rattle.farm.specs.declared.started.Started.{Started}
-use Rattle.farm.specs.Moments.{MayTell}
+use Rattle.lease_desk.specs.Moments.{MayTell}
 use Rattle.farm.specs.Working.{IsOnDuty}
 use Rattle.farm.specs.Requests.{EndsIdle}
 use Rattle.farm.specs.Flows.{given, settled}
@@ -22,7 +22,8 @@ use Rattle.farm.specs.Posts.{IsNewSolver, IsNewChecker, IsNewClerk, AreManned}
 use Rattle.farm.specs.Relaying.{AreOpened}
 
 -- the work may begin at these posts
-pub record MayBegin (solves : SolverPost → Type 0) (checks : CheckerPost → Type 0) (settles : ClerkPost → Type 0) (posts : Posts) : Type 0 where
+pub record MayBegin (solves : SolverPost → Type 0) (checks : CheckerPost → Type 0) (settles : ClerkPost → Type 0)
+    (posts : Posts) : Type 0 where
   pub solvers : All solves posts.solvers.items
   pub checkers : All checks posts.checkers.items
   pub clerks : All settles posts.clerks.items
@@ -32,8 +33,9 @@ abbrev pub AreNewPosts : Desk → Posts → Type 0
 AreNewPosts desk posts = MayBegin (IsNewSolver desk) IsNewChecker (IsNewClerk desk) posts
 
 -- posts at these chairs, with all ends of new relays, at which nobody has worked
-pub record AreOpenedPosts (settings : Settings) (desk : Desk) (chairs : List Chair) (relays : Relays) (posts : Posts) : Type 0 where
-  pub ends : Ends
+pub record AreOpenedPosts (settings : Settings) (desk : Desk) (chairs : List Chair) (relays : Relays) (posts : Posts)
+    : Type 0 where
+  pub ends : RelayEnds
   pub opened : AreOpened settings relays ends
   pub manned : AreManned chairs ends posts
   pub new : AreNewPosts desk posts
@@ -52,15 +54,16 @@ module _ {A B D : Type 0} where
     pub clerks : AreThreadsOf clerk posts.clerks.items started.clerks.items
 
 -- each post as the work at it has left it
-pub record HaveEnded (solves : SolverPost → SolverPost → Type 0) (checks : CheckerPost → CheckerPost → Type 0) (settles : ClerkPost → ClerkPost → Type 0)
+pub record HaveEnded (solves : SolverPost → SolverPost → Type 0) (checks : CheckerPost → CheckerPost → Type 0)
+    (settles : ClerkPost → ClerkPost → Type 0)
     (before after : Posts) : Type 0 where
   pub solvers : AreBeside solves before.solvers.items after.solvers.items
   pub checkers : AreBeside checks before.checkers.items after.checkers.items
   pub clerks : AreBeside settles before.clerks.items after.clerks.items
 
 module _ {S G C : Type 0} where
-  -- The chairs that come back: the same ones, at the same desk. One of them saw that no entry was open and no lease had run out.
-  -- What they settled together they were given.
+  -- The chairs that come back: the same ones, at the same desk. One of them saw that no entry was open and no lease had
+  -- run out. What they settled together they were given.
   pub record HaveWorked (may_tell : C → MayTell) (crew : Crew S G C) (before after : List Chair) : Type 0 where
     pub duty : All (IsOnDuty may_tell crew) after
     pub numbers : map number_of after ≡ map number_of before

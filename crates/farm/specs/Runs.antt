@@ -5,10 +5,11 @@ use Rattle.lease_book.specs.declared.events.Event.{Event}
 use Rattle.lease_book.specs.Histories.{Terms}
 use Rattle.lease_book.specs.Books.{Ledger}
 use Rattle.asked.specs.declared.settings.Settings.{Settings}
-use Rattle.farm.specs.Moments.{MayTell, AreTimed}
-use Rattle.farm.specs.Publications.{IsTrueHistory, IsGivenOut}
+use Rattle.lease_desk.specs.Moments.{MayTell, AreTimed}
+use Rattle.lease_book.specs.TrueHistories.{IsTrueHistory, IsGivenOut}
 
--- A run over these terms: the history is true, all entries were given out, and the moments are those that the clock told.
+-- A run over these terms: the history is true, all entries were given out, and the moments are those that the clock
+-- told.
 pub record IsRun (may_tell : MayTell) (terms : Terms) (events : List Event) : Type 0 where
   pub history : IsTrueHistory terms events
   pub given_out : IsGivenOut events

@@ -5,12 +5,11 @@ ghost use Rattle.lease_desk.specs.Desks.{receipts_in};
 ghost use Rattle.farm.specs.Working.{IsOnDuty, StaysOnDuty};
 ghost use Rattle.farm.specs.Flows.{Moves, of_task, of_tasks};
 
-use crate::clocks::Clock;
 use crate::crews::Crew;
 use crate::requests::next_task;
 use crate::tasks::{Task, Tasks};
 use lease_book::OutOfMemory;
-use lease_desk::Chair;
+use lease_desk::{Chair, Clock};
 use std::sync::Wait;
 
 /// Leases more entries, until with the first they are a batch or none is open.
@@ -24,7 +23,8 @@ pub(crate) fn lease_batch<S, G, C: Clock, R: Wait>(
     ensures stays { StaysOnDuty C.may_tell crew.now chair.old chair.new }
     ensures count { IfOk result (λ batch. length batch.items ≤ crew.now.settings.batch) }
     ensures leases { IfOk result (λ batch. (weight : ℕ → ℕ) →
-        Moves weight (receipts_in chair.old) (receipts_in chair.new) (of_task weight first) (of_tasks weight batch.items)) }
+        Moves weight (receipts_in chair.old) (receipts_in chair.new) (of_task weight first)
+        (of_tasks weight batch.items)) }
 {
     let mut batch = Tasks::new();
     batch.push(first);

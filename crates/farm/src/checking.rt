@@ -129,8 +129,8 @@ fn check_found<S, G: Gate, C, R: Threads + Wait + Sync>(
     Ok(())
 }
 
-/// Takes what was found until an end mark comes, checks the graphs, and puts the claims. What is refused for memory is dropped;
-/// its leases stay.
+/// Takes what was found until an end mark comes, checks the graphs, and puts the claims. What is refused for memory is
+/// dropped; its leases stay.
 pub(crate) fn check_all<S, G: Gate, C, R: Threads + Wait + Sync>(
     rt: &R,
     crew: &Crew<'_, S, G, C>,

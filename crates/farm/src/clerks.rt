@@ -8,13 +8,12 @@ ghost use Rattle.farm.specs.Requests.{HandsIn};
 ghost use Rattle.farm.specs.Posts.{StaysClerk};
 ghost use Rattle.farm.specs.Flows.{SettlesClaims};
 
-use crate::clocks::Clock;
 use crate::crews::Crew;
 use crate::posts::ClerkPost;
 use crate::tasks::CheckedClaim;
 use farm_relay::Taker;
 use lease_book::OutOfMemory;
-use lease_desk::{Chair, Gate};
+use lease_desk::{Chair, Clock, Gate};
 use std::sync::Wait;
 
 /// Hands a claim in, and tells the gate of the reply.
@@ -26,7 +25,8 @@ fn hand_in<S, G: Gate, C: Clock, R: Wait>(
 ) -> Result<(), OutOfMemory>
     requires { IsOnDuty C.may_tell crew.now chair.old }
     ensures stays { StaysOnDuty C.may_tell crew.now chair.old chair.new }
-    ensures told { OnOk result (HandsIn (terms_of crew.now.desk.now) claim.now (receipts_in chair.old) (receipts_in chair.new)) }
+    ensures told { OnOk result (HandsIn (terms_of crew.now.desk.now) claim.now (receipts_in chair.old)
+        (receipts_in chair.new)) }
 {
     let task = claim.task;
     let told = crew.desk.hand_in(
@@ -75,8 +75,8 @@ fn take_rest<R: Wait>(rt: &R, claims: &mut Taker<CheckedClaim>)
     }
 }
 
-/// Takes claims until an end mark comes, and hands each in. Once memory has run out it only goes on taking, so that no checker
-/// waits for room.
+/// Takes claims until an end mark comes, and hands each in. Once memory has run out it only goes on taking, so that no
+/// checker waits for room.
 pub(crate) fn settle_all<S, G: Gate, C: Clock, R: Wait>(
     rt: &R,
     crew: &Crew<'_, S, G, C>,

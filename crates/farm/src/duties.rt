@@ -1,15 +1,14 @@
-//! The threads of solvers, of checkers and of clerks: what each does at its post. Whatever comes, what a thread puts into ends
-//! with it.
+//! The threads of solvers, of checkers and of clerks: what each does at its post. Whatever comes, what a thread puts
+//! into ends with it.
 
 use crate::checking::check_all;
 use crate::clerks::settle_all;
-use crate::clocks::Clock;
 use crate::crews::Crew;
 use crate::halts::Halt;
 use crate::posts::{CheckerPost, ClerkPost, SolverPost};
 use crate::solving::solve_all;
 use farm_threads::Work;
-use lease_desk::Gate;
+use lease_desk::{Clock, Gate};
 use partition_solver::Solver;
 use std::sync::Wait;
 use std::thread::Threads;

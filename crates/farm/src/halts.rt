@@ -25,14 +25,6 @@ impl From<OutOfMemory> for Halt {
     }
 }
 
-impl From<farm_relay::OutOfMemory> for Halt {
-    ghost from_gives = { λ _ answer. answer ≡ halts.OutOfMemory };
-
-    fn from(_fault: farm_relay::OutOfMemory) -> Halt {
-        Halt::OutOfMemory
-    }
-}
-
 impl From<AllocError> for Halt {
     ghost from_gives = { λ _ answer. answer ≡ halts.OutOfMemory };
 

@@ -1,21 +1,19 @@
 //! A lease book that threads work through.
 //!
-//! [`run_farm`] opens a desk over a list of boards. Solvers lease entries from it, batch by batch, and look for what shows
-//! their results; checkers check the graphs that were found, each once; clerks hand in what is claimed of them. Each has a
-//! thread of its own. When no entry is open any more and all have ended, the desk is closed and its book handed out. Nothing
-//! is asked of the solver, of the gate or of the clock.
+//! [`run_farm`] opens a desk over a list of boards. Solvers lease entries from it, batch by batch, and look for what
+//! shows their results; checkers check the graphs that were found, each once; clerks hand in what is claimed of them.
+//! Each has a thread of its own. When no entry is open any more and all have ended, the desk is closed and its book
+//! handed out. Nothing is asked of the solver, of the gate or of the clock.
 #![tactic(auto)]
 
 mod batches;
 mod checking;
 mod clerks;
-mod clocks;
 mod crews;
 mod duties;
 mod faults;
 mod groups;
 mod halts;
-mod histories;
 mod manning;
 mod means;
 mod opening;
@@ -28,8 +26,7 @@ mod started;
 mod tasks;
 
 pub use asked::{Settings, SettingsFault};
-pub use clocks::Clock;
 pub use faults::FarmFault;
-pub use histories::is_true_history;
+pub use lease_desk::Clock;
 pub use means::Means;
 pub use running::run_farm;

@@ -4,7 +4,7 @@ ghost use Rattle.std.specs.Prelude.{◌≡◌, ◌≤◌, ◌++◌, IfOk, length
 ghost use Rattle.farm.specs.Posts.{AreManned, CanBeManned};
 
 use crate::posts::{CheckerPost, ClerkPost, Posts, SolverPost};
-use crate::relays::Ends;
+use crate::relays::RelayEnds;
 use crate::tasks::{CheckedClaim, FoundBundle};
 use farm_relay::{Putter, Taker};
 use lease_desk::Chair;
@@ -18,7 +18,8 @@ fn solver_posts(
     finds: Vec<Putter<FoundBundle>>,
 ) -> Result<Vec<SolverPost>, AllocError>
     requires { length finds.items ≤ length chairs.old.items }
-    ensures chairs { IfOk result (λ posts. chairs.old.items ≡ map (λ post. post.chair) posts.items ++ chairs.new.items) }
+    ensures chairs { IfOk result (λ posts. chairs.old.items ≡ map (λ post. post.chair) posts.items
+        ++ chairs.new.items) }
     ensures finds { IfOk result (λ posts. finds.items ≡ map (λ post. post.found) posts.items) }
 {
     let mut posts = Vec::with_capacity(alloc, finds.len())?;
@@ -129,11 +130,15 @@ fn clerks_apart(
 
 impl Posts {
     /// Posts with these chairs and ends, the solvers' at the first of the chairs.
-    pub(crate) fn of(alloc: Global, chairs: Vec<Chair>, ends: Ends) -> Result<Posts, AllocError>
+    pub(crate) fn of(
+        alloc: Global,
+        chairs: Vec<Chair>,
+        ends: RelayEnds,
+    ) -> Result<Posts, AllocError>
         requires { CanBeManned chairs.items ends }
         ensures { IfOk result (AreManned chairs.items ends) }
     {
-        let Ends {
+        let RelayEnds {
             finds,
             found,
             claims,
@@ -151,7 +156,7 @@ impl Posts {
     }
 
     /// The chairs, the solvers' first, and the ends.
-    pub(crate) fn apart(self, alloc: Global) -> Result<(Vec<Chair>, Ends), AllocError>
+    pub(crate) fn apart(self, alloc: Global) -> Result<(Vec<Chair>, RelayEnds), AllocError>
         ensures { IfOk result (λ apart. AreManned apart.0.items apart.1 self) }
     {
         let Posts {
@@ -164,7 +169,7 @@ impl Posts {
         let (settled, heard) = clerks_apart(alloc, clerks)?;
         let (mut chairs, mut settled) = (solved, settled);
         chairs.append(&mut settled)?;
-        let ends = Ends {
+        let ends = RelayEnds {
             finds,
             found,
             claims,

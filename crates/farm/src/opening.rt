@@ -28,7 +28,8 @@ pub(crate) fn open_desk<R: Wait>(
     boards: Vec<Board>,
     settings: Settings,
 ) -> Result<(Desk, Vec<Chair>), FarmFault>
-    ensures desk { IfOk result (λ made. IsOpened (terms_for boards.items settings) (settings.solvers + settings.checkers) made.0 made.1.items) }
+    ensures desk { IfOk result (λ made. IsOpened (terms_for boards.items settings)
+        (settings.solvers + settings.checkers) made.0 made.1.items) }
     ensures fault { IfErr result (IsFaultOf boards.items) }
 {
     let chairs = settings.solvers + settings.checkers;

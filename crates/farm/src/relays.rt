@@ -9,8 +9,8 @@ use farm_relay::{OutOfMemory, Putter, Relay, Taker};
 use std::alloc::Global;
 use std::sync::Wait;
 
-/// How many messages may be on their way to the checkers, and how many claims to the clerks: at least as many as either are, so
-/// that there is room for an end mark each.
+/// How many messages may be on their way to the checkers, and how many claims to the clerks: at least as many as either
+/// are, so that there is room for an end mark each.
 const PLACES: usize = 64;
 
 /// The relay from the solvers to the checkers, and that from the checkers to the clerks.
@@ -22,7 +22,7 @@ pub(crate) struct Relays {
 
 /// Ends of the relays: a solver puts what it finds, a checker takes it and puts claims, a clerk takes these.
 #[derive(Drop)]
-pub(crate) struct Ends {
+pub(crate) struct RelayEnds {
     pub(crate) finds: Vec<Putter<FoundBundle>>,
     pub(crate) found: Vec<Taker<FoundBundle>>,
     pub(crate) claims: Vec<Putter<CheckedClaim>>,
@@ -31,13 +31,16 @@ pub(crate) struct Ends {
 
 impl Relays {
     /// Two relays with an end for each solver, two for each checker, and one for each of as many clerks.
-    pub(crate) fn open(alloc: Global, settings: Settings) -> Result<(Relays, Ends), OutOfMemory>
+    pub(crate) fn open(
+        alloc: Global,
+        settings: Settings,
+    ) -> Result<(Relays, RelayEnds), OutOfMemory>
         ensures { IfOk result (λ made. AreOpened settings made.0 made.1) }
     {
         let (solvers, checkers) = (settings.solvers, settings.checkers);
         let (found, finds, takers) = Relay::open(alloc, PLACES, solvers, checkers)?;
         let (claims, putters, heard) = Relay::open(alloc, PLACES, checkers, checkers)?;
-        let ends = Ends {
+        let ends = RelayEnds {
             finds,
             found: takers,
             claims: putters,
@@ -47,7 +50,7 @@ impl Relays {
     }
 
     /// Closes both relays, once all their ends are back. What is left in them is let go.
-    pub(crate) fn close<R: Wait>(self, rt: &R, ends: Ends) -> Result<(), OutOfMemory>
+    pub(crate) fn close<R: Wait>(self, rt: &R, ends: RelayEnds) -> Result<(), OutOfMemory>
         requires { AreAllEndsOf self ends }
         ensures { OnOk result (IsRelayed ends) }
     {

@@ -5,11 +5,10 @@ ghost use Rattle.lease_desk.specs.Desks.{receipts_in};
 ghost use Rattle.farm.specs.Working.{IsOnDuty, StaysOnDuty};
 ghost use Rattle.farm.specs.Requests.{IsNextTask, FreesLeases, GivesUp};
 
-use crate::clocks::Clock;
 use crate::crews::Crew;
 use crate::tasks::Task;
 use lease_book::{OutOfMemory, Reply};
-use lease_desk::Chair;
+use lease_desk::{Chair, Clock};
 use std::sync::Wait;
 
 /// Asks for a lease at the clock's moment. There is none where no entry is open.

@@ -7,11 +7,9 @@ ghost use Rattle.farm.specs.Running.{MayBegin, AreOpenedPosts, HaveEnded, HaveWo
 ghost use Rattle.farm.specs.Faults.{IsFaultOf};
 ghost use Rattle.farm.specs.Runs.{IsBookOf, terms_for};
 
-use crate::clocks::Clock;
 use crate::crews::Crew;
 use crate::faults::FarmFault;
 use crate::halts::Halt;
-use crate::histories::is_true_history;
 use crate::means::Means;
 use crate::opening::{deals_of, open_desk};
 use crate::posts::{CheckerPost, ClerkPost, Posts, SolverPost};
@@ -19,8 +17,8 @@ use crate::relays::Relays;
 use crate::started::{Started, end_all, join_all, start_all};
 use asked::Settings;
 use farm_threads::Work;
-use lease_book::Book;
-use lease_desk::{Chair, Closed, Gate};
+use lease_book::{Book, first_boards, is_true_history};
+use lease_desk::{Chair, Clock, Closed, Gate};
 use partition_solver::Solver;
 use pbn_deals::Board;
 use std::alloc::Global;
@@ -30,8 +28,8 @@ use std::sync::atomic::Ordering::SeqCst;
 use std::thread;
 use std::thread::{Scope, Threads};
 
-/// Works at all posts, each in a thread of a scope, and hands the posts and the relays back. Where a thread can't be started, no
-/// more is leased.
+/// Works at all posts, each in a thread of a scope, and hands the posts and the relays back. Where a thread can't be
+/// started, no more is leased.
 fn work_in<
     's,
     E,
@@ -50,7 +48,8 @@ fn work_in<
 ) -> Result<(Relays, Posts), Halt>
     requires { MayBegin (A.begins solver.now) (B.begins checker.now) (D.begins clerk.now) opened.1 }
     ensures relays { IfOk result (λ worked. worked.0 ≡ opened.0) }
-    ensures posts { IfOk result (λ worked. HaveEnded (A.ends solver.now) (B.ends checker.now) (D.ends clerk.now) opened.1 worked.1) }
+    ensures posts { IfOk result (λ worked. HaveEnded (A.ends solver.now) (B.ends checker.now)
+        (D.ends clerk.now) opened.1 worked.1) }
 {
     let (relays, posts) = opened;
     let mut started = Started::new(&posts)?;
@@ -83,7 +82,8 @@ fn work_at<
 ) -> Result<(Relays, Posts), Halt>
     requires { MayBegin (A.begins solver.now) (B.begins checker.now) (D.begins clerk.now) opened.1 }
     ensures relays { IfOk result (λ worked. worked.0 ≡ opened.0) }
-    ensures posts { IfOk result (λ worked. HaveEnded (A.ends solver.now) (B.ends checker.now) (D.ends clerk.now) opened.1 worked.1) }
+    ensures posts { IfOk result (λ worked. HaveEnded (A.ends solver.now) (B.ends checker.now)
+        (D.ends clerk.now) opened.1 worked.1) }
 {
     thread::scope(
         thread::scope_env(),
@@ -102,11 +102,13 @@ fn work_as<
     W: Work<SolverPost, Halt> + Work<CheckerPost, Halt> + Work<ClerkPost, Halt> + Sync,
     R: Threads + Wait + Sync,
 >(rt: &R, staff: &W, stop: &AtomicBool, opened: (Relays, Posts)) -> Result<(Relays, Posts), Halt>
-    requires { MayBegin (⟦<W as Work<SolverPost, Halt>>⟧.begins staff.now) (⟦<W as Work<CheckerPost, Halt>>⟧.begins staff.now)
+    requires { MayBegin (⟦<W as Work<SolverPost, Halt>>⟧.begins staff.now)
+        (⟦<W as Work<CheckerPost, Halt>>⟧.begins staff.now)
         (⟦<W as Work<ClerkPost, Halt>>⟧.begins staff.now) opened.1 }
     ensures relays { IfOk result (λ worked. worked.0 ≡ opened.0) }
     ensures posts { IfOk result (λ worked. HaveEnded (⟦<W as Work<SolverPost, Halt>>⟧.ends staff.now)
-        (⟦<W as Work<CheckerPost, Halt>>⟧.ends staff.now) (⟦<W as Work<ClerkPost, Halt>>⟧.ends staff.now) opened.1 worked.1) }
+        (⟦<W as Work<CheckerPost, Halt>>⟧.ends staff.now)
+        (⟦<W as Work<ClerkPost, Halt>>⟧.ends staff.now) opened.1 worked.1) }
 {
     work_at(rt, staff, staff, staff, stop, opened)
 }
@@ -118,7 +120,8 @@ fn open_posts<S, G, C>(
 ) -> Result<(Relays, Posts), Halt>
     requires new { All (IsNew crew.now.desk.now) chairs.items }
     requires count { length chairs.items ≡ crew.now.settings.solvers + crew.now.settings.checkers }
-    ensures { IfOk result (λ opened. AreOpenedPosts crew.now.settings crew.now.desk.now chairs.items opened.0 opened.1) }
+    ensures { IfOk result (λ opened. AreOpenedPosts crew.now.settings crew.now.desk.now chairs.items opened.0
+        opened.1) }
 {
     let (relays, ends) = Relays::open(crew.alloc, crew.settings)?;
     let posts = Posts::of(crew.alloc, chairs, ends)?;
@@ -142,15 +145,15 @@ fn work_all<S: Solver + Sync, G: Gate + Sync, C: Clock + Sync, R: Threads + Wait
     Ok(chairs)
 }
 
-/// Opens a desk over the boards, has as many solvers and checkers work as the settings say, and as many clerks as checkers,
-/// each in a thread of its own, and hands out the book when all have ended.
+/// Opens a desk over the boards, has as many solvers and checkers work as the settings say, and as many clerks as
+/// checkers, each in a thread of its own, and hands out the book when all have ended.
 ///
-/// A solver leases a batch of entries, each at the clock's moment. For those of a board and denomination it tells the gate of
-/// each lease, has the solver look for what shows their results, once, and puts it for the checkers, or gives the leases up for
-/// which nothing is claimed. Where no entry is open it has the leases freed that have run out, and ends where there is none.
-/// A checker tells the gate of the leases, checks both graphs, and puts each claim for the clerks. A clerk hands in one claim
-/// after another, of which the desk tells the gate. What memory is refused to on the way is dropped, and its leases stay. The
-/// book is handed out only where a solver was told that no entry is open.
+/// A solver leases a batch of entries, each at the clock's moment. For those of a board and denomination it tells the
+/// gate of each lease, has the solver look for what shows their results, once, and puts it for the checkers, or gives
+/// the leases up for which nothing is claimed. Where no entry is open it has the leases freed that have run out, and
+/// ends where there is none. A checker tells the gate of the leases, checks both graphs, and puts each claim for the
+/// clerks. A clerk hands in one claim after another, of which the desk tells the gate. What memory is refused to on the
+/// way is dropped, and its leases stay. The book is handed out only where a solver was told that no entry is open.
 pub fn run_farm<S: Solver + Sync, G: Gate + Sync, C: Clock + Sync, R: Threads + Wait + Sync>(
     rt: &R,
     alloc: Global,
@@ -163,7 +166,9 @@ pub fn run_farm<S: Solver + Sync, G: Gate + Sync, C: Clock + Sync, R: Threads + 
     ensures once { IfOk result (λ book. AreSettledOnce book.events) }
 {
     let deals = deals_of(alloc, boards.as_slice())?;
-    means.gate.before_work(boards.as_slice());
+    let firsts = first_boards(alloc, boards.as_slice())?;
+    means.gate.before_work(boards.as_slice(), firsts.as_slice());
+    drop(firsts);
     let (desk, chairs) = open_desk(rt, alloc, boards, settings)?;
     let stop = AtomicBool::new(false);
     let crew = Crew {

@@ -10,7 +10,6 @@ ghost use Rattle.farm.specs.Findings.{IsFoundFor};
 ghost use Rattle.farm.specs.Flows.{Moves, SettlesOwn, of_tasks, all_found};
 
 use crate::batches::lease_batch;
-use crate::clocks::Clock;
 use crate::crews::Crew;
 use crate::groups::{by_claims, declarers_of, first_group};
 use crate::halts::Halt;
@@ -18,15 +17,16 @@ use crate::posts::SolverPost;
 use crate::requests::{frees_a_lease, give_up, next_task};
 use crate::tasks::{FoundBundle, Tasks};
 use lease_book::OutOfMemory;
-use lease_desk::{Chair, Gate};
+use lease_desk::{Chair, Clock, Gate};
 use partition_solver::{Bundle, Solver};
 use std::sync::Wait;
 use std::sync::atomic::Ordering::SeqCst;
 
-/// What the solver finds for leases of a board and denomination. There is nothing where it has no answer within the budget, or
-/// no memory.
+/// What the solver finds for leases of a board and denomination. There is nothing where it has no answer within the
+/// budget, or no memory.
 fn found_for<S: Solver, G, C>(crew: &Crew<'_, S, G, C>, group: &Tasks) -> Option<Bundle>
-    ensures { IsFoundFor (S.may_find crew.now.means.solver.now) crew.now.deals.now crew.now.settings.budget group.now.items result }
+    ensures { IsFoundFor (S.may_find crew.now.means.solver.now) crew.now.deals.now crew.now.settings.budget
+        group.now.items result }
 {
     let entry = group.as_slice().first()?.entry;
     let layout = crew.deals.get(entry.board)?.as_ref()?;
@@ -62,8 +62,8 @@ fn give_up_all<S, G, C: Clock, R: Wait>(
     Ok(())
 }
 
-/// Tells the gate of leases of a board and denomination, has the solver look for answers, and puts them for the checkers. Where
-/// there is none, or they are handed back, leases are given up.
+/// Tells the gate of leases of a board and denomination, has the solver look for answers, and puts them for the
+/// checkers. Where there is none, or they are handed back, leases are given up.
 fn work_on<S: Solver, G: Gate, C: Clock, R: Wait>(
     rt: &R,
     crew: &Crew<'_, S, G, C>,
@@ -74,7 +74,8 @@ fn work_on<S: Solver, G: Gate, C: Clock, R: Wait>(
     ensures stays { StaysSolver C.may_tell crew.now post.old post.new }
     ensures leases { OnOk result ((weight : ℕ → ℕ) →
         Moves weight (receipts_in post.old.chair) (receipts_in post.new.chair)
-        (of_tasks weight group.now.items + all_found weight (put_by post.old.found)) (all_found weight (put_by post.new.found))) }
+        (of_tasks weight group.now.items + all_found weight (put_by post.old.found))
+        (all_found weight (put_by post.new.found))) }
 {
     for task in group.iter() {
         crew.means.gate.before_solve(task.lease);
@@ -93,8 +94,8 @@ fn work_on<S: Solver, G: Gate, C: Clock, R: Wait>(
     give_up_all(rt, crew, &mut post.chair, &back.tasks)
 }
 
-/// Works on leases, one group that a search serves after another, in the order of their first leases. Once none is left, what is
-/// worked on is empty.
+/// Works on leases, one group that a search serves after another, in the order of their first leases. Once none is
+/// left, what is worked on is empty.
 fn work_on_all<S: Solver, G: Gate, C: Clock, R: Wait>(
     rt: &R,
     crew: &Crew<'_, S, G, C>,
@@ -105,7 +106,8 @@ fn work_on_all<S: Solver, G: Gate, C: Clock, R: Wait>(
     ensures stays { StaysSolver C.may_tell crew.now post.old post.new }
     ensures leases { OnOk result ((weight : ℕ → ℕ) →
         Moves weight (receipts_in post.old.chair) (receipts_in post.new.chair)
-        (of_tasks weight batch.items + all_found weight (put_by post.old.found)) (all_found weight (put_by post.new.found))) }
+        (of_tasks weight batch.items + all_found weight (put_by post.old.found))
+        (all_found weight (put_by post.new.found))) }
 {
     let mut rest = batch;
     for _turn in 0..rest.len() {
@@ -116,8 +118,8 @@ fn work_on_all<S: Solver, G: Gate, C: Clock, R: Wait>(
     Ok(())
 }
 
-/// Leases entries and works on them, until none is open and no lease has run out. It ends sooner where memory runs out at the
-/// desk, or where not all threads could be started.
+/// Leases entries and works on them, until none is open and no lease has run out. It ends sooner where memory runs out
+/// at the desk, or where not all threads could be started.
 pub(crate) fn solve_all<S: Solver, G: Gate, C: Clock, R: Wait>(
     rt: &R,
     crew: &Crew<'_, S, G, C>,

@@ -41,8 +41,8 @@ impl<A: Work<SolverPost, Halt>, B: Work<CheckerPost, Halt>, D: Work<ClerkPost, H
     }
 }
 
-/// Starts a thread at each post: the checkers before those who put for them, and the clerks last. On a fault the posts that have
-/// no thread are let go.
+/// Starts a thread at each post: the checkers before those who put for them, and the clerks last. On a fault the posts
+/// that have no thread are let go.
 pub(crate) fn start_all<
     's,
     E,
@@ -100,8 +100,9 @@ pub(crate) fn join_all<
     })
 }
 
-/// Ends the threads that were started, where not all were and no more is leased. Whoever takes from a relay gets an end mark, once
-/// nobody is left who puts into it; who puts where nobody takes gets back what it puts. So nobody waits for ever.
+/// Ends the threads that were started, where not all were and no more is leased. Whoever takes from a relay gets an end
+/// mark, once nobody is left who puts into it; who puts where nobody takes gets back what it puts. So nobody waits for
+/// ever.
 pub(crate) fn end_all<
     A: Work<SolverPost, Halt>,
     B: Work<CheckerPost, Halt>,

@@ -79,7 +79,8 @@ module _ {T : Type 0} where
     pub all_takers : length takers ≡ takers_of relay
 
   -- a relay of so many places, with so many putters and takers, who have put and taken nothing
-  pub record IsOpened (places putter_count taker_count : ℕ) (relay : Relay T) (putters : List (Putter T)) (takers : List (Taker T)) : Type 0 where
+  pub record IsOpened (places putter_count taker_count : ℕ) (relay : Relay T) (putters : List (Putter T))
+      (takers : List (Taker T)) : Type 0 where
     pub places_are : places_of relay ≡ places
     pub putters_are : putters_of relay ≡ putter_count
     pub takers_are : takers_of relay ≡ taker_count
@@ -91,8 +92,8 @@ module _ {T : Type 0} where
     pub no_marks_taken : All (λ taker. marks_of taker ≡ 0) takers
     pub not_ended : marks_at_end relay ≡ 0
 
-  -- The messages put are those taken and those left, each as often as it was put: so it is where every weight of messages
-  -- gives the same sum.
+  -- The messages put are those taken and those left, each as often as it was put: so it is where every weight of
+  -- messages gives the same sum.
   abbrev pub IsNothingLost : List (Putter T) → List (Taker T) → List T → Type 0
   IsNothingLost putters takers left =
       (weight : T → ℕ)

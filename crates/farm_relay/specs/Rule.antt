@@ -6,8 +6,8 @@ use Rattle.farm_relay.specs.declared.items.Item.{Item}
 use Rattle.farm_relay.specs.declared.tallies.Tally.{Tally}
 use Rattle.farm_relay.specs.Tallies.{all_shares}
 
--- Each item is as often among those put as among those taken and those in the channel: so it is where every weight of items
--- gives the same sum.
+-- Each item is as often among those put as among those taken and those in the channel: so it is where every weight of
+-- items gives the same sum.
 abbrev pub IsEven : {T : Type 0} → List (Item T) → List (Tally T) → Type 0
 IsEven {T} items tallies =
     (weight : Item T → ℕ)

@@ -7,12 +7,12 @@ ghost use Rattle.farm_relay.specs.Tallies.{all_shares};
 ghost use Rattle.farm_relay.specs.Relays.{AreAllOf, IsNothingLost, AreMarksPut};
 ghost use Rattle.farm_relay.specs.Closing.{HasJoinedPutters, HasJoinedTakers, IsLeft};
 
-use crate::faults::OutOfMemory;
 use crate::items::Item;
 use crate::putters::Putter;
 use crate::relays::Relay;
 use crate::rule::{RelayPass, RelayReceiver, RelaySender, Shares, Takes};
 use crate::takers::Taker;
+use cards::OutOfMemory;
 use std::alloc::Global;
 use std::sync::Wait;
 
@@ -80,8 +80,8 @@ fn drain<T: Drop, R: Wait>(
 }
 
 impl<T: Drop> Relay<T> {
-    /// Closes the relay with all its putters and takers, in any order, and gives what is left in it, front first. Where memory
-    /// runs out, what is left is dropped.
+    /// Closes the relay with all its putters and takers, in any order, and gives what is left in it, front first. Where
+    /// memory runs out, what is left is dropped.
     pub fn close<R: Wait>(
         self,
         rt: &R,
@@ -89,8 +89,8 @@ impl<T: Drop> Relay<T> {
         takers: Vec<Taker<T>>,
     ) -> Result<Vec<T>, OutOfMemory>
         requires { AreAllOf self putters.items takers.items }
-        // Every message that was put was taken or is left, as often as it was put: whoever weighs messages, however they like,
-        // finds that those put weigh as much as those taken and those left.
+        // Every message that was put was taken or is left, as often as it was put: whoever weighs messages, however
+        // they like, finds that those put weigh as much as those taken and those left.
         ensures messages { IfOk result (λ left. IsNothingLost putters.items takers.items left.items) }
         ensures marks { OnOk result (AreMarksPut self putters.items takers.items) }
     {

@@ -3,7 +3,6 @@
 
 mod closing;
 mod ends;
-mod faults;
 mod items;
 mod opening;
 mod putters;
@@ -14,7 +13,7 @@ mod sending;
 mod takers;
 mod tallies;
 
-pub use faults::OutOfMemory;
+pub use cards::OutOfMemory;
 pub use putters::Putter;
 pub use relays::Relay;
 pub use takers::Taker;

@@ -8,11 +8,11 @@ ghost use Rattle.farm_relay.specs.Relays.{IsOpened};
 ghost use Rattle.farm_relay.specs.Opening.{IsNewPutter, IsNewTaker};
 
 use crate::ends::{Ends, new_ends};
-use crate::faults::OutOfMemory;
 use crate::putters::Putter;
 use crate::relays::Relay;
 use crate::rule::RelayPass;
 use crate::takers::Taker;
+use cards::OutOfMemory;
 use std::alloc::Global;
 use std::sync::Arc;
 use std::sync::atomic::AtomicU64;

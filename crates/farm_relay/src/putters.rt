@@ -64,8 +64,8 @@ impl<T: Drop> Putter<T> {
         self.pass
     }
 
-    /// Puts a message, or hands it back, which then counts as not put: always after [`Putter::finish`], and where nobody is left
-    /// to take it. Waits while all places are full.
+    /// Puts a message, or hands it back, which then counts as not put: always after [`Putter::finish`], and where
+    /// nobody is left to take it. Waits while all places are full.
     pub fn put<R: Wait>(&mut self, rt: &R, message: T) -> Result<(), T>
         ensures ok { OnOk result (put_by self.new ≡ put_by self.old ++ message ∷ []) }
         ensures back { IfErr result (λ back. back ≡ message) }
@@ -81,8 +81,8 @@ impl<T: Drop> Putter<T> {
         send(rt, &self.sender, &mut self.pass, message)
     }
 
-    /// Ends this putter. The last one to end puts one end mark for each taker, and waits while all places are full. A second
-    /// call does nothing, and after [`Relay::end`] no putter puts a mark.
+    /// Ends this putter. The last one to end puts one end mark for each taker, and waits while all places are full. A
+    /// second call does nothing, and after [`Relay::end`] no putter puts a mark.
     pub fn finish<R: Wait>(&mut self, rt: &R)
         ensures finished { is_finished self.new ≡ true }
         ensures put { put_by self.new ≡ put_by self.old }

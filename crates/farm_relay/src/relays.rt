@@ -1,4 +1,4 @@
-//! The relay.
+//! A relay, from its opening to its closing.
 
 ghost use Rattle.std.specs.Prelude.{◌≡◌, ◌+◌, ◌<◌, [], ◌^◌};
 ghost use Rattle.crossbeam_channel.specs.Claims.{view, IsSeatAt};
@@ -12,8 +12,8 @@ use std::sync::atomic::AtomicU64;
 use std::sync::atomic::Ordering::SeqCst;
 use std::sync::{Arc, Wait};
 
-/// A channel of so many places between putters and takers. It is kept by who closes it. It has no end that takes: so a put does
-/// not wait for takers of whom none is left.
+/// A channel of so many places between putters and takers. It is kept by who closes it. It has no end that takes: so a
+/// put does not wait for takers of whom none is left.
 #[derive(Drop)]
 pub struct Relay<T: Drop> {
     pub(crate) alloc: Global,
@@ -36,9 +36,9 @@ impl<T: Drop> Relay<T> {
     ghost use Rattle.std.specs.Prelude.{◌≤◌};
     ghost use Rattle.farm_relay.specs.Relays.{IsSameRelay, marks_at_end, takers_of};
 
-    /// Puts the end marks that putters owe, one for each taker, unless all have finished: for who closes a relay some of whose
-    /// putters never will. A putter that finishes later puts none, and a second call does nothing. Waits while all places are
-    /// full, but not where nobody is left to take.
+    /// Puts the end marks that putters owe, one for each taker, unless all have finished: for who closes a relay some
+    /// of whose putters never will. A putter that finishes later puts none, and a second call does nothing. Waits while
+    /// all places are full, but not where nobody is left to take.
     pub fn end<R: Wait>(&mut self, rt: &R)
         ensures marks { marks_at_end self.new ≤ marks_at_end self.old + takers_of self.old }
         ensures same { IsSameRelay self.old self.new }

@@ -50,7 +50,8 @@ impl<T: Drop> Taker<T> {
         (self.receiver, self.pass)
     }
 
-    /// Takes the message at the front. None says that an end mark was there, which is then taken. Waits while the relay is empty.
+    /// Takes the message at the front. None says that an end mark was there, which is then taken. Waits while the relay
+    /// is empty.
     pub fn take<R: Wait>(&mut self, rt: &R) -> Option<T>
         ensures some { IfSome result (λ message. taken_by self.new ≡ taken_by self.old ++ message ∷ []) }
         ensures none { IfNone result (taken_by self.new ≡ taken_by self.old) }

@@ -4,7 +4,7 @@ use crate::expect::expect_eq;
 use crate::gates::{TellsAll, Told};
 use crate::remembers::{Call, Remembers, declarers_of, trumps_of};
 use crate::solvers::ACE;
-use crate::tables::{ONE_SUIT_EACH, Tally, boards_of, one_board, tally_of};
+use crate::tables::{ONE_SUIT_EACH, TableTally, boards_of, one_board, tally_of};
 use cards::{Seat, Trump};
 use farm::{Means, Settings, run_farm};
 use lease_book::{Book, Reply};
@@ -36,8 +36,8 @@ struct Row {
     leases: u64,
 }
 
-/// By the order of the entries, North's before South's, East's and West's, and of the groups of a batch, by their least leases. In
-/// batches of seven a seat's last entries are leased together with the next seat's first ones.
+/// By the order of the entries, North's before South's, East's and West's, and of the groups of a batch, by their least
+/// leases. In batches of seven a seat's last entries are leased together with the next seat's first ones.
 const ROWS: [Row; 5] = [
     Row {
         batch: 1,
@@ -85,9 +85,10 @@ fn expect_told(rt: &impl Abort, told: &Told, leases: u64) {
     expect_eq(rt, &told.leases.load(SeqCst), &ALL_LEASES);
 }
 
-/// Fills the table of four hands of one suit each. A message has two graphs, which are checked once the gate is told of its
-/// leases. So by the runs of like digits before the graphs it is told how many messages there were, and half of how many graphs
-/// were checked: with a batch of twenty five runs, and ten graphs. That none is checked twice is not seen here.
+/// Fills the table of four hands of one suit each. A message has two graphs, which are checked once the gate is told of
+/// its leases. So by the runs of like digits before the graphs it is told how many messages there were, and half of how
+/// many graphs were checked: with a batch of twenty five runs, and ten graphs. That none is checked twice is not seen
+/// here.
 fn expect_groups<R: Threads + Wait + Abort + Sync>(
     rt: &R,
     alloc: Global,
@@ -102,7 +103,7 @@ fn expect_groups<R: Threads + Wait + Abort + Sync>(
         clock: &StandsStill,
     };
     let book = run_farm(rt, alloc, boards, settings, &means)?;
-    let wanted = Tally {
+    let wanted = TableTally {
         given: 20,
         published: 20,
         gave_up: 0,

@@ -1,5 +1,5 @@
-//! Solvers that answer for another declarer, denomination or side, name nodes that aren't there, or find a part alone: what is
-//! wrong is refused, what was not asked is dropped, what was not answered is given up, and the run goes on.
+//! Solvers that answer for another declarer, denomination or side, name nodes that aren't there, or find a part alone:
+//! what is wrong is refused, what was not asked is dropped, what was not answered is given up, and the run goes on.
 
 use crate::expect::expect_eq;
 use crate::flawed::{Change, FindsSome, Flawed, Graphs};
@@ -18,8 +18,8 @@ use test_support::settings::once;
 /// How many steps a solver has for a declarer.
 const BUDGET: u64 = 10_000_000;
 
-/// What is done to the graphs, and to the claims, how many entries are leased at a time, and how many of twenty are published,
-/// given up, and refused.
+/// What is done to the graphs, and to the claims, how many entries are leased at a time, and how many of twenty are
+/// published, given up, and refused.
 type Row = (Graphs, &'static [Change], usize, [u64; 3]);
 
 const PUBLISHED: [u64; 3] = [20, 0, 0];
@@ -28,8 +28,8 @@ const GIVEN_UP: [u64; 3] = [0, 20, 0];
 
 const REFUSED: [u64; 3] = [0, 0, 20];
 
-/// The declarers of a call are one seat, two seats across, or all four: so the next seat of each is asked for only with all four.
-/// A bundle has room for four claims, so that none of two is lost where each is claimed twice.
+/// The declarers of a call are one seat, two seats across, or all four: so the next seat of each is asked for only with
+/// all four. A bundle has room for four claims, so that none of two is lost where each is claimed twice.
 const ROWS: [Row; 22] = [
     (Graphs::Right, &[Change::Same], 1, PUBLISHED),
     (Graphs::Right, &[Change::Same], 10, PUBLISHED),

@@ -31,8 +31,8 @@ pub enum Change {
     ForTheNext,
 }
 
-/// A partition search with something done to what it answers: its claims stand there once for each change, while there is
-/// room.
+/// A partition search with something done to what it answers: its claims stand there once for each change, while there
+/// is room.
 #[derive(Drop)]
 pub struct Flawed<'a> {
     pub search: &'a Partition,
@@ -117,8 +117,8 @@ impl Solver for Flawed<'_> {
     }
 }
 
-/// A partition search that has no memory for no-trump, finds nothing for spades, and for hearts finds the tricks of North and of
-/// East alone.
+/// A partition search that has no memory for no-trump, finds nothing for spades, and for hearts finds the tricks of
+/// North and of East alone.
 #[derive(Drop)]
 pub struct FindsSome<'a> {
     pub search: &'a Partition,

@@ -21,8 +21,8 @@ pub fn waits_for(flag: &AtomicBool) -> bool {
     false
 }
 
-/// The second lease is worked on only after the work on the first has begun, and that only once the answer for the second
-/// is about to be checked.
+/// The second lease is worked on only after the work on the first has begun, and that only once the answer for the
+/// second is about to be checked.
 #[derive(Drop)]
 pub struct TwoSolvers {
     first: AtomicBool,

@@ -1,5 +1,5 @@
-//! Tests of runs of a farm: whole ones, what comes of solvers that find nothing or the wrong thing, and that threads really work
-//! side by side.
+//! Tests of runs of a farm: whole ones, what comes of solvers that find nothing or the wrong thing, and that threads
+//! really work side by side.
 #![tactic(auto)]
 
 #[cfg(test)]

@@ -2,7 +2,7 @@
 
 use crate::expect::expect_eq;
 use crate::solvers::{FindsTheAce, HasNoMemory};
-use crate::tables::{ONE_SUIT_EACH, Tally, boards_of, empty_boards, one_board, tally_of};
+use crate::tables::{ONE_SUIT_EACH, TableTally, boards_of, empty_boards, one_board, tally_of};
 use farm::{FarmFault, Means, run_farm};
 use lease_book::{Asked, BookFault, Entry, Reply};
 use partition_solver::{Partition, Solver};
@@ -27,7 +27,7 @@ fn run_on_one_suit_each<S: Solver + Sync, R: Threads + Wait + Abort + Sync>(
     threads: usize,
     batch: usize,
     solver: &S,
-) -> Result<Tally, Fail> {
+) -> Result<TableTally, Fail> {
     let settings = once(threads, threads, BUDGET, batch)?;
     let boards = one_board(alloc, ONE_SUIT_EACH)?;
     let means = Means {
@@ -40,9 +40,9 @@ fn run_on_one_suit_each<S: Solver + Sync, R: Threads + Wait + Abort + Sync>(
     Ok(tally_of(&book))
 }
 
-/// Where one solver and one checker are done with 20 entries: the leases, one that was not given, and an expiry. So it is with
-/// each batch that divides 20.
-const LEASED: Tally = Tally {
+/// Where one solver and one checker are done with 20 entries: the leases, one that was not given, and an expiry. So it
+/// is with each batch that divides 20.
+const LEASED: TableTally = TableTally {
     given: 20,
     published: 0,
     gave_up: 0,
@@ -59,7 +59,7 @@ fn each_entry_is_leased_and_published_once(rt: HostRuntime) -> Result<(), Fail> 
         expect_eq(
             &rt,
             &tally,
-            &Tally {
+            &TableTally {
                 published: 20,
                 ..LEASED
             },
@@ -80,7 +80,7 @@ fn a_deal_of_two_boards_is_solved_once(rt: HostRuntime) -> Result<(), Fail> {
         clock: &StandsStill,
     };
     let book = run_farm(&rt, alloc, boards, settings, &means)?;
-    let wanted = Tally {
+    let wanted = TableTally {
         published: 20,
         ..LEASED
     };
@@ -96,7 +96,7 @@ fn a_deal_of_two_boards_is_solved_once(rt: HostRuntime) -> Result<(), Fail> {
 
 #[test]
 fn what_is_not_found_is_given_up(rt: HostRuntime) -> Result<(), Fail> {
-    let wanted = Tally {
+    let wanted = TableTally {
         gave_up: 20,
         ..LEASED
     };
@@ -113,7 +113,7 @@ fn what_is_not_found_is_given_up(rt: HostRuntime) -> Result<(), Fail> {
 fn what_is_not_shown_is_not_published(rt: HostRuntime) -> Result<(), Fail> {
     for batch in BATCHES {
         let tally = run_on_one_suit_each(&rt, rt.alloc(), 1, batch, &FindsTheAce)?;
-        expect_eq(&rt, &tally, &Tally { bad: 20, ..LEASED });
+        expect_eq(&rt, &tally, &TableTally { bad: 20, ..LEASED });
     }
     Ok(())
 }

@@ -72,8 +72,8 @@ fn claims_of_the_ace(declarers: &[Seat]) -> ArrayVec<Claim, 4> {
     claims
 }
 
-/// A solver that gives the answer for North in no-trump on one card each, whatever it is asked: the first declarer's side has
-/// North's graph.
+/// A solver that gives the answer for North in no-trump on one card each, whatever it is asked: the first declarer's
+/// side has North's graph.
 #[derive(Drop)]
 pub struct FindsTheAce;
 

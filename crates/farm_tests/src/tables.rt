@@ -42,7 +42,7 @@ pub fn empty_boards(alloc: Global, count: usize) -> Result<Vec<Board>, AllocErro
 
 /// How often each reply stands in a history.
 #[derive(Clone, Copy, Debug, PartialEq)]
-pub struct Tally {
+pub struct TableTally {
     pub given: u64,
     pub published: u64,
     pub gave_up: u64,
@@ -52,9 +52,9 @@ pub struct Tally {
     pub others: u64,
 }
 
-impl Tally {
-    fn none() -> Tally {
-        Tally {
+impl TableTally {
+    fn none() -> TableTally {
+        TableTally {
             given: 0,
             published: 0,
             gave_up: 0,
@@ -79,8 +79,8 @@ impl Tally {
 }
 
 /// How often each reply stands in the history of a book.
-pub fn tally_of(book: &Book) -> Tally {
-    let mut tally = Tally::none();
+pub fn tally_of(book: &Book) -> TableTally {
+    let mut tally = TableTally::none();
     for event in book.history() {
         let count = tally.place(&event.reply);
         *count = count.saturating_add(1);

@@ -19,15 +19,16 @@ fn join<P: Drop, F: Drop, W: Work<P, F>, R: Threads>(
     thread.join(rt)
 }
 
-/// Waits for threads in their order, and hands out their posts as the work has left them. It ends with the first fault: the
-/// threads behind it are let go, and end with their scope.
+/// Waits for threads in their order, and hands out their posts as the work has left them. It ends with the first fault:
+/// the threads behind it are let go, and end with their scope.
 pub fn join_each<
     P: Drop,
     F: From<AllocError> + From<AllocFailed<P>> + Drop,
     W: Work<P, F>,
     R: Threads,
 >(rt: &R, alloc: Global, _work: &W, threads: Vec<Thread<P, F, W>>) -> Result<Vec<P>, F>
-    ensures { (posts : List P) → AreThreadsOf _work.now posts threads.items → IfOk result (λ ended. AreBeside (W.ends _work.now) posts ended.items) }
+    ensures { (posts : List P) → AreThreadsOf _work.now posts threads.items
+        → IfOk result (λ ended. AreBeside (W.ends _work.now) posts ended.items) }
 {
     let mut ended = Vec::with_capacity(alloc, threads.len())?;
     for thread in threads {

@@ -1,7 +1,7 @@
 //! Threads that each work at a post: what became of the posts is known to who joins them.
 //!
-//! [`start_each`] starts a thread of a scope for each of a list of posts, and [`join_each`] hands the posts back, in their order,
-//! each as the work has left it. [`end_each`] only waits.
+//! [`start_each`] starts a thread of a scope for each of a list of posts, and [`join_each`] hands the posts back, in
+//! their order, each as the work has left it. [`end_each`] only waits.
 #![tactic(auto)]
 
 mod faults;

@@ -11,8 +11,8 @@ use std::snapshot::Snapshot;
 use std::sync::Wait;
 use std::thread::{Scope, Threads};
 
-/// How many bytes of stack a thread gets, whatever the process's limit is. What a search needs most of is a call for each card of
-/// the deal that was played.
+/// How many bytes of stack a thread gets, whatever the process's limit is. What a search needs most of is a call for
+/// each card of the deal that was played.
 const STACK: usize = 1 << 20;
 
 /// Starts a thread at a post, where one can be started.
@@ -37,7 +37,8 @@ fn start<
         .ok()
 }
 
-/// Starts a thread at each post, in their order. On a fault those that were started are in the list; the other posts are let go.
+/// Starts a thread at each post, in their order. On a fault those that were started are in the list; the other posts
+/// are let go.
 pub fn start_each<
     's,
     E,

@@ -81,7 +81,8 @@ fn answered(
     }
 }
 
-/// Each claim of the bundle shows the number of the row, on the shared graphs and as an answer of its own. There are so many.
+/// Each claim of the bundle shows the number of the row, on the shared graphs and as an answer of its own. There are so
+/// many.
 fn expect_claims(
     rt: &impl Abort,
     alloc: Global,
@@ -151,7 +152,8 @@ fn declarers_share_graphs(rt: HostRuntime) -> Result<(), Fail> {
     expect_all_claimed(&rt, rt.alloc(), NINE, &Seat::ALL)
 }
 
-/// A solver that has too few steps for the search of a declarer goes on where it stopped, and what it claims meanwhile is right.
+/// A solver that has too few steps for the search of a declarer goes on where it stopped, and what it claims meanwhile
+/// is right.
 #[test]
 fn parts_of_a_denomination(rt: HostRuntime) -> Result<(), Fail> {
     let solver = Partition::new();

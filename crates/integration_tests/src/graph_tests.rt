@@ -24,8 +24,8 @@ fn expect_written(
     Ok(())
 }
 
-/// What is read is written as it was, in pieces of any size, and what is built as what is read. A sink with so much room
-/// gets the beginning of the text, and a fault.
+/// What is read is written as it was, in pieces of any size, and what is built as what is read. A sink with so much
+/// room gets the beginning of the text, and a fault.
 #[test]
 fn written_as_read(rt: HostRuntime) -> Result<(), Fail> {
     for text in [FINESSE, ACE, SECOND_ACE, NOTHING] {

@@ -3,7 +3,7 @@
 use crate::expect::{expect, expect_eq, expect_ne};
 use arrayvec::ArrayVec;
 use cards::{Seat, Suit};
-use patterns::{PackedLayout, Pattern, PatternFault, Rest, SuitPart};
+use patterns::{Pattern, PatternFault, Rest, SuitPart};
 use pbn_deals::read_layout;
 use std::test::Fail;
 
@@ -72,14 +72,11 @@ fn made_matched_and_covered(rt: HostRuntime) -> Result<(), Fail> {
     expect_eq(&rt, &whole.part(Suit::Spades), &part([2, 2, 2, 2], &owners));
     expect_eq(&rt, &whole.part(Suit::Hearts), &empty());
 
-    let packed = PackedLayout::of(&layout);
     let all_spades = Pattern::of_layout(&layout, [8, 0, 0, 0]);
     expect(&rt, all_spades.matches(&layout));
-    expect(&rt, packed.matches(&all_spades));
     for (lens, owners, matches) in MATCHES {
         let pattern = spades(lens, owners)?;
         expect_eq(&rt, &pattern.matches(&layout), &matches);
-        expect_eq(&rt, &packed.matches(&pattern), &matches);
     }
     for (lens, owners, left, covers) in COVERS {
         let rest = rest_of_spades([1, 1, 1, 1], left)?;
@@ -138,8 +135,8 @@ fn refuses_what_is_no_pattern(rt: HostRuntime) -> Result<(), Fail> {
 /// Places of owners taken out of North, West, North, and how many owners stay.
 const WITHOUT: [(u64, usize); 4] = [(0b101, 1), (0b010, 2), (1 << 5, 3), (u64::MAX, 0)];
 
-/// Lengths taken from a suit of which each seat has two cards, and how many a seat keeps; a seat that has fewer keeps none,
-/// and no other seat pays for it.
+/// Lengths taken from a suit of which each seat has two cards, and how many a seat keeps; a seat that has fewer keeps
+/// none, and no other seat pays for it.
 const LESS: [(Suit, u64, Seat, u8); 9] = [
     (Suit::Spades, 0x1000, WEST, 1),
     (Suit::Spades, 0x1000, SOUTH, 2),

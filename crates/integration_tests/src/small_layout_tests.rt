@@ -5,7 +5,7 @@ use crate::expect::{expect, expect_eq};
 use arrayvec::ArrayVec;
 use cards::{Layout, LayoutFault, Seat, Suit, Trump};
 use pattern_step::{PatCard, SeatSet, are_legal, legal, rest, winners};
-use patterns::{PackedLayout, Pattern, Rest};
+use patterns::{Pattern, Rest};
 use std::process::Abort;
 use std::test::Fail;
 
@@ -339,7 +339,6 @@ fn check_matches(
             && turned.matches_suit(small, Suit::Hearts, depths[1]);
         let layout = turned.layout(&[])?;
         expect_eq(rt, &pattern.matches(&layout), &same);
-        expect_eq(rt, &PackedLayout::of(&layout).matches(pattern), &same);
     }
     Ok(())
 }

@@ -127,7 +127,8 @@ fn endings(rt: HostRuntime) -> Result<(), Fail> {
     Ok(())
 }
 
-/// One solver for all declarers of a layout, and for the next layouts; then nine cards a hand, and a board, each with a new one.
+/// One solver for all declarers of a layout, and for the next layouts; then nine cards a hand, and a board, each with a
+/// new one.
 #[test]
 fn small_and_large_layouts(rt: HostRuntime) -> Result<(), Fail> {
     let solver = Partition::new();
@@ -154,7 +155,8 @@ fn layouts_by_turns(rt: HostRuntime) -> Result<(), Fail> {
     Ok(())
 }
 
-/// Four threads ask one solver at once, each for another declarer and denomination of one layout, until all are asked for.
+/// Four threads ask one solver at once, each for another declarer and denomination of one layout, until all are asked
+/// for.
 #[test]
 fn four_threads(rt: HostRuntime) -> Result<(), Fail> {
     let (alloc, solver) = (rt.alloc(), Partition::new());
@@ -193,8 +195,8 @@ fn soon_claimed(
     Ok(Some(claim.k))
 }
 
-/// One solver is asked of two deals by turns, with too few steps for a new search of either: the second call on a deal goes
-/// on where its first one stopped, though the other deal came between.
+/// One solver is asked of two deals by turns, with too few steps for a new search of either: the second call on a deal
+/// goes on where its first one stopped, though the other deal came between.
 #[test]
 fn two_deals_by_turns(rt: HostRuntime) -> Result<(), Fail> {
     let solver = Partition::new();
@@ -209,8 +211,8 @@ fn two_deals_by_turns(rt: HostRuntime) -> Result<(), Fail> {
     Ok(())
 }
 
-/// What a call has found before its steps ended is there for the next one. A tree has four cards, each of which is a step, so
-/// three steps are never enough.
+/// What a call has found before its steps ended is there for the next one. A tree has four cards, each of which is a
+/// step, so three steps are never enough.
 #[test]
 fn too_few_steps(rt: HostRuntime) -> Result<(), Fail> {
     let solver = Partition::new();

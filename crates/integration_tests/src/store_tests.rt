@@ -15,8 +15,8 @@ const OTHER: [u64; 4] = [1 << 12, 1 << 9, 1 << 10, 1 << 11];
 /// North's card is a heart.
 const HEART: [u64; 4] = [1 << 25, 1 << 11, 1 << 10, 1 << 9];
 
-/// The patterns of the first layout in the order in which they are added: how many spades they name, the seat to lead, the
-/// side, its tricks and a number.
+/// The patterns of the first layout in the order in which they are added: how many spades they name, the seat to lead,
+/// the side, its tricks and a number.
 const ADDED: [(u8, Seat, Side, u8, u32); 5] = [
     (2, Seat::East, Side::NorthSouth, 1, 70),
     (1, Seat::East, Side::NorthSouth, 1, 71),

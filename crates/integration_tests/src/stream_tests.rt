@@ -32,7 +32,8 @@ impl io::Read for Broken {
     }
 }
 
-/// A text in pieces, and a reader that fails; then whole inputs: one of over two pieces, and one that fails in its second call.
+/// A text in pieces, and a reader that fails; then whole inputs: one of over two pieces, and one that fails in its
+/// second call.
 #[test]
 fn readers(rt: HostRuntime) -> Result<(), Fail> {
     let mut buffer = [0; 4];

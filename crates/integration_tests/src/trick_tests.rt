@@ -69,7 +69,8 @@ fn set(seats: &[Seat]) -> SeatSet {
     set
 }
 
-/// The legal cards of a seat in the finesse, by the suit led. A seat without the suit led, and one that leads, may play any card.
+/// The legal cards of a seat in the finesse, by the suit led. A seat without the suit led, and one that leads, may play
+/// any card.
 const LEGAL: [(Seat, Option<Suit>, &[PatCard]); 4] = [
     (WEST, Some(Suit::Spades), &[SECOND, LOW]),
     (NORTH, Some(Suit::Spades), &[FIRST, THIRD]),
@@ -109,8 +110,8 @@ fn tells_the_legal_cards(rt: HostRuntime) -> Result<(), Fail> {
     Ok(())
 }
 
-/// The trick is legal and won by this seat in no-trump, and leaves this part of the spades, no hearts, and what the pattern
-/// behind it covers or not.
+/// The trick is legal and won by this seat in no-trump, and leaves this part of the spades, no hearts, and what the
+/// pattern behind it covers or not.
 fn expect_trick(
     rt: &impl Abort,
     pattern: &Pattern,
@@ -129,8 +130,8 @@ fn expect_trick(
     expect_eq(rt, &child.covers(&left), &covers);
 }
 
-/// Tricks of the finesse that South leads and North wins: the cards, the lengths and owners that are left, and whether North's
-/// high card covers them.
+/// Tricks of the finesse that South leads and North wins: the cards, the lengths and owners that are left, and whether
+/// North's high card covers them.
 const FINESSES: [([PatCard; 4], [u8; 4], &[Seat], bool); 3] = [
     // West plays the king, and North the ace
     ([LOW, SECOND, FIRST, LOW], [1, 1, 1, 1], &[NORTH], true),

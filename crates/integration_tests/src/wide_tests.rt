@@ -22,7 +22,8 @@ const ENDED: &str = "N 1 1.1.1.1/N 0.0.0.0/ 0.0.0.0/ 0.0.0.0/ {}\n";
 /// North plays a card that nobody has.
 const OTHER_CARD: &str = "N 1 1.1.1.1/N 0.0.0.0/ 0.0.0.0/ 0.0.0.0/ Sb(SxSx(Sx{}))\n";
 
-/// A graph of so many nodes. One ends at once, if this is below the count, and so many of the last ones play another card.
+/// A graph of so many nodes. One ends at once, if this is below the count, and so many of the last ones play another
+/// card.
 fn graph_of(alloc: Global, count: u32, ended: u32, others: u32) -> Result<Graph, Fail> {
     let mut text = format!(in alloc; "{HEAD}{count}\n")?;
     for number in 0..count {
@@ -115,8 +116,8 @@ fn is_shared<R: Threads + Sync + CpuClock>(rt: &R, graph: &Arc<Graph>) -> Result
     Ok(others.saturating_mul(3) >= own)
 }
 
-/// From 2,048 nodes on, where there are several processors: one half of so many is checked by a thread of its own. With one
-/// node fewer no thread is started.
+/// From 2,048 nodes on, where there are several processors: one half of so many is checked by a thread of its own. With
+/// one node fewer no thread is started.
 #[test]
 fn large_graphs_are_checked_by_several_threads(rt: HostRuntime) -> Result<(), Fail> {
     let are_several = available_parallelism(&rt)?.get() > 1;

@@ -13,6 +13,7 @@ pub mod TwinLaws
 pub mod HolderLaws
 pub mod NamedLaws
 pub mod PublicationLaws
+pub mod TruthLaws
 pub mod VerdictLaws
 pub mod PlaceLaws
 pub mod FirstGoodLaws

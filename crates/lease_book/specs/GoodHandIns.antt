@@ -19,7 +19,8 @@ abbrev pub good_under : List Board → Entry → Option Grant → Evidence → O
 good_under boards entry None evidence = None
 good_under boards entry (Some grant) (Faulty fault) = None
 good_under boards entry (Some grant) (Shows shown) =
-    if is_same_entry grant.entry entry && is_shown_for (deal_of boards entry.board) entry shown then Some shown.k else None
+    if is_same_entry grant.entry entry && is_shown_for
+    (deal_of boards entry.board) entry shown then Some shown.k else None
 
 -- the number that a request shows for an entry: only a hand-in for it shows one
 abbrev pub good_of : Terms → List Event → Entry → Asked → Option ℕ

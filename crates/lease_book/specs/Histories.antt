@@ -42,7 +42,8 @@ given_by event = given_as event.reply
 abbrev pub given_in : List Event → List Grant
 given_in events = filter_map given_by events
 
--- whether a lease has this number; whether its entry has this place; whether its deadline is at this moment or before it
+-- whether a lease has this number; whether its entry has this place; whether its deadline is at this moment or before
+-- it
 abbrev pub is_numbered : ℕ → Grant → Bool
 is_numbered lease grant = nat_eq grant.lease lease
 
@@ -56,8 +57,8 @@ is_past now grant = nat_le grant.deadline now
 abbrev pub grant_of : List Event → ℕ → Option Grant
 grant_of events lease = find (is_numbered lease) (given_in events)
 
--- Whether a hand-in with this reply frees the lease: a bad one its own, a publication every lease of its entry. (No twin of
--- it is ever leased beside it: only the least of its twins is open.)
+-- Whether a hand-in with this reply frees the lease: a bad one its own, a publication every lease of its entry. (No
+-- twin of it is ever leased beside it: only the least of its twins is open.)
 abbrev pub is_freed_by_hand_in : Grant → ℕ → Entry → Reply → Bool
 is_freed_by_hand_in grant lease entry (BadCertificate fault) = is_numbered lease grant
 is_freed_by_hand_in grant lease entry (Published k) = is_for_place (place_of entry) grant
@@ -99,7 +100,8 @@ published_when test _ reply = None
 -- the first of these numbers, if there is one
 abbrev pub first_published : (Entry → Bool) → List Event → Option ℕ
 first_published test [] = None
-first_published test (event ∷ later) = option_or (published_when test event.asked event.reply) (first_published test later)
+first_published test (event ∷ later) =
+    option_or (published_when test event.asked event.reply) (first_published test later)
 
 -- the number published for an entry: the first that is published for a twin of it
 abbrev pub published_in : List Board → List Event → Entry → Option ℕ
@@ -109,8 +111,8 @@ published_in boards events entry = first_published (are_twins boards entry) even
 abbrev pub times_leased : List Event → ℕ → ℕ
 times_leased events place = count_by (is_for_place place) (given_in events)
 
--- whether an entry is open: its board has a deal and the entry is the least of its twins, it is unpublished, no lease of it
--- is held, and a try is left
+-- whether an entry is open: its board has a deal and the entry is the least of its twins, it is unpublished, no lease
+-- of it is held, and a try is left
 abbrev pub is_open : Terms → List Event → Entry → Bool
 is_open terms events entry =
     is_first terms.boards entry.board

@@ -1,5 +1,6 @@
 -- What a book keeps beside its history, and what that has to be.
-use Rattle.std.specs.Prelude.{◌≡◌, ℕ, suc, ◌-◌, ◌*◌, ◌/◌, ◌<◌, ◌≤◌, Bool, false, List, [], ◌∷◌, length, Option, None, Some}
+use Rattle.std.specs.Prelude.{◌≡◌, ℕ, suc, ◌-◌, ◌*◌, ◌/◌, ◌<◌, ◌≤◌, Bool, false, List, [], ◌∷◌, length, Option, None}
+use Rattle.std.specs.Prelude.{Some}
 use Rattle.std.specs.Prelude.{◌⊎◌, if◌then◌else◌, nat_eq, slice_index_or}
 use Rattle.std.specs.List.{find, list_any}
 use Rattle.cards.specs.Deal.{Deal}
@@ -13,7 +14,8 @@ use Rattle.lease_book.specs.declared.slots.Slot.{Slot}
 use Rattle.lease_book.specs.Entries.{place_of}
 use Rattle.lease_book.specs.Proofs.{IsProven}
 use Rattle.lease_book.specs.Twins.{deal_of, first_board, is_first}
-use Rattle.lease_book.specs.Histories.{Terms, given_in, held_after, number_for, published_when, first_published, published_in}
+use Rattle.lease_book.specs.Histories.{Terms, given_in, held_after, number_for, published_when, first_published}
+use Rattle.lease_book.specs.Histories.{published_in}
 use Rattle.lease_book.specs.Histories.{times_leased, is_numbered, is_for_place}
 use Rattle.lease_book.specs.Replies.{IsLegal}
 
@@ -57,13 +59,15 @@ slot_of terms events place =
 -- each number published under an entry's own name is proven of the deal of its board
 abbrev pub AreProvenAsNamed : Terms → List Event → Type 0
 AreProvenAsNamed terms events =
-    (entry : Entry) (deal : Deal) (k : ℕ) → published_at (place_of entry) events ≡ Some k → deal_of terms.boards entry.board ≡ Some deal
+    (entry : Entry) (deal : Deal) (k : ℕ) → published_at (place_of entry) events ≡ Some k
+    → deal_of terms.boards entry.board ≡ Some deal
     → IsProven (record { layout = deal; declarer = entry.declarer; trump = entry.trump; k = k })
 
 -- each published number is proven of the deal of its board
 abbrev pub AreProven : Terms → List Event → Type 0
 AreProven terms events =
-    (entry : Entry) (deal : Deal) (k : ℕ) → published_in terms.boards events entry ≡ Some k → deal_of terms.boards entry.board ≡ Some deal
+    (entry : Entry) (deal : Deal) (k : ℕ) → published_in terms.boards events entry ≡ Some k
+    → deal_of terms.boards entry.board ≡ Some deal
     → IsProven (record { layout = deal; declarer = entry.declarer; trump = entry.trump; k = k })
 
 -- what a book is: its history is legal, and what is kept beside it is what the history says
@@ -78,7 +82,8 @@ pub record IsKept (terms : Terms) (events : List Event) (leases : List Grant) (s
   pub there : (grant : Grant) → Among grant leases → place_of grant.entry < length slots
   pub found : (grant : Grant) → Among grant (held_after events) → find (is_numbered grant.lease) leases ≡ Some grant
   pub apart : AreApart (held_after events)
-  pub slots_are : (place : ℕ) (d : Slot) → place < length slots → slice_index_or slots place d ≡ slot_of terms events place
+  pub slots_are : (place : ℕ) (d : Slot) → place < length slots
+      → slice_index_or slots place d ≡ slot_of terms events place
   pub only_there : (place : ℕ) → length slots ≤ place → published_at place events ≡ None
 
 -- for each board the number of the first with its deal

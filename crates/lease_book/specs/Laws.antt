@@ -51,8 +51,8 @@ PublishesOnce =
     (terms : Terms) (events : List Event) (entry : Entry) → IsLegal terms events
     → filter_map (published_for terms.boards entry) events ≡ option_to_list (published_in terms.boards events entry)
 
--- a legal history gives no more leases than the entries of so many boards as there are different deals have tries, so that
--- who leases on is answered Nothing in the end
+-- a legal history gives no more leases than the entries of so many boards as there are different deals have tries, so
+-- that who leases on is answered Nothing in the end
 abbrev pub GivesFewLeases : Type 0
 GivesFewLeases =
     (terms : Terms) (events : List Event) → IsLegal terms events

@@ -9,6 +9,7 @@ pub mod Books
 pub mod Keeping
 pub mod GoodHandIns
 pub mod Laws
+pub mod TrueHistories
 pub mod Requests
 pub mod Replays
 pub mod ReplyTexts

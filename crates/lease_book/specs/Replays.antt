@@ -20,8 +20,10 @@ use Rattle.lease_book.specs.Replies.{IsLegal}
 use Rattle.lease_book.specs.Books.{Ledger, AreBoards, AreTries}
 use Rattle.lease_book.specs.Requests.{AreAskedBy}
 
--- the two texts are those of two graphs, which show that declarer's side takes so many tricks and the defenders the others
-pub record TextsShow (deal : Deal) (declarer : Seat) (trump : Trump) (k : ℕ) (declarer_text defenders_text : List ℕ) : Type 0 where
+-- the two texts are those of two graphs, which show that declarer's side takes so many tricks and the defenders the
+-- others
+pub record TextsShow (deal : Deal) (declarer : Seat) (trump : Trump) (k : ℕ) (declarer_text defenders_text : List ℕ)
+    : Type 0 where
   pub declarers : GraphShape
   pub defenders : GraphShape
   pub declarers_read : TextAnswers declarer_text (Ok declarers)
@@ -33,9 +35,10 @@ abbrev pub WasGiven : List Reply → ℕ → ℕ → Entry → Type 0
 WasGiven replies place lease entry =
     (earlier : ℕ) × (deadline : ℕ) × (earlier < place) × (slice_get replies earlier ≡ Some (Given lease entry deadline))
 
--- The request in this place hands the number in for the entry, under a lease that was given for it before, with texts that
--- show the number on the deal of its board.
-pub record IsGoodHandIn (boards : List Board) (requests : List Request) (replies : List Reply) (entry : Entry) (place k : ℕ)
+-- The request in this place hands the number in for the entry, under a lease that was given for it before, with texts
+-- that show the number on the deal of its board.
+pub record IsGoodHandIn (boards : List Board) (requests : List Request) (replies : List Reply) (entry : Entry)
+    (place k : ℕ)
     : Type 0 where
   pub lease : ℕ
   pub declarer : List ℕ
@@ -56,8 +59,8 @@ pub record IsFirstGood (boards : List Board) (requests : List Request) (replies 
 abbrev pub reply_of : Event → Reply
 reply_of event = event.reply
 
--- The book has these terms, its history is legal and is that of the requests, and the replies are those of the history. A
--- number is published exactly where it is that of the first good hand-in for the entry's least twin.
+-- The book has these terms, its history is legal and is that of the requests, and the replies are those of the history.
+-- A number is published exactly where it is that of the first good hand-in for the entry's least twin.
 pub record IsReplayed (terms : Terms) (requests : List Request) (book : Ledger) (replies : List Reply) : Type 0 where
   pub boards : AreBoards terms.boards
   pub tries : AreTries terms.tries

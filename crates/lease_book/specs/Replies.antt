@@ -19,7 +19,8 @@ use Rattle.lease_book.specs.Histories.{Terms, given_in, grant_of, held_after, is
 use Rattle.lease_book.specs.Histories.{deal_of}
 
 -- the lease given is the next one, for the least open entry, with the moment plus the term as its deadline
-pub record IsNextLease (terms : Terms) (before : List Event) (now lease : ℕ) (entry : Entry) (deadline : ℕ) : Type 0 where
+pub record IsNextLease (terms : Terms) (before : List Event) (now lease : ℕ) (entry : Entry) (deadline : ℕ)
+    : Type 0 where
   pub next : lease ≡ length (given_in before) + 1
   pub ready : is_open terms before entry ≡ true
   pub least : (other : Entry) → is_open terms before other ≡ true → place_of entry ≤ place_of other
@@ -51,7 +52,8 @@ abbrev pub evidence_reply : Evidence → Reply
 evidence_reply (Shows shown) = Published shown.k
 evidence_reply (Faulty fault) = BadCertificate fault
 
--- the first that applies: no such lease; another entry; published before, or a twin of it; then what was handed in counts
+-- the first that applies: no such lease; another entry; published before, or a twin of it; then what was handed in
+-- counts
 abbrev pub hand_in_reply : Terms → List Event → Option Grant → Entry → Evidence → Reply
 hand_in_reply terms before None entry evidence = UnknownLease
 hand_in_reply terms before (Some grant) entry evidence =

@@ -1,7 +1,6 @@
 -- The printed numbers and names of replies, and what is printed of each.
-use Rattle.std.specs.Prelude.{ℕ, List, [], ◌∷◌, ◌++◌, codes, Option, None, Some, Result, Ok, Err}
+use Rattle.std.specs.Prelude.{ℕ, List, [], ◌∷◌, ◌++◌, codes, Option, None, Some}
 use Rattle.std.specs.Fmt.{decimal}
-use Rattle.checker.specs.declared.hand_faults.OutOfMemory.{OutOfMemory}
 use Rattle.checker.specs.FaultWords.{hand_fault_text}
 use Rattle.lease_book.specs.declared.events.Reply.{Reply}
 use Rattle.lease_book.specs.declared.events.Reply.TheVariants.{Given, Nothing, Freed, GaveUp}
@@ -16,11 +15,6 @@ refusal_number OtherEntry = Some 3
 refusal_number AlreadyPublished = Some 4
 refusal_number (BadCertificate fault) = Some 5
 refusal_number _ = None
-
--- that of an answer, which may be that memory ran out
-abbrev pub answer_number : Result Reply OutOfMemory → Option ℕ
-answer_number (Ok reply) = refusal_number reply
-answer_number (Err no_memory) = Some 6
 
 abbrev pub reply_name : Reply → List ℕ
 reply_name (Given lease entry deadline) = codes "given"
@@ -47,6 +41,7 @@ told_text (Published tricks) = 32 ∷ decimal tricks
 told_text (BadCertificate fault) = 32 ∷ hand_fault_text fault
 told_text _ = []
 
--- the number of a refusal, the name, and what it tells, as in `2 NotHeld`, `published 7` and `5 BadCertificate 11 NoDeal`
+-- the number of a refusal, the name, and what it tells, as in `2 NotHeld`, `published 7` and `5 BadCertificate 11
+-- NoDeal`
 abbrev pub reply_text : Reply → List ℕ
 reply_text reply = number_text (refusal_number reply) ++ (reply_name reply ++ told_text reply)

@@ -36,7 +36,8 @@ IsAskedBy boards (request.HandIn lease entry k declarer defenders) asked =
 -- the events are those of the requests, one for each, in their order
 abbrev pub AreAskedBy : List Board → List Request → List Event → Type 0
 AreAskedBy boards [] [] = Unit {0}
-AreAskedBy boards (first ∷ requests) (event ∷ events) = IsAskedBy boards first event.asked × AreAskedBy boards requests events
+AreAskedBy boards (first ∷ requests) (event ∷ events) =
+    IsAskedBy boards first event.asked × AreAskedBy boards requests events
 AreAskedBy boards _ _ = ⊥
 
 -- the book was asked what the request asks, and answered

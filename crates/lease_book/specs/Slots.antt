@@ -43,7 +43,8 @@ freed_of lease slot = if is_holder lease slot.holder then freed slot else slot
 
 -- no slot from one place on passes a test
 abbrev pub NonePasses : (Slot → Bool) → ℕ → List Slot → Type 0
-NonePasses test from slots = (place : ℕ) (d : Slot) → from ≤ place → place < length slots → test (slice_index_or slots place d) ≡ false
+NonePasses test from slots =
+    (place : ℕ) (d : Slot) → from ≤ place → place < length slots → test (slice_index_or slots place d) ≡ false
 
 -- the first slot from one place on that passes a test
 pub record IsFirst (test : Slot → Bool) (from : ℕ) (slots : List Slot) (place : ℕ) : Type 0 where

@@ -1,4 +1,5 @@
--- Twins: entries of one declarer and denomination whose boards have the same deal. The names of the boards don't matter.
+-- Twins: entries of one declarer and denomination whose boards have the same deal. The names of the boards don't
+-- matter.
 use Rattle.std.specs.Prelude.{◌≡◌, ℕ, zero, suc, ◌+◌, ◌≤◌, Bool, true, false, ◌&&◌, List, length}
 use Rattle.std.specs.Prelude.{Option, None, Some, is_some, if◌then◌else◌, nat_eq, slice_get}
 use Rattle.std.specs.List.{position_or_len}
@@ -24,8 +25,8 @@ abbrev pub are_equal_deals : Option Deal → Option Deal → Bool
 are_equal_deals None other = false
 are_equal_deals (Some deal) other = is_this_deal deal other
 
--- Whether two entries are twins: both boards have a deal, it is the same, and so are declarer and denomination. An entry
--- whose board has a deal is a twin of itself; one whose board has none, or isn't there, has no twins.
+-- Whether two entries are twins: both boards have a deal, it is the same, and so are declarer and denomination. An
+-- entry whose board has a deal is a twin of itself; one whose board has none, or isn't there, has no twins.
 abbrev pub are_twins : List Board → Entry → Entry → Bool
 are_twins boards one other =
     are_equal_deals (deal_of boards one.board) (deal_of boards other.board)

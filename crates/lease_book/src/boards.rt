@@ -34,8 +34,8 @@ impl Model for Boards {
     ghost invariant = { λ all. AreFirsts all.boards.items all.firsts.items };
 }
 
-/// The deal of a board, where there is one.
-pub(crate) fn deal_on(boards: &[Board], board: usize) -> Option<&Layout>
+/// The deal of a board, where it is there and has one.
+pub fn deal_on(boards: &[Board], board: usize) -> Option<&Layout>
     ensures { option_copied result ≡ deal_of boards.now board }
 {
     match boards.get(board) {
@@ -61,8 +61,9 @@ fn first_of(
     }
 }
 
-/// For each board the number of the first that has the same deal. The boards are looked at once, in their order.
-fn first_boards(alloc: Global, boards: &[Board]) -> Result<Vec<usize>, AllocError>
+/// For each board the number of the first that has the same deal; its own where it has no deal. The boards are looked
+/// at once, in their order.
+pub fn first_boards(alloc: Global, boards: &[Board]) -> Result<Vec<usize>, AllocError>
     ensures { IfOk result (λ firsts. AreFirsts boards.now firsts.items) }
 {
     let mut noted = IndexMap::new(alloc);

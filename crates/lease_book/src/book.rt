@@ -1,6 +1,7 @@
 //! The book of leases.
 
-ghost use Rattle.std.specs.Prelude.{◌≡◌, ◌<◌, ◌≤◌, ◌*◌, ◌-◌, ◌^◌, ℕ, [], length, slice_set, slice_index_or, IfOk, IfSome, OnErr, Some, MatchResult, MatchBool, if◌then◌else◌, Err};
+ghost use Rattle.std.specs.Prelude.{◌≡◌, ◌<◌, ◌≤◌, ◌*◌, ◌-◌, ◌^◌, ℕ, [], length, slice_set, slice_index_or, IfOk};
+ghost use Rattle.std.specs.Prelude.{IfSome, OnErr, Some, MatchResult, MatchBool, if◌then◌else◌, Err};
 ghost use Rattle.std.specs.List.{find};
 ghost use Rattle.cards.specs.Deal.{Deal};
 ghost use Rattle.lease_book.specs.Entries.{place_of};
@@ -22,7 +23,7 @@ use crate::faults::BookFault;
 use crate::slots::{Slot, Slots};
 use cards::Layout;
 use checker::{OutOfMemory, Shown, Verdict};
-use pbn_deals::Board;
+use pbn_deals::{Board, MOST_BOARDS};
 use std::alloc::Global;
 use std::marker::Model;
 
@@ -45,9 +46,14 @@ impl Model for Book {
 
     ghost Value = { Ledger };
 
-    ghost view = { λ book. record { terms = record { boards = book.boards; term = book.term; tries = book.tries }; events = book.events.items } };
+    ghost view = { λ book. record {
+      terms = record { boards = book.boards; term = book.term; tries = book.tries };
+      events = book.events.items;
+    } };
 
-    ghost invariant = { λ book. IsKept (record { boards = book.boards; term = book.term; tries = book.tries }) book.events.items book.leases.items book.slots };
+    ghost invariant = { λ book. IsKept
+        (record { boards = book.boards; term = book.term; tries = book.tries }) book.events.items book.leases.items
+        book.slots };
 }
 
 /// The lease given under a number.
@@ -64,8 +70,10 @@ fn given(leases: &[Grant], lease: u64) -> Option<Grant>
 /// Takes the lease of this number from the entry in a place, where it is held.
 fn take_back(slots: &mut Slots, place: usize, lease: u64) -> Reply
     requires { place < length slots.old }
-    ensures reply { (d : Slot) → result ≡ (if is_holder lease (slice_index_or slots.old place d).holder then GaveUp else NotHeld) }
-    ensures slots { (d : Slot) → slots.new ≡ slice_set slots.old place (freed_of lease (slice_index_or slots.old place d)) }
+    ensures reply { (d : Slot) → result
+        ≡ (if is_holder lease (slice_index_or slots.old place d).holder then GaveUp else NotHeld) }
+    ensures slots { (d : Slot) → slots.new ≡ slice_set slots.old place
+        (freed_of lease (slice_index_or slots.old place d)) }
 {
     let slot = slots.slot(place);
     if !slot.is_held_by(lease) {
@@ -125,13 +133,13 @@ fn is_shown_for(deal: &Option<Layout>, entry: &Entry, shown: &Shown) -> bool
 }
 
 impl Book {
-    /// A book over these boards, at most 4,096, without a history. A lease lasts a term, in the unit of the moments that
-    /// the book is told, and an entry is leased at most as often as `tries` says, 1 to 1,000. The fault is the first that
-    /// applies, in the order of [`BookFault`].
+    /// A book over these boards, at most 4,096, without a history. A lease lasts a term, in the unit of the moments
+    /// that the book is told, and an entry is leased at most as often as `tries` says, 1 to 1,000. The fault is the
+    /// first that applies, in the order of [`BookFault`].
     pub fn new(alloc: Global, boards: Vec<Board>, term: u64, tries: u32) -> Result<Book, BookFault>
         ensures { IsMade (record { boards = boards.items; term = term; tries = tries }) result }
     {
-        if boards.len() > 4096 {
+        if boards.len() > MOST_BOARDS {
             return Err(BookFault::TooManyBoards);
         }
         if tries == 0 || tries > 1000 {
@@ -168,8 +176,9 @@ impl Book {
         self.events.as_slice()
     }
 
-    /// The least of an entry's twins, which are the entries of its declarer and denomination on the boards with the deal of
-    /// its own, whatever their names. An entry whose board has no deal or isn't there is told as it is. Takes no memory.
+    /// The least of an entry's twins, which are the entries of its declarer and denomination on the boards with the
+    /// deal of its own, whatever their names. An entry whose board has no deal or isn't there is told as it is. Takes
+    /// no memory.
     pub fn twin(&self, entry: Entry) -> Entry
         ensures twin { result ≡ twin_of self.now.terms.boards entry }
         ensures least { IsTwin self.now.terms.boards entry result }

@@ -10,14 +10,14 @@ use cards::{Seat, Suit, Trump};
 pub struct Entry {
     /// The number of the board, from 0.
     pub board: usize,
-    /// Declarer.
+    /// The seat of declarer.
     pub declarer: Seat,
     /// The trump suit, or none.
     pub trump: Trump,
 }
 
 /// How many entries a board has.
-pub(crate) const PER_BOARD: usize = 20;
+pub const ENTRIES: usize = 20;
 
 /// The place of a declarer in a table, from 0: N, S, E, W.
 fn seat_place(declarer: Seat) -> usize
@@ -87,16 +87,16 @@ impl Entry {
         requires { self.now.board < 2 ^ 32 }
         ensures { result ≡ place_of self.now }
     {
-        PER_BOARD * self.board + contract_place(self.declarer, self.trump)
+        ENTRIES * self.board + contract_place(self.declarer, self.trump)
     }
 
     /// The entry in this place.
     pub(crate) fn at(place: usize) -> Entry
         ensures { place_of result ≡ place }
     {
-        let contract = place % PER_BOARD;
+        let contract = place % ENTRIES;
         Entry {
-            board: place / PER_BOARD,
+            board: place / ENTRIES,
             declarer: declarer_at(contract / 5),
             trump: trump_at(contract % 5),
         }

@@ -30,12 +30,12 @@ pub enum Evidence {
 pub enum Asked {
     /// For a lease, at this moment.
     Lease {
-        /// The moment.
+        /// In the unit of the book's moments.
         now: u64,
     },
     /// To free the leases whose deadline is at this moment or before it.
     Expire {
-        /// The moment.
+        /// In the unit of the book's moments.
         now: u64,
     },
     /// To take a lease back.

@@ -42,9 +42,11 @@ pub(crate) fn note(
     layout: &Layout,
     number: usize,
 ) -> Result<usize, AllocError>
-    ensures first { IfOk result (λ first. first ≡ noted_or (get are_same_holders noted.old (holders_of layout.now)) number) }
+    ensures first { IfOk result (λ first. first
+        ≡ noted_or (get are_same_holders noted.old (holders_of layout.now)) number) }
     ensures noted { OnOk result ((others : List ℕ) → get are_same_holders noted.new others
-        ≡ noted_after (get are_same_holders noted.old (holders_of layout.now)) (holders_of layout.now) number others (get are_same_holders noted.old others)) }
+        ≡ noted_after (get are_same_holders noted.old (holders_of layout.now)) (holders_of layout.now) number others
+        (get are_same_holders noted.old others)) }
 {
     let holders = holders_of(layout);
     match noted.get(&holders) {

@@ -1,6 +1,7 @@
 //! What follows from the definitions. Each is a function that does nothing: its contract is the law.
 
-ghost use Rattle.lease_book.specs.Laws.{NamesOneReply, FindsLeastTwin, LeasesLeastTwins, PublishesFirstGood, PublishesOnce, GivesFewLeases, NothingIsLeft};
+ghost use Rattle.lease_book.specs.Laws.{NamesOneReply, FindsLeastTwin, LeasesLeastTwins, PublishesFirstGood};
+ghost use Rattle.lease_book.specs.Laws.{PublishesOnce, GivesFewLeases, NothingIsLeft};
 
 /// After one history one reply is named for a request.
 pub fn names_one_reply()
@@ -29,8 +30,8 @@ pub fn publishes_once()
     ensures { PublishesOnce }
 {}
 
-/// A legal history gives no more leases than the tries of all least twins together: twenty for each deal. So who asks for
-/// a lease again and again is answered [`Nothing`](crate::Reply::Nothing) in the end.
+/// A legal history gives no more leases than the tries of all least twins together: twenty for each deal. So who asks
+/// for a lease again and again is answered [`Nothing`](crate::Reply::Nothing) in the end.
 pub fn gives_few_leases()
     ensures { GivesFewLeases }
 {}

@@ -16,10 +16,12 @@ mod replays;
 mod replies;
 mod requests;
 mod slots;
+mod true_histories;
 
+pub use boards::{deal_on, first_boards};
 pub use book::Book;
 pub use checker::OutOfMemory;
-pub use entries::Entry;
+pub use entries::{ENTRIES, Entry};
 pub use events::{Asked, Event, Evidence, Grant, Reply};
 pub use faults::BookFault;
 pub use laws::{
@@ -27,5 +29,5 @@ pub use laws::{
     publishes_first_good, publishes_once,
 };
 pub use replays::replay;
-pub use replies::answer_number;
 pub use requests::{GraphText, Request};
+pub use true_histories::is_true_history;

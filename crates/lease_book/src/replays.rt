@@ -26,7 +26,8 @@ fn verdict_on(
     declarer: &GraphText,
     defenders: &GraphText,
 ) -> Result<Verdict, OutOfMemory>
-    ensures { IfOk result (λ verdict. IsJudged (deal_of boards.now entry.board) entry k declarer.now defenders.now (evidence_of verdict)) }
+    ensures { IfOk result (λ verdict. IsJudged (deal_of boards.now entry.board) entry k declarer.now defenders.now
+        (evidence_of verdict)) }
 {
     judge(
         alloc,
@@ -68,7 +69,8 @@ pub fn replay(
     tries: u32,
     requests: &[Request],
 ) -> Result<(Book, Vec<Reply>), BookFault>
-    ensures ok { IfOk result (λ made. IsReplayed (record { boards = boards.items; term = term; tries = tries }) requests.now made.0 made.1.items) }
+    ensures ok { IfOk result (λ made. IsReplayed
+        (record { boards = boards.items; term = term; tries = tries }) requests.now made.0 made.1.items) }
     ensures err { IfErr result (IsRefused (record { boards = boards.items; term = term; tries = tries })) }
 {
     let mut book = Book::new(alloc, boards, term, tries)?;

@@ -1,10 +1,9 @@
 //! What is printed of a reply.
 
 ghost use Rattle.std.specs.Prelude.{◌≡◌, Some};
-ghost use Rattle.lease_book.specs.ReplyTexts.{refusal_number, reply_name, reply_text, answer_number};
+ghost use Rattle.lease_book.specs.ReplyTexts.{refusal_number, reply_name, reply_text};
 
 use crate::events::Reply;
-use checker::OutOfMemory;
 use std::fmt;
 
 impl Reply {
@@ -38,16 +37,6 @@ impl Reply {
             Reply::BadCertificate(_) => "BadCertificate",
             Reply::Published(_) => "published",
         }
-    }
-}
-
-/// The printed number of what a call of a book answered: that of the refusal, 1 to 5, or 6 where memory ran out.
-pub fn answer_number(answer: &Result<Reply, OutOfMemory>) -> Option<u8>
-    ensures { result ≡ answer_number answer.now }
-{
-    match answer {
-        Ok(reply) => reply.number(),
-        Err(OutOfMemory) => Some(6),
     }
 }
 

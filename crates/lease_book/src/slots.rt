@@ -1,11 +1,13 @@
 //! What is known of each entry, and by which the least open one and the leases past their deadlines are found.
 
-ghost use Rattle.std.specs.Prelude.{◌≡◌, ◌<◌, ◌≤◌, ◌^◌, ℕ, length, map, slice_set, slice_index_or, count_by, replicate, MatchOption, IfOk, ◌*◌, ◌-◌, Some, None};
+ghost use Rattle.std.specs.Prelude.{◌≡◌, ◌<◌, ◌≤◌, ◌^◌, ℕ, length, map, slice_set, slice_index_or, count_by, replicate};
+ghost use Rattle.std.specs.Prelude.{MatchOption, IfOk, ◌*◌, ◌-◌, Some, None};
 ghost use Rattle.lease_book.specs.declared.slots.Slot.{Slot};
-ghost use Rattle.lease_book.specs.Slots.{deadline_of, opening_of, is_open_slot, is_past_slot, freed_if_past, is_holder, NonePasses, IsFirst, new_slot, tries_of};
+ghost use Rattle.lease_book.specs.Slots.{deadline_of, opening_of, is_open_slot, is_past_slot, freed_if_past, is_holder};
+ghost use Rattle.lease_book.specs.Slots.{NonePasses, IsFirst, new_slot, tries_of};
 
 use crate::boards::Boards;
-use crate::entries::PER_BOARD;
+use crate::entries::ENTRIES;
 use crate::events::Grant;
 use due_rows::DueRow;
 use std::alloc::{AllocError, Global};
@@ -85,7 +87,7 @@ impl Slot {
 fn tries_of(boards: &Boards, tries: u32, place: usize) -> u32
     ensures { result ≡ tries_of boards.now tries place }
 {
-    if boards.is_first(place / PER_BOARD) {
+    if boards.is_first(place / ENTRIES) {
         tries
     } else {
         0
@@ -142,7 +144,7 @@ impl Slots {
         ensures slots { IfOk result (λ slots. (place : ℕ) (d : Slot) → place < length slots
             → slice_index_or slots place d ≡ new_slot (tries_of boards.now tries place)) }
     {
-        let count = PER_BOARD * boards.len();
+        let count = ENTRIES * boards.len();
         let mut slots = Slots::closed(alloc, count)?;
         for place in 0..count {
             let left = tries_of(boards, tries, place);
@@ -192,7 +194,8 @@ impl Slots {
 
     /// The first place from this one on with a lease whose deadline is at this moment or before it.
     fn first_past(&self, now: u64, from: usize) -> Option<usize>
-        ensures { MatchOption result (NonePasses (is_past_slot now) from self.now) (IsFirst (is_past_slot now) from self.now) }
+        ensures { MatchOption result (NonePasses (is_past_slot now) from self.now)
+            (IsFirst (is_past_slot now) from self.now) }
     {
         self.deadlines.first_due(now, from)
     }

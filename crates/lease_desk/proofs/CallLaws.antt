@@ -5,7 +5,7 @@ use Rattle.checker.specs.declared.claims.Claimed.{Claimed}
 use Rattle.checker.specs.declared.entries.Shown.{Shown}
 use Rattle.checker.specs.declared.hand_faults.HandFault.{HandFault}
 use Rattle.checker.specs.declared.hand_faults.HandFault.TheVariants.{NoDeal}
-use Rattle.checker.specs.declared.hand_faults.OutOfMemory.{OutOfMemory}
+use Rattle.cards.specs.declared.faults.OutOfMemory.{OutOfMemory}
 use Rattle.lease_book.specs.declared.entries.Entry.{Entry}
 use Rattle.lease_book.specs.declared.events.Asked.{Asked}
 use Rattle.lease_book.specs.declared.events.Asked.TheVariants.{HandIn}

@@ -5,18 +5,18 @@ use Rattle.lease_desk.specs.declared.messages.Message.{Message}
 use Rattle.lease_desk.specs.declared.views.Page.{Page}
 use Rattle.lease_desk.specs.declared.views.Hand.TheVariants.{Before, Empty, Holds}
 use Rattle.lease_desk.specs.declared.views.View.{View}
-use Rattle.lease_desk.specs.declared.ends.Ends.{Ends}
+use Rattle.lease_desk.specs.declared.ends.DeskEnds.{DeskEnds}
 use Rattle.lease_desk.specs.declared.chairs.Chair.{Chair}
 use Rattle.lease_desk.specs.Views.{page_of}
 use Rattle.lease_desk.specs.Seats.{Took, spared}
 use Rattle.lease_desk.specs.Desks.{IsChairAt, shown_of}
 use Rattle.lease_desk.specs.Closing.{IsCollected, IsCompared}
 
-pub sits_empty : (ends : Ends) (opening : Option Page) (chair : Chair) → IsChairAt ends opening chair → (view chair.pass).hand ≡ Before → ⊥
+pub sits_empty : (ends : DeskEnds) (opening : Option Page) (chair : Chair) → IsChairAt ends opening chair → (view chair.pass).hand ≡ Before → ⊥
 sits_empty ends opening chair is e =
     let both : Before ≡ Empty = sym e ∙ ap (λ (v : View). v.hand) is.knows in cc
 
-pub collected : (ends : Ends) (opening : Option Page) (chairs after closed : List Chair) (first : Chair) (own spare : View) (message : Message) → All (IsChairAt ends opening) chairs → 0 < length chairs → own ≡ spared (view (get_or chairs 0 first).pass) → Took true own message spare
+pub collected : (ends : DeskEnds) (opening : Option Page) (chairs after closed : List Chair) (first : Chair) (own spare : View) (message : Message) → All (IsChairAt ends opening) chairs → 0 < length chairs → own ≡ spared (view (get_or chairs 0 first).pass) → Took true own message spare
     → map shown_of after ≡ map shown_of chairs → map shown_of closed ≡ map shown_of after
     → ((last : Page) → spare.hand ≡ Holds true last → All (IsCompared last) closed)
     → IsCollected opening chairs closed message.book

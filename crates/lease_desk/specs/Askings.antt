@@ -25,7 +25,9 @@ asked_of (asking.HandIn lease entry verdict) = HandIn lease entry (evidence_of v
 abbrev pub IsVerdictOn : Option Deal → entries.Entry → Claimed → Result Shown HandFault → Type 0
 IsVerdictOn None entry claimed verdict = verdict ≡ Err NoDeal
 IsVerdictOn (Some deal) entry claimed (Ok shown) =
-    EntryAnswers deal entry.declarer entry.trump claimed.k (rooted_shape claimed.declarer) (rooted_shape claimed.defenders) (Ok shown)
+    EntryAnswers deal entry.declarer entry.trump claimed.k (rooted_shape claimed.declarer)
+    (rooted_shape claimed.defenders) (Ok shown)
 IsVerdictOn (Some deal) entry claimed (Err (Entry fault)) =
-    EntryAnswers deal entry.declarer entry.trump claimed.k (rooted_shape claimed.declarer) (rooted_shape claimed.defenders) (Err fault)
+    EntryAnswers deal entry.declarer entry.trump claimed.k (rooted_shape claimed.declarer)
+    (rooted_shape claimed.defenders) (Err fault)
 IsVerdictOn (Some deal) entry claimed (Err _) = ⊥

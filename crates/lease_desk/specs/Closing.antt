@@ -5,19 +5,19 @@ use Rattle.crossbeam_channel.specs.Ends.{sends_on}
 use Rattle.lease_book.specs.Books.{Ledger}
 use Rattle.lease_desk.specs.declared.views.Page.{Page}
 use Rattle.lease_desk.specs.declared.views.Hand.TheVariants.{Empty}
-use Rattle.lease_desk.specs.declared.ends.Ends.{Ends}
+use Rattle.lease_desk.specs.declared.ends.DeskEnds.{DeskEnds}
 use Rattle.lease_desk.specs.declared.chairs.Chair.{Chair}
 use Rattle.lease_desk.specs.Views.{receipts_on}
 use Rattle.lease_desk.specs.Rule.{AreBelow, IsOf}
 use Rattle.lease_desk.specs.Desks.{IsChairAt, number_of, receipts_in, shown_of}
 
 -- the chairs are of one channel and one opening
-pub record AreSeatedAt (ends : Ends) (chairs : List Chair) : Type 0 where
+pub record AreSeatedAt (ends : DeskEnds) (chairs : List Chair) : Type 0 where
   pub opening : Option Page
   pub each : All (IsChairAt ends opening) chairs
 
 -- the chair's pass is one of this channel, has nothing in hand, and knows what the chair keeps
-pub record IsSitting (ends : Ends) (chair : Chair) : Type 0 where
+pub record IsSitting (ends : DeskEnds) (chair : Chair) : Type 0 where
   pub seat : IsSeatAt (sends_on ends.sender) chair.pass
   pub hand : (view chair.pass).hand ≡ Empty
   pub number : (view chair.pass).number ≡ Some chair.number

@@ -1,5 +1,6 @@
 -- What the desk promises.
-use Rattle.std.specs.Prelude.{◌≡◌, ℕ, ◌<◌, List, [], ◌∷◌, ◌++◌, All, Option, Some, length, map, count_by, sum_by, nat_eq}
+use Rattle.std.specs.Prelude.{◌≡◌, ℕ, ◌<◌, List, [], ◌∷◌, ◌++◌, All, Option, Some, length, map, count_by, sum_by}
+use Rattle.std.specs.Prelude.{nat_eq}
 use Rattle.crossbeam_channel.specs.Claims.{view, IsSeatAt}
 use Rattle.crossbeam_channel.specs.Ends.{sends_on}
 use Rattle.lease_book.specs.declared.events.Asked.{Asked}
@@ -9,7 +10,7 @@ use Rattle.lease_book.specs.Books.{Ledger}
 use Rattle.lease_book.specs.Replies.{IsReply, IsLegal}
 use Rattle.lease_desk.specs.declared.receipts.Receipt.{Receipt}
 use Rattle.lease_desk.specs.declared.views.Page.{Page}
-use Rattle.lease_desk.specs.declared.ends.Ends.{Ends}
+use Rattle.lease_desk.specs.declared.ends.DeskEnds.{DeskEnds}
 use Rattle.lease_desk.specs.declared.chairs.Chair.{Chair}
 use Rattle.lease_desk.specs.declared.desk.Desk.{Desk}
 use Rattle.lease_desk.specs.Receipts.{Stands, IsBefore, is_for}
@@ -33,7 +34,7 @@ abbrev pub opening_of : Desk → Page
 opening_of desk = record { book = record { terms = terms_of desk; events = [] }; makers = []; chairs = desk.chairs }
 
 -- the chair's pass is one of this channel, and knows the opening and what the chair keeps
-pub record IsChairAt (ends : Ends) (opening : Option Page) (chair : Chair) : Type 0 where
+pub record IsChairAt (ends : DeskEnds) (opening : Option Page) (chair : Chair) : Type 0 where
   pub seat : IsSeatAt (sends_on ends.sender) chair.pass
   pub knows : view chair.pass ≡ sitter opening chair.number chair.receipts.items
 
@@ -58,7 +59,8 @@ pub record IsOpened (terms : Terms) (count : ℕ) (desk : Desk) (chairs : List C
   pub chairs_are : AreChairsOf desk chairs
   pub none_yet : All (λ chair. receipts_in chair ≡ []) chairs
 
--- The reply is the one that is named by a legal history of so many events, in which all that the chair was told before stands.
+-- The reply is the one that is named by a legal history of so many events, in which all that the chair was told before
+-- stands.
 pub record IsNamed (terms : Terms) (before : List Receipt) (asked : Asked) (told : Receipt) : Type 0 where
   pub earlier : List Event
   pub legal : IsLegal terms earlier
@@ -85,8 +87,8 @@ receipts_for place chairs = sum_by (λ chair. count_by (is_for place) (receipts_
 abbrev pub shown_of : Chair → ℕ × List Receipt
 shown_of chair = (number_of chair, receipts_in chair)
 
--- The closed book: its history is legal over the terms of the opening, each receipt stands in it at its place, each place is
--- in one chair, once, and there are as many events as receipts. The chairs have the receipts that they had.
+-- The closed book: its history is legal over the terms of the opening, each receipt stands in it at its place, each
+-- place is in one chair, once, and there are as many events as receipts. The chairs have the receipts that they had.
 pub record IsClosed (terms : Terms) (chairs : List Chair) (book : Ledger) (closed : List Chair) : Type 0 where
   pub terms_are : book.terms ≡ terms
   pub legal : IsLegal terms book.events

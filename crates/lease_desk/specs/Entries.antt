@@ -19,7 +19,14 @@ pub record IsEntered (old new : Page) (number : ℕ) (asked : Asked) (told : Rec
 
 -- the view of a chair that has one more receipt
 abbrev pub with_receipt : View → Receipt → View
-with_receipt v told = record { number = v.number; receipts = v.receipts ++ told ∷ []; made = v.made; opening = v.opening; hand = v.hand; told = v.told }
+with_receipt v told = record {
+  number = v.number;
+  receipts = v.receipts ++ told ∷ [];
+  made = v.made;
+  opening = v.opening;
+  hand = v.hand;
+  told = v.told;
+}
 
 -- what a call leaves in a chair's pass
 pub record IsAttended (v w : View) (asked : Asked) (told : Receipt) : Type 0 where

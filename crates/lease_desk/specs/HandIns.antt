@@ -20,7 +20,8 @@ pub record IsValueOf (terms : Terms) (entry : Entry) (k : ℕ) : Type 0 where
   pub proven : IsProven (record { layout = deal; declarer = entry.declarer; trump = entry.trump; k = k })
 
 -- The verdict on the claim was handed in under the lease. A number that the reply publishes is the entry's value.
-pub record IsHandedIn (terms : Terms) (before after : List Receipt) (lease : ℕ) (entry : Entry) (claimed : Claimed) (told : Receipt)
+pub record IsHandedIn (terms : Terms) (before after : List Receipt) (lease : ℕ) (entry : Entry) (claimed : Claimed)
+    (told : Receipt)
     : Type 0 where
   pub verdict : Result Shown HandFault
   pub judged : IsVerdictOn (deal_of terms.boards entry.board) entry claimed verdict

@@ -1,4 +1,5 @@
 pub mod Receipts
+pub mod Moments
 pub mod Views
 pub mod Rule
 pub mod Seats

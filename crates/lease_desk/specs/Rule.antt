@@ -1,5 +1,5 @@
--- The rule of the desk's channel. The message is in the channel or in one view. Terms and chairs are those of the opening,
--- the chairs' numbers differ, and each chair's receipts are just the events that are listed under its number.
+-- The rule of the desk's channel. The message is in the channel or in one view. Terms and chairs are those of the
+-- opening, the chairs' numbers differ, and each chair's receipts are just the events that are listed under its number.
 use Rattle.std.specs.Prelude.{◌≡◌, ℕ, ◌<◌, ◌≤◌, ◌⊎◌, Bool, true, false, List, [], ◌∷◌, length, Some, nat_eq}
 use mathlib.Core.Option.{some}
 use lib.ListN.{get_elem?}

@@ -43,7 +43,14 @@ receipts_told (Some k) page before = receipts_on page k
 -- the message is given back
 abbrev pub gave : View → Page → View
 gave v page =
-    record { number = v.number; receipts = receipts_told v.number page v.receipts; made = v.made; opening = v.opening; hand = Empty; told = v.told }
+    record {
+      number = v.number;
+      receipts = receipts_told v.number page v.receipts;
+      made = v.made;
+      opening = v.opening;
+      hand = Empty;
+      told = v.told;
+    }
 
 abbrev pub Gave : View → Message → View → Type 0
 Gave v message w = w ≡ gave v (page_of message)
@@ -54,7 +61,14 @@ next_number None = None
 next_number (Some made) = Some (made + 1)
 
 abbrev pub ushering : View → View
-ushering v = record { number = v.number; receipts = v.receipts; made = next_number v.made; opening = v.opening; hand = v.hand; told = v.told }
+ushering v = record {
+  number = v.number;
+  receipts = v.receipts;
+  made = next_number v.made;
+  opening = v.opening;
+  hand = v.hand;
+  told = v.told;
+}
 
 abbrev pub seated : View → View
 seated v = record { number = v.made; receipts = []; made = None; opening = v.opening; hand = Empty; told = None }
@@ -79,7 +93,14 @@ told_of v = record { number = None; receipts = []; made = None; opening = None; 
 
 -- a pass that was told what another tells
 abbrev pub heard : View → View → View
-heard v w = record { number = v.number; receipts = v.receipts; made = v.made; opening = v.opening; hand = v.hand; told = w.told }
+heard v w = record {
+  number = v.number;
+  receipts = v.receipts;
+  made = v.made;
+  opening = v.opening;
+  hand = v.hand;
+  told = w.told;
+}
 
 -- a chair's receipts are those on the last page, where it was told the page
 abbrev pub Compared : View → List Message → Type 0

@@ -34,7 +34,8 @@ blank = record { number = None; receipts = []; made = None; opening = None; hand
 
 -- the pass that makes chairs, after it made so many
 abbrev pub usher : Option Page → ℕ → View
-usher opening made = record { number = None; receipts = []; made = Some made; opening = opening; hand = Empty; told = None }
+usher opening made =
+    record { number = None; receipts = []; made = Some made; opening = opening; hand = Empty; told = None }
 
 -- the pass of a chair, between its calls
 abbrev pub sitter : Option Page → ℕ → List Receipt → View
@@ -44,4 +45,11 @@ sitter opening number receipts =
 -- the same view with a page in hand, for good or not
 abbrev pub holding : Bool → Page → View → View
 holding final page v =
-    record { number = v.number; receipts = v.receipts; made = v.made; opening = v.opening; hand = Holds final page; told = v.told }
+    record {
+      number = v.number;
+      receipts = v.receipts;
+      made = v.made;
+      opening = v.opening;
+      hand = Holds final page;
+      told = v.told;
+    }

@@ -28,7 +28,8 @@ impl Desk {
         requires chair { IsChairOf self.now chair.old }
         ensures chair { IsChairOf self.now chair.new }
         ensures number { number_of chair.new ≡ number_of chair.old }
-        ensures ok { IfOk result (IsTold (terms_of self.now) (receipts_in chair.old) (receipts_in chair.new) (asked_of asking)) }
+        ensures ok { IfOk result (IsTold (terms_of self.now) (receipts_in chair.old) (receipts_in chair.new)
+            (asked_of asking)) }
         ensures err { OnErr result (receipts_in chair.new ≡ receipts_in chair.old) }
     {
         if chair.receipts.reserve(1).is_err() {
@@ -49,7 +50,8 @@ impl Desk {
         requires chair { IsChairOf self.now chair.old }
         ensures chair { IsChairOf self.now chair.new }
         ensures number { number_of chair.new ≡ number_of chair.old }
-        ensures ok { IfOk result (IsTold (terms_of self.now) (receipts_in chair.old) (receipts_in chair.new) (Lease now)) }
+        ensures ok { IfOk result (IsTold (terms_of self.now) (receipts_in chair.old) (receipts_in chair.new)
+            (Lease now)) }
         ensures err { OnErr result (receipts_in chair.new ≡ receipts_in chair.old) }
     {
         self.call(rt, chair, Asking::Lease { now })
@@ -65,7 +67,8 @@ impl Desk {
         requires chair { IsChairOf self.now chair.old }
         ensures chair { IsChairOf self.now chair.new }
         ensures number { number_of chair.new ≡ number_of chair.old }
-        ensures ok { IfOk result (IsTold (terms_of self.now) (receipts_in chair.old) (receipts_in chair.new) (Expire now)) }
+        ensures ok { IfOk result (IsTold (terms_of self.now) (receipts_in chair.old) (receipts_in chair.new)
+            (Expire now)) }
         ensures err { OnErr result (receipts_in chair.new ≡ receipts_in chair.old) }
     {
         self.call(rt, chair, Asking::Expire { now })
@@ -81,14 +84,15 @@ impl Desk {
         requires chair { IsChairOf self.now chair.old }
         ensures chair { IsChairOf self.now chair.new }
         ensures number { number_of chair.new ≡ number_of chair.old }
-        ensures ok { IfOk result (IsTold (terms_of self.now) (receipts_in chair.old) (receipts_in chair.new) (GiveUp lease)) }
+        ensures ok { IfOk result (IsTold (terms_of self.now) (receipts_in chair.old) (receipts_in chair.new)
+            (GiveUp lease)) }
         ensures err { OnErr result (receipts_in chair.new ≡ receipts_in chair.old) }
     {
         self.call(rt, chair, Asking::GiveUp { lease })
     }
 
-    /// Tells the gate, checks the claim for the entry on the deal of its board, and hands the verdict in under the lease.
-    /// The claim is checked before the book is taken, so that others go on meanwhile.
+    /// Tells the gate, checks the claim for the entry on the deal of its board, and hands the verdict in under the
+    /// lease. The claim is checked before the book is taken, so that others go on meanwhile.
     pub fn hand_in<R: Wait, G: Gate>(
         &self,
         rt: &R,
@@ -101,7 +105,8 @@ impl Desk {
         requires chair { IsChairOf self.now chair.old }
         ensures chair { IsChairOf self.now chair.new }
         ensures number { number_of chair.new ≡ number_of chair.old }
-        ensures ok { IfOk result (IsHandedIn (terms_of self.now) (receipts_in chair.old) (receipts_in chair.new) lease entry claimed.now) }
+        ensures ok { IfOk result (IsHandedIn (terms_of self.now) (receipts_in chair.old)
+            (receipts_in chair.new) lease entry claimed.now) }
         ensures err { OnErr result (receipts_in chair.new ≡ receipts_in chair.old) }
     {
         gate.before_check(lease);

@@ -10,7 +10,7 @@ ghost use Rattle.lease_desk.specs.Closing.{AreSeatedAt, IsCollected, IsSitting, 
 
 use crate::chairs::Chair;
 use crate::desk::Desk;
-use crate::ends::Ends;
+use crate::ends::DeskEnds;
 use crate::rule::{Compares, DeskPass, Hears, Spares, Tells};
 use crate::turns::take_last;
 use lease_book::Book;
@@ -26,7 +26,7 @@ pub struct Closed {
 }
 
 /// Compares the receipts of one chair with the message in hand.
-fn compare(ends: &Ends, own: &mut DeskPass, chair: &mut Chair)
+fn compare(ends: &DeskEnds, own: &mut DeskPass, chair: &mut Chair)
     requires seat { IsSeatAt (sends_on ends.now.sender) own.old }
     requires sits { IsSitting ends.now chair.old }
     requires holds { (last : Page) × ((view own.old).hand ≡ Holds true last) }
@@ -41,7 +41,7 @@ fn compare(ends: &Ends, own: &mut DeskPass, chair: &mut Chair)
 }
 
 /// Compares the receipts of each chair with the message in hand.
-fn settle(ends: &Ends, own: DeskPass, chairs: &mut [Chair])
+fn settle(ends: &DeskEnds, own: DeskPass, chairs: &mut [Chair])
     requires seat { IsSeatAt (sends_on ends.now.sender) own }
     requires sit { All (IsSitting ends.now) chairs.old }
     requires holds { (last : Page) × ((view own).hand ≡ Holds true last) }
@@ -55,10 +55,11 @@ fn settle(ends: &Ends, own: DeskPass, chairs: &mut [Chair])
 }
 
 /// Takes the message for good, and compares the receipts of each chair with it.
-fn collect<R: Wait>(rt: &R, ends: &Ends, chairs: &mut [Chair]) -> Book
+fn collect<R: Wait>(rt: &R, ends: &DeskEnds, chairs: &mut [Chair]) -> Book
     requires some { 0 < length chairs.old }
     requires seated { AreSeatedAt ends.now chairs.old }
-    ensures { (opening : Option Page) → All (IsChairAt ends.now opening) chairs.old → IsCollected opening chairs.old chairs.new result }
+    ensures { (opening : Option Page) → All (IsChairAt ends.now opening) chairs.old
+        → IsCollected opening chairs.old chairs.new result }
 {
     let mut own = ends.sender.another::<Spares>(&mut chairs[0].pass);
     let message = take_last(rt, &ends.receiver, &mut own);

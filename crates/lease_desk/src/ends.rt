@@ -13,17 +13,17 @@ use std::alloc::{AllocError, Global};
 
 /// Both ends of the desk's channel.
 #[derive(Drop)]
-pub struct Ends {
+pub struct DeskEnds {
     pub(crate) sender: DeskSender,
     pub(crate) receiver: DeskReceiver,
     pub(crate) ghost one_channel: { receives_on receiver ≡ sends_on sender },
 }
 
 /// A new channel of one place, with its first pass.
-pub(crate) fn new_ends(alloc: Global) -> Result<(Ends, DeskPass), AllocError>
+pub(crate) fn new_ends(alloc: Global) -> Result<(DeskEnds, DeskPass), AllocError>
     ensures seat { IfOk result (λ made. IsSeatAt (sends_on made.0.sender) made.1) }
     ensures view { IfOk result (λ made. view made.1 ≡ unopened) }
 {
     let (sender, receiver, pass) = bounded_with::<Message, View, OneHistory, Global>(alloc, 1)?;
-    Ok((Ends { sender, receiver }, pass))
+    Ok((DeskEnds { sender, receiver }, pass))
 }

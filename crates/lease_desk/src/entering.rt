@@ -9,7 +9,7 @@ ghost use Rattle.lease_desk.specs.Views.{page_of};
 ghost use Rattle.lease_desk.specs.Entries.{IsEntered, IsAttended};
 
 use crate::asking::Asking;
-use crate::ends::Ends;
+use crate::ends::DeskEnds;
 use crate::messages::Message;
 use crate::receipts::Receipt;
 use crate::rule::DeskPass;
@@ -37,7 +37,7 @@ fn enter(message: &mut Message, number: usize, asking: Asking) -> Result<Receipt
 /// Takes the message, enters a request and gives the message back.
 pub(crate) fn attend<R: Wait>(
     rt: &R,
-    ends: &Ends,
+    ends: &DeskEnds,
     pass: &mut DeskPass,
     number: usize,
     asking: Asking,

@@ -1,12 +1,16 @@
 //! Who is told of the work.
 
+ghost use Rattle.lease_book.specs.Keeping.{AreFirsts};
+
 use lease_book::{Entry, Reply};
 use pbn_deals::Board;
 
 /// Is told of the work of threads. It is asked nothing, and what it does is its own.
 pub trait Gate {
-    /// Work on these boards is about to begin.
-    fn before_work(&self, _boards: &[Board]) {}
+    /// Work on these boards is about to begin. For each board there is the number of the first that has its deal.
+    fn before_work(&self, _boards: &[Board], _firsts: &[usize])
+        requires { AreFirsts _boards.now _firsts.now }
+    {}
 
     /// A solver is about to work on this lease.
     fn before_solve(&self, lease: u64);

@@ -7,7 +7,7 @@ ghost use Rattle.lease_desk.specs.Desks.{IsOpened};
 use crate::board_copies::copies_of;
 use crate::chairs::Chair;
 use crate::desk::Desk;
-use crate::ends::{Ends, new_ends};
+use crate::ends::{DeskEnds, new_ends};
 use crate::messages::Message;
 use crate::rule::DeskPass;
 use crate::seating::seat_all;
@@ -26,7 +26,10 @@ fn set_up<R: Wait>(
     tries: u32,
     chairs: usize,
 ) -> Result<(Desk, Vec<Chair>), AllocError>
-    requires new { book ≡ record { terms = record { boards = book.terms.boards; term = term; tries = tries }; events = [] } }
+    requires new { book ≡ record {
+      terms = record { boards = book.terms.boards; term = term; tries = tries };
+      events = [];
+    } }
     ensures { IfOk result (λ made. IsOpened book.terms chairs made.0 made.1.items) }
 {
     let boards = copies_of(alloc, book.boards())?;
@@ -71,7 +74,8 @@ impl Desk {
         tries: u32,
         chairs: usize,
     ) -> Result<(Desk, Vec<Chair>), BookFault>
-        ensures ok { IfOk result (λ made. IsOpened (record { boards = boards.items; term = term; tries = tries }) chairs made.0 made.1.items) }
+        ensures ok { IfOk result (λ made. IsOpened
+            (record { boards = boards.items; term = term; tries = tries }) chairs made.0 made.1.items) }
         ensures err { IfErr result (IsRefused (record { boards = boards.items; term = term; tries = tries })) }
     {
         let book = Book::new(alloc, boards, term, tries)?;

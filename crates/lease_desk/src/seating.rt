@@ -8,14 +8,14 @@ ghost use Rattle.lease_desk.specs.Seats.{HasChairs};
 ghost use Rattle.lease_desk.specs.Desks.{IsChairAt, number_of, receipts_in, AreAll};
 
 use crate::chairs::Chair;
-use crate::ends::Ends;
+use crate::ends::DeskEnds;
 use crate::rule::{DeskPass, Seats};
 use std::alloc::{AllocError, Global};
 
 /// So many chairs, whose passes are split off this one.
 pub(crate) fn seat_all(
     alloc: Global,
-    ends: &Ends,
+    ends: &DeskEnds,
     pass: DeskPass,
     count: usize,
 ) -> Result<Vec<Chair>, AllocError>

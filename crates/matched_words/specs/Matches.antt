@@ -43,8 +43,10 @@ abbrev pub Says : Text → List Row → Subcommand → Type 0
 Says name said (Plain layout leader trump) = (name ≡ codes "plain")
     × SaysDeal said (codes "LEADER") (record { layout = layout; seat = leader; trump = trump })
 Says name said (Solve layout declarer trump budget) = (name ≡ codes "solve")
-    × SaysDeal said (codes "DECLARER") (record { layout = layout; seat = declarer; trump = trump }) × SaysNumber said budget_option budget
-Says name said (Table settings progress) = (name ≡ codes "table") × SaysSettings said settings × SaysFlag said progress_option progress
+    × SaysDeal said (codes "DECLARER") (record { layout = layout; seat = declarer; trump = trump })
+    × SaysNumber said budget_option budget
+Says name said (Table settings progress) =
+    (name ≡ codes "table") × SaysSettings said settings × SaysFlag said progress_option progress
 Says name said (Check layout declarer trump) = (name ≡ codes "check")
     × SaysDeal said (codes "DECLARER") (record { layout = layout; seat = declarer; trump = trump })
 

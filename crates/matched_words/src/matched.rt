@@ -5,7 +5,8 @@ ghost use Rattle.clap.specs.Words.{first_of, found_of, rows_of, subcommand_rows_
 ghost use Rattle.cards.specs.Seats.{seat_letter};
 ghost use Rattle.cards.specs.Pack.{trump_letters};
 ghost use Rattle.asked.specs.Options.{numbers_of};
-ghost use Rattle.matched_words.specs.Matches.{IsRead, flag_letters, Says, SaysDeal, SaysMatched, SaysNumber, SaysSettings};
+ghost use Rattle.matched_words.specs.Matches.{IsRead, flag_letters, Says, SaysDeal, SaysMatched, SaysNumber};
+ghost use Rattle.matched_words.specs.Matches.{SaysSettings};
 
 use asked::options::{self, NumberOption};
 use asked::{Settings, Subcommand};
@@ -113,7 +114,8 @@ fn deal_of<'a>(said: &ArgMatches<'a>, seat: &str) -> Option<NamedDeal<'a>>
 }
 
 fn seat_of(said: &ArgMatches<'_>, name: &str) -> Option<Seat>
-    ensures { (seat : _) → (result ≡ Some seat) ↔ (first_of name.now (rows_of (found_of said.now)) ≡ Some (seat_letter seat)) }
+    ensures { (seat : _) → (result ≡ Some seat)
+        ↔ (first_of name.now (rows_of (found_of said.now)) ≡ Some (seat_letter seat)) }
 {
     Seat::of_letter(word_of(said, name)?)
 }
@@ -127,7 +129,8 @@ fn trump_of(said: &ArgMatches<'_>) -> Option<Trump>
 
 /// Whether an option without a value stands among the words.
 fn flag_of(said: &ArgMatches<'_>, name: &str) -> Option<bool>
-    ensures { (flag : _) → (result ≡ Some flag) ↔ (first_of name.now (rows_of (found_of said.now)) ≡ Some (flag_letters flag)) }
+    ensures { (flag : _) → (result ≡ Some flag)
+        ↔ (first_of name.now (rows_of (found_of said.now)) ≡ Some (flag_letters flag)) }
 {
     flag_of_letters(word_of(said, name)?)
 }

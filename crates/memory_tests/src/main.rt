@@ -1,5 +1,5 @@
-//! Calls whose memory runs out: each line of the input names a call, how many allocations to make before it, and how many to
-//! make after it until one is refused. What came of the call is printed.
+//! Calls whose memory runs out: each line of the input names a call, how many allocations to make before it, and how
+//! many to make after it until one is refused. What came of the call is printed.
 #![tactic(auto)]
 
 mod books;

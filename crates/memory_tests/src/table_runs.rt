@@ -10,10 +10,11 @@ use partition_solver::Partition;
 use std::alloc::{AllocError, Global};
 use std::sync::Wait;
 use std::thread::Threads;
+use subcommands::make_tables;
 use tables::Report;
 use test_support::idle::{LetsPass, StandsStill};
 use test_support::settings::one_of_each;
-use tournaments::{MakeFault, make_tables};
+use tournaments::MakeFault;
 
 /// How many steps the search has.
 const BUDGET: u64 = 10_000_000;

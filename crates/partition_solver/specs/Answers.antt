@@ -35,12 +35,15 @@ HasRoots bundle claim =
 pub record IsAnswerTo (bundle : Bundle) (claim : Claim) (answer : Answer) : Type 0 where
   pub k : answer.k ≡ claim.k
   pub declarer : IsExtract (graph_of bundle (side_of claim.declarer)) claim.declarer_root answer.declarer
-  pub defenders : IsExtract (graph_of bundle (other_side (side_of claim.declarer))) claim.defenders_root answer.defenders
+  pub defenders : IsExtract (graph_of bundle (other_side (side_of claim.declarer))) claim.defenders_root
+      answer.defenders
 
--- the answer of the first claim for a declarer; there is none where no claim is for that one, or where a root is no node
+-- the answer of the first claim for a declarer; there is none where no claim is for that one, or where a root is no
+-- node
 abbrev pub IsAnswerFor : Bundle → Seat → Option Answer → Type 0
 IsAnswerFor bundle declarer (Some answer) =
-    (claim : Claim) × (claim_for bundle.claims.items declarer ≡ Some claim) × HasRoots bundle claim × IsAnswerTo bundle claim answer
+    (claim : Claim) × (claim_for bundle.claims.items declarer ≡ Some claim) × HasRoots bundle claim
+    × IsAnswerTo bundle claim answer
 IsAnswerFor bundle declarer None =
     (claim_for bundle.claims.items declarer ≡ None)
     ⊎ ((claim : Claim) × (claim_for bundle.claims.items declarer ≡ Some claim) × (HasRoots bundle claim → ⊥))

@@ -49,8 +49,8 @@ impl Bundle {
             && is_root_in(self.graph_of(side.other()), claim.defenders_root)
     }
 
-    /// The answer of the first claim for a declarer, with graphs of its own that begin with the roots. There is none where no
-    /// claim is for that one, or where a root is no node. Fails only where memory runs out.
+    /// The answer of the first claim for a declarer, with graphs of its own that begin with the roots. There is none
+    /// where no claim is for that one, or where a root is no node. Fails only where memory runs out.
     pub fn answer_for(&self, alloc: Global, declarer: Seat) -> Result<Option<Answer>, AllocError>
         ensures { IfOk result (IsAnswerFor self.now declarer) }
     {

@@ -11,7 +11,8 @@ pub struct Claim {
     pub declarer: Seat,
     /// The tricks that declarer's side takes, 0 to 13.
     pub k: u8,
-    /// The number of the node of the graph of declarer's side that shows that it takes as many; none where it takes none.
+    /// The number of the node of the graph of declarer's side that shows that it takes as many; none where it takes
+    /// none.
     pub declarer_root: Option<u32>,
     /// The number of the node of the defenders' graph that shows that they take all others; none where there are none.
     pub defenders_root: Option<u32>,

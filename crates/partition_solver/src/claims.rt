@@ -8,7 +8,8 @@ use arrayvec::ArrayVec;
 use cards::{Seat, Trump};
 use search_state::positions::Holdings;
 
-/// Where play starts for the declarers of a denomination, each once. A root's number is its place: a graph begins with them.
+/// Where play starts for the declarers of a denomination, each once. A root's number is its place: a graph begins with
+/// them.
 type Roots = ArrayVec<TrickStart, 4>;
 
 /// What is claimed so far.
@@ -19,13 +20,14 @@ struct Claims {
     ours: Roots,
     /// Those of East's and West's.
     theirs: Roots,
-    /// By the leader's side, North's and South's first, how many tricks North and South take where its last value was found.
+    /// By the leader's side, North's and South's first, how many tricks North and South take where its last value was
+    /// found.
     last: [Option<i32>; 2],
 }
 
 /// The claims for these declarers of a deal of so many tricks, with their graphs. None where a graph can't be finished,
-/// nothing is claimed or memory ran out. Each declarer's tricks are searched with so many steps. Where that was not enough for
-/// all, half of what the others have left is searched with too, and the graphs are written with the rest.
+/// nothing is claimed or memory ran out. Each declarer's tricks are searched with so many steps. Where that was not
+/// enough for all, half of what the others have left is searched with too, and the graphs are written with the rest.
 pub(crate) fn bundle_of(
     search: &mut Search,
     tricks: i32,
@@ -117,8 +119,8 @@ impl Claims {
     }
 }
 
-/// Where play starts for a side that wins just so many tricks with this seat to lead, or nothing where those are none. None
-/// where it is not remembered.
+/// Where play starts for a side that wins just so many tricks with this seat to lead, or nothing where those are none.
+/// None where it is not remembered.
 fn start_of(search: &Search, leader: usize, ours: bool, need: i32) -> Option<Option<TrickStart>> {
     if need <= 0 {
         return Some(None);

@@ -1,12 +1,12 @@
 //! The graph of a side, written from its roots on, each node after those that name it first.
 
-use crate::plans::{PLAN_FUEL, Piece, Plan, TrickStart, Turn};
+use crate::plans::{PLAN_FUEL, Piece, Plan, TreePlace, TrickStart};
 use crate::search::Search;
 use cards::{Seat, Side, Suit, Trump};
 use certificate_graph::{Child, Graph, Node, Token, Tree, Version};
 use pattern_step::PatCard;
 use patterns::Pattern;
-use search_state::pattern_tricks::{Held, LOW, PatternTrick};
+use search_state::pattern_tricks::{LOW, PatternStart, PatternTrick};
 use std::alloc::{AllocError, Global};
 use std::sync::Arc;
 
@@ -23,8 +23,8 @@ struct Writing {
     nodes: Vec<Node>,
 }
 
-/// The graph of a side that begins with these roots. None where what is remembered does not show them, no steps are left, or
-/// memory ran out.
+/// The graph of a side that begins with these roots. None where what is remembered does not show them, no steps are
+/// left, or memory ran out.
 pub(crate) fn write_graph(
     search: &mut Search,
     trump: Trump,
@@ -112,9 +112,9 @@ impl Writing {
     /// Writes a node. None where it is not shown, no steps are left or memory runs out.
     fn add_node(&mut self, search: &mut Search, start: TrickStart) -> Option<()> {
         let record = search.records.record(start.record);
-        let held = Held::of(&record, start.lengths);
+        let held = PatternStart::of(&record, start.lengths);
         let pattern = self.pattern_of(&held)?;
-        let turn = Turn {
+        let turn = TreePlace {
             held: &held,
             trick: PatternTrick::start(&held, start.leader),
             need: i32::from(record.need),
@@ -165,7 +165,7 @@ impl Writing {
     }
 
     /// The pattern at a trick's start.
-    fn pattern_of(&self, held: &Held) -> Option<Pattern> {
+    fn pattern_of(&self, held: &PatternStart) -> Option<Pattern> {
         let lanes = self.plan.lanes;
         Pattern::from_words([
             held.word(lanes[0]),

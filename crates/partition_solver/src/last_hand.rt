@@ -3,7 +3,7 @@
 use crate::search::Search;
 use crate::starts::{Found, Start, is_ours};
 use pattern_store::List;
-use search_state::moves::{Runs, card_at};
+use search_state::moves::{HandRuns, card_at};
 use search_state::positions::{Trick, one_of};
 use search_state::relevant_cards::{needs_fewer, relevant_after};
 use search_state::words::{MOST_CARDS, suit_of};
@@ -95,7 +95,7 @@ impl Search {
         rest: u32,
         start: &Start,
         trick: &Trick,
-        runs: Runs,
+        runs: HandRuns,
         shape: Option<u32>,
     ) -> Option<(u64, Found)> {
         let follows = runs.own & trick.led != 0;
@@ -111,14 +111,14 @@ impl Search {
         self.best_known(rest, start, trick, runs, outcomes)
     }
 
-    /// Of the cards that are known to succeed the one that needs the fewest owners. What is remembered after cards of the first
-    /// suit is given.
+    /// Of the cards that are known to succeed the one that needs the fewest owners. What is remembered after cards of
+    /// the first suit is given.
     fn best_known(
         &self,
         rest: u32,
         start: &Start,
         trick: &Trick,
-        mut runs: Runs,
+        mut runs: HandRuns,
         mut outcomes: Outcomes,
     ) -> Option<(u64, Found)> {
         let trumps = self.deal.trumps;

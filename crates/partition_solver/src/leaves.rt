@@ -1,11 +1,11 @@
 //! The leaves of a tree in work: the records that go on after its trick.
 
-use crate::plans::{Piece, Plan, TrickStart, Turn};
+use crate::plans::{Piece, Plan, TreePlace, TrickStart};
 use crate::search::Search;
 use search_state::pattern_tricks::Remains;
 
-/// The records that go on after a trick, by the seat that won it, 0 where none is needed, and what the new nodes cost: one
-/// each, and one for each owner that they name.
+/// The records that go on after a trick, by the seat that won it, 0 where none is needed, and what the new nodes cost:
+/// one each, and one for each owner that they name.
 #[derive(Clone, Copy)]
 pub(crate) struct Leaf {
     lengths: u64,
@@ -15,7 +15,11 @@ pub(crate) struct Leaf {
 
 impl Plan {
     /// The last card of a trick whose new children cost least, and the children.
-    pub(crate) fn best_last(&mut self, search: &Search, turn: &Turn<'_>) -> Option<(u64, Leaf)> {
+    pub(crate) fn best_last(
+        &mut self,
+        search: &Search,
+        turn: &TreePlace<'_>,
+    ) -> Option<(u64, Leaf)> {
         let mut waiting = turn.legal_cards();
         let mut least = turn.limit;
         let mut best = None;
@@ -50,7 +54,7 @@ impl Plan {
     }
 
     /// The children after a trick. None where what is remembered does not show them for less than the limit.
-    pub(crate) fn leaf(&mut self, search: &Search, turn: &Turn<'_>) -> Option<Leaf> {
+    pub(crate) fn leaf(&mut self, search: &Search, turn: &TreePlace<'_>) -> Option<Leaf> {
         let mut leaf = Leaf {
             lengths: turn.trick.lengths,
             records: [0; 4],
@@ -84,7 +88,7 @@ impl Plan {
     fn add_children(
         &mut self,
         search: &Search,
-        turn: &Turn<'_>,
+        turn: &TreePlace<'_>,
         winners: u32,
         leaf: &mut Leaf,
     ) -> Option<()> {

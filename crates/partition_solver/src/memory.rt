@@ -1,4 +1,5 @@
-//! What is remembered from one call to the next: the searches of calls that have ended, each of one deal in one denomination.
+//! What is remembered from one call to the next: the searches of calls that have ended, each of one deal in one
+//! denomination.
 
 use crate::search::Search;
 use cards::{Layout, Trump};
@@ -84,8 +85,8 @@ impl Memory {
         self.most_calls.load(SeqCst) as usize
     }
 
-    /// The room for what is kept and what runs, in blocks: for one thread what the records of a search may take, and half as
-    /// much for each where there are more.
+    /// The room for what is kept and what runs, in blocks: for one thread what the records of a search may take, and
+    /// half as much for each where there are more.
     fn room(&self) -> usize {
         self.threads().max(2).saturating_mul(MOST_BLOCKS / 2)
     }
@@ -101,8 +102,8 @@ impl Memory {
         None
     }
 
-    /// The search of this deal in this denomination: one that is kept, else a new one. It has its part of the room that the
-    /// kept ones leave. They are dropped where this one could not remember all that it found.
+    /// The search of this deal in this denomination: one that is kept, else a new one. It has its part of the room that
+    /// the kept ones leave. They are dropped where this one could not remember all that it found.
     pub(crate) fn search_of(
         &self,
         alloc: Global,

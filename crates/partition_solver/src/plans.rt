@@ -2,12 +2,12 @@
 
 use crate::search::Search;
 use cards::Suit;
-use search_state::pattern_tricks::{Held, PatternTrick};
+use search_state::pattern_tricks::{PatternStart, PatternTrick};
 use search_state::words::{SUIT, lowest};
 use std::alloc::{AllocError, Global};
 
-/// How deep the calls for a tree lie in one another: three a card (`add_tree`, `add_own` or `add_reply`, and `add_card`), and
-/// one for the leaf.
+/// How deep the calls for a tree lie in one another: three a card (`add_tree`, `add_own` or `add_reply`, and
+/// `add_card`), and one for the leaf.
 pub(crate) const PLAN_FUEL: u32 = 4 * 3 + 1;
 
 /// Where fewer steps than these are left for each block of records, the first card that shows a tree is taken.
@@ -26,8 +26,8 @@ pub(crate) enum Piece {
     Child(TrickStart),
 }
 
-/// The start of a trick, as a node has it: a record with its shape, and the seat that leads. In a child that seat has won the
-/// trick before.
+/// The start of a trick, as a node has it: a record with its shape, and the seat that leads. In a child that seat has
+/// won the trick before.
 #[derive(Clone, Copy, Default)]
 pub(crate) struct TrickStart {
     /// The lengths, as the search has them.
@@ -53,11 +53,11 @@ pub(crate) struct Plan {
     pub shape: (u64, Option<u32>),
 }
 
-/// A place of the tree in work: the node's pattern, the trick so far, and what has to be shown: so many tricks, with new nodes
-/// that cost less than the limit.
+/// A place of the tree in work: the node's pattern, the trick so far, and what has to be shown: so many tricks, with
+/// new nodes that cost less than the limit.
 #[derive(Clone, Copy)]
-pub(crate) struct Turn<'a> {
-    pub held: &'a Held,
+pub(crate) struct TreePlace<'a> {
+    pub held: &'a PatternStart,
     pub trick: PatternTrick,
     pub need: i32,
     pub limit: u32,
@@ -81,10 +81,10 @@ fn number_of(card: u64) -> u32 {
     card.trailing_zeros() & 63
 }
 
-impl<'a> Turn<'a> {
+impl<'a> TreePlace<'a> {
     /// The place after a card, where what follows it may cost so much.
-    pub(crate) fn after(&self, card: u64, trumps: u64, limit: u32) -> Turn<'a> {
-        Turn {
+    pub(crate) fn after(&self, card: u64, trumps: u64, limit: u32) -> TreePlace<'a> {
+        TreePlace {
             held: self.held,
             trick: self.trick.after(card, trumps),
             need: self.need,
@@ -155,14 +155,14 @@ impl Plan {
         Some(())
     }
 
-    /// Adds the tree of what follows, and answers what its new nodes cost. None where what is remembered does not show it for
-    /// less than the limit, no steps are left or memory runs out; what was added is then of no use.
+    /// Adds the tree of what follows, and answers what its new nodes cost. None where what is remembered does not show
+    /// it for less than the limit, no steps are left or memory runs out; what was added is then of no use.
     #[cycle(planning)]
     pub(crate) fn add_tree(
         &mut self,
         search: &mut Search,
         fuel: u32,
-        turn: &Turn<'_>,
+        turn: &TreePlace<'_>,
     ) -> Option<u32> {
         if fuel == 0 {
             return None;
@@ -187,7 +187,7 @@ impl Plan {
         search: &mut Search,
         fuel: u32,
         piece: Piece,
-        after: &Turn<'_>,
+        after: &TreePlace<'_>,
     ) -> Option<u32> {
         if fuel == 0 {
             return None;
@@ -199,7 +199,7 @@ impl Plan {
 
     /// Adds the card of the side whose tree's new nodes cost least.
     #[cycle(planning)]
-    fn add_own(&mut self, search: &mut Search, fuel: u32, turn: &Turn<'_>) -> Option<u32> {
+    fn add_own(&mut self, search: &mut Search, fuel: u32, turn: &TreePlace<'_>) -> Option<u32> {
         if fuel == 0 {
             return None;
         }
@@ -248,7 +248,7 @@ impl Plan {
 
     /// Adds cards of the opponents: of each run the highest, which serves for the others, and the low ones.
     #[cycle(planning)]
-    fn add_reply(&mut self, search: &mut Search, fuel: u32, turn: &Turn<'_>) -> Option<u32> {
+    fn add_reply(&mut self, search: &mut Search, fuel: u32, turn: &TreePlace<'_>) -> Option<u32> {
         if fuel == 0 {
             return None;
         }
@@ -291,7 +291,7 @@ impl Plan {
     }
 
     /// Adds the last card of a trick, where it is the side's: the one whose new children cost least.
-    fn add_last(&mut self, search: &mut Search, turn: &Turn<'_>) -> Option<u32> {
+    fn add_last(&mut self, search: &mut Search, turn: &TreePlace<'_>) -> Option<u32> {
         let (card, leaf) = self.best_last(search, turn)?;
         Plan::spend(search)?;
         self.push(search, Piece::Own(number_of(card)))?;

@@ -113,8 +113,8 @@ impl Search {
         })
     }
 
-    /// Remembers what was found at the start of a trick, and of the card that showed it, if any, the name. Answers it with
-    /// the cards that have to be named for it.
+    /// Remembers what was found at the start of a trick, and of the card that showed it, if any, the name. Answers it
+    /// with the cards that have to be named for it.
     pub(crate) fn remember(&mut self, start: &Start, found: Found, card: u64) -> Found {
         let relevant = without_lone(&self.held.hands, start.left, found.relevant);
         let depths = depths_of(start.left, relevant);

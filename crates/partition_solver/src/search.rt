@@ -1,12 +1,12 @@
-//! The search: whether North and South can win so many of the tricks left. Each hand's turn is a function; what is held is changed
-//! before a call, and put back after it.
+//! The search: whether North and South can win so many of the tricks left. Each hand's turn is a function; what is held
+//! is changed before a call, and put back after it.
 
 use crate::remembering::{HintRow, no_hints};
 use crate::starts::{Found, Start, is_ours, trick_for};
 use cards::{Layout, Trump};
 use pattern_store::Records;
-use search_state::deals::Deal;
-use search_state::moves::{Moves, Runs};
+use search_state::deals::DealTables;
+use search_state::moves::{HandRuns, Moves};
 use search_state::positions::{Holdings, Trick};
 use search_state::relevant_cards::{needs_fewer, relevant_after};
 use search_state::words::{MOST_CARDS, below};
@@ -19,7 +19,7 @@ const SEARCHED: u32 = 7;
 #[derive(Drop)]
 pub(crate) struct Search {
     pub alloc: Global,
-    pub deal: Deal,
+    pub deal: DealTables,
     pub records: Records,
     /// How many cards may still be tried.
     pub steps: u64,
@@ -38,7 +38,7 @@ pub(crate) struct Search {
 impl Search {
     /// A search that has found nothing yet, and has no steps.
     pub(crate) fn new(alloc: Global, layout: &Layout, trump: Trump) -> Result<Search, AllocError> {
-        let deal = Deal::new(alloc, layout, trump)?;
+        let deal = DealTables::new(alloc, layout, trump)?;
         Ok(Search {
             alloc,
             held: Holdings::of(deal.hands),
@@ -69,7 +69,8 @@ impl Search {
         true
     }
 
-    /// Whether North and South win what they want of so many tricks left, else that East and West win more than the rest.
+    /// Whether North and South win what they want of so many tricks left, else that East and West win more than the
+    /// rest.
     #[cycle(searching)]
     pub(crate) fn search(&mut self, tricks: u32, start: &Start) -> Found {
         if let Some(found) = start.settled(tricks) {
@@ -87,7 +88,7 @@ impl Search {
         let seat = start.leader;
         let mover = is_ours(seat);
         let before = self.held.before(seat);
-        let runs = Runs::of(before.hand, start.left);
+        let runs = HandRuns::of(before.hand, start.left);
         let mut moves = Moves::of(&runs);
         let mut next = self.first_lead(tricks, start, runs, &mut moves);
         let mut answer = Found::unless_one_succeeds(!mover);
@@ -121,7 +122,7 @@ impl Search {
         let seat = start.leader.wrapping_add(1) & 3;
         let mover = is_ours(seat);
         let before = self.held.before(seat);
-        let runs = Runs::of(trick.legal(before.hand), start.left);
+        let runs = HandRuns::of(trick.legal(before.hand), start.left);
         let mut moves = Moves::of(&runs);
         let mut next = self.first_second(tricks, start, trick, runs, &mut moves);
         let mut answer = Found::unless_one_succeeds(!mover);
@@ -152,7 +153,7 @@ impl Search {
         let seat = start.leader.wrapping_add(2) & 3;
         let mover = is_ours(seat);
         let before = self.held.before(seat);
-        let runs = Runs::of(trick.legal(before.hand), start.left);
+        let runs = HandRuns::of(trick.legal(before.hand), start.left);
         let mut moves = Moves::of(&runs);
         let mut next = self.first_third(tricks, start, trick, runs, &mut moves);
         let mut answer = Found::unless_one_succeeds(!mover);
@@ -187,7 +188,7 @@ impl Search {
         let rest = tricks - 1;
         let before = self.held.before(seat);
         let own = trick.legal(before.hand);
-        let runs = Runs::of(own, start.left);
+        let runs = HandRuns::of(own, start.left);
         let shape = self.shape_in_suit(own, trick, seat);
         if !runs.is_single() {
             if let Some((card, found)) = self.ask(rest, start, trick, runs, shape) {
@@ -210,7 +211,7 @@ impl Search {
         rest: u32,
         start: &Start,
         trick: &Trick,
-        runs: Runs,
+        runs: HandRuns,
         shape: Option<u32>,
     ) -> Found {
         let seat = start.leader.wrapping_add(3) & 3;
@@ -242,8 +243,8 @@ impl Search {
         answer
     }
 
-    /// Goes on after a trick. The shape of what is left may have this number, and the records of the last hand's side may have
-    /// been asked.
+    /// Goes on after a trick. The shape of what is left may have this number, and the records of the last hand's side
+    /// may have been asked.
     #[cycle(searching)]
     fn rest(
         &mut self,
@@ -289,8 +290,8 @@ impl Search {
         whole
     }
 
-    /// The same answer whoever of those who played to the winner's suit wins, where that is known, or searched since few
-    /// tricks are left, and names fewer owners.
+    /// The same answer whoever of those who played to the winner's suit wins, where that is known, or searched since
+    /// few tricks are left, and names fewer owners.
     #[cycle(searching)]
     fn whoever(
         &mut self,

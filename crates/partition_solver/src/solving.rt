@@ -17,12 +17,12 @@ pub trait Solver {
     ghost use Rattle.cards.specs.declared.suits.Trump.{Trump};
     ghost use Rattle.partition_solver.specs.declared.bundles.Bundle.{Bundle};
 
-    /// What may be found for a deal, declarers and a denomination within a budget: anything. Who is to show that it may be
-    /// found has to ask for it.
+    /// What may be found for a deal, declarers and a denomination within a budget: anything. Who is to show that it may
+    /// be found has to ask for it.
     ghost may_find: { Self → Deal → List Seat → Trump → ℕ → Option Bundle → Type 0 } = { λ _ _ _ _ _ _. ⊤ };
 
-    /// Claims for those of the declarers whose tricks were found, with the seat at declarer's left to lead, if there are
-    /// any. The declarers are distinct. The budget is a number of steps for each of them.
+    /// Claims for those of the declarers whose tricks were found, with the seat at declarer's left to lead, if there
+    /// are any. The declarers are distinct. The budget is a number of steps for each of them.
     fn solve(
         &self,
         alloc: Global,
@@ -34,20 +34,21 @@ pub trait Solver {
         ensures { may_find self.now layout.now declarers.now trump budget (option_flatten (result_ok result)) };
 }
 
-/// A partition search. A step of its budget is one card tried, in the search or for a tree of a graph; where the last hand
-/// of a trick has a choice, its card is free if it is only looked up. Each declarer's tricks are searched within the budget;
-/// where that is not enough for all, half of what the others leave of it is searched with too. With the rest the graphs are
-/// written. What it finds is remembered for later calls, unless each seat has a claim: a call that ran out of steps can be
-/// made again, and declarers can be asked for one by one. Threads may call it at once: none waits.
+/// A partition search. A step of its budget is one card tried, in the search or for a tree of a graph; where the last
+/// hand of a trick has a choice, its card is free if it is only looked up. Each declarer's tricks are searched within
+/// the budget; where that is not enough for all, half of what the others leave of it is searched with too. With the
+/// rest the graphs are written. What it finds is remembered for later calls, unless each seat has a claim: a call that
+/// ran out of steps can be made again, and declarers can be asked for one by one. Threads may call it at once: none
+/// waits.
 #[derive(Drop)]
 pub struct Partition {
     memory: Memory,
 }
 
 impl Partition {
-    /// A solver that remembers nothing yet. It takes no memory. What it remembers later takes 130 MB at most where one thread
-    /// calls it, 160 where two call at once, and 80 more for each further one; 50 more while a call goes on that began when
-    /// it was the only one.
+    /// A solver that remembers nothing yet. It takes no memory. What it remembers later takes 130 MB at most where one
+    /// thread calls it, 160 where two call at once, and 80 more for each further one; 50 more while a call goes on that
+    /// began when it was the only one.
     pub const fn new() -> Partition {
         Partition {
             memory: Memory::new(),

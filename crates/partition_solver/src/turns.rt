@@ -2,7 +2,7 @@
 
 use crate::search::Search;
 use crate::starts::{Start, is_ours};
-use search_state::moves::{Move, Moves, Runs};
+use search_state::moves::{HandRuns, Move, Moves};
 use search_state::positions::{Trick, Turn};
 
 impl Search {
@@ -19,7 +19,7 @@ impl Search {
         &self,
         tricks: u32,
         start: &Start,
-        runs: Runs,
+        runs: HandRuns,
         moves: &mut Moves,
     ) -> Option<Move> {
         if runs.is_single() {
@@ -36,7 +36,7 @@ impl Search {
         &self,
         tricks: u32,
         start: &Start,
-        runs: Runs,
+        runs: HandRuns,
         moves: &mut Moves,
     ) -> Option<Move> {
         if moves.are_unsorted() {
@@ -51,7 +51,7 @@ impl Search {
         tricks: u32,
         start: &Start,
         trick: &Trick,
-        runs: Runs,
+        runs: HandRuns,
         moves: &mut Moves,
     ) -> Option<Move> {
         if runs.is_single() {
@@ -67,7 +67,7 @@ impl Search {
         tricks: u32,
         start: &Start,
         trick: &Trick,
-        runs: Runs,
+        runs: HandRuns,
         moves: &mut Moves,
     ) -> Option<Move> {
         if runs.is_single() {
@@ -83,7 +83,7 @@ impl Search {
         tricks: u32,
         start: &Start,
         trick: &Trick,
-        runs: Runs,
+        runs: HandRuns,
         moves: &mut Moves,
     ) -> Option<Move> {
         if runs.is_single() {

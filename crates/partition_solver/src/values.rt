@@ -23,7 +23,8 @@ fn points_of(cards: u64) -> i32 {
 }
 
 impl Search {
-    /// A first guess: half the tricks, and more by the difference of high cards and that of trumps, in hundredths of a trick.
+    /// A first guess: half the tricks, and more by the difference of high cards and that of trumps, in hundredths of a
+    /// trick.
     fn guess(&self, tricks: i32) -> i32 {
         let trumps = self.deal.trumps;
         let hands = self.deal.hands;
@@ -40,8 +41,8 @@ impl Search {
             / 100
     }
 
-    /// How many tricks North and South can win with this seat to lead. So many are asked for first, if a guess is given. Each
-    /// question brings the bounds nearer by one at least. None where no steps are left or memory ran out.
+    /// How many tricks North and South can win with this seat to lead. So many are asked for first, if a guess is
+    /// given. Each question brings the bounds nearer by one at least. None where no steps are left or memory ran out.
     pub(crate) fn value(&mut self, leader: usize, guess: Option<i32>) -> Option<i32> {
         let tricks = self.deal.hands[0].count_ones();
         let mut least = 0;

@@ -83,8 +83,8 @@ EachHandHasOneLess =
     → IsPattern shape → AreLegalInTurn shape leader cards → IsLeft shape leader cards left
     → (seat : Seat) → hand_size left seat + 1 ≡ hand_size shape seat
 
--- Two lines that have, in each place, the same card or a card and a higher one in a run of its seat: who may win with the
--- cards may with the higher ones, and what the higher ones leave the cards leave.
+-- Two lines that have, in each place, the same card or a card and a higher one in a run of its seat: who may win with
+-- the cards may with the higher ones, and what the higher ones leave the cards leave.
 abbrev pub LinesAreAlike : Type 0
 LinesAreAlike =
     (shape : Shape) (trump : Trump) (leader : Seat) (cards higher : List PatCard)

@@ -1,5 +1,5 @@
--- The lengths that a trick takes from its players, as bits: sixteen for each suit, and in them four for each seat, as the
--- word of a suit has them.
+-- The lengths that a trick takes from its players, as bits: sixteen for each suit, and in them four for each seat, as
+-- the word of a suit has them.
 use Rattle.std.specs.Prelude.{ℕ, ◌+◌, ◌*◌, ◌^◌, List, if◌then◌else◌}
 use Rattle.cards.specs.declared.suits.Suit.{Suit}
 use Rattle.cards.specs.declared.seats.Seat.{Seat}

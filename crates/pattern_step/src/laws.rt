@@ -63,8 +63,8 @@ pub fn each_hand_has_one_less()
     ensures { EachHandHasOneLess }
 {}
 
-/// It does not matter which of several tops that follow one another, all a seat's, that seat plays: four cards and others
-/// that are higher in such runs are won by the same seats, as far as may be told, and leave the same.
+/// It does not matter which of several tops that follow one another, all a seat's, that seat plays: four cards and
+/// others that are higher in such runs are won by the same seats, as far as may be told, and leave the same.
 pub fn lines_are_alike()
     ensures { LinesAreAlike }
 {}

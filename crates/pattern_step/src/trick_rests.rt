@@ -43,7 +43,8 @@ pub fn rest(pattern: &Pattern, leader: Seat, cards: &[PatCard; 4]) -> Rest
 /// What is left of one suit, of sixteen bits for each: the lengths played, and the places of the tops played.
 fn left(held: SuitWord, suit: Suit, lens: u64, places: u64) -> SuitWord
     ensures four { length result.lens ≡ 4 }
-    ensures lens { (seat : Seat) → len_of result seat ≡ len_of held seat - len_of (suit_in (lens / 2 ^ (16 * suit_number suit) % 2 ^ 16)) seat }
+    ensures lens { (seat : Seat) → len_of result seat ≡ len_of held seat - len_of
+        (suit_in (lens / 2 ^ (16 * suit_number suit) % 2 ^ 16)) seat }
     ensures owners { result.owners ≡ owners_but (places / 2 ^ (16 * suit_number suit)) held.owners }
 {
     let from = SUIT_BITS * suit.number();
@@ -71,14 +72,16 @@ fn card_lens(seat: Seat, card: PatCard) -> u64
 
 /// The places of the tops among the cards, sixteen bits a suit, spades lowest, in each that of place 0 lowest.
 fn trick_places(cards: &[PatCard; 4]) -> u64
-    ensures { (suit : Suit) (place : ℕ) → place < 13 → is_among (result / 2 ^ (16 * suit_number suit)) place ≡ list_any (is_top suit place) cards.now }
+    ensures { (suit : Suit) (place : ℕ) → place < 13 → is_among (result / 2 ^ (16 * suit_number suit)) place
+        ≡ list_any (is_top suit place) cards.now }
 {
     place_bit(cards[0]) | place_bit(cards[1]) | place_bit(cards[2]) | place_bit(cards[3])
 }
 
 /// The bit of the card's place, if it is a top.
 fn place_bit(card: PatCard) -> u64
-    ensures { (suit : Suit) (place : ℕ) → place < 13 → is_among (result / 2 ^ (16 * suit_number suit)) place ≡ is_top suit place card }
+    ensures { (suit : Suit) (place : ℕ) → place < 13 → is_among (result / 2 ^ (16 * suit_number suit)) place
+        ≡ is_top suit place card }
 {
     match card {
         PatCard::Top(suit, place) if place < 13 => 1

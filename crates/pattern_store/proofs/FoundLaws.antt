@@ -4,12 +4,12 @@ use Rattle.std.specs.Option.{option_map_or}
 use Rattle.std.proofs.lemmas.Bool.{cases_eq}
 use Rattle.std.proofs.lemmas.List.{length-set, length-append}
 use Rattle.std.proofs.lemmas.Option.{none-some}
-use Rattle.pattern_store.specs.declared.records.Record.{Record}
+use Rattle.pattern_store.specs.declared.record.Record.{Record}
 use Rattle.pattern_store.specs.declared.blocks.List as lists
 use Rattle.pattern_store.specs.declared.blocks.Block.{Block}
 use Rattle.pattern_store.specs.Blocks.{record_at, Has, IsBlockOf, Passes}
 use Rattle.pattern_store.specs.Shapes.{Shapes}
-use Rattle.pattern_store.specs.Found.{Kept, IsBlockIn, Finds, record_of, nothing, Holds, HoldNothing, HoldsToo, Keeps, Puts, Goes}
+use Rattle.pattern_store.specs.Records.{Kept, IsBlockIn, Finds, record_of, nothing, Holds, HoldNothing, HoldsToo, Keeps, Puts, Goes}
 use Rattle.pattern_store.proofs.ShapeLaws.{some_is, set_else, set_here, slice_get_set}
 
 -- what is there where one more is added was, or is the one added

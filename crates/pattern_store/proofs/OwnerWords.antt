@@ -7,7 +7,7 @@ use Rattle.std.proofs.lemmas.Nat.{and_comm, and_shr, and_mod, xor_shr, xor_mod, 
 use Rattle.std.proofs.lemmas.Nat.Bits.{same_from_bits_below, ones_shr}
 use Rattle.std.specs.Int.{bit_at}
 use Rattle.std.specs.Int.Bits.{bit_and, bit_xor, xor_add_and, xor_self, and_block}
-use Rattle.pattern_store.specs.Records.{owner_in, owner_at, depth_of, MarksSuit, Marks, SameOwners, KeepsOwners}
+use Rattle.pattern_store.specs.Record.{owner_in, owner_at, depth_of, MarksSuit, Marks, SameOwners, KeepsOwners}
 
 -- ---- one owner
 

@@ -1,10 +1,10 @@
 -- A record goes past a block.
 use Rattle.std.proofs.Common.{◌≡◌, ℕ, ◌<◌, ◌⊎◌, inl, inr, refl, sym, ◌∙◌, ap, subst, arith}
 use Rattle.std.proofs.lemmas.Bool.{cases_eq}
-use Rattle.pattern_store.specs.declared.records.Record.{Record}
+use Rattle.pattern_store.specs.declared.record.Record.{Record}
 use Rattle.pattern_store.specs.declared.blocks.Block.{Block}
 use Rattle.pattern_store.specs.Blocks.{record_at, Has, SetsPlace, Passes, LosesServed}
-use Rattle.pattern_store.specs.Records.{IsServed}
+use Rattle.pattern_store.specs.Record.{IsServed}
 
 -- nothing happens
 pub passes_same : (block : Block) (came : Record) → Passes block block came came

@@ -4,9 +4,9 @@ use Rattle.std.specs.Prelude.{nat_lt}
 use Rattle.std.proofs.lemmas.Bool.{cases_lt}
 use Rattle.std.proofs.lemmas.Bool.Decides.{nat_tests, Decides-like}
 use Rattle.std.specs.Int.Bits.{bit_and, bit_xor}
-use Rattle.pattern_store.specs.declared.records.Owners.{Owners}
-use Rattle.pattern_store.specs.declared.records.Record.{Record}
-use Rattle.pattern_store.specs.Records.{owner_at, Marks, SameOwners, IsMasked, AgreesNear, AgreesByOwners, AgreesDeep, Differs, IsKnown, owner_of, NamesNoMore, Serves}
+use Rattle.pattern_store.specs.declared.record.Owners.{Owners}
+use Rattle.pattern_store.specs.declared.record.Record.{Record}
+use Rattle.pattern_store.specs.Record.{owner_at, Marks, SameOwners, IsMasked, AgreesNear, AgreesByOwners, AgreesDeep, Differs, IsKnown, owner_of, NamesNoMore, Serves}
 use Rattle.pattern_store.proofs.OwnerWords.{same_from_mask, mask_from_same, all_from_mask, mask_from_all, none_named, NamesWithin, within_from_masks, masks_from_within}
 
 -- ---- the owner in a place, by the two words

@@ -1,10 +1,10 @@
 -- What is in a block, and what a record that goes past leaves of it.
 use Rattle.std.specs.Prelude.{◌≡◌, ◌≢◌, ℕ, ◌<◌, ◌⊎◌, slice_index_or}
-use Rattle.pattern_store.specs.declared.records.Record.{Record}
+use Rattle.pattern_store.specs.declared.record.Record.{Record}
 use Rattle.pattern_store.specs.declared.blocks.Facts.{Facts}
 use Rattle.pattern_store.specs.declared.blocks.List.{List}
 use Rattle.pattern_store.specs.declared.blocks.Block.{Block}
-use Rattle.pattern_store.specs.Records.{IsServed}
+use Rattle.pattern_store.specs.Record.{IsServed}
 
 -- what a place past the last one would have
 abbrev pub no_facts : Facts

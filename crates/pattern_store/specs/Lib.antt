@@ -1,6 +1,6 @@
 pub mod Blocks
-pub mod Found
 pub mod Lengths
+pub mod Record
 pub mod Records
 pub mod Shapes
 pub mod Stores

@@ -1,109 +1,102 @@
--- What a record says of the owners of the highest cards.
---
--- A word has the owners of eight cards of each suit, two bits each: a suit has sixteen bits of it, and the highest
--- card the lowest of these. The cards of a suit are told by their places, the highest by 0. A record has a word for
--- the first eight places of each suit, and one for those behind.
-use Rattle.std.specs.Prelude.{◌≡◌, ℕ, ◌+◌, ◌-◌, ◌*◌, ◌/◌, ◌%◌, ◌^◌, ◌<◌, ◌≤◌, ◌⊎◌, bit_and, bit_xor}
-use Rattle.std.specs.Prelude.{if◌then◌else◌, nat_lt}
-use Rattle.pattern_store.specs.declared.records.Owners.{Owners}
-use Rattle.pattern_store.specs.declared.records.Record.{Record}
+-- The records that are kept, by list, and what a look-up and an add say of them.
+use Rattle.std.specs.Prelude.{◌≡◌, ℕ, ◌+◌, ◌*◌, ◌/◌, ◌%◌, ◌<◌, ◌≤◌, ◌⊎◌, Bool, if◌then◌else◌, Some, slice_get, length}
+use Rattle.std.specs.Prelude as std
+use Rattle.std.specs.Option.{option_map_or}
+use Rattle.pattern_store.specs.declared.record.Record.{Record}
+use Rattle.pattern_store.specs.declared.blocks.List.{List}
+use Rattle.pattern_store.specs.declared.blocks.Block.{Block}
+use Rattle.pattern_store.specs.Blocks.{record_at, Has}
+use Rattle.pattern_store.specs.Shapes.{Shapes, ShapeIs, KeepsShapes, span_of}
 
--- the owner in a place, by a suit's part of a word
-abbrev pub owner_in : ℕ → ℕ → ℕ
-owner_in part place = part / 2 ^ (2 * place) % 4
+-- what is kept: the shapes by number, the blocks, and how many of these there may be
+pub record Kept : Type 0 where
+  pub shapes : Shapes
+  pub blocks : std.List Block
+  pub room : ℕ
 
--- the owner in a place of a suit
-abbrev pub owner_at : ℕ → ℕ → ℕ → ℕ
-owner_at word suit place = owner_in (word / 2 ^ (16 * suit)) place
+-- the number of a list of its shape: that of the seat that leads and of the side that wins, North's and South's first
+abbrev pub list_number : ℕ → Bool → ℕ
+list_number leader ours = leader % 4 * 2 + (if ours then 0 else 1)
 
--- how many owners of a suit are named, by the depths of four suits, four bits each
-abbrev pub depth_of : ℕ → ℕ → ℕ
-depth_of depths suit = depths / 2 ^ (4 * suit) % 16
+-- a list has no blocks
+abbrev pub IsEmpty : Kept → List → Type 0
+IsEmpty kept list = (span_of kept.shapes list).used ≡ 0
 
--- how many owners of all suits are named
-abbrev pub named_in : ℕ → ℕ
-named_in depths = depth_of depths 0 + depth_of depths 1 + depth_of depths 2 + depth_of depths 3
+-- the block with this number is one of the list
+pub record IsBlockIn (blocks : std.List Block) (list : List) (number : ℕ) (block : Block) : Type 0 where
+  pub is : slice_get blocks number ≡ Some block
+  pub of_list : block.list ≡ list
 
--- Of eight places of a suit, from this one on, a mask has both bits where the owner is named, and none elsewhere. So
--- many owners of the suit are named.
-pub record MarksSuit (first depth part : ℕ) : Type 0 where
-  pub named : (place : ℕ) → place < 8 → first + place < depth → owner_in part place ≡ 3
-  pub others : (place : ℕ) → place < 8 → depth ≤ first + place → owner_in part place ≡ 0
+-- the list has the record
+pub record Holds (blocks : std.List Block) (list : List) (r : Record) : Type 0 where
+  pub number : ℕ
+  pub block : Block
+  pub is : slice_get blocks number ≡ Some block
+  pub of_list : block.list ≡ list
+  pub has : Has block r
 
--- the same in each of the four suits
-abbrev pub Marks : ℕ → ℕ → ℕ → Type 0
-Marks first depths mask = (suit : ℕ) → suit < 4 → MarksSuit first (depth_of depths suit) (mask / 2 ^ (16 * suit))
+-- no list has a record
+abbrev pub HoldNothing : std.List Block → Type 0
+HoldNothing blocks = (list : List) (r : Record) → Holds blocks list r → ⊥
 
--- of eight places of each suit, from this one on, two words have the same owners where they are named
-abbrev pub SameOwners : ℕ → ℕ → ℕ → ℕ → Type 0
-SameOwners first depths one other = (suit place : ℕ) → suit < 4 → place < 8 → first + place < depth_of depths suit
-    → owner_at one suit place ≡ owner_at other suit place
+-- nothing is remembered
+abbrev pub HoldsNothing : Kept → Type 0
+HoldsNothing kept = HoldNothing kept.blocks
 
--- a word keeps of the owners those that are named, and has 0 elsewhere
-pub record KeepsOwners (first depths owners kept : ℕ) : Type 0 where
-  pub named : SameOwners first depths kept owners
-  pub others : (suit place : ℕ) → suit < 4 → place < 8 → depth_of depths suit ≤ first + place
-      → owner_at kept suit place ≡ 0
+-- the record with this number, with a need of 0 where there is none
+abbrev pub nothing : Record
+nothing = record { near = 0; mask = 0; deep = 0; depths = 0; need = 0; first_card = 0 }
 
--- no owner after the eighth of a suit is named
-abbrev pub NamesNoDeep : ℕ → Type 0
-NamesNoDeep depths = (suit : ℕ) → suit < 4 → depth_of depths suit ≤ 8
+abbrev pub record_of : std.List Block → ℕ → Record
+record_of blocks number = option_map_or (λ block. record_at block (number % 4)) (slice_get blocks (number / 4)) nothing
 
--- the mask of a record has the owners that its depths name
-abbrev pub IsMasked : Record → Type 0
-IsMasked r = Marks 0 r.depths r.mask
+-- the record with this number is one of the list, with it the side gets as many tricks, and this can be said of it
+pub record Finds (kept : Kept) (list : List) (need : ℕ) (Agrees : Record → Type 0) (number : ℕ) : Type 0 where
+  pub holds : Holds kept.blocks list (record_of kept.blocks number)
+  pub enough : need ≤ (record_of kept.blocks number).need
+  pub agrees : Agrees (record_of kept.blocks number)
 
--- the owners of the first eight cards of each suit that a record names, by its mask, are these
-abbrev pub AgreesNear : Record → ℕ → Type 0
-AgreesNear r near = bit_and (bit_xor r.near near) r.mask ≡ 0
+-- there are no more blocks than before, or than there is room for
+abbrev pub Within : std.List Block → std.List Block → ℕ → Type 0
+Within old new room = (length new ≤ length old) ⊎ (length new ≤ room)
 
--- so in each place that it names, where its mask is that of its depths
-abbrev pub AgreesByOwners : Type 0
-AgreesByOwners = (r : Record) (near : ℕ) → IsMasked r → AgreesNear r near → SameOwners 0 r.depths r.near near
+-- what a list has then it had before
+pub record Keeps (old new : std.List Block) (room : ℕ) : Type 0 where
+  pub stays : (list : List) (r : Record) → Holds new list r → Holds old list r
+  pub within : Within old new room
 
--- those after the eighth that it names, if any, are owners that may be told
-abbrev pub AgreesDeep : Record → (ℕ → Type 0) → Type 0
-AgreesDeep r may_tell = NamesNoDeep r.depths ⊎ ((deep : ℕ) × may_tell deep × SameOwners 8 r.depths r.deep deep)
+-- what a list has then it had before, or it is the record told, in this list
+abbrev pub HoldsToo : std.List Block → std.List Block → List → Record → Type 0
+HoldsToo old new list told = (other : List) (r : Record) → Holds new other r
+    → Holds old other r ⊎ ((other ≡ list) × (r ≡ told))
 
--- it names an owner that is another one
-abbrev pub Differs : Record → ℕ → (ℕ → Type 0) → Type 0
-Differs r near may_tell = (AgreesNear r near → ⊥)
-    ⊎ ((deep : ℕ) × may_tell deep × (SameOwners 8 r.depths r.deep deep → ⊥))
+-- a record is put into the block with this number, which is one of a list then
+pub record Puts (old new : std.List Block) (number : ℕ) (list : List) (told : Record) : Type 0 where
+  pub stays : HoldsToo old new list told
+  pub there : number < length old → 0 < told.need → Holds new list told
+  pub count : length new ≡ length old
 
--- a record names only owners that are known, and those as they are
-pub record IsKnown (r : Record) (owners known : Owners) : Type 0 where
-  pub near : AgreesNear r owners.near
-  pub near_known : bit_and r.mask known.near ≡ r.mask
-  pub deep : SameOwners 8 r.depths r.deep owners.deep
-  pub deep_known : (suit place : ℕ) → suit < 4 → place < 8 → 8 + place < depth_of r.depths suit
-      → owner_at known.deep suit place ≡ 3
+-- What a list has then it had before, or it is the record told, in the list of the lengths told and of this number.
+-- Shapes keep their numbers. There are no more blocks than before, or than there is room for.
+pub record Adds (old new : Kept) (lengths number : ℕ) (told : Record) : Type 0 where
+  pub keeps : KeepsShapes old.shapes new.shapes
+  pub told_only : (list : List) (r : Record) → Holds new.blocks list r → Holds old.blocks list r
+      ⊎ (ShapeIs new.shapes list.shape lengths × ((list.number ≡ number) × (r ≡ told)))
+  pub within : Within old.blocks new.blocks old.room
+  pub room : new.room ≡ old.room
 
--- of the owners after the eighth a record keeps those that it names, if any, of owners that may be told
-abbrev pub DeepKept : Record → (ℕ → Type 0) → Type 0
-DeepKept r may_tell = (NamesNoDeep r.depths × (r.deep ≡ 0))
-    ⊎ ((deep : ℕ) × may_tell deep × KeepsOwners 8 r.depths deep r.deep)
+-- A record goes along a list, and one goes on. What the list has then it had before, or it is the one that came; so
+-- is what goes on. All else stays.
+pub record Goes (old new : Kept) (list : List) (came goes : Record) : Type 0 where
+  pub shapes : new.shapes ≡ old.shapes
+  pub stays : HoldsToo old.blocks new.blocks list came
+  pub moved : Holds old.blocks list goes ⊎ (goes ≡ came)
+  pub count : length new.blocks ≡ length old.blocks
+  pub room : new.room ≡ old.room
 
--- a record names the owner in a place of a suit
-abbrev pub Names : Record → ℕ → ℕ → Type 0
-Names r suit place = place < depth_of r.depths suit
-
--- and this is the owner
-abbrev pub owner_of : Record → ℕ → ℕ → ℕ
-owner_of r suit place = if nat_lt place 8 then owner_at r.near suit place else owner_at r.deep suit (place - 8)
-
--- of the places of each suit from one on and up to another a record names only what another record names too, and the
--- same owners
-pub record NamesNoMore (from to : ℕ) (one other : Record) : Type 0 where
-  pub named : (suit place : ℕ) → suit < 4 → from ≤ place → place < to → Names one suit place → Names other suit place
-  pub same : (suit place : ℕ) → suit < 4 → from ≤ place → place < to → Names one suit place
-      → owner_of one suit place ≡ owner_of other suit place
-
--- a record serves where another does: the side gets as many tricks, and the other names too what it names, of up to
--- sixteen places
-pub record Serves (one other : Record) : Type 0 where
-  pub enough : other.need ≤ one.need
-  pub no_more : NamesNoMore 0 16 one other
-
--- it does where both masks are those of the depths
-abbrev pub IsServed : Record → Record → Type 0
-IsServed one other = IsMasked one → IsMasked other → Serves one other
+-- a record is added to a list, or nothing is
+pub record Appends (old new : Kept) (list : List) (added : Record) : Type 0 where
+  pub keeps : KeepsShapes old.shapes new.shapes
+  pub stays : HoldsToo old.blocks new.blocks list added
+  pub within : Within old.blocks new.blocks old.room
+  pub room : new.room ≡ old.room

@@ -2,9 +2,9 @@
 
 ghost use Rattle.std.specs.Prelude.{◌≡◌, ◌↔◌, ◌<◌, ◌≤◌, ℕ, IsTrue, IsFalse};
 ghost use Rattle.pattern_store.specs.Blocks.{record_at, IsBlockOf, SetsPlace};
-ghost use Rattle.pattern_store.specs.Records.{AgreesNear, AgreesDeep, Differs, IsKnown};
+ghost use Rattle.pattern_store.specs.Record.{AgreesNear, AgreesDeep, Differs, IsKnown};
 
-use crate::records::{FREE, Owners, Record, deep_mask};
+use crate::record::{FREE, Owners, Record, deep_mask};
 
 /// How many records a block has.
 pub(crate) const PLACES: usize = 4;

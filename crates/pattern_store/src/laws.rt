@@ -1,7 +1,7 @@
 //! Laws: functions that do nothing, whose contracts are the laws.
 
 ghost use Rattle.cards.specs.Orders.{SaysSame};
-ghost use Rattle.pattern_store.specs.Records.{AgreesByOwners};
+ghost use Rattle.pattern_store.specs.Record.{AgreesByOwners};
 
 use crate::keys::Key;
 

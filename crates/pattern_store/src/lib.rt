@@ -6,9 +6,9 @@
 #![tactic(auto)]
 
 mod blocks;
-mod found;
 mod keys;
 mod laws;
+mod record;
 mod records;
 mod runs;
 mod shapes;
@@ -17,8 +17,8 @@ mod stores;
 mod waiting;
 
 pub use blocks::List;
-pub use found::{MOST_BLOCKS, Records};
 pub use keys::{Added, Key};
 pub use laws::{equal_keys_are_one, masks_name_owners};
-pub use records::{NO_CARD, Owners, Record};
+pub use record::{NO_CARD, Owners, Record};
+pub use records::{MOST_BLOCKS, Records};
 pub use stores::Store;

@@ -1,136 +1,284 @@
-//! What is remembered of a position: who owns the highest cards of each suit, and what a side then wins.
+//! What a search remembers: for each shape, leader and side the records found, those that name the fewest owners first.
 
-ghost use Rattle.std.specs.Prelude.{◌≡◌, ◌↔◌, ◌<◌, ◌^◌, ◌⊎◌, ℕ, IsTrue, bit_and};
-ghost use Rattle.pattern_store.specs.Records.{MarksSuit, Marks, KeepsOwners, DeepKept, IsMasked};
-ghost use Rattle.pattern_store.specs.Records.{NamesNoMore, Serves, named_in};
+ghost use Rattle.std.specs.Prelude.{◌≡◌, ◌↔◌, ◌<◌, ◌≤◌, ◌⊎◌, ◌+◌, ◌-◌, ◌*◌, ◌^◌, ℕ, min, max};
+ghost use Rattle.std.specs.Prelude.{[], IfOk, IfNone, IfSome, IsTrue, Some, length};
+ghost use Rattle.pattern_store.specs.Blocks.{record_at};
+ghost use Rattle.pattern_store.specs.Record.{AgreesNear, AgreesDeep, Differs, IsKnown};
+ghost use Rattle.pattern_store.specs.Shapes.{ShapeIs, KeepsShapes};
+ghost use Rattle.pattern_store.specs.Records.{HoldsNothing, Finds, Adds, Goes, Appends, IsBlockIn, IsEmpty};
+ghost use Rattle.pattern_store.specs.Records.{list_number, record_of};
 
-/// The first card of a record that names none.
-pub const NO_CARD: u8 = 0xff;
+use crate::blocks::{Block, List, PLACES};
+use crate::record::{Owners, Record};
+use crate::runs::Runs;
+use crate::shapes::{MOST_SHAPES, Shapes};
+use crate::spans::Span;
+use crate::waiting::Waiting;
+use std::alloc::{AllocError, Global};
+use std::marker::Model;
 
-/// Owners of cards, two bits each, in every suit the highest card first: `near` has the first eight of each suit,
-/// `deep` the others.
-#[derive(Clone, Copy, Default)]
-pub struct Owners {
-    pub near: u64,
-    pub deep: u64,
+/// How many blocks are kept at most. A block takes 120 bytes.
+pub const MOST_BLOCKS: usize = 800_000;
+
+/// The records by shape, leader and side. A record's number is that of its block times four, and its place in it.
+#[derive(Drop)]
+pub struct Records {
+    shapes: Shapes,
+    runs: Runs,
 }
 
-/// What is remembered of a shape, a leader and a side: who owns the highest cards, and what the side then wins.
-#[derive(Clone, Copy, Default)]
-pub struct Record {
-    /// The owners that are named, of the first eight of each suit.
-    pub near: u64,
-    /// The bits of `near` that are named.
-    pub mask: u64,
-    /// The owners that are named after the eighth of each suit.
-    pub deep: u64,
-    /// How many owners are named, four bits a suit.
-    pub depths: u16,
-    /// How many tricks the side can win. Nothing is remembered where it is 0.
-    pub need: u8,
-    /// The card that showed it, as the pattern names it: its suit times sixteen, and its place, or 15 for a low card.
-    pub first_card: u8,
+impl Model for Records {
+    ghost use Rattle.pattern_store.specs.Records.{Kept};
+
+    ghost Value = { Kept };
+
+    ghost view = { λ s. record { shapes = s.shapes.map.entries; blocks = s.runs.blocks.items; room = s.runs.room } };
 }
 
-/// What a free place has. It names owners of all cards that no deal has.
-pub(crate) const FREE: Record = Record {
-    near: u64::MAX,
-    mask: u64::MAX,
-    deep: 0,
-    depths: 0,
-    need: 0,
-    first_card: NO_CARD,
-};
-
-/// The bits of the first owners of a suit, up to eight, down to this depth.
-fn near_bits(depth: u16) -> u64
-    ensures marks { MarksSuit 0 depth result }
-    ensures small { result < 2 ^ 16 }
+/// The number of a list of its shape.
+fn number_in_shape(leader: usize, ours: bool) -> u32
+    ensures { result ≡ list_number leader ours }
 {
-    (1 << (2 * depth.min(8))) - 1
+    (leader % 4) as u32 * 2 + if ours { 0 } else { 1 }
 }
 
-/// The bits of the first owners, up to eight a suit, down to these depths.
-fn near_mask(depths: u16) -> u64
-    ensures { Marks 0 depths result }
+/// The number of the record in a place of a block.
+fn number_of(block: u32, place: usize) -> Option<u32>
+    requires { place < 4 }
+    ensures some { IfSome result (λ number. number ≡ block * 4 + place) }
+    ensures none { IfNone result (2 ^ 32 ≤ block * 4 + place) }
 {
-    near_bits(depths % 16)
-        + near_bits(depths / 16 % 16) * (1 << 16)
-        + near_bits(depths / 256 % 16) * (1 << 32)
-        + near_bits(depths / 4096) * (1 << 48)
+    u32::try_from(block as usize * 4 + place).ok()
 }
 
-/// The bits of a suit's owners after the eighth, down to this depth.
-fn deep_bits(depth: u16) -> u64
-    requires { depth < 16 }
-    ensures marks { MarksSuit 8 depth result }
-    ensures small { result < 2 ^ 16 }
+/// The first place of a block whose record names these owners and lets the side win as much.
+fn place_of<F: Fn() -> u64>(block: &Block, near: u64, deep: &F, need: u8) -> Option<usize>
+    requires { F.IsAlwaysCallable deep.now }
+    ensures some { IfSome result (λ place. (place < 4) × (need ≤ (record_at block.now place).need)
+        × AgreesNear (record_at block.now place) near × AgreesDeep (record_at block.now place) (F.post deep.now)) }
+    ensures none { IfNone result ((place : ℕ) → place < 4 → need ≤ (record_at block.now place).need
+        → Differs (record_at block.now place) near (F.post deep.now)) }
 {
-    (1 << (2 * depth.saturating_sub(8))) - 1
+    if !block.may_agree(near) {
+        return None;
+    }
+    for place in 0..PLACES {
+        if block.need(place) >= need && block.agrees(place, near, deep) {
+            return Some(place);
+        }
+    }
+    None
 }
 
-/// The bits of the owners after the eighth, down to these depths.
-pub(crate) fn deep_mask(depths: u16) -> u64
-    ensures { Marks 8 depths result }
-{
-    deep_bits(depths % 16)
-        + deep_bits(depths / 16 % 16) * (1 << 16)
-        + deep_bits(depths / 256 % 16) * (1 << 32)
-        + deep_bits(depths / 4096) * (1 << 48)
-}
-
-/// The owners of this mask. They are not asked for where it is empty.
-fn kept<F: Fn() -> u64>(mask: u64, deep: F) -> u64
-    requires { F.IsAlwaysCallable deep }
-    ensures { ((mask ≡ 0) × (result ≡ 0)) ⊎ ((owners : ℕ) × F.post deep owners × (result ≡ bit_and owners mask)) }
-{
-    if mask == 0 { 0 } else { deep() & mask }
-}
-
-impl Record {
-    /// A record with the owners that are named down to these depths, four bits a suit. Those after the eighth of a suit
-    /// are asked for where some are named.
-    pub fn new<F: Fn() -> u64>(near: u64, deep: F, depths: u16, need: u8, first_card: u8) -> Record
-        requires { F.IsAlwaysCallable deep }
-        ensures facts { (result.depths ≡ depths) × (result.need ≡ need) × (result.first_card ≡ first_card) }
-        ensures mask { IsMasked result }
-        ensures near { KeepsOwners 0 depths near result.near }
-        ensures deep { DeepKept result (F.post deep) }
+impl Records {
+    /// Nothing is remembered.
+    pub fn new(alloc: Global) -> Result<Records, AllocError>
+        ensures nothing { IfOk result HoldsNothing }
+        ensures room { IfOk result (λ kept. (kept.shapes ≡ []) × (kept.room ≡ 800000)) }
     {
-        let mask = near_mask(depths);
-        Record {
-            near: near & mask,
-            mask,
-            deep: kept(deep_mask(depths), deep),
-            depths,
-            need,
-            first_card,
+        Ok(Records {
+            shapes: Shapes::new(alloc),
+            runs: Runs::new(alloc, MOST_BLOCKS)?,
+        })
+    }
+
+    /// How many blocks there are.
+    pub fn blocks(&self) -> usize
+        ensures { result ≡ length self.now.blocks }
+    {
+        self.runs.blocks.len()
+    }
+
+    /// How much memory is taken, in blocks. A shape counts as one.
+    pub fn size(&self) -> usize
+        ensures { result ≡ min (length self.now.blocks + length self.now.shapes) (2 ^ 64 - 1) }
+    {
+        self.blocks().saturating_add(self.shapes.len())
+    }
+
+    /// Has no more blocks than these, if it does not have more now.
+    pub fn set_room(&mut self, room: usize)
+        ensures { self.new ≡ record self.old { room = min room 800000 } }
+    {
+        self.runs.room = room.min(MOST_BLOCKS);
+    }
+
+    /// Whether something may not have been remembered since there was no room.
+    pub fn is_full(&self) -> bool
+        ensures { IsTrue result ↔ (self.now.room ≤ length self.now.blocks) ⊎ (2 ^ 18 ≤ length self.now.shapes) }
+    {
+        self.blocks() >= self.runs.room || self.shapes.len() >= MOST_SHAPES
+    }
+
+    /// The number of the shape with these lengths, if something may be remembered of it. It keeps its number.
+    pub fn shape(&self, lengths: u64) -> Option<u32>
+        ensures { IfSome result (λ shape. ShapeIs self.now.shapes shape lengths) }
+    {
+        self.shapes.number(lengths)
+    }
+
+    /// The list of a shape, a seat that leads and a side that wins, North's and South's where it is ours. None where
+    /// it is empty.
+    pub fn list(&self, shape: Option<u32>, leader: usize, ours: bool) -> Option<List>
+        ensures some { IfSome result (λ list. (shape ≡ Some list.shape) × (list.number ≡ list_number leader ours)) }
+        ensures none { IfNone result ((number : ℕ) → shape ≡ Some number
+            → IsEmpty self.now (record { shape = number; number = list_number leader ours })) }
+    {
+        let list = List {
+            shape: shape?,
+            number: number_in_shape(leader, ours),
+        };
+        if self.shapes.span(list).is_empty() {
+            return None;
+        }
+        Some(list)
+    }
+
+    /// The number of the first record of a list that names these owners and lets the side win as many tricks. The
+    /// owners after the eighth of a suit are asked for where they matter.
+    pub fn find<F: Fn() -> u64>(&self, list: List, near: u64, deep: F, need: u8) -> Option<u32>
+        requires { F.IsAlwaysCallable deep }
+        ensures { IfSome result (Finds self.now list need (λ r. AgreesNear r near × AgreesDeep r (F.post deep))) }
+    {
+        let span = self.shapes.span(list);
+        for number in span.first()..span.end() {
+            let block = self.block(list, number)?;
+            if let Some(place) = place_of(block, near, &deep, need.max(1)) {
+                return number_of(number, place);
+            }
+        }
+        None
+    }
+
+    /// The number of the first record of a list that names only owners that are known, and those as they are, and
+    /// lets the side win as many tricks: of those that are liked, else of all.
+    pub fn find_known<F: Fn(u32) -> bool>(
+        &self,
+        list: List,
+        owners: Owners,
+        known: Owners,
+        need: u8,
+        is_liked: F,
+    ) -> Option<u32>
+        requires { F.IsAlwaysCallable is_liked }
+        ensures { IfSome result (Finds self.now list need (λ r. IsKnown r owners known)) }
+    {
+        let mut first = None;
+        let span = self.shapes.span(list);
+        for number in span.first()..span.end() {
+            let Some(block) = self.block(list, number) else {
+                break;
+            };
+            if !block.may_agree(owners.near) {
+                continue;
+            }
+            for place in 0..PLACES {
+                if block.need(place) < need.max(1) || !block.is_known(place, owners, known) {
+                    continue;
+                }
+                let found = number_of(number, place)?;
+                if is_liked(found) {
+                    return Some(found);
+                }
+                if first.is_none() {
+                    first = Some(found);
+                }
+            }
+        }
+        first
+    }
+
+    /// The block with this number, if it is one of the list.
+    fn block(&self, list: List, number: u32) -> Option<&Block>
+        ensures { IfSome result (λ block. IsBlockIn self.now.blocks list number block.now) }
+    {
+        match self.runs.blocks.get(number as usize) {
+            Some(block) if block.is_of(list) => Some(block),
+            _ => None,
         }
     }
 
-    /// How many owners it names. The fewer, the more positions it serves.
-    pub fn owners_named(&self) -> u16
-        ensures { result ≡ named_in self.now.depths }
+    /// The record with this number. It has a need of 0 where there is none.
+    pub fn record(&self, number: u32) -> Record
+        ensures { result ≡ record_of self.now.blocks number }
     {
-        let pairs = (self.depths & 0x0f0f).wrapping_add(self.depths >> 4 & 0x0f0f);
-        pairs.wrapping_add(pairs >> 8) & 0xff
+        match self.runs.blocks.get((number / 4) as usize) {
+            Some(block) => block.record((number % 4) as usize),
+            None => Record::default(),
+        }
     }
 
-    /// Whether the record says at least what the other says.
-    pub(crate) fn serves(&self, other: &Record) -> bool
-        ensures { IsMasked self.now → IsMasked other.now → (IsTrue result ↔ Serves self.now other.now) }
+    /// Adds a record to the list of a shape, a seat that leads and a side that wins, after those that name fewer
+    /// owners, or as many; those that it serves are dropped. Where there is no room the one that names the most is
+    /// lost. The shape may have this number.
+    pub fn add(
+        &mut self,
+        shape: Option<u32>,
+        lengths: u64,
+        leader: usize,
+        ours: bool,
+        told: Record,
+    ) -> Result<(), AllocError>
+        ensures { Adds self.old self.new lengths (list_number leader ours) told }
     {
-        self.need >= other.need
-            && self.mask & !other.mask == 0
-            && (self.near ^ other.near) & self.mask == 0
-            && self.serves_deep(other)
+        let Some(shape) = self.make(shape, lengths)? else {
+            return Ok(());
+        };
+        let list = List {
+            shape,
+            number: number_in_shape(leader, ours),
+        };
+        let span = self.shapes.span(list);
+        let mut waiting = Waiting::of(told);
+        self.pass_list(list, span, &mut waiting);
+        if waiting.waits {
+            self.append(list, span, waiting.moved)
+        } else {
+            Ok(())
+        }
     }
 
-    /// Whether it says no more of the owners after the eighth than the other.
-    fn serves_deep(&self, other: &Record) -> bool
-        ensures { IsTrue result ↔ NamesNoMore 8 16 self.now other.now }
+    /// The number of a shape, which gets one where it has none.
+    fn make(&mut self, shape: Option<u32>, lengths: u64) -> Result<Option<u32>, AllocError>
+        ensures keeps { KeepsShapes self.old.shapes self.new.shapes }
+        ensures blocks { (self.new.blocks ≡ self.old.blocks) × (self.new.room ≡ self.old.room) }
+        ensures made { IfOk result (λ shape. IfSome shape (λ shape. ShapeIs self.new.shapes shape lengths)) }
     {
-        let deep = deep_mask(self.depths);
-        deep & !deep_mask(other.depths) == 0 && (self.deep ^ other.deep) & deep == 0
+        self.shapes.make(shape, lengths)
+    }
+
+    /// Leads a record along a list.
+    fn pass_list(&mut self, list: List, span: Span, waiting: &mut Waiting)
+        ensures { Goes self.old self.new list waiting.old.moved waiting.new.moved }
+    {
+        let end = span.end();
+        for number in span.first()..end {
+            self.pass_block(list, number, end - number == 1, waiting);
+        }
+    }
+
+    /// Leads a record past a block, if it is one of the list.
+    fn pass_block(&mut self, list: List, number: u32, is_last: bool, waiting: &mut Waiting)
+        ensures { Goes self.old self.new list waiting.old.moved waiting.new.moved }
+    {
+        let Some(block) = self.runs.blocks.get_mut(number as usize) else {
+            return;
+        };
+        if !block.is_of(list) {
+            return;
+        }
+        waiting.pass_block(block, is_last);
+    }
+
+    /// Adds a block with a record to a list. Nothing is added where there are too many.
+    fn append(&mut self, list: List, span: Span, told: Record) -> Result<(), AllocError>
+        ensures { Appends self.old self.new list told }
+    {
+        let Some(span) = self.runs.with_room(span)? else {
+            return Ok(());
+        };
+        self.runs.put(span.end(), list, told);
+        self.shapes.set_span(list, span.with_one_more());
+        Ok(())
     }
 }

@@ -2,10 +2,10 @@
 //! takes again.
 
 ghost use Rattle.std.specs.Prelude.{◌≡◌, ◌-◌, ◌^◌, IfOk, IfSome};
-ghost use Rattle.pattern_store.specs.Found.{Keeps, Puts, HoldNothing};
+ghost use Rattle.pattern_store.specs.Records.{Keeps, Puts, HoldNothing};
 
 use crate::blocks::{Block, List};
-use crate::records::{FREE, Record};
+use crate::record::{FREE, Record};
 use crate::spans::{LENGTHS, Span};
 use std::alloc::{AllocError, Global};
 

@@ -4,7 +4,7 @@ ghost use Rattle.std.specs.Prelude.{◌≡◌, ◌<◌, false, true};
 ghost use Rattle.pattern_store.specs.Blocks.{SetsPlace, Passes, LosesServed};
 
 use crate::blocks::{Block, PLACES};
-use crate::records::{FREE, Record};
+use crate::record::{FREE, Record};
 
 /// A record on its way into a list.
 #[derive(Clone, Copy)]

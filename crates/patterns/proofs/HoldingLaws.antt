@@ -17,19 +17,19 @@ use Rattle.cards.specs.declared.pack.Rank.TheVariants.{Two, Three, Four, Five, S
 use Rattle.cards.specs.declared.seats.Seat.{Seat}
 use Rattle.cards.specs.declared.seats.Seat.TheVariants.{North, East, South, West}
 use Rattle.cards.specs.Deal.{Deal, holder_of, is_held_by}
-use Rattle.cards.specs.Hands.{holder_by_bits}
+use Rattle.cards.specs.Hands.{holder_by_bits, holder_by_words}
 use Rattle.cards.specs.Pack.{card_of, rank_number, rank_at}
 use Rattle.cards.proofs.PackLaws.{rank_number-rank_at}
 use Rattle.cards.specs.Seats.{seat_number, is_same_seat}
 use Rattle.patterns.specs.Holders.{falling_ranks, holders_of, count_in, MatchesSuit}
 use Rattle.patterns.specs.Shapes.{SuitShape, len_of, BeginsWith}
-use Rattle.patterns.specs.Holdings.{TellHolders, holder_in, falling_numbers, holders_in}
+use Rattle.patterns.specs.Holdings.{TellHolders, falling_numbers, holders_in}
 use Rattle.patterns.proofs.HolderLaws.{count_in-filter_map, length-filter_map-le}
 use Rattle.patterns.proofs.SeatLaws.{same_from_is_same, is_same_seat_self}
 
 -- the seats that hold the highest so many of the suit's thirteen cards, that of the highest first
 abbrev pub holders_above : List ℕ → ℕ → List Seat
-holders_above words n = filter_map (holder_in words) (take n falling_numbers)
+holders_above words n = filter_map (holder_by_words words) (take n falling_numbers)
 
 -- four bits name the holder
 tells : (n e s w : ℕ) (holder : Option Seat) → (n ≡ 1) ↔ (holder ≡ Some North) → (e ≡ 1) ↔ (holder ≡ Some East) → (s ≡ 1) ↔ (holder ≡ Some South) → (w ≡ 1) ↔ (holder ≡ Some West) → holder_by_bits n e s w ≡ holder
@@ -54,7 +54,7 @@ tells n e s w (Some West) hn he hs hw =
     rw (no_n, no_e, no_s, eq-eqb w 1 (hw.1 refl)) refl
 
 -- the words name the holder of each card
-holder_in-is : (words : List ℕ) (deal : Deal) (suit : Suit) → TellHolders words deal suit → (rank : Rank) → holder_in words (rank_number rank) ≡ holder_of deal (card_of suit rank)
+holder_in-is : (words : List ℕ) (deal : Deal) (suit : Suit) → TellHolders words deal suit → (rank : Rank) → holder_by_words words (rank_number rank) ≡ holder_of deal (card_of suit rank)
 holder_in-is words deal suit told rank = tells _ _ _ _ _ (told.bits North rank) (told.bits East rank) (told.bits South rank) (told.bits West rank)
 
 filter_map-same : {X Y : Type 0} (f g : X → Option Y) → ((x : X) → f x ≡ g x) → (xs : List X) → filter_map f xs ≡ filter_map g xs
@@ -65,7 +65,7 @@ filter_map-same f g same (x ∷ xs) = rw (same x, filter_map-same f g same xs) r
 pub holders_in-is : (words : List ℕ) (deal : Deal) (suit : Suit) → TellHolders words deal suit → holders_in words ≡ holders_of deal suit
 unfolding holders_in holders_of
 holders_in-is words deal suit told =
-    filter_map-same (λ rank. holder_in words (rank_number rank)) (λ rank. holder_of deal (card_of suit rank)) (holder_in-is words deal suit told) falling_ranks
+    filter_map-same (λ rank. holder_by_words words (rank_number rank)) (λ rank. holder_of deal (card_of suit rank)) (holder_in-is words deal suit told) falling_ranks
 
 -- the ranks, the deuce first
 abbrev rising_ranks : List Rank
@@ -127,19 +127,19 @@ count_ones-is words deal suit told seat =
     ∙ (rising-falling held ∙ sym (count_in-filter_map (λ rank. holder_of deal (card_of suit rank)) seat falling_ranks)))
 
 -- one card more
-pub holders_above-more : (words : List ℕ) (n : ℕ) → n < 13 → holders_above words (n + 1) ≡ holders_above words n ++ option_to_list (holder_in words (12 - n))
+pub holders_above-more : (words : List ℕ) (n : ℕ) → n < 13 → holders_above words (n + 1) ≡ holders_above words n ++ option_to_list (holder_by_words words (12 - n))
 holders_above-more words n less =
     let number : get_or falling_numbers n 0 ≡ 12 - n = get_or-map-range_with_len (λ i. 12 - i) 0 13 n n 0 less (omega arith) in
-    ap (filter_map (holder_in words)) (take_more falling_numbers n 0 less ∙ ap (λ x. take n falling_numbers ++ x ∷ []) number)
-    ∙ (filter_map-append (holder_in words) (take n falling_numbers) ((12 - n) ∷ [])
-    ∙ ap (λ xs. holders_above words n ++ xs) (last (holder_in words (12 - n))))
+    ap (filter_map (holder_by_words words)) (take_more falling_numbers n 0 less ∙ ap (λ x. take n falling_numbers ++ x ∷ []) number)
+    ∙ (filter_map-append (holder_by_words words) (take n falling_numbers) ((12 - n) ∷ [])
+    ∙ ap (λ xs. holders_above words n ++ xs) (last (holder_by_words words (12 - n))))
   where
     last : (holder : Option Seat) → cons_option holder [] ≡ option_to_list holder
     last None = refl
     last (Some seat) = refl
 
 pub length-holders_above : (words : List ℕ) (n : ℕ) → n ≤ 13 → length (holders_above words n) ≤ n
-length-holders_above words n within = omega (arith, length-filter_map-le (holder_in words) (take n falling_numbers), length-take-le n falling_numbers within)
+length-holders_above words n within = omega (arith, length-filter_map-le (holder_by_words words) (take n falling_numbers), length-take-le n falling_numbers within)
 
 -- the first so many, one more being added
 pub take-more : (depth : ℕ) (holders : List Seat) (more : List Seat) → length (take depth holders) < depth → length more ≤ 1 → take depth (holders ++ more) ≡ take depth holders ++ more
@@ -153,10 +153,10 @@ take-full depth holders more full =
     take-append-le depth holders more (omega (arith, full, length-take depth holders))
 
 -- the holders, cut after some of the cards
-pub holders_in-split : (words : List ℕ) (n : ℕ) → holders_in words ≡ holders_above words n ++ filter_map (holder_in words) (drop n falling_numbers)
+pub holders_in-split : (words : List ℕ) (n : ℕ) → holders_in words ≡ holders_above words n ++ filter_map (holder_by_words words) (drop n falling_numbers)
 unfolding holders_in
 holders_in-split words n =
-    ap (filter_map (holder_in words)) (sym (take-append-drop n falling_numbers)) ∙ filter_map-append (holder_in words) (take n falling_numbers) (drop n falling_numbers)
+    ap (filter_map (holder_by_words words)) (sym (take-append-drop n falling_numbers)) ∙ filter_map-append (holder_by_words words) (take n falling_numbers) (drop n falling_numbers)
 
 -- a suit matches where the words have its lengths and their holders begin with its owners
 pub matches_by_words : (words : List ℕ) (deal : Deal) (suit : Suit) (shape : SuitShape) → TellHolders words deal suit →

@@ -9,6 +9,5 @@ pub mod PartLaws
 pub mod ShapeWordLaws
 pub mod Removals
 pub mod OwnedPlaces
-pub mod PackedLaws
 pub mod CompletionLaws
 pub mod MoreOwners

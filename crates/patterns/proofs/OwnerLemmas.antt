@@ -13,22 +13,23 @@ use Rattle.cards.specs.declared.suits.Suit.{Suit}
 use Rattle.cards.specs.Deal.{Deal}
 use Rattle.patterns.specs.Shapes.{BeginsWith, SuitShape}
 use Rattle.patterns.specs.Holders.{suit_of_layout}
-use Rattle.patterns.specs.Holdings.{TellHolders, holder_in, falling_numbers, holders_in}
+use Rattle.cards.specs.Hands.{holder_by_words}
+use Rattle.patterns.specs.Holdings.{TellHolders, falling_numbers, holders_in}
 use Rattle.patterns.proofs.HoldingLaws.{holders_above, holders_above-more, holders_in-split, length-holders_above, take-more, take-full, holders_in-is, count_ones-is}
 
 -- all owners were met
 pub all_met : (words : List ℕ) (owners : List Seat) (n seen count : ℕ) → holders_above words n ≡ take seen owners → seen ≡ count → count ≡ length owners → BeginsWith (holders_in words) owners
 all_met words owners n seen count so_far all len =
-    let rest = filter_map (holder_in words) (drop n falling_numbers) in
+    let rest = filter_map (holder_by_words words) (drop n falling_numbers) in
     (rest, holders_in-split words n ∙ ap (λ xs. xs ++ rest) (so_far ∙ take_all seen owners (omega arith)))
 
 -- the next card is another seat's
 pub other_met : (words : List ℕ) (owners : List Seat) (n seen : ℕ) (seat : Seat) → n < 13 → seen < length owners → holders_above words n ≡ take seen owners →
-    holder_in words (12 - n) ≡ Some seat → ¬ (seat ≡ get_or owners seen North) → ¬ BeginsWith (holders_in words) owners
+    holder_by_words words (12 - n) ≡ Some seat → ¬ (seat ≡ get_or owners seen North) → ¬ BeginsWith (holders_in words) owners
 other_met words owners n seen seat less fewer so_far held apart begins =
-    let rest = filter_map (holder_in words) (drop (n + 1) falling_numbers) in
+    let rest = filter_map (holder_by_words words) (drop (n + 1) falling_numbers) in
     let front : holders_above words (n + 1) ≡ take seen owners ++ seat ∷ [] =
-    holders_above-more words n less ∙ (ap (λ xs. xs ++ option_to_list (holder_in words (12 - n))) so_far ∙ ap (λ o. take seen owners ++ option_to_list o) held) in
+    holders_above-more words n less ∙ (ap (λ xs. xs ++ option_to_list (holder_by_words words (12 - n))) so_far ∙ ap (λ o. take seen owners ++ option_to_list o) held) in
     let whole : holders_in words ≡ take seen owners ++ seat ∷ rest =
     holders_in-split words (n + 1) ∙ (ap (λ xs. xs ++ rest) front ∙ append_assoc (take seen owners) (seat ∷ []) rest) in
     let here : get_or (holders_in words) seen North ≡ seat =
@@ -39,15 +40,15 @@ other_met words owners n seen seat less fewer so_far held apart begins =
 
 -- the next card is the next owner's
 pub owner_met : (words : List ℕ) (owners : List Seat) (n seen : ℕ) → n < 13 → seen < length owners → holders_above words n ≡ take seen owners →
-    holder_in words (12 - n) ≡ Some (get_or owners seen North) → holders_above words (n + 1) ≡ take (seen + 1) owners
+    holder_by_words words (12 - n) ≡ Some (get_or owners seen North) → holders_above words (n + 1) ≡ take (seen + 1) owners
 owner_met words owners n seen less within so_far held =
     holders_above-more words n less
-    ∙ (ap (λ xs. xs ++ option_to_list (holder_in words (12 - n))) so_far
+    ∙ (ap (λ xs. xs ++ option_to_list (holder_by_words words (12 - n))) so_far
     ∙ (ap (λ o. take seen owners ++ option_to_list o) held ∙ sym (take_more owners seen North within)))
 
 -- nobody holds the next card
 pub nobody_met : (words : List ℕ) (owners : List Seat) (n seen : ℕ) → n < 13 → holders_above words n ≡ take seen owners →
-    holder_in words (12 - n) ≡ None → holders_above words (n + 1) ≡ take seen owners
+    holder_by_words words (12 - n) ≡ None → holders_above words (n + 1) ≡ take seen owners
 nobody_met words owners n seen less so_far free =
     holders_above-more words n less
     ∙ (ap (λ o. holders_above words n ++ option_to_list o) free ∙ (append-nil (holders_above words n) ∙ so_far))
@@ -68,7 +69,7 @@ all_cards_met words owners n seen count end len fewer so_far = (
 
 -- a list of owners grows up to the depth
 pub owner_listed : (words : List ℕ) (depth n : ℕ) (owners : List Seat) (seat : Seat) → n < 13 → owners ≡ take depth (holders_above words n) → length owners < depth →
-    holder_in words (12 - n) ≡ Some seat → owners ++ seat ∷ [] ≡ take depth (holders_above words (n + 1))
+    holder_by_words words (12 - n) ≡ Some seat → owners ++ seat ∷ [] ≡ take depth (holders_above words (n + 1))
 owner_listed words depth n owners seat less are short held =
     let short' : length (take depth (holders_above words n)) < depth = rw (← are) short in
     ap (λ xs. xs ++ seat ∷ []) are
@@ -76,7 +77,7 @@ owner_listed words depth n owners seat less are short held =
     ∙ ap (take depth) (sym (holders_above-more words n less ∙ ap (λ o. holders_above words n ++ option_to_list o) held)))
 
 pub nobody_listed : (words : List ℕ) (depth n : ℕ) (owners : List Seat) → n < 13 → owners ≡ take depth (holders_above words n) →
-    holder_in words (12 - n) ≡ None → owners ≡ take depth (holders_above words (n + 1))
+    holder_by_words words (12 - n) ≡ None → owners ≡ take depth (holders_above words (n + 1))
 nobody_listed words depth n owners less are free =
     are ∙ ap (take depth) (sym (holders_above-more words n less ∙ (ap (λ o. holders_above words n ++ option_to_list o) free ∙ append-nil (holders_above words n))))
 
@@ -84,7 +85,7 @@ pub list_is_full : (words : List ℕ) (depth n : ℕ) (owners : List Seat) → n
     owners ≡ take depth (holders_above words (n + 1))
 list_is_full words depth n owners less are full =
     let full' : depth ≤ length (take depth (holders_above words n)) = rw (← are) full in
-    are ∙ (sym (take-full depth (holders_above words n) (option_to_list (holder_in words (12 - n))) full') ∙ ap (take depth) (sym (holders_above-more words n less)))
+    are ∙ (sym (take-full depth (holders_above words n) (option_to_list (holder_by_words words (12 - n))) full') ∙ ap (take depth) (sym (holders_above-more words n less)))
 
 -- there is room in the list
 pub list_has_room : (words : List ℕ) (depth n : ℕ) (owners : List Seat) → n < 13 → owners ≡ take depth (holders_above words n) → length owners < 13

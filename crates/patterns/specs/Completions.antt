@@ -9,8 +9,8 @@ use Rattle.patterns.specs.Shapes.{SuitShape, Shape, len_of, tops_of}
 abbrev pub lows_of : SuitShape → Seat → ℕ
 lows_of suit seat = len_of suit seat - tops_of suit seat
 
--- Of these numbers of cards, those of North, East, South and West: the one seat that has some, once for each of them. No
--- seat, where none has some or more than one.
+-- Of these numbers of cards, those of North, East, South and West: the one seat that has some, once for each of them.
+-- No seat, where none has some or more than one.
 abbrev pub lone_holder : ℕ → ℕ → ℕ → ℕ → List Seat
 lone_holder cards zero zero zero = replicate cards North
 lone_holder zero cards zero zero = replicate cards East

@@ -54,7 +54,3 @@ shape_of_layout deal depths = record {
   diamonds = suit_of_layout deal Diamonds (slice_index depths 2);
   clubs = suit_of_layout deal Clubs (slice_index depths 3);
 }
-
--- the four suits of a layout, with all owners
-abbrev pub whole_shape : Deal → Shape
-whole_shape deal = shape_of_layout deal (13 ∷ 13 ∷ 13 ∷ 13 ∷ [])

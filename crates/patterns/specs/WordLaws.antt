@@ -41,7 +41,8 @@ word_of-suit_in word h =
     let bits = owner_bits-owners_in (owner_count word) (word / 2 ^ 20) h.blank in
     rw (len, bits) (omega arith)
 
-pub four_are : (xs : List ℕ) → length xs ≡ 4 → (slice_index xs 0 ∷ slice_index xs 1 ∷ slice_index xs 2 ∷ slice_index xs 3 ∷ []) ≡ xs
+pub four_are : (xs : List ℕ) → length xs ≡ 4
+    → (slice_index xs 0 ∷ slice_index xs 1 ∷ slice_index xs 2 ∷ slice_index xs 3 ∷ []) ≡ xs
 four_are [] h = absurd (omega arith)
 four_are (a ∷ []) h = absurd (omega arith)
 four_are (a ∷ b ∷ []) h = absurd (omega arith)

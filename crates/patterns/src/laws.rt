@@ -13,23 +13,26 @@ ghost use Rattle.patterns.specs.declared.faults.PatternFault.{PatternFault};
 ghost use Rattle.patterns.specs.declared.suit_parts.SuitPart.{SuitPart};
 
 use crate::faults::PatternFault;
-use crate::layout_patterns::Pattern;
+use crate::patterns::Pattern;
 use crate::rests::Rest;
 use crate::suit_parts::SuitPart;
 
 /// `==` of two patterns says whether they are the same.
 pub fn equal_patterns_are_one()
-    ensures { (one other : Shape) → IsPattern one → IsPattern other → Decides (⟦<Pattern as PartialEq>⟧.eq one other) (one ≡ other) }
+    ensures { (one other : Shape) → IsPattern one → IsPattern other → Decides (⟦<Pattern as PartialEq>⟧.eq one other)
+        (one ≡ other) }
 {}
 
 /// `==` of two rests says whether they are the same.
 pub fn equal_rests_are_one()
-    ensures { (one other : Shape) → IsRest one → IsRest other → Decides (⟦<Rest as PartialEq>⟧.eq one other) (one ≡ other) }
+    ensures { (one other : Shape) → IsRest one → IsRest other
+        → Decides (⟦<Rest as PartialEq>⟧.eq one other) (one ≡ other) }
 {}
 
 /// `==` of two parts says whether they tell the same suit.
 pub fn equal_parts_are_one()
-    ensures { (one other : SuitPart) → Decides (⟦<SuitPart as PartialEq>⟧.eq one other) (suit_shape one ≡ suit_shape other) }
+    ensures { (one other : SuitPart) → Decides (⟦<SuitPart as PartialEq>⟧.eq one other)
+        (suit_shape one ≡ suit_shape other) }
 {}
 
 /// `==` of two faults says whether they are the same.
@@ -49,12 +52,14 @@ pub fn equal_words_are_one_rest()
 
 /// What `from_words` may answer for the words of a pattern is that pattern alone.
 pub fn words_make_their_pattern()
-    ensures { (shape : Shape) (answer : Result Shape PatternFault) → IsPattern shape → MeetsWords 1 13 (words_of shape) answer → answer ≡ Ok shape }
+    ensures { (shape : Shape) (answer : Result Shape PatternFault) → IsPattern shape
+        → MeetsWords 1 13 (words_of shape) answer → answer ≡ Ok shape }
 {}
 
 /// What `from_words` may answer for the words of a rest is that rest alone.
 pub fn words_make_their_rest()
-    ensures { (shape : Shape) (answer : Result Shape PatternFault) → IsRest shape → MeetsWords 0 12 (words_of shape) answer → answer ≡ Ok shape }
+    ensures { (shape : Shape) (answer : Result Shape PatternFault) → IsRest shape
+        → MeetsWords 0 12 (words_of shape) answer → answer ≡ Ok shape }
 {}
 
 /// A layout that matches a rest matches the rest completed.

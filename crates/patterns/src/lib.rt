@@ -11,8 +11,7 @@
 mod faults;
 mod holdings;
 mod laws;
-mod layout_patterns;
-mod packed_layouts;
+mod patterns;
 mod rests;
 mod shape_words;
 mod suit_parts;
@@ -24,8 +23,7 @@ pub use laws::{
     equal_patterns_are_one, equal_rests_are_one, equal_words_are_one_pattern,
     equal_words_are_one_rest, words_make_their_pattern, words_make_their_rest,
 };
-pub use layout_patterns::Pattern;
-pub use packed_layouts::PackedLayout;
+pub use patterns::Pattern;
 pub use rests::Rest;
 pub use suit_parts::SuitPart;
 pub use suit_words::SuitWord;

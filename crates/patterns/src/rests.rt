@@ -1,4 +1,4 @@
-//! Rests.
+//! What a trick leaves of a pattern.
 
 ghost use Rattle.std.specs.Prelude.{◌≡◌};
 ghost use Rattle.patterns.specs.Shapes.{suit_of, IsRest};
@@ -63,16 +63,6 @@ impl Rest {
         self.held.words()
     }
 
-    /// The rest of four suits that are known to be one: `from_parts` without its tests.
-    pub fn of_parts(parts: [SuitPart; 4]) -> Rest
-        requires { IsRest (shape_of_parts parts) }
-        ensures { result ≡ shape_of_parts parts }
-    {
-        Rest {
-            held: ShapeWords::of_parts(&parts),
-        }
-    }
-
     /// The rest of four suits in their words that are known to be one.
     pub fn of_suits(spades: SuitWord, hearts: SuitWord, diamonds: SuitWord, clubs: SuitWord) -> Rest
         requires { IsRest (shape_with spades hearts diamonds clubs) }
@@ -90,8 +80,8 @@ impl Rest {
         let _held = &self.held;
     }
 
-    /// The rest with the owners lengthened in each suit in which one seat alone has low cards, by that seat, once for each
-    /// of them: so its low cards in that suit get a rank, below those of the owners before. The other suits stay.
+    /// The rest with the owners lengthened in each suit in which one seat alone has low cards, by that seat, once for
+    /// each of them: so its low cards in that suit get a rank, below those of the owners before. The other suits stay.
     pub fn completed(&self) -> Rest
         ensures { result ≡ completed self.now }
     {

@@ -14,10 +14,10 @@ ghost use Rattle.patterns.specs.Words.{suit_in, seat_at, owner_count, places_of,
 ghost use Rattle.patterns.specs.Removals.{owners_but};
 ghost use Rattle.patterns.specs.Completions.{lows_of, completed_suit};
 
-use crate::holdings::{holder, holdings};
+use crate::holdings::holdings;
 use crate::suit_parts::SuitPart;
 use arrayvec::ArrayVec;
-use cards::{Layout, Seat, Suit};
+use cards::{Layout, Seat, Suit, holder_by_words};
 use std::marker::Model;
 
 /// One suit in a word. From the lowest bit on: four bits each for the lengths of North, East, South and West, four
@@ -243,7 +243,8 @@ impl SuitWord {
     fn lone_holder(&self, lows: u64) -> Option<Seat>
         requires owned { HasItsOwners self.now }
         requires some { 0 < lows }
-        ensures { MatchOption result ((seat : Seat) → lows ≢ lows_of self.now seat) (λ seat. lows ≡ lows_of self.now seat) }
+        ensures { MatchOption result ((seat : Seat) → lows ≢ lows_of self.now seat)
+            (λ seat. lows ≡ lows_of self.now seat) }
     {
         if self.has_lows(Seat::North, lows) {
             Some(Seat::North)
@@ -300,7 +301,7 @@ impl SuitWord {
         let mut owners = ArrayVec::new();
         for above in 0..13 {
             if owners.len() < depth as usize {
-                if let Some(seat) = holder(&words, 12 - above) {
+                if let Some(seat) = holder_by_words(&words, 12 - above) {
                     owners.push(seat);
                 }
             }
@@ -325,8 +326,9 @@ impl SuitWord {
     }
 
     /// Whether the words have as many cards as the lengths say.
-    fn has_lens(&self, words: &[u16; 4]) -> bool
-        ensures { IsTrue result ↔ ((seat : Seat) → len_of self.now seat ≡ count_ones (slice_index words.now (seat_number seat))) }
+    fn has_lens(&self, words: &[u64; 4]) -> bool
+        ensures { IsTrue result ↔ ((seat : Seat)
+            → len_of self.now seat ≡ count_ones (slice_index words.now (seat_number seat))) }
     {
         words[0].count_ones() == u32::from(self.len(Seat::North))
             && words[1].count_ones() == u32::from(self.len(Seat::East))
@@ -335,7 +337,7 @@ impl SuitWord {
     }
 
     /// Whether the owners hold the highest cards of the words, in their order.
-    fn has_owners(&self, words: &[u16; 4]) -> bool
+    fn has_owners(&self, words: &[u64; 4]) -> bool
         ensures { IsTrue result ↔ BeginsWith (holders_in words.now) self.now.owners }
     {
         let count = self.owner_count();
@@ -344,7 +346,7 @@ impl SuitWord {
             if seen == count {
                 return true;
             }
-            if let Some(seat) = holder(words, 12 - above) {
+            if let Some(seat) = holder_by_words(words, 12 - above) {
                 if seat != self.owner_in(seen) {
                     return false;
                 }
@@ -367,7 +369,8 @@ fn nibble(word: u64, from: u32) -> u64
 /// Of the lengths in two words the lesser of each seat.
 fn lesser_lens(one: u64, other: u64) -> u64
     ensures below { result < 2 ^ 16 }
-    ensures lesser { (seat : Seat) → len_of (suit_in result) seat ≡ min (len_of (suit_in one) seat) (len_of (suit_in other) seat) }
+    ensures lesser { (seat : Seat) → len_of (suit_in result) seat ≡ min (len_of (suit_in one) seat)
+        (len_of (suit_in other) seat) }
 {
     let lens = other & LENS;
     // a length that is taken from a lesser one borrows from the bit above its four
@@ -385,7 +388,8 @@ fn without_place(word: u64, place: u32) -> u64
     requires { place < owner_count word }
     ensures lens { result % 2 ^ 16 ≡ word % 2 ^ 16 }
     ensures count { owner_count result ≡ owner_count word - 1 }
-    ensures owners { result / 2 ^ 20 ≡ word / 2 ^ 20 % 2 ^ (2 * place) + word / 2 ^ 20 / 2 ^ (2 * place + 2) * 2 ^ (2 * place) }
+    ensures owners { result / 2 ^ 20 ≡ word / 2 ^ 20 % 2 ^ (2 * place) + word / 2 ^ 20 / 2 ^ (2 * place + 2) * 2 ^
+        (2 * place) }
 {
     let below = (1 << (OWNERS + 2 * place)) - 1;
     (word & below) + (word >> 2 & !below) - (1 << COUNT)

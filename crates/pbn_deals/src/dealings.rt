@@ -38,7 +38,8 @@ impl Dealing {
 
     /// Names one card more.
     fn add_card(&mut self, seat: Seat, card: Card)
-        ensures adds { (held : List Holding) → Represents self.old held → Represents self.new (held ++ held_by seat card ∷ []) }
+        ensures adds { (held : List Holding) → Represents self.old held
+            → Represents self.new (held ++ held_by seat card ∷ []) }
         ensures partial { self.new.is_partial ≡ self.old.is_partial }
     {
         let [north, east, south, west] = self.hands;
@@ -49,7 +50,8 @@ impl Dealing {
 
     /// Names the cards of the four groups of a hand, spades first. `false` says that they are not of the form.
     fn add_groups(&mut self, seat: Seat, word: &[u8]) -> bool
-        ensures reads { ReadsHand result (groups_cards suits_in_order (slice_split is_dot word.now)) seat self.old self.new }
+        ensures reads { ReadsHand result
+            (groups_cards suits_in_order (slice_split is_dot word.now)) seat self.old self.new }
         ensures partial { self.new.is_partial ≡ self.old.is_partial }
     {
         let mut suit = 0;

@@ -15,7 +15,7 @@ use cards::Layout;
 use std::alloc::Global;
 
 /// How many boards a text may have.
-const MOST_BOARDS: usize = 4096;
+pub const MOST_BOARDS: usize = 4096;
 
 /// The name of a game's first Board tag, and what its Deal tag says.
 #[derive(Drop)]

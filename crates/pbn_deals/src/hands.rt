@@ -31,7 +31,8 @@ pub(crate) fn first_byte(text: &[u8]) -> Option<(u8, &[u8])>
 
 /// The first word, and what stands after it, where there is a word.
 pub(crate) fn first_word(text: &[u8]) -> Option<(&[u8], &[u8])>
-    ensures { MatchOption result (words_of text.now ≡ []) (λ found. words_of text.now ≡ found.0.now ∷ words_of found.1.now) }
+    ensures { MatchOption result (words_of text.now ≡ [])
+        (λ found. words_of text.now ≡ found.0.now ∷ words_of found.1.now) }
 {
     let text = after_blanks(text);
     if text.is_empty() {

@@ -18,6 +18,7 @@ mod tags;
 pub use boards::{Board, BoardName};
 pub use deal_values::read_layout;
 pub use faults::PbnFault;
+pub use games::MOST_BOARDS;
 pub use laws::{
     boards_are_printable, one_answer, one_layout, some_answer, some_layout, texts_are_read_in_turn,
 };

@@ -18,7 +18,8 @@ pub(crate) struct Tag<'a> {
 
 /// What stands before the first such byte and after it, where there is one.
 pub(crate) fn split_at_byte(text: &[u8], byte: u8) -> Option<(&[u8], &[u8])>
-    ensures { MatchOption result (Lacks byte text.now) (λ found. (text.now ≡ found.0.now ++ byte ∷ found.1.now) × Lacks byte found.0.now) }
+    ensures { MatchOption result (Lacks byte text.now)
+        (λ found. (text.now ≡ found.0.now ++ byte ∷ found.1.now) × Lacks byte found.0.now) }
 {
     for (i, other) in text.iter().enumerate() {
         if *other == byte {

@@ -45,7 +45,8 @@ fn expect_closed<W: io::Write + Drop>(
     Ok(())
 }
 
-/// How runs end, with which exit status, and with which they end where the last bytes can't go out, and what is told of it.
+/// How runs end, with which exit status, and with which they end where the last bytes can't go out, and what is told of
+/// it.
 const ENDS: [(Status, u8, u8, &str); 5] = [
     (Status::Done, 0, 1, "ddfarm: writing failed\n"),
     (Status::Incomplete, 3, 1, "ddfarm: writing failed\n"),

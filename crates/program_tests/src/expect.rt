@@ -24,6 +24,11 @@ pub fn expect_eq<T: PartialEq + Debug>(rt: &impl Abort, got: &T, wanted: &T) {
     assert_eq!(rt; *got, *wanted);
 }
 
+/// The bytes are those that are wanted.
+pub fn expect_bytes(rt: &impl Abort, got: &[u8], wanted: &[u8]) {
+    assert_eq!(rt; got, wanted);
+}
+
 /// A solver and a gate, and a clock that stands still.
 pub fn means<'a, S, G>(solver: &'a S, gate: &'a G) -> Means<'a, S, G, StandsStill> {
     Means {

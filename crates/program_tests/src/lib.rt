@@ -6,6 +6,10 @@
 #[cfg(test)]
 mod closing_tests;
 #[cfg(test)]
+mod damage_tests;
+#[cfg(test)]
+mod device_tests;
+#[cfg(test)]
 mod expect;
 #[cfg(test)]
 mod full_tests;

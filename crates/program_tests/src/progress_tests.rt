@@ -3,9 +3,8 @@
 use crate::expect::{ROOM, expect_eq, means};
 use crate::table_tests::tables;
 use cards::{Buffer, Bytes, Seat, Trump};
-use farm::Clock;
-use lease_book::{Entry, Reply};
-use lease_desk::Gate;
+use lease_book::{Entry, Reply, first_boards};
+use lease_desk::{Clock, Gate};
 use partition_solver::{Partition, Solver};
 use pbn_deals::{Board, BoardName, read_layout};
 use progress::Progress;
@@ -26,7 +25,7 @@ pub const BOARD: &[u8] =
 
 /// Counts what it is told.
 #[derive(Drop)]
-struct Counts {
+struct CallCounts {
     begun: AtomicU64,
     solved: AtomicU64,
     graphs: AtomicU64,
@@ -35,10 +34,10 @@ struct Counts {
     ended: AtomicU64,
 }
 
-impl Counts {
+impl CallCounts {
     /// FindsNothing was told yet.
-    fn new() -> Counts {
-        Counts {
+    fn new() -> CallCounts {
+        CallCounts {
             begun: AtomicU64::new(0),
             solved: AtomicU64::new(0),
             graphs: AtomicU64::new(0),
@@ -62,8 +61,8 @@ impl Counts {
     }
 }
 
-impl Gate for Counts {
-    fn before_work(&self, boards: &[Board]) {
+impl Gate for CallCounts {
+    fn before_work(&self, boards: &[Board], _firsts: &[usize]) {
         self.begun.fetch_add(boards.len() as u64, SeqCst);
     }
 
@@ -90,14 +89,14 @@ impl Gate for Counts {
     }
 }
 
-/// How many boards, leases that are worked on, leases whose graphs are checked, claims that are checked, results that are
-/// published and ends are told.
+/// How many boards, leases that are worked on, leases whose graphs are checked, claims that are checked, results that
+/// are published and ends are told.
 type Told = [u64; 6];
 
 const NONE: Told = [0; 6];
 
-/// Whether progress is told, how many entries are leased at a time, and what is told where nothing is found, each entry being tried
-/// three times, and where all is.
+/// Whether progress is told, how many entries are leased at a time, and what is told where nothing is found, each entry
+/// being tried three times, and where all is.
 const TOLD: [(bool, usize, Told, Told); 4] = [
     (false, 1, NONE, NONE),
     (true, 1, [1, 60, 0, 0, 0, 1], [1, 20, 20, 20, 20, 1]),
@@ -113,7 +112,7 @@ fn expect_told<R: Abort + Threads + Wait + Sync, S: Solver + Sync>(
     solver: &S,
     wanted: (Status, Told),
 ) -> Result<(), Fail> {
-    let gate = Counts::new();
+    let gate = CallCounts::new();
     let mut streams = Streams {
         input: Bytes::new(BOARD, 7),
         output: Buffer::new(alloc, ROOM, ROOM)?,
@@ -163,6 +162,13 @@ fn some_boards(alloc: Global, count: usize) -> Result<Vec<Board>, Fail> {
     Ok(boards)
 }
 
+/// The work on these boards begins.
+fn begin(alloc: Global, gate: &impl Gate, boards: &[Board]) -> Result<(), Fail> {
+    let firsts = first_boards(alloc, boards)?;
+    gate.before_work(boards, firsts.as_slice());
+    Ok(())
+}
+
 /// So many answers for the first board, each with this reply.
 fn check(gate: &impl Gate, count: usize, reply: Reply) {
     for _ in 0..count {
@@ -189,7 +195,7 @@ fn a_line_a_second_and_one_at_the_end(rt: HostRuntime) -> Result<(), Fail> {
         seconds: AtomicU64::new(3),
     };
     let progress = Progress::new(&rt, &clock, Buffer::new(alloc, ROOM, 5)?);
-    progress.before_work(some_boards(alloc, 2)?.as_slice());
+    begin(alloc, &progress, some_boards(alloc, 2)?.as_slice())?;
     check(&progress, 1, Reply::Published(7));
     clock.seconds.store(4, SeqCst);
     check(&progress, 3, Reply::AlreadyPublished);
@@ -216,7 +222,7 @@ fn boards_that_share_a_deal(rt: HostRuntime) -> Result<(), Fail> {
         seconds: AtomicU64::new(3),
     };
     let progress = Progress::new(&rt, &clock, Buffer::new(alloc, ROOM, 5)?);
-    progress.before_work(some_boards(alloc, 4)?.as_slice());
+    begin(alloc, &progress, some_boards(alloc, 4)?.as_slice())?;
     clock.seconds.store(4, SeqCst);
     check(&progress, 20, Reply::Published(0));
     clock.seconds.store(5, SeqCst);

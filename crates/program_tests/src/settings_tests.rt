@@ -62,8 +62,8 @@ impl Solver for Sums {
     }
 }
 
-/// Tries, steps, how many entries are leased at a time, and the sums: each of the twenty entries is searched in each try, and of those
-/// that are leased together the four of a denomination in one search, which has the steps once.
+/// Tries, steps, how many entries are leased at a time, and the sums: each of the twenty entries is searched in each
+/// try, and of those that are leased together the four of a denomination in one search, which has the steps once.
 const SUMS: [(u32, u64, usize, [u64; 3]); 4] = [
     (1, 7, 1, [20, 20, 140]),
     (3, 7, 1, [60, 60, 420]),

@@ -1,31 +1,61 @@
 -- What one result more, and one board more, does to the counts.
 use Rattle.std.proofs.Common.{◌≡◌, ℕ, ◌+◌, ◌-◌, ◌*◌, ◌^◌, ◌<◌, ◌≤◌, min, Bool, true, false, cond, List, [], ◌∷◌, ◌++◌, length, get_or, take, is_some, count_by, sum_by, Option, None, Some, ◌⊎◌, inl, inr, ⊎_elim, refl, sym, ◌∙◌, ap, set, arith, get_or-set_same, get_or-set_other}
-use Rattle.std.specs.Prelude.{nat_eq, nat_le}
+use Rattle.std.specs.Prelude.{nat_eq, nat_le, slice_get, slice_index, slice_index_or}
 use Rattle.std.specs.List.{position_or_len}
-use Rattle.std.proofs.lemmas.Bool.{both_ways, false_from_ne_true, cases_Bool, cases_eq, eqb-true, eq-eqb, ne_eqb, leb-true, leb-false, le-leb, lt-leb}
+use Rattle.std.proofs.lemmas.Bool.{cases_Bool, cases_eq, eqb-true, eq-eqb, ne_eqb, leb-true, leb-false, le-leb, lt-leb}
 use Rattle.std.proofs.lemmas.List.{take_all}
-use Rattle.std.proofs.lemmas.List.Sums.{sum_by-cons, sum_by_push, sum_by-le, count_by-le-length}
+use Rattle.std.proofs.lemmas.List.Sums.{sum_by-cons, sum_by_push, sum_by-le, count_by-le-length, count_by_more_yes, count_by_more_no}
 use Rattle.std.proofs.lemmas.Option.{slice_get-get_or}
-use Rattle.std.specs.Option.{option_eq}
-use Rattle.cards.specs.Deal.{Deal, is_same_deal}
-use Rattle.cards.specs.SameDeal.{is_same_deal-Decides}
+use Rattle.cards.specs.Deal.{Deal}
 use Rattle.pbn_deals.specs.declared.boards.Board.{Board}
 use Rattle.lease_book.specs.Books.{AreBoards}
-use Rattle.lease_book.specs.Twins.{is_dealt, is_this_deal}
+use Rattle.lease_book.specs.Keeping.{AreFirsts}
+use Rattle.lease_book.specs.Twins.{is_dealt, is_this_deal, first_with, deal_of}
 use Rattle.lease_book.proofs.TwinLaws.{first_le, this_itself}
 use Rattle.progress.specs.declared.counts.Counts.{Counts}
-use Rattle.progress.specs.Counts.{is_first_with, sharing_count, results_of, result_count, finished_count, AreCounted}
+use Rattle.progress.specs.Counts.{is_first_with, with_one_more, sharing_count, results_of, result_count, finished_count, AreCounted}
 
--- what `==` answers says whether the deal is this one
-pub is_this_deal-from_eq : (deal : Deal) (other : Option Deal) → option_eq is_same_deal other (Some deal) ≡ is_this_deal deal other
-is_this_deal-from_eq deal None = refl
-is_this_deal-from_eq deal (Some other) = go (cases_Bool (is_same_deal other deal))
+-- the first board with the deal of this one is the one that is told
+told_first : (boards : List Board) (number n : ℕ) (deal : Option Deal) → is_some deal ≡ true → is_first_with boards deal n ≡ nat_eq (first_with boards deal number) n
+told_first boards number n None h = absurd (let no : false ≡ true = h in cc)
+told_first boards number n (Some deal) h = refl
+
+pub first_is_told : (boards : List Board) (firsts : List ℕ) (number n d : ℕ) (board : Board) → AreFirsts boards firsts → number < length boards → slice_get boards number ≡ Some board → is_some board.deal ≡ true
+    → is_first_with boards board.deal n ≡ nat_eq (slice_index_or firsts number d) n
+first_is_told boards firsts number n d board are within here dealt =
+    let deal : deal_of boards number ≡ board.deal = rw here refl in
+    told_first boards number n board.deal dealt
+    ∙ ap (λ first. nat_eq first n) (ap (λ (x : Option Deal). first_with boards x number) (sym deal) ∙ sym (are.firsts_are number d within))
+
+-- one board more, which has a deal, and one which has none
+abbrev pub HaveShared : List Board → List ℕ → ℕ → Type 0
+HaveShared boards sharing number = (place : ℕ) → place < 4096 → get_or sharing place 0 ≡ min (count_by (λ (board : Board). is_first_with boards board.deal place) (take number boards)) 65535
+
+pub shared_more : (boards : List Board) (firsts sharing new : List ℕ) (number : ℕ) (board : Board) → AreFirsts boards firsts → number < length boards → board ≡ get_or boards number board → is_some board.deal ≡ true
+    → ((place : ℕ) → place < 4096 → slice_index new place ≡ with_one_more sharing (slice_index_or firsts number 0) place) → HaveShared boards sharing number → HaveShared boards new (number + 1)
+shared_more boards firsts sharing new number board are within here dealt more before = λ place below.
+    let f = λ (x : Board). is_first_with boards x.deal place in
+    let first = slice_index_or firsts number 0 in
+    let told : f (get_or boards number board) ≡ nat_eq first place = ap f (sym here) ∙ first_is_told boards firsts number place 0 board are within (slice_get-get_or boards number board within ∙ ap Some (sym here)) dealt in
+    let old : get_or sharing place 0 ≡ min (count_by f (take number boards)) 65535 = before place below in
+    elim (cases_Bool (nat_eq first place)) [
+      | inl same ↦
+          let new_is : get_or new place 0 ≡ min (get_or sharing place 0 + 1) 65535 = rw same at (more place below) in
+          omega (arith, old, new_is, count_by_more_yes f boards number board within (told ∙ same))
+      | inr other ↦
+          let new_is : get_or new place 0 ≡ get_or sharing place 0 = rw other at (more place below) in
+          omega (arith, old, new_is, count_by_more_no f boards number board within (told ∙ other))
+    ]
+
+pub shared_as_before : (boards : List Board) (sharing : List ℕ) (number : ℕ) (board : Board) → number < length boards → board ≡ get_or boards number board → is_some board.deal ≡ false → HaveShared boards sharing number → HaveShared boards sharing (number + 1)
+shared_as_before boards sharing number board within here none before = λ place below.
+    let f = λ (x : Board). is_first_with boards x.deal place in
+    let fails : f (get_or boards number board) ≡ false = ap f (sym here) ∙ not_first boards place board.deal none in
+    omega (arith, before place below, count_by_more_no f boards number board within fails)
   where
-    go : (is_same_deal other deal ≡ true) ⊎ (is_same_deal other deal ≡ false) → is_same_deal other deal ≡ is_same_deal deal other
-    go (inl same) = same ∙ sym ((is_same_deal-Decides deal other).1 (sym ((is_same_deal-Decides other deal).0 same)))
-    go (inr not_same) =
-        not_same
-        ∙ sym (false_from_ne_true (is_same_deal deal other) (λ same. both_ways (is_same_deal other deal) not_same ((is_same_deal-Decides other deal).1 (sym ((is_same_deal-Decides deal other).0 same)))))
+    not_first : (boards : List Board) (place : ℕ) (deal : Option Deal) → is_some deal ≡ false → is_first_with boards deal place ≡ false
+    not_first boards place None none = refl
+    not_first boards place (Some deal) none = absurd (let e : true ≡ false = none in cc)
 
 -- ---- sums over the same list
 same_sums : {X : Type 0} (f g : X → ℕ) → ((x : X) → f x ≡ g x) → (xs : List X) → sum_by f xs ≡ sum_by g xs

@@ -1,6 +1,7 @@
--- What is counted of a run: by its boards, and by the boards for which a result was published, in the order in which they came.
--- A result is published for the first board with a deal, and counts for each board that has it.
-use Rattle.std.specs.Prelude.{◌≡◌, ℕ, ◌+◌, ◌*◌, ◌-◌, ◌^◌, ◌<◌, min, Bool, false, List, [], ◌∷◌, ◌++◌, length, count_by, sum_by}
+-- What is counted of a run: by its boards, and by the boards for which a result was published, in the order in which
+-- they came. A result is published for the first board with a deal, and counts for each board that has it.
+use Rattle.std.specs.Prelude.{◌≡◌, ℕ, ◌+◌, ◌*◌, ◌-◌, ◌^◌, ◌<◌, min, Bool, false, List, [], ◌∷◌, ◌++◌, length, count_by}
+use Rattle.std.specs.Prelude.{sum_by}
 use Rattle.std.specs.Prelude.{Option, None, Some, is_some, nat_eq, nat_le, slice_index, if◌then◌else◌}
 use Rattle.std.specs.List.{position_or_len}
 use Rattle.cards.specs.Deal.{Deal}
@@ -34,15 +35,16 @@ result_count boards published = sum_by (results_of boards published) boards
 abbrev pub finished_count : List Board → List ℕ → ℕ
 finished_count boards published = count_by (λ board. nat_le 20 (results_of boards published board)) boards
 
--- The counts are those of these boards, after results were published for these. (What is kept of a board ends at 255, and all
--- results at the greatest u64.)
+-- The counts are those of these boards, after results were published for these. (What is kept of a board ends at 255,
+-- and all results at the greatest u64.)
 pub record AreCounted (boards : List Board) (published : List ℕ) (counts : Counts) : Type 0 where
   pub boards_are : counts.boards ≡ length boards
   pub results_are : counts.results ≡ possible_count boards
   pub published_are : counts.published ≡ min (result_count boards published) (2 ^ 64 - 1)
   pub finished_are : counts.finished ≡ finished_count boards published
   pub sharing_are : (number : ℕ) → number < 4096 → slice_index counts.sharing number ≡ sharing_count boards number
-  pub of_board_are : (number : ℕ) → number < 4096 → slice_index counts.of_board number ≡ min (count_by (nat_eq number) published) 255
+  pub of_board_are : (number : ℕ) → number < 4096 → slice_index counts.of_board number
+      ≡ min (count_by (nat_eq number) published) 255
 
 -- the counts are those of these boards, of which there are no more than a book has, before any result
 abbrev pub IsBegun : List Board → Counts → Type 0

@@ -11,7 +11,8 @@ counted done all name = decimal done ++ (codes " of " ++ (decimal all ++ name))
 -- `ddfarm: 37 of 200 results, 1 of 10 boards, `
 abbrev pub counts_text : Counts → List ℕ
 counts_text counts = codes "ddfarm: "
-    ++ (counted counts.published counts.results (codes " results, ") ++ counted counts.finished counts.boards (codes " boards, "))
+    ++ (counted counts.published counts.results (codes " results, ") ++ counted counts.finished counts.boards
+    (codes " boards, "))
 
 -- a line of the counts after so many seconds
 abbrev pub line_text : Counts → ℕ → List ℕ
@@ -21,7 +22,8 @@ line_text counts seconds = counts_text counts ++ (decimal seconds ++ codes " s\n
 abbrev pub last_line_text : Counts → ℕ → List ℕ
 last_line_text counts seconds =
     counts_text counts
-    ++ (decimal seconds ++ (codes " s, " ++ (decimal (counts.boards - counts.finished) ++ codes " tables incomplete\n")))
+    ++ (decimal seconds ++ (codes " s, "
+    ++ (decimal (counts.boards - counts.finished) ++ codes " tables incomplete\n")))
 
 -- a text goes out, or a beginning of it where the sink fails
 abbrev pub Tells : Device → Device → List ℕ → Type 0

@@ -1,17 +1,12 @@
 //! What of the work is done.
 
 ghost use Rattle.std.specs.Prelude.{◌≡◌, ◌-◌};
-ghost use Rattle.std.specs.List.{position_or_len};
-ghost use Rattle.lease_book.specs.Twins.{is_dealt};
 
-use cards::Layout;
-use pbn_deals::Board;
-
-/// The most boards that a book has.
-const MOST_BOARDS: usize = 4096;
+use lease_book::ENTRIES;
+use pbn_deals::{Board, MOST_BOARDS};
 
 /// How many results a board has.
-const RESULTS: u8 = 20;
+const RESULTS: u8 = ENTRIES as u8;
 
 /// How many results are published, and of how many.
 #[derive(Drop)]
@@ -29,20 +24,9 @@ pub(crate) struct Counts {
     pub(crate) boards: u64,
 }
 
-/// The number of the first board with this deal, or how many boards there are.
-fn first_with(boards: &[Board], deal: Layout) -> usize
-    ensures { result ≡ position_or_len (is_dealt deal) boards.now }
-{
-    for (number, board) in boards.iter().enumerate() {
-        if board.deal == Some(deal) {
-            return number;
-        }
-    }
-    boards.len()
-}
-
 impl Counts {
     ghost use Rattle.std.specs.Prelude.{ℕ, ◌<◌, [], slice_index};
+    ghost use Rattle.lease_book.specs.Keeping.{AreFirsts};
     ghost use Rattle.progress.specs.Counts.{AreCounted, IsBegun, AddsResult, with_one_more};
 
     /// Of no boards.
@@ -59,16 +43,17 @@ impl Counts {
         }
     }
 
-    /// Of these boards, before the work on them.
-    pub(crate) fn begin(&mut self, boards: &[Board])
+    /// Of these boards, before the work on them. For each there is the number of the first with its deal.
+    pub(crate) fn begin(&mut self, boards: &[Board], firsts: &[usize])
+        requires { AreFirsts boards.now firsts.now }
         ensures { IsBegun boards.now self.new }
     {
         *self = Counts::none();
         self.boards = boards.len() as u64;
-        for board in boards {
-            if let Some(deal) = board.deal {
+        for (number, board) in boards.iter().enumerate() {
+            if board.deal.is_some() {
                 self.results = self.results.saturating_add(RESULTS as u64);
-                self.share(first_with(boards, deal));
+                self.share(firsts[number]);
             }
         }
     }

@@ -5,9 +5,8 @@ ghost use Rattle.std.specs.Prelude.{◌≡◌, ◌<◌, ◌≤◌, max};
 use crate::counts::Counts;
 use crate::lines::{write_last_line, write_line};
 use cards::Sink;
-use farm::Clock;
 use lease_book::{Entry, Reply};
-use lease_desk::Gate;
+use lease_desk::{Clock, Gate};
 use pbn_deals::Board;
 use std::sync::{Mutex, Wait};
 
@@ -23,14 +22,16 @@ struct Told<S> {
 impl<S: Sink> Told<S> {
     ghost use Rattle.progress.specs.Counts.{IsBegun, AddsResult};
     ghost use Rattle.progress.specs.Lines.{Tells, line_text, last_line_text};
+    ghost use Rattle.lease_book.specs.Keeping.{AreFirsts};
 
     /// The work on these boards begins at this moment.
-    fn begin(&mut self, boards: &[Board], now: u64)
+    fn begin(&mut self, boards: &[Board], firsts: &[usize], now: u64)
+        requires { AreFirsts boards.now firsts.now }
         ensures counts { IsBegun boards.now self.new.counts }
         ensures moment { self.new.moment ≡ now }
         ensures sink { self.new.sink ≡ self.old.sink }
     {
-        self.counts.begin(boards);
+        self.counts.begin(boards, firsts);
         self.moment = now;
     }
 
@@ -57,8 +58,8 @@ impl<S: Sink> Told<S> {
     }
 }
 
-/// A gate that tells how far the work has come: a line after each moment of the clock in which a result was published, and one
-/// at the end. Where the sink fails, nobody is told.
+/// A gate that tells how far the work has come: a line after each moment of the clock in which a result was published,
+/// and one at the end. Where the sink fails, nobody is told.
 #[derive(Drop)]
 pub struct Progress<'a, R, C, S> {
     rt: &'a R,
@@ -98,9 +99,9 @@ impl<'a, R: Wait, C: Clock, S: Sink> Progress<'a, R, C, S> {
 }
 
 impl<R: Wait, C: Clock, S: Sink> Gate for Progress<'_, R, C, S> {
-    fn before_work(&self, boards: &[Board]) {
+    fn before_work(&self, boards: &[Board], firsts: &[usize]) {
         let mut told = self.told.lock(self.rt);
-        told.begin(boards, self.clock.now());
+        told.begin(boards, firsts, self.clock.now());
     }
 
     fn before_solve(&self, _lease: u64) {}

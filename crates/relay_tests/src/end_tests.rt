@@ -83,8 +83,8 @@ fn each_taker_ends(rt: HostRuntime) -> Result<(), Fail> {
     Ok(())
 }
 
-/// The end puts one mark for each taker while putters are unfinished, once: what is put later comes right after these marks,
-/// though another putter finished and the relay was ended again.
+/// The end puts one mark for each taker while putters are unfinished, once: what is put later comes right after these
+/// marks, though another putter finished and the relay was ended again.
 #[test]
 fn ended_when_one_has_finished(rt: HostRuntime) -> Result<(), Fail> {
     let (mut relay, mut putters, mut takers) = Relay::<u64>::open(rt.alloc(), 64, 3, 2)?;

@@ -1,5 +1,5 @@
-//! Calls that wait: a take at an empty relay, a put at a full one. And that no put waits where nobody is left to take, and no
-//! take where the relay is ended.
+//! Calls that wait: a take at an empty relay, a put at a full one. And that no put waits where nobody is left to take,
+//! and no take where the relay is ended.
 
 use crate::expect::expect_eq;
 use crate::watch::{soon, take_soon};
@@ -12,7 +12,8 @@ use std::test::Fail;
 use std::thread;
 use std::thread::Threads;
 
-/// How often a thread looks whether the other has come to its call, and then goes on looking, so that the call is under way.
+/// How often a thread looks whether the other has come to its call, and then goes on looking, so that the call is under
+/// way.
 const TURNS: u64 = 10_000;
 
 /// Looks until it is set, and then as often again.
@@ -102,8 +103,8 @@ fn a_put_waits(rt: HostRuntime) -> Result<(), Fail> {
     Ok(())
 }
 
-/// What a taker takes from an empty relay, whose putter is dropped unfinished once the take is under way, in a thread of its own.
-/// Then the relay is ended.
+/// What a taker takes from an empty relay, whose putter is dropped unfinished once the take is under way, in a thread
+/// of its own. Then the relay is ended.
 fn taken_when_ended<R: Threads + Wait + Sync>(
     rt: &R,
     alloc: Global,

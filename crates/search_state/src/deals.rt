@@ -17,7 +17,7 @@ const ALL_SETS: usize = 4 * SETS;
 
 /// A deal in one denomination.
 #[derive(Drop)]
-pub struct Deal {
+pub struct DealTables {
     /// The four hands.
     pub hands: [u64; 4],
     /// All bits of the trump suit.
@@ -31,10 +31,11 @@ pub struct Deal {
     ranks: Vec<u64>,
 }
 
-/// The cards in all hands, with the first eight owners of each suit. Those of the others are looked up where they are asked for.
+/// The cards in all hands, with the first eight owners of each suit. Those of the others are looked up where they are
+/// asked for.
 #[derive(Clone, Copy)]
 pub struct CardsLeft<'a> {
-    deal: &'a Deal,
+    deal: &'a DealTables,
     pub cards: u64,
     pub near: u64,
 }
@@ -146,11 +147,11 @@ impl CardsLeft<'_> {
     }
 }
 
-impl Deal {
+impl DealTables {
     /// The tables of a layout.
-    pub fn new(alloc: Global, layout: &Layout, trump: Trump) -> Result<Deal, AllocError> {
+    pub fn new(alloc: Global, layout: &Layout, trump: Trump) -> Result<DealTables, AllocError> {
         let suits = suits_of(trump);
-        let mut deal = Deal {
+        let mut deal = DealTables {
             hands: hands_of(layout, suits),
             trumps: trumps_of(trump),
             suits,

@@ -1,6 +1,6 @@
 //! In which order the cards of the other hands are tried.
 
-use crate::moves::{Moves, Runs, card_at};
+use crate::moves::{HandRuns, Moves, card_at};
 use crate::order::{SuitDiscards, rank_of, whole};
 use crate::positions::{Trick, Turn};
 use crate::words::{MOST_CARDS, highest};
@@ -106,7 +106,7 @@ impl Ruffs {
 
 impl Moves {
     /// Adds the cards of the second hand.
-    pub fn add_second(&mut self, runs: Runs, turn: &Turn, trick: &Trick) {
+    pub fn add_second(&mut self, runs: HandRuns, turn: &Turn, trick: &Trick) {
         if runs.own & trick.led != 0 {
             self.add_in_suit(runs, trick, InSuit::second(turn, trick));
         } else {
@@ -116,7 +116,7 @@ impl Moves {
     }
 
     /// Adds the cards of the third hand.
-    pub fn add_third(&mut self, runs: Runs, turn: &Turn, trick: &Trick) {
+    pub fn add_third(&mut self, runs: HandRuns, turn: &Turn, trick: &Trick) {
         if runs.own & trick.led != 0 {
             self.add_in_suit(runs, trick, InSuit::third(turn, trick));
         } else {
@@ -127,7 +127,7 @@ impl Moves {
     }
 
     /// Adds the cards of the last hand: where it follows suit upwards, winning ones first unless partner's stands.
-    pub fn add_last(&mut self, runs: Runs, turn: &Turn, trick: &Trick) {
+    pub fn add_last(&mut self, runs: HandRuns, turn: &Turn, trick: &Trick) {
         let stands = partner_stands(turn, trick);
         if runs.own & trick.led != 0 {
             self.add_upwards(runs, trick.best_in_suit(), stands);
@@ -142,7 +142,7 @@ impl Moves {
     }
 
     /// Adds runs of the suit led.
-    fn add_in_suit(&mut self, mut runs: Runs, trick: &Trick, order: InSuit) {
+    fn add_in_suit(&mut self, mut runs: HandRuns, trick: &Trick, order: InSuit) {
         let best = trick.best_in_suit();
         for _ in 0..MOST_CARDS {
             let Some(run) = runs.next() else {
@@ -154,7 +154,7 @@ impl Moves {
     }
 
     /// Adds runs of the suit led of a last hand.
-    fn add_upwards(&mut self, mut runs: Runs, best: u64, stands: bool) {
+    fn add_upwards(&mut self, mut runs: HandRuns, best: u64, stands: bool) {
         for _ in 0..MOST_CARDS {
             let Some(run) = runs.next() else {
                 break;
@@ -166,7 +166,7 @@ impl Moves {
     }
 
     /// Adds runs of a hand without the suit led.
-    fn add_off(&mut self, mut runs: Runs, turn: &Turn, trick: &Trick, ruffs: Ruffs) {
+    fn add_off(&mut self, mut runs: HandRuns, turn: &Turn, trick: &Trick, ruffs: Ruffs) {
         let trumps = turn.deal.trumps;
         let best = trick.best;
         let mut discards = SuitDiscards::of(turn, runs.first_suit());

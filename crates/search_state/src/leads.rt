@@ -1,6 +1,6 @@
 //! In which order leads are tried.
 
-use crate::moves::{Moves, Runs};
+use crate::moves::{HandRuns, Moves};
 use crate::order::{NO_BIT, best_two, rank_of, sum_of, whole};
 use crate::positions::Turn;
 use crate::words::MOST_CARDS;
@@ -41,8 +41,8 @@ fn weigh_lengths(factors: &[i32; 16], first: usize, lengths: u32) -> i32 {
     sum
 }
 
-/// The parts of the weights of a side suit that go by who can ruff: of the highest card, and of the others. `first` tells who
-/// owns the highest, as places to the left of the leader.
+/// The parts of the weights of a side suit that go by who can ruff: of the highest card, and of the others. `first`
+/// tells who owns the highest, as places to the left of the leader.
 fn weigh_chances(turn: &Turn, lengths: u32, first: u32) -> (i32, i32) {
     let ruffs = &turn.weights.lead_ruffs;
     let trumps = turn.lengths(48);
@@ -65,8 +65,8 @@ fn weigh_chances(turn: &Turn, lengths: u32, first: u32) -> (i32, i32) {
     (whole(best), whole(others))
 }
 
-/// Who owns the highest card left of a suit and who the second, as places to the left of the leader; 4 where there is no
-/// second.
+/// Who owns the highest card left of a suit and who the second, as places to the left of the leader; 4 where there is
+/// no second.
 fn first_owners(turn: &Turn, start: u32, has_second: bool) -> (u32, u32) {
     let ranks = (turn.left.wrapping_shr(start) & 0x1fff) as usize;
     let owners = turn.deal.near_in((start >> 4 & 3) as usize, ranks);
@@ -140,7 +140,7 @@ impl SuitLeads {
 
 impl Moves {
     /// Adds the leads.
-    pub fn add_leads(&mut self, mut runs: Runs, turn: &Turn) {
+    pub fn add_leads(&mut self, mut runs: HandRuns, turn: &Turn) {
         let mut suit = SuitLeads::of(turn, runs.first_suit());
         for _ in 0..MOST_CARDS {
             let Some(run) = runs.next() else {

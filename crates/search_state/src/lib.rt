@@ -1,5 +1,5 @@
-//! What the search of `partition_solver` looks at: positions and the cards to be tried in them, and tricks that are played on the
-//! patterns that it has found.
+//! What the search of `partition_solver` looks at: positions and the cards to be tried in them, and tricks that are
+//! played on the patterns that it has found.
 #![tactic(auto)]
 
 pub mod deals;

@@ -8,8 +8,8 @@ use crate::words::{
 /// How many runs there is room for: more than a hand has.
 const ROOM: usize = 16;
 
-/// What a weight is multiplied with beside the numbers of two bits, the bit that tells that the highest card is tried, and what
-/// the number of its bit is multiplied with.
+/// What a weight is multiplied with beside the numbers of two bits, the bit that tells that the highest card is tried,
+/// and what the number of its bit is multiplied with.
 const WEIGHED: i32 = 8192;
 
 const TOP: i32 = 4096;
@@ -26,7 +26,7 @@ pub struct Move {
 
 /// The runs of a hand's cards, from the lowest.
 #[derive(Clone, Copy)]
-pub struct Runs {
+pub struct HandRuns {
     /// The cards.
     pub own: u64,
     /// The lowest card of each run.
@@ -49,7 +49,8 @@ pub struct Moves {
     bottoms: u64,
     /// The lowest card of each run that is not skipped.
     waiting: u64,
-    /// The runs by falling weight: the weight, whether the highest card is tried, and the bits of the highest and the lowest.
+    /// The runs by falling weight: the weight, whether the highest card is tried, and the bits of the highest and the
+    /// lowest.
     runs: [i32; ROOM],
     count: usize,
     /// The place of the run that is tried next.
@@ -73,11 +74,11 @@ impl Run {
     }
 }
 
-impl Runs {
+impl HandRuns {
     /// The runs of these cards, where those in all hands are these.
-    pub fn of(own: u64, left: u64) -> Runs {
+    pub fn of(own: u64, left: u64) -> HandRuns {
         let all = bottoms(own, left);
-        Runs {
+        HandRuns {
             own,
             bottoms: all,
             rest: all,
@@ -110,7 +111,7 @@ impl Runs {
 
 impl Moves {
     /// No run yet of these.
-    pub fn of(runs: &Runs) -> Moves {
+    pub fn of(runs: &HandRuns) -> Moves {
         Moves {
             own: runs.own,
             bottoms: runs.bottoms,

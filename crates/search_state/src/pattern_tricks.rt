@@ -1,5 +1,5 @@
-//! A trick played on a remembered pattern. A card of a pattern is a bit, sixteen a suit: that of a top by its place among the
-//! owners of its suit, the highest lowest, and the last one for any low card.
+//! A trick played on a remembered pattern. A card of a pattern is a bit, sixteen a suit: that of a top by its place
+//! among the owners of its suit, the highest lowest, and the last one for any low card.
 
 use crate::words::{MOST_CARDS, SUIT, below, highest, lowest, start_of, suit_of};
 use pattern_store::{Owners, Record};
@@ -18,7 +18,7 @@ const NEAR: u32 = 8;
 
 /// A pattern before a trick is played on it.
 #[derive(Clone, Copy)]
-pub struct Held {
+pub struct PatternStart {
     /// Of each suit the owners of its tops, two bits each, the highest first.
     owners: [u32; 4],
     depths: [u32; 4],
@@ -53,8 +53,8 @@ pub struct PatternTrick {
     pub seat: usize,
 }
 
-/// What a trick leaves: the owners, and the bits of those that are known. Where one seat alone has low cards of a suit it is
-/// known to own them.
+/// What a trick leaves: the owners, and the bits of those that are known. Where one seat alone has low cards of a suit
+/// it is known to own them.
 #[derive(Clone, Copy)]
 pub struct Remains {
     pub owners: Owners,
@@ -136,10 +136,10 @@ impl Remains {
     }
 }
 
-impl Held {
+impl PatternStart {
     /// The pattern of a record of these lengths.
-    pub fn of(record: &Record, lengths: u64) -> Held {
-        let mut held = Held {
+    pub fn of(record: &Record, lengths: u64) -> PatternStart {
+        let mut held = PatternStart {
             owners: [0; 4],
             depths: [0; 4],
             cards: [0; 4],
@@ -250,7 +250,7 @@ fn bit_of(lane: usize, place: u32) -> u64 {
 
 impl PatternTrick {
     /// The start of a trick on a pattern, with this seat to lead.
-    pub fn start(held: &Held, leader: usize) -> PatternTrick {
+    pub fn start(held: &PatternStart, leader: usize) -> PatternTrick {
         PatternTrick {
             gone: 0,
             lengths: held.lengths,

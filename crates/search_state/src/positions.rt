@@ -1,6 +1,6 @@
 //! A position of the search: the cards held, and the trick in progress. Seats are numbers from North's 0.
 
-use crate::deals::Deal;
+use crate::deals::DealTables;
 use crate::weights::{EAGER, MODEST, Weights};
 use crate::words::{start_of, suit_of};
 
@@ -38,7 +38,7 @@ pub struct Trick {
 /// A seat's turn, before it plays.
 #[derive(Clone, Copy)]
 pub struct Turn<'a> {
-    pub deal: &'a Deal,
+    pub deal: &'a DealTables,
     pub held: &'a Holdings,
     /// The cards in all hands at the trick's start.
     pub left: u64,
@@ -160,9 +160,10 @@ impl Trick {
 }
 
 impl<'a> Turn<'a> {
-    /// A seat's turn, where these cards were left at the trick's start, and its side wants more than half of the tricks or not.
+    /// A seat's turn, where these cards were left at the trick's start, and its side wants more than half of the tricks
+    /// or not.
     pub fn of(
-        deal: &'a Deal,
+        deal: &'a DealTables,
         held: &'a Holdings,
         left: u64,
         seat: usize,

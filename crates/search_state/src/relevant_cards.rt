@@ -1,4 +1,5 @@
-//! Which cards were relevant: those whose rank an answer needed. The lowest of a suit tells how deep it has to be known.
+//! Which cards were relevant: those whose rank an answer needed. The lowest of a suit tells how deep it has to be
+//! known.
 
 use crate::moves::Move;
 use crate::pattern_tricks::LOW;
@@ -58,8 +59,8 @@ fn lone_cards(hands: &[u64; 4], left: u64) -> u64 {
         | hands[3] & lowest_run(hands[3] | gone)
 }
 
-/// The cards that have to be named for these. Where one hand alone has the lowest cards of a suit, the lengths tell who owns
-/// them: it is enough to name those above.
+/// The cards that have to be named for these. Where one hand alone has the lowest cards of a suit, the lengths tell who
+/// owns them: it is enough to name those above.
 pub fn without_lone(hands: &[u64; 4], left: u64, relevant: u64) -> u64 {
     let lone = lone_cards(hands, left);
     let told = relevant & lone;
@@ -70,7 +71,8 @@ pub fn without_lone(hands: &[u64; 4], left: u64, relevant: u64) -> u64 {
     relevant & !told | above & suits_of_cards(told)
 }
 
-/// The cards whose rank matters after a trick: those of the rest, and that of the winner where others played to its suit.
+/// The cards whose rank matters after a trick: those of the rest, and that of the winner where others played to its
+/// suit.
 pub fn relevant_after(trick: &Trick, rest: u64) -> u64 {
     if trick.is_contended() {
         rest | trick.best

@@ -1,33 +1,35 @@
 //! The weights of the order in which cards are tried: two sets of 352 numbers.
 //!
-//! They were found by hill climbing in an earlier program of this search, on random deals that are in no benchmark here; which
-//! ones was not kept. `bench/solver/weights.py` measures a set on deals of a seed.
+//! They were found by hill climbing in an earlier program of this search, on random deals that are in no benchmark
+//! here; which ones was not kept. `bench/solver/weights.py` measures a set on deals of a seed.
 
 /// One set. What a number is multiplied with stands in `order`.
 pub(crate) struct Weights {
-    /// Leads. Three groups of sixty: no-trump, a side suit where there are trumps, the trump suit. In each by who owns the
-    /// suit's highest card (the leader, the left opponent, partner, the right one), who owns the second (the same four, or
-    /// nobody), and whether the card is the highest, the second or lower.
+    /// Leads. Three groups of sixty: no-trump, a side suit where there are trumps, the trump suit. In each by who owns
+    /// the suit's highest card (the leader, the left opponent, partner, the right one), who owns the second (the same
+    /// four, or nobody), and whether the card is the highest, the second or lower.
     pub leads: [i32; 180],
-    /// Leads, by the lengths of their suit. Two groups of eight: no-trump, trumps. In each the factors of the four lengths
-    /// (the leader's, left, partner's, right), that of the rank, which is taken off, and where left, partner or right is void.
+    /// Leads, by the lengths of their suit. Two groups of eight: no-trump, trumps. In each the factors of the four
+    /// lengths (the leader's, left, partner's, right), that of the rank, which is taken off, and where left, partner or
+    /// right is void.
     pub lead_lengths: [i32; 16],
-    /// Leads of a side suit, by who can ruff: left; right, where partner owns the highest card or it is led; right, else;
-    /// partner, where left can too; partner, where the highest card is led; partner, else.
+    /// Leads of a side suit, by who can ruff: left; right, where partner owns the highest card or it is led; right,
+    /// else; partner, where left can too; partner, where the highest card is led; partner, else.
     pub lead_ruffs: [i32; 6],
-    /// The second hand where it follows suit. 32 pairs, a weight and the factor of the rank, which is taken off, by five bits:
-    /// the card wins so far; it beats the next hand's best; partner's best beats both; the card led is the suit's highest;
-    /// the next hand can ruff.
+    /// The second hand where it follows suit. 32 pairs, a weight and the factor of the rank, which is taken off, by
+    /// five bits: the card wins so far; it beats the next hand's best; partner's best beats both; the card led is the
+    /// suit's highest; the next hand can ruff.
     pub second: [i32; 64],
-    /// The third hand where it follows suit. The same, but for the third bit: partner's card stands and beats the next hand's
-    /// best; and the fourth: partner's card stands.
+    /// The third hand where it follows suit. The same, but for the third bit: partner's card stands and beats the next
+    /// hand's best; and the fourth: partner's card stands.
     pub third: [i32; 64],
-    /// Ruffs of the second hand, by three bits: the ruff wins so far; partner's card stands; the next hand can overruff.
+    /// Ruffs of the second hand, by three bits: the ruff wins so far; partner's card stands; the next hand can
+    /// overruff.
     pub second_ruffs: [i32; 8],
     /// Ruffs of the third hand, by the same.
     pub third_ruffs: [i32; 8],
-    /// Discards: the factor of the suit's length, that of the rank, which is taken off, the weights of the highest card, of a
-    /// bare second card and of a card that leaves one bare, and the factor of partner's length.
+    /// Discards: the factor of the suit's length, that of the rank, which is taken off, the weights of the highest
+    /// card, of a bare second card and of a card that leaves one bare, and the factor of partner's length.
     pub discards: [i32; 6],
 }
 

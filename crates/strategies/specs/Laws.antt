@@ -74,7 +74,8 @@ WinsFewer =
 abbrev pub ShareTheTricks : Type 0
 ShareTheTricks =
     (opening : Opening) (history : List Card) → IsPlay opening history
-    → tricks_of NorthSouth opening.trump opening.leader history + tricks_of EastWest opening.trump opening.leader history
+    → tricks_of NorthSouth opening.trump opening.leader history
+    + tricks_of EastWest opening.trump opening.leader history
     ≡ size_of opening.deal
 
 -- the two sides together can win no more tricks than there are

@@ -50,7 +50,8 @@ pub fn value_is_unique()
     ensures { HasOneValue }
 {}
 
-/// An ending has one value, from the side of North and South: no number but the one that [`crate::plain_value`] answers.
+/// An ending has one value, from the side of North and South: no number but the one that [`crate::plain_value`]
+/// answers.
 pub fn plain_value_is_unique()
     ensures { HasOnePlainValue }
 {}

@@ -45,7 +45,8 @@ impl<W: Write + Drop> WriterSink<BufWriter<W>> {
     /// Hands on all that the buffer holds back, so that its writer has got everything that the sink took. A flush that
     /// fails loses nothing.
     pub fn flush(&mut self) -> Result<(), DeviceFault>
-        ensures { Flushes (⟦<WriterSink<BufWriter<W>> as Sink>⟧.state self.old) (⟦<WriterSink<BufWriter<W>> as Sink>⟧.state self.new)
+        ensures { Flushes (⟦<WriterSink<BufWriter<W>> as Sink>⟧.state self.old)
+            (⟦<WriterSink<BufWriter<W>> as Sink>⟧.state self.new)
             (inner_contents W.contents self.new) result }
     {
         match self.writer.flush() {

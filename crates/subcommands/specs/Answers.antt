@@ -47,4 +47,5 @@ pub record HasOneAnswer : Type 0 where
       (text : List ℕ) (tricks tricks' : ℕ) (declarers declarers' defenders defenders' : List ℕ) →
       IsAnswer text tricks declarers defenders → IsAnswer text tricks' declarers' defenders' →
       (tricks ≡ tricks') × (declarers ≡ declarers') × (defenders ≡ defenders')
-  pub none : (text : List ℕ) (tricks : ℕ) (declarers defenders : List ℕ) → LacksResult text → IsAnswer text tricks declarers defenders → ⊥
+  pub none : (text : List ℕ) (tricks : ℕ) (declarers defenders : List ℕ) → LacksResult text
+      → IsAnswer text tricks declarers defenders → ⊥

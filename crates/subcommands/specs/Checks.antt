@@ -22,7 +22,8 @@ IsTrueVerdict (Ok shown) = IsValue shown.layout shown.declarer shown.trump shown
 IsTrueVerdict (Err fault) = ⊤
 
 -- the text is an answer that has this verdict for the deal
-pub record IsVerdictOf (text : List ℕ) (deal : Deal) (declarer : Seat) (trump : Trump) (verdict : Result Shown HandFault) : Type 0 where
+pub record IsVerdictOf (text : List ℕ) (deal : Deal) (declarer : Seat) (trump : Trump)
+    (verdict : Result Shown HandFault) : Type 0 where
   pub tricks : ℕ
   pub declarers : List ℕ
   pub defenders : List ℕ
@@ -37,8 +38,8 @@ JudgesText text deal declarer trump (Err NoResult) = LacksResult text
 JudgesText text deal declarer trump (Err OutOfMemory) = ⊤
 JudgesText text deal declarer trump (Err _) = ⊥
 
--- The source was read to its end, and its text has this verdict, or is no answer; or the source failed or memory ran out, and
--- the bytes that were read are the first of the source.
+-- The source was read to its end, and its text has this verdict, or is no answer; or the source failed or memory ran
+-- out, and the bytes that were read are the first of the source.
 abbrev pub ReadsVerdict : Deal → Seat → Trump → Device → Device → Result (Result Shown HandFault) RunFault → Type 0
 ReadsVerdict deal declarer trump old new (Ok verdict) =
     (text : List ℕ) × IsReadToEnd old new text × IsVerdictOf text deal declarer trump verdict
@@ -54,13 +55,14 @@ ReadsFor value declarer trump old new read =
 
 -- the line of a verdict was written, or a beginning of it
 abbrev pub PrintsVerdict : Result Shown HandFault → Device → Device → Result Status RunFault → Type 0
-PrintsVerdict verdict sink sink' (Ok status) = (status ≡ verdict_status verdict) × Adds sink sink' (verdict_line verdict)
+PrintsVerdict verdict sink sink' (Ok status) =
+    (status ≡ verdict_status verdict) × Adds sink sink' (verdict_line verdict)
 PrintsVerdict verdict sink sink' (Err Write) = AddsBeginning sink sink' (verdict_line verdict)
 PrintsVerdict verdict sink sink' (Err _) = ⊥
 
--- What was answered, what the source has given and what the sink has got. Bytes that spell no layout leave the source as it
--- was. Where the source failed or memory ran out, the bytes that were read are the first of the source. With all refusals but
--- that of the sink nothing was written.
+-- What was answered, what the source has given and what the sink has got. Bytes that spell no layout leave the source
+-- as it was. Where the source failed or memory ran out, the bytes that were read are the first of the source. With all
+-- refusals but that of the sink nothing was written.
 abbrev pub ChecksAnswer : List ℕ → Seat → Trump → Device → Device → Device → Device → Result Status RunFault → Type 0
 ChecksAnswer value declarer trump source source' sink sink' (Ok status) =
     (verdict : Result Shown HandFault) × ReadsFor value declarer trump source source' (Ok verdict)

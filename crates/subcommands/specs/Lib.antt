@@ -4,4 +4,5 @@ pub mod Answers
 pub mod VerdictLines
 pub mod Checks
 pub mod Solves
+pub mod Halts
 pub mod Runs

@@ -7,7 +7,8 @@ use Rattle.cards.specs.Devices.{Device, Adds, AddsBeginning}
 use Rattle.pbn_deals.specs.LayoutValue.{SaysLayout}
 use Rattle.strategies.specs.Values.{IsPlainValue}
 use Rattle.subcommands.specs.declared.faults.RunFault.{RunFault}
-use Rattle.subcommands.specs.declared.faults.RunFault.TheVariants.{OutOfMemory, Read, NoThread, Write, NotText, Layout, TooLarge}
+use Rattle.subcommands.specs.declared.faults.RunFault.TheVariants.{OutOfMemory, Read, NoThread, Write, NotText, Layout}
+use Rattle.subcommands.specs.declared.faults.RunFault.TheVariants.{TooLarge}
 use Rattle.subcommands.specs.declared.faults.RunFault.TheVariants.{Pbn, NoResult, NoAnswer}
 
 -- the line: `NS `, the digit of the number, LF

@@ -1,7 +1,7 @@
 -- What a run does for what was asked, and how it ends.
 use Rattle.std.specs.Prelude.{◌≡◌, Result, Ok, Err, nat_lt, if◌then◌else◌, ◌⊎◌, Option, List, ℕ}
 use Rattle.lease_book.specs.Books.{Ledger}
-use Rattle.farm.specs.Moments.{MayTell}
+use Rattle.lease_desk.specs.Moments.{MayTell}
 use Rattle.farm.specs.Runs.{IsRun}
 use Rattle.asked.specs.declared.settings.Settings.{Settings}
 use Rattle.tables.specs.declared.sheets.Report.{Report}
@@ -34,8 +34,8 @@ WritesTables may_tell settings source source' sink sink' (Err fault) =
     (made : MakeFault) × (fault ≡ make_fault made)
     × MakesTables (IsRun may_tell) settings.term settings.tries source source' sink sink' (Err made)
 
--- What came of a run, by what the solver may find and the clock may tell, and what its devices have given and got. A single
--- layout leaves the input as it was.
+-- What came of a run, by what the solver may find and the clock may tell, and what its devices have given and got. A
+-- single layout leaves the input as it was.
 abbrev pub Does : MayFind → MayTell → Subcommand → Device → Device → Device → Device → Result Status RunFault → Type 0
 Does may_find may_tell (Plain layout leader trump) source source' sink sink' (Ok status) =
     (status ≡ Done) × (source' ≡ source) × MeetsPlainLine layout.now leader trump sink sink' (Ok tt)
@@ -74,10 +74,12 @@ Shows sink sink' errors errors' text Rejected = ⊥
 abbrev pub IsUndone : ℕ → Type 0
 IsUndone code = (code ≡ status_code Failed) ⊎ (code ≡ status_code Refused)
 
--- The end of a run with this exit status. Where it was done, the writer below the output's buffer has got all that was written,
--- or that failed and was told. A run that failed or was refused stays so, and nothing more is done.
-pub data Closes (sink sink' : Device) (below : Option (List ℕ)) (errors errors' : Device) (code ended : ℕ) : Type 0 where
-  stays : IsUndone code → ended ≡ code → sink' ≡ sink → errors' ≡ errors → Closes sink sink' below errors errors' code ended
+-- The end of a run with this exit status. Where it was done, the writer below the output's buffer has got all that was
+-- written, or that failed and was told. A run that failed or was refused stays so, and nothing more is done.
+pub data Closes (sink sink' : Device) (below : Option (List ℕ)) (errors errors' : Device) (code ended : ℕ)
+    : Type 0 where
+  stays : IsUndone code → ended ≡ code → sink' ≡ sink → errors' ≡ errors
+      → Closes sink sink' below errors errors' code ended
   is_flushed : (IsUndone code → ⊥) → ended ≡ code → HandsOn sink sink' below → errors' ≡ errors
       → Closes sink sink' below errors errors' code ended
   fails : (IsUndone code → ⊥) → ended ≡ status_code Failed → Fails sink sink' → IsTold errors errors' (told_line Write)

@@ -12,7 +12,8 @@ use Rattle.certificate_graph.specs.Texts.{graph_text}
 use Rattle.partition_solver.specs.declared.bundles.Bundle.{Bundle}
 use Rattle.partition_solver.specs.Answers.{MayFind, MayAnswer}
 use Rattle.subcommands.specs.declared.faults.RunFault.{RunFault}
-use Rattle.subcommands.specs.declared.faults.RunFault.TheVariants.{OutOfMemory, Read, NoThread, Write, NotText, Layout, TooLarge}
+use Rattle.subcommands.specs.declared.faults.RunFault.TheVariants.{OutOfMemory, Read, NoThread, Write, NotText, Layout}
+use Rattle.subcommands.specs.declared.faults.RunFault.TheVariants.{TooLarge}
 use Rattle.subcommands.specs.declared.faults.RunFault.TheVariants.{Pbn, NoResult, NoAnswer}
 use Rattle.subcommands.specs.Answers.{IsAnswer}
 
@@ -25,7 +26,8 @@ abbrev pub answer_text : ℕ → GraphShape → GraphShape → List ℕ
 answer_text tricks declarers defenders = result_line tricks ++ (graph_text declarers ++ 10 ∷ graph_text defenders)
 
 -- an answer of the solver for the deal, of at most 13 tricks and with two graphs
-pub record IsFound (may_find : MayFind) (deal : Deal) (declarer : Seat) (trump : Trump) (budget : ℕ) (answer : Answer) : Type 0 where
+pub record IsFound (may_find : MayFind) (deal : Deal) (declarer : Seat) (trump : Trump) (budget : ℕ) (answer : Answer)
+    : Type 0 where
   pub found : MayAnswer may_find deal declarer trump budget (Some answer)
   pub few : answer.k ≤ 13
   pub graphs : IsGraph answer.declarer × IsGraph answer.defenders
@@ -45,7 +47,8 @@ FindsAnswer may_find deal declarer trump budget (Err OutOfMemory) =
 FindsAnswer may_find deal declarer trump budget (Err _) = ⊥
 
 -- the bytes spell a layout, and the text is that of an answer of the solver for it
-pub record IsAnswerText (may_find : MayFind) (value : List ℕ) (declarer : Seat) (trump : Trump) (budget : ℕ) (text : List ℕ) : Type 0 where
+pub record IsAnswerText (may_find : MayFind) (value : List ℕ) (declarer : Seat) (trump : Trump) (budget : ℕ)
+    (text : List ℕ) : Type 0 where
   pub deal : Deal
   pub spelt : SaysLayout value (Ok deal)
   pub answer : Answer
@@ -63,7 +66,8 @@ SolvesLayout may_find value declarer trump budget sink sink' (Ok _) =
     (text : List ℕ) × IsAnswerText may_find value declarer trump budget text × Adds sink sink' text
 SolvesLayout may_find value declarer trump budget sink sink' (Err Write) =
     (text : List ℕ) × IsAnswerText may_find value declarer trump budget text × AddsBeginning sink sink' text
-SolvesLayout may_find value declarer trump budget sink sink' (Err (Layout fault)) = SaysLayout value (Err fault) × (sink' ≡ sink)
+SolvesLayout may_find value declarer trump budget sink sink' (Err (Layout fault)) =
+    SaysLayout value (Err fault) × (sink' ≡ sink)
 SolvesLayout may_find value declarer trump budget sink sink' (Err NoAnswer) =
     LacksAnswer may_find value declarer trump budget NoAnswer × (sink' ≡ sink)
 SolvesLayout may_find value declarer trump budget sink sink' (Err OutOfMemory) =

@@ -4,10 +4,13 @@ ghost use Rattle.std.specs.Prelude.{◌≢◌, ◌++◌, ◌≡◌, ◌<◌, ◌
 ghost use Rattle.subcommands.specs.Answers.{IsEmptyLine, HasNoEmptyLine, IsCut, IsUncut, IsAnswer, LacksResult};
 ghost use Rattle.subcommands.specs.Answers.{HasOneAnswer, result_text, number_line};
 
-/// Cuts the text of an answer: the number of tricks, the text for declarer's side and that for the defenders. None where
-/// the first line is not `result k` with k at most 13. Takes no memory.
+use certificate_graph::after_prefix;
+
+/// Cuts the text of an answer: the number of tricks, the text for declarer's side and that for the defenders. None
+/// where the first line is not `result k` with k at most 13. Takes no memory.
 pub fn read_answer(text: &[u8]) -> Option<(u8, &[u8], &[u8])>
-    ensures { MatchOption result (LacksResult text.now) (λ answer. IsAnswer text.now answer.0 answer.1.now answer.2.now) }
+    ensures { MatchOption result (LacksResult text.now)
+        (λ answer. IsAnswer text.now answer.0 answer.1.now answer.2.now) }
 {
     let Some((tricks, body)) = read_result(text) else {
         return None;
@@ -18,9 +21,10 @@ pub fn read_answer(text: &[u8]) -> Option<(u8, &[u8], &[u8])>
 
 /// The number of tricks, and what stands after its line.
 fn read_result(text: &[u8]) -> Option<(u8, &[u8])>
-    ensures { MatchOption result (LacksResult text.now) (λ found. (found.0 ≤ 13) × (text.now ≡ result_text found.0 found.1.now)) }
+    ensures { MatchOption result (LacksResult text.now)
+        (λ found. (found.0 ≤ 13) × (text.now ≡ result_text found.0 found.1.now)) }
 {
-    let Some(number) = after(text, b"result ") else {
+    let Some(number) = after_prefix(text, b"result ") else {
         return None;
     };
     for tricks in 0..=13u8 {
@@ -34,19 +38,13 @@ fn read_result(text: &[u8]) -> Option<(u8, &[u8])>
 /// What stands after this number and its line feed, if the text begins with them.
 fn after_number(text: &[u8], number: u8) -> Option<&[u8]>
     requires { number ≤ 13 }
-    ensures { MatchOption result ((rest : List ℕ) → text.now ≢ number_line number rest) (λ rest. text.now ≡ number_line number rest.now) }
+    ensures { MatchOption result ((rest : List ℕ) → text.now ≢ number_line number rest)
+        (λ rest. text.now ≡ number_line number rest.now) }
 {
     if number < 10 {
-        return after(text, &[b'0' + number, b'\n']);
+        return after_prefix(text, &[b'0' + number, b'\n']);
     }
-    after(text, &[b'1', b'0' + (number - 10), b'\n'])
-}
-
-/// What stands after these bytes, if the text begins with them.
-fn after<'a>(text: &'a [u8], front: &[u8]) -> Option<&'a [u8]>
-    ensures { MatchOption result ((rest : List ℕ) → text.now ≢ front.now ++ rest) (λ rest. text.now ≡ front.now ++ rest.now) }
-{
-    text.strip_prefix(front)
+    after_prefix(text, &[b'1', b'0' + (number - 10), b'\n'])
 }
 
 /// What stands before the first empty line, and what stands after it; all, and nothing, where no line is empty.
@@ -62,7 +60,8 @@ fn cut_body(body: &[u8]) -> (&[u8], &[u8])
 /// The first place where a line without bytes stands.
 fn empty_line(text: &[u8]) -> Option<usize>
     ensures { MatchOption result (HasNoEmptyLine text.now) (λ place.
-        IsEmptyLine text.now place × (place < length text.now) × ((before : ℕ) → before < place → IsEmptyLine text.now before → ⊥)) }
+        IsEmptyLine text.now place × (place < length text.now)
+        × ((before : ℕ) → before < place → IsEmptyLine text.now before → ⊥)) }
 {
     for place in 0..text.len() {
         if is_empty_line(text, place) {

@@ -14,11 +14,11 @@ use pbn_deals::read_layout;
 use std::alloc::Global;
 use streams::read_all;
 
-/// Reads an answer to its end, checks that its certificates show its number of tricks for the layout that the bytes spell, and
-/// writes the verdict. A number that it writes as accepted is the double-dummy value.
+/// Reads an answer to its end, checks that its certificates show its number of tricks for the layout that the bytes
+/// spell, and writes the verdict. A number that it writes as accepted is the double-dummy value.
 ///
-/// Refuses bytes that spell no layout before anything is read, and a text whose first line is not a result line. Nothing was
-/// written after any fault but a failed output, and after that one a beginning of the line.
+/// Refuses bytes that spell no layout before anything is read, and a text whose first line is not a result line.
+/// Nothing was written after any fault but a failed output, and after that one a beginning of the line.
 pub fn check_answer<I: Source, O: Sink>(
     alloc: Global,
     value: &[u8],
@@ -27,7 +27,8 @@ pub fn check_answer<I: Source, O: Sink>(
     input: &mut I,
     output: &mut O,
 ) -> Result<Status, RunFault>
-    ensures { ChecksAnswer value.now declarer trump (I.state input.old) (I.state input.new) (O.state output.old) (O.state output.new) result }
+    ensures { ChecksAnswer value.now declarer trump (I.state input.old) (I.state input.new) (O.state output.old)
+        (O.state output.new) result }
 {
     let layout = read_layout(value).map_err(RunFault::Layout)?;
     let verdict = read_verdict(alloc, input, &layout, declarer, trump)?;

@@ -83,8 +83,8 @@ pub(crate) fn write_failed(_fault: DeviceFault) -> RunFault
     RunFault::Write
 }
 
-/// Tells the fault on the error output, and answers how the run ends. Where the error output fails, nobody is left to be
-/// told.
+/// Tells the fault on the error output, and answers how the run ends. Where the error output fails, nobody is left to
+/// be told.
 pub fn tell<E: Sink>(fault: RunFault, errors: &mut E) -> Status
     ensures status { result ≡ fault_status fault }
     ensures line { IsTold (E.state errors.old) (E.state errors.new) (told_line fault) }

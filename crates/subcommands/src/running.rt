@@ -6,6 +6,7 @@ ghost use Rattle.subcommands.specs.Runs.{Closes, Does, RunsSubcommand, Shows, Wr
 
 use crate::checks::check_answer;
 use crate::faults::{RunFault, tell};
+use crate::making::make_tables;
 use crate::plain::plain_line;
 use crate::solves::solve_layout;
 use crate::statuses::Status;
@@ -20,12 +21,11 @@ use std::sync::Wait;
 use std::thread::Threads;
 use streams::{Streams, WriterSink};
 use tables::Report;
-use tournaments::make_tables;
 
 /// Does what is asked, and answers how the run ends.
 ///
-/// What can't be done is told on the error output, with nothing on the output but the beginning that a failed output has
-/// taken; else the error output is as it was. Where the error output fails, nobody is left to be told.
+/// What can't be done is told on the error output, with nothing on the output but the beginning that a failed output
+/// has taken; else the error output is as it was. Where the error output fails, nobody is left to be told.
 pub fn run_subcommand<
     P: Solver + Sync,
     G: Gate + Sync,
@@ -42,7 +42,8 @@ pub fn run_subcommand<
     streams: &mut Streams<I, O, E>,
 ) -> Status
     ensures { RunsSubcommand (P.may_find means.now.solver.now) (C.may_tell means.now.clock.now) asked.entry
-        (I.state streams.old.input) (I.state streams.new.input) (O.state streams.old.output) (O.state streams.new.output)
+        (I.state streams.old.input) (I.state streams.new.input) (O.state streams.old.output)
+        (O.state streams.new.output)
         (E.state streams.old.errors) (E.state streams.new.errors) result }
 {
     match try_subcommand(
@@ -74,7 +75,8 @@ fn try_subcommand<
     input: &mut I,
     output: &mut O,
 ) -> Result<Status, RunFault>
-    ensures { Does (P.may_find means.now.solver.now) (C.may_tell means.now.clock.now) asked.entry (I.state input.old) (I.state input.new)
+    ensures { Does (P.may_find means.now.solver.now) (C.may_tell means.now.clock.now) asked.entry (I.state input.old)
+        (I.state input.new)
         (O.state output.old) (O.state output.new) result }
 {
     match asked {
@@ -134,7 +136,8 @@ fn write_tables<
     input: &mut I,
     output: &mut O,
 ) -> Result<Status, RunFault>
-    ensures { WritesTables (C.may_tell means.now.clock.now) settings (I.state input.old) (I.state input.new) (O.state output.old)
+    ensures { WritesTables (C.may_tell means.now.clock.now) settings (I.state input.old) (I.state input.new)
+        (O.state output.old)
         (O.state output.new) result }
 {
     if progress {
@@ -161,9 +164,11 @@ fn status_of(report: Report) -> Status
     }
 }
 
-/// Writes a text that was asked for, such as help, and answers how the run ends: a write that failed is told on the error output.
+/// Writes a text that was asked for, such as help, and answers how the run ends: a write that failed is told on the
+/// error output.
 pub fn show<O: Sink, E: Sink>(text: &[u8], output: &mut O, errors: &mut E) -> Status
-    ensures { Shows (O.state output.old) (O.state output.new) (E.state errors.old) (E.state errors.new) text.now result }
+    ensures { Shows (O.state output.old) (O.state output.new) (E.state errors.old)
+        (E.state errors.new) text.now result }
 {
     match write_all(output, text) {
         Ok(()) => Status::Done,
@@ -171,13 +176,15 @@ pub fn show<O: Sink, E: Sink>(text: &[u8], output: &mut O, errors: &mut E) -> St
     }
 }
 
-/// Flushes the output of a run that was done, and answers the exit status: a flush that failed is told on the error output.
+/// Flushes the output of a run that was done, and answers the exit status: a flush that failed is told on the error
+/// output.
 pub fn close_output<W: Write + Drop, E: Sink>(
     code: u8,
     output: &mut WriterSink<BufWriter<W>>,
     errors: &mut E,
 ) -> u8
-    ensures { Closes (⟦<WriterSink<BufWriter<W>> as Sink>⟧.state output.old) (⟦<WriterSink<BufWriter<W>> as Sink>⟧.state output.new)
+    ensures { Closes (⟦<WriterSink<BufWriter<W>> as Sink>⟧.state output.old)
+        (⟦<WriterSink<BufWriter<W>> as Sink>⟧.state output.new)
         (inner_contents W.contents output.new) (E.state errors.old) (E.state errors.new) code result }
 {
     if code == Status::Failed.code() || code == Status::Refused.code() {

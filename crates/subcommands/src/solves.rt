@@ -15,8 +15,8 @@ use std::alloc::Global;
 
 /// Has the solver look for an answer for the layout that the bytes spell, and writes its text.
 ///
-/// Refuses bytes that spell no layout before the solver is asked. Nothing was written after any fault but a failed output,
-/// and after that one a beginning of the text.
+/// Refuses bytes that spell no layout before the solver is asked. Nothing was written after any fault but a failed
+/// output, and after that one a beginning of the text.
 pub fn solve_layout<P: Solver, O: Sink>(
     alloc: Global,
     value: &[u8],
@@ -26,15 +26,16 @@ pub fn solve_layout<P: Solver, O: Sink>(
     solver: &P,
     output: &mut O,
 ) -> Result<(), RunFault>
-    ensures { SolvesLayout (P.may_find solver.now) value.now declarer trump budget (O.state output.old) (O.state output.new) result }
+    ensures { SolvesLayout (P.may_find solver.now) value.now declarer trump budget (O.state output.old)
+        (O.state output.new) result }
 {
     let layout = read_layout(value).map_err(RunFault::Layout)?;
     let answer = find_answer(alloc, &layout, declarer, trump, budget, solver)?;
     write_answer(&answer, output).map_err(write_failed)
 }
 
-/// The solver's answer for this declarer alone, or that there is none: also where it claims over 13 tricks, which no result
-/// line can say.
+/// The solver's answer for this declarer alone, or that there is none: also where it claims over 13 tricks, which no
+/// result line can say.
 fn find_answer<P: Solver>(
     alloc: Global,
     layout: &Layout,
@@ -96,8 +97,8 @@ fn write_graphs<O: Sink>(
     defenders.write(output)
 }
 
-/// The law of what is written: [`read_answer`](crate::read_answer) cuts it into the same number and the same texts. It does
-/// nothing.
+/// The law of what is written: [`read_answer`](crate::read_answer) cuts it into the same number and the same texts. It
+/// does nothing.
 pub fn answers_are_read_back()
     ensures { AnswersAreReadBack }
 {}

@@ -4,7 +4,8 @@ ghost use Rattle.std.specs.Prelude.{◌∷◌, ◌++◌, codes};
 ghost use Rattle.std.specs.Fmt.{decimal};
 ghost use Rattle.cards.specs.Devices.{Writes};
 ghost use Rattle.certificate_graph.specs.FaultWords.{numbered};
-ghost use Rattle.checker.specs.FaultWords.{after_part, after_text, hand_fault_text, node_fault_text, part_fault_text, text_fault_text};
+ghost use Rattle.checker.specs.FaultWords.{after_part, after_text, hand_fault_text, node_fault_text, part_fault_text};
+ghost use Rattle.checker.specs.FaultWords.{text_fault_text};
 ghost use Rattle.subcommands.specs.VerdictLines.{verdict_text, verdict_line};
 
 use cards::{DeviceFault, Sink, write_all, write_number};

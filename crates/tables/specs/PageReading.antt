@@ -1,5 +1,6 @@
--- How a page of tables is read, line by line. Nothing here looks at how it is written: lines end at line feeds, blocks at
--- empty lines, words at blanks, and a tag pair is one of PBN (`Tags` of `pbn_deals`). A line out of place refuses the page.
+-- How a page of tables is read, line by line. Nothing here looks at how it is written: lines end at line feeds, blocks
+-- at empty lines, words at blanks, and a tag pair is one of PBN (`Tags` of `pbn_deals`). A line out of place refuses
+-- the page.
 use Rattle.std.specs.Prelude.{ℕ, ◌==◌, Bool, true, false, not, ◌&&◌, List, [], ◌∷◌, ◌++◌, map, filter, codes}
 use Rattle.std.specs.Prelude.{Option, None, Some, if◌then◌else◌, bytes_eq}
 use Rattle.std.specs.List.{slice_split}
@@ -99,7 +100,8 @@ value_in name (byte ∷ bytes) = if byte == 91 then value_of_tag name (tag_of by
 -- the columns of a table (PBN 2.1, the OptimumResultTable tag)
 abbrev pub are_columns : Option (List ℕ) → Bool
 are_columns None = false
-are_columns (Some value) = bytes_eq value (codes "Declarer;Denomination" ++ (92 ∷ codes "2R;Result") ++ (92 ∷ codes "2R"))
+are_columns (Some value) =
+    bytes_eq value (codes "Declarer;Denomination" ++ (92 ∷ codes "2R;Result") ++ (92 ∷ codes "2R"))
 
 -- a line that stands alone tells a number
 abbrev pub count_alone : List ℕ → List (List ℕ) → Option Table

@@ -16,10 +16,10 @@ pub fn said_boards_are_read_back()
     ensures { SaidBoardsAreReadBack }
 {}
 
-/// What is written of boards is read, line by line (`specs/PageReading.antt`), as one block a board, in their order, and
-/// nothing else: its name, its deal, and twenty rows of which each declarer and denomination has one, with the number
-/// known of it, or how many numbers are known. So each result stands once on the page. A board's name is one that a
-/// Board tag can hold, its deal, if it has one, of 13 cards a hand, and each result at most 13 tricks.
+/// What is written of boards is read, line by line (`specs/PageReading.antt`), as one block a board, in their order,
+/// and nothing else: its name, its deal, and twenty rows of which each declarer and denomination has one, with the
+/// number known of it, or how many numbers are known. So each result stands once on the page. A board's name is one
+/// that a Board tag can hold, its deal, if it has one, of 13 cards a hand, and each result at most 13 tricks.
 pub fn pages_are_read()
     ensures { PagesAreRead }
 {}

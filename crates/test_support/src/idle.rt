@@ -1,8 +1,7 @@
 //! A solver, a gate and a clock that do nothing.
 
 use cards::{Layout, Seat, Trump};
-use farm::Clock;
-use lease_desk::Gate;
+use lease_desk::{Clock, Gate};
 use partition_solver::{Bundle, Solver};
 use std::alloc::{AllocError, Global};
 

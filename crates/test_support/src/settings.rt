@@ -2,7 +2,8 @@
 
 use asked::{Settings, SettingsFault};
 
-/// Settings with so many solvers and checkers, by which each entry is leased once, with this budget, in batches of so many.
+/// Settings with so many solvers and checkers, by which each entry is leased once, with this budget, in batches of so
+/// many.
 pub fn once(
     solvers: usize,
     checkers: usize,

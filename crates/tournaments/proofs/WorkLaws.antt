@@ -34,8 +34,8 @@ use Rattle.lease_book.proofs.NamedLaws.{nothing_left}
 use Rattle.lease_book.proofs.FreeLaws.{ended, free_after_hand_in, free_after_give_up, free_at_end, published_at_end, given_at_end}
 use Rattle.tournaments.specs.Done.{IsDone}
 use Rattle.partition_solver.specs.Answers.{MayFind}
-use Rattle.tournaments.specs.Asking.{as_verdict, IsVerdictOn, IsFoundFor, asked_for, IsWorkedOn, AreWorkedOn}
-use Rattle.farm.specs.Moments.{MayTell, IsTimed, AreTimed}
+use Rattle.tournaments.specs.Asking.{as_verdict, IsVerdictOnFound, IsFoundFor, asked_for, IsWorkedOn, AreWorkedOn}
+use Rattle.lease_desk.specs.Moments.{MayTell, IsTimed, AreTimed}
 use Rattle.tournaments.specs.Working.{WorksOn, GivesOut}
 
 -- what is shown of an entry's own deal is for the entry
@@ -57,7 +57,7 @@ found_for may_find budget boards entry verdict h = go (deal_of boards entry.boar
     of_checked deal answer (Ok shown) on answers = shown_for boards entry deal shown answer.k on answers.0
     of_checked deal answer (Err fault) on answers = refl
 
-    of_found : (deal : Deal) (found : Option Answer) → deal_of boards entry.board ≡ Some deal → IsVerdictOn deal entry found (Some verdict) → is_evidence_for boards entry (evidence_of verdict) ≡ true
+    of_found : (deal : Deal) (found : Option Answer) → deal_of boards entry.board ≡ Some deal → IsVerdictOnFound deal entry found (Some verdict) → is_evidence_for boards entry (evidence_of verdict) ≡ true
     of_found deal None on is = absurd (none-some verdict (sym is))
     of_found deal (Some answer) on is =
         ap (λ v. is_evidence_for boards entry (evidence_of v)) (same_Some verdict (as_verdict is.0) is.2) ∙ of_checked deal answer is.0 on is.1

@@ -24,18 +24,20 @@ as_verdict (Ok shown) = Ok shown
 as_verdict (Err fault) = Err (hand.Entry fault)
 
 -- the verdict on what was found, where something was
-abbrev pub IsVerdictOn : Deal → Entry → Option Answer → Option (Result Shown HandFault) → Type 0
-IsVerdictOn deal entry None verdict = verdict ≡ None
-IsVerdictOn deal entry (Some answer) verdict =
+abbrev pub IsVerdictOnFound : Deal → Entry → Option Answer → Option (Result Shown HandFault) → Type 0
+IsVerdictOnFound deal entry None verdict = verdict ≡ None
+IsVerdictOnFound deal entry (Some answer) verdict =
     (checked : Result Shown EntryFault)
-    × EntryAnswers deal entry.declarer entry.trump answer.k (from_first answer.declarer) (from_first answer.defenders) checked
+    × EntryAnswers deal entry.declarer entry.trump answer.k (from_first answer.declarer)
+    (from_first answer.defenders) checked
     × (verdict ≡ Some (as_verdict checked))
 
 -- the verdict on what the solver was asked for and answered for an entry; on a board without a deal it is not asked
 abbrev pub IsFoundFor : MayFind → ℕ → Option Deal → Entry → Option (Result Shown HandFault) → Type 0
 IsFoundFor may_find budget None entry verdict = verdict ≡ None
 IsFoundFor may_find budget (Some deal) entry verdict =
-    (found : Option Answer) × MayAnswer may_find deal entry.declarer entry.trump budget found × IsVerdictOn deal entry found verdict
+    (found : Option Answer) × MayAnswer may_find deal entry.declarer entry.trump budget found
+    × IsVerdictOnFound deal entry found verdict
 
 -- what is asked of the book then: the verdict is handed in under the lease, or the lease is given up
 abbrev pub asked_for : ℕ → Entry → Option (Result Shown HandFault) → Asked
@@ -55,8 +57,8 @@ IsWorkedOn may_find budget boards None later = Unit {0}
 IsWorkedOn may_find budget boards (Some grant) [] = ⊥
 IsWorkedOn may_find budget boards (Some grant) (next ∷ later) = IsWorkOn may_find budget boards grant next.asked
 
--- the solver was asked for the entry of each lease that was given, and then the verdict on what it found was handed in under
--- that lease, or the lease was given up, since it found nothing
+-- the solver was asked for the entry of each lease that was given, and then the verdict on what it found was handed in
+-- under that lease, or the lease was given up, since it found nothing
 abbrev pub AreWorkedOn : MayFind → ℕ → List Board → List Event → Type 0
 AreWorkedOn may_find budget boards [] = Unit {0}
 AreWorkedOn may_find budget boards (event ∷ later) =

@@ -1,9 +1,7 @@
 -- The number and the name of a fault, and what is printed of it.
-use Rattle.std.specs.Prelude.{◌≡◌, ℕ, List, [], ◌∷◌, ◌++◌, codes, Option, None, Some}
+use Rattle.std.specs.Prelude.{ℕ, List, [], ◌∷◌, ◌++◌, codes}
 use Rattle.std.specs.Fmt.{decimal}
 use Rattle.pbn_deals.specs.Faults as pbn
-use Rattle.farm.specs.declared.faults.FarmFault.{FarmFault}
-use Rattle.farm.specs.declared.faults.FarmFault.TheVariants as farm
 use Rattle.streams.specs.declared.inputs.InputFault.{InputFault}
 use Rattle.streams.specs.declared.inputs.InputFault.TheVariants as input
 use Rattle.tournaments.specs.declared.faults.MakeFault.{MakeFault}
@@ -39,13 +37,3 @@ fault_text fault = decimal (fault_number fault) ++ 32 ∷ (fault_name fault ++ a
 abbrev pub input_fault : InputFault → MakeFault
 input_fault input.OutOfMemory = OutOfMemory
 input_fault input.Read = Read
-
--- why a farm over the boards of a text was halted; that there can be no book over them is never the reason
-abbrev pub halted_fault : FarmFault → Option MakeFault
-halted_fault farm.OutOfMemory = Some OutOfMemory
-halted_fault farm.NoThread = Some NoThread
-halted_fault (farm.Book fault) = None
-
--- a farm was halted for this reason
-abbrev pub IsHalted : MakeFault → Type 0
-IsHalted fault = (halt : FarmFault) × (halted_fault halt ≡ Some fault)

@@ -12,11 +12,11 @@ use Rattle.tables.specs.BookResults.{book_results}
 use Rattle.tables.specs.TablesText.{complete_count}
 use Rattle.tournaments.specs.declared.faults.MakeFault.{MakeFault}
 use Rattle.tournaments.specs.declared.faults.MakeFault.TheVariants.{OutOfMemory, Read, Pbn, NoThread, Write}
-use Rattle.farm.specs.Publications.{IsTrueHistory, IsGivenOut}
+use Rattle.lease_book.specs.TrueHistories.{IsTrueHistory, IsGivenOut}
 use Rattle.tournaments.specs.Done.{IsDone}
 use Rattle.partition_solver.specs.Answers.{MayFind}
 use Rattle.tournaments.specs.Asking.{AreWorkedOn}
-use Rattle.farm.specs.Moments.{MayTell, AreTimed}
+use Rattle.lease_desk.specs.Moments.{MayTell, AreTimed}
 use Rattle.tournaments.specs.Pages.{history_text, IsReadOnce}
 
 -- what is so of the history of a run, over the terms of its book
@@ -30,23 +30,25 @@ pub record HasBoards (old new : Device) (boards : List Board) : Type 0 where
   pub read : TextAnswers text (Ok boards)
 
 -- the report counts the boards, and those of which all twenty numbers are published
-pub record Counts (boards : List Board) (events : List Event) (report : Report) : Type 0 where
+pub record AreReported (boards : List Board) (events : List Event) (report : Report) : Type 0 where
   pub boards_are : report.boards ≡ length boards
   pub complete_are : report.complete ≡ complete_count boards (book_results boards events)
 
--- A whole run over the boards: a history of theirs in which all entries were given out, until each was done. What the solver
--- found for each lease was handed in, and the moments are those that the clock told.
-pub record IsWholeRun (may_find : MayFind) (may_tell : MayTell) (budget : ℕ) (terms : Terms) (events : List Event) : Type 0 where
+-- A whole run over the boards: a history of theirs in which all entries were given out, until each was done. What the
+-- solver found for each lease was handed in, and the moments are those that the clock told.
+pub record IsWholeRun (may_find : MayFind) (may_tell : MayTell) (budget : ℕ) (terms : Terms) (events : List Event)
+    : Type 0 where
   pub history : IsTrueHistory terms events
   pub given_out : IsGivenOut events
   pub done : IsDone terms events
   pub worked_on : AreWorkedOn may_find budget terms.boards events
   pub timed : AreTimed may_tell events
 
--- The source was read to its end, the book is one over the boards of its text, with this term and these tries, after such
--- a run, and the sink has got the text of the boards with the numbers that the book's history publishes: a page that is read
--- as these boards, each number of which is the double-dummy value of its deal, and stands there once.
-pub record FillsTables (is_run : RunFact) (term tries : ℕ) (source source' sink sink' : Device) (report : Report) (book : Ledger)
+-- The source was read to its end, the book is one over the boards of its text, with this term and these tries, after
+-- such a run, and the sink has got the text of the boards with the numbers that the book's history publishes: a page
+-- that is read as these boards, each number of which is the double-dummy value of its deal, and stands there once.
+pub record FillsTables (is_run : RunFact) (term tries : ℕ) (source source' sink sink' : Device) (report : Report)
+    (book : Ledger)
     : Type 0 where
   pub boards : List Board
   pub read : HasBoards source source' boards
@@ -54,7 +56,7 @@ pub record FillsTables (is_run : RunFact) (term tries : ℕ) (source source' sin
   pub run : is_run book.terms book.events
   pub written : Adds sink sink' (history_text boards book.events)
   pub page : IsReadOnce boards book.events (history_text boards book.events)
-  pub counts : Counts boards book.events report
+  pub counts : AreReported boards book.events report
 
 -- after such a run a beginning of the text was written, before the sink failed
 pub record FillsBeginning (is_run : RunFact) (term tries : ℕ) (source source' sink sink' : Device) : Type 0 where
@@ -64,9 +66,10 @@ pub record FillsBeginning (is_run : RunFact) (term tries : ℕ) (source source' 
   pub run : is_run (record { boards = boards; term = term; tries = tries }) events
   pub written : AddsBeginning sink sink' (history_text boards events)
 
--- What was answered, what the source has given and what the sink has got. Where the source failed or memory ran out, the bytes
--- that were read are the first of the source. With all refusals but the last nothing was written.
-abbrev pub MakesTables : RunFact → ℕ → ℕ → Device → Device → Device → Device → Result (Report × Ledger) MakeFault → Type 0
+-- What was answered, what the source has given and what the sink has got. Where the source failed or memory ran out,
+-- the bytes that were read are the first of the source. With all refusals but the last nothing was written.
+abbrev pub MakesTables : RunFact → ℕ → ℕ → Device → Device → Device → Device
+    → Result (Report × Ledger) MakeFault → Type 0
 MakesTables is_run term tries source source' sink sink' (Ok (report, book)) =
     FillsTables is_run term tries source source' sink sink' report book
 MakesTables is_run term tries source source' sink sink' (Err OutOfMemory) =

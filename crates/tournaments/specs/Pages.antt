@@ -8,7 +8,7 @@ use Rattle.pbn_deals.specs.Reading.{TextAnswers}
 use Rattle.strategies.specs.Values.{IsValue}
 use Rattle.lease_book.specs.declared.events.Event.{Event}
 use Rattle.lease_book.specs.Histories.{Terms}
-use Rattle.farm.specs.Publications.{IsTrueHistory}
+use Rattle.lease_book.specs.TrueHistories.{IsTrueHistory}
 use Rattle.tables.specs.BookResults.{book_results}
 use Rattle.tables.specs.TablesText.{tables_text}
 use Rattle.tables.specs.PageReading.{Row, Table, Rows, Incomplete, Block, page_in}
@@ -28,9 +28,10 @@ abbrev pub IsTrueTable : Board → Table → Type 0
 IsTrueTable board (Rows rows) = All (IsTrueRow board) rows
 IsTrueTable board (Incomplete count) = ⊤
 
--- The page is read as one block for each board, in their order, and no other. A block has the board's name and its deal, and
--- twenty rows in which each declarer and denomination stands once, with the number that the history publishes; or it says
--- how many of the twenty are published (`SaysBoard`). Each number in it is the double-dummy value.
+-- The page is read as one block for each board, in their order, and no other. A block has the board's name and its
+-- deal, and twenty rows in which each declarer and denomination stands once, with the number that the history
+-- publishes; or it says how many of the twenty are published (`SaysBoard`). Each number in it is the double-dummy
+-- value.
 pub record IsReadOnce (boards : List Board) (events : List Event) (page : List ℕ) : Type 0 where
   pub blocks : List Block
   pub read : page_in (lines_of page) ≡ Some blocks

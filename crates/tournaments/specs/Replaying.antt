@@ -10,13 +10,14 @@ use Rattle.lease_book.specs.Replays.{IsReplayed}
 use Rattle.tables.specs.declared.sheets.Report.{Report}
 use Rattle.tournaments.specs.declared.faults.MakeFault.{MakeFault}
 use Rattle.tournaments.specs.declared.faults.MakeFault.TheVariants.{OutOfMemory, Read, Pbn, NoThread, Write}
-use Rattle.farm.specs.Publications.{IsTrueHistory}
-use Rattle.tournaments.specs.Making.{Counts}
+use Rattle.lease_book.specs.TrueHistories.{IsTrueHistory}
+use Rattle.tournaments.specs.Making.{AreReported}
 use Rattle.tournaments.specs.Pages.{history_text, IsReadOnce}
 
 -- The boards are those of the text, and the history is that of the requests, each hand-in judged by its texts: it is
 -- legal, and it publishes exactly the numbers of the first good hand-ins, each of them the double-dummy value, once.
-pub record IsHistoryOf (text : List ℕ) (term tries : ℕ) (requests : List Request) (boards : List Board) (events : List Event)
+pub record IsHistoryOf (text : List ℕ) (term tries : ℕ) (requests : List Request) (boards : List Board)
+    (events : List Event)
     : Type 0 where
   pub read : TextAnswers text (Ok boards)
   pub replies : List Reply
@@ -25,18 +26,21 @@ pub record IsHistoryOf (text : List ℕ) (term tries : ℕ) (requests : List Req
       (record { terms = record { boards = boards; term = term; tries = tries }; events = events }) replies
   pub history : IsTrueHistory (record { boards = boards; term = term; tries = tries }) events
 
--- the sink has got the text of the boards with the numbers of that history: a page that is read as them, each number once
-pub record FillsFromRequests (text : List ℕ) (term tries : ℕ) (requests : List Request) (sink sink' : Device) (report : Report)
+-- the sink has got the text of the boards with the numbers of that history: a page that is read as them, each number
+-- once
+pub record FillsFromRequests (text : List ℕ) (term tries : ℕ) (requests : List Request) (sink sink' : Device)
+    (report : Report)
     : Type 0 where
   pub boards : List Board
   pub events : List Event
   pub history : IsHistoryOf text term tries requests boards events
   pub written : Adds sink sink' (history_text boards events)
   pub page : IsReadOnce boards events (history_text boards events)
-  pub counts : Counts boards events report
+  pub counts : AreReported boards events report
 
 -- a beginning of that text was written, before the sink failed
-pub record BeginsFromRequests (text : List ℕ) (term tries : ℕ) (requests : List Request) (sink sink' : Device) : Type 0 where
+pub record BeginsFromRequests (text : List ℕ) (term tries : ℕ) (requests : List Request) (sink sink' : Device)
+    : Type 0 where
   pub boards : List Board
   pub events : List Event
   pub history : IsHistoryOf text term tries requests boards events
@@ -44,7 +48,8 @@ pub record BeginsFromRequests (text : List ℕ) (term tries : ℕ) (requests : L
 
 -- What was answered, and what the sink has got. With all refusals but the last nothing was written.
 abbrev pub ReplaysTables : List ℕ → ℕ → ℕ → List Request → Device → Device → Result Report MakeFault → Type 0
-ReplaysTables text term tries requests sink sink' (Ok report) = FillsFromRequests text term tries requests sink sink' report
+ReplaysTables text term tries requests sink sink' (Ok report) =
+    FillsFromRequests text term tries requests sink sink' report
 ReplaysTables text term tries requests sink sink' (Err OutOfMemory) = sink' ≡ sink
 ReplaysTables text term tries requests sink sink' (Err Read) = ⊥
 ReplaysTables text term tries requests sink sink' (Err (Pbn fault)) = TextAnswers text (Err fault) × (sink' ≡ sink)

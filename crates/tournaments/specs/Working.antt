@@ -8,8 +8,8 @@ use Rattle.lease_book.specs.Books.{Ledger, IsAnswered}
 use Rattle.lease_book.specs.Histories.{deal_of}
 use Rattle.partition_solver.specs.Answers.{MayFind}
 use Rattle.tournaments.specs.Asking.{IsFoundFor, asked_for, AreWorkedOn}
-use Rattle.farm.specs.Moments.{MayTell, AreTimed}
-use Rattle.farm.specs.Publications.{IsGivenOut}
+use Rattle.lease_desk.specs.Moments.{MayTell, AreTimed}
+use Rattle.lease_book.specs.TrueHistories.{IsGivenOut}
 use Rattle.tournaments.specs.Done.{IsDone}
 
 -- the verdict on what the solver found for the entry was handed in under the lease, or the lease was given up

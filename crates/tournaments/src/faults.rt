@@ -90,7 +90,7 @@ impl From<OutOfMemory> for MakeFault {
 }
 
 /// The fault of a sink. (That of a source is an `InputFault`.)
-pub(crate) fn write_failed(_fault: DeviceFault) -> MakeFault
+pub fn write_failed(_fault: DeviceFault) -> MakeFault
     ensures { result ≡ faults.Write }
 {
     MakeFault::Write

@@ -6,7 +6,7 @@ ghost use Rattle.tournaments.specs.Pages.{TablesAreRead};
 /// block a board, in their order, and nothing else: its name, its deal, and twenty rows of which each declarer and
 /// denomination has one, with the double-dummy value of that deal, or how many of the twenty numbers are known.
 ///
-/// [`make_tables`](crate::make_tables), [`make_single`](crate::make_single) and [`replay_tables`](crate::replay_tables)
+/// [`make_single`](crate::make_single), [`replay_tables`](crate::replay_tables) and `make_tables` of `subcommands`
 /// write such a page: what `Ok` says of each gives the text, the terms and the history.
 pub fn tables_are_read()
     ensures { TablesAreRead }

@@ -10,8 +10,7 @@ use crate::faults::{MakeFault, write_failed};
 use crate::laws::tables_are_read;
 use crate::texts::take_boards;
 use cards::Sink;
-use farm::is_true_history;
-use lease_book::{Book, BookFault, Request, replay};
+use lease_book::{Book, BookFault, Request, is_true_history, replay};
 use pbn_deals::Board;
 use std::alloc::Global;
 use tables::{Report, write_tables};
@@ -26,7 +25,8 @@ fn replay_book(
 ) -> Result<Book, MakeFault>
     requires boards { AreBoards boards.items }
     requires tries { AreTries tries }
-    ensures book { IfOk result (IsReplayedBook (record { boards = boards.items; term = term; tries = tries }) requests.now) }
+    ensures book { IfOk result (IsReplayedBook
+        (record { boards = boards.items; term = term; tries = tries }) requests.now) }
     ensures fault { IfErr result (λ fault. fault ≡ OutOfMemory) }
 {
     match replay(alloc, boards, term, tries, requests) {
@@ -39,9 +39,9 @@ fn replay_book(
 
 /// Has a book over the boards of a PBN text answer a whole list of requests, in their order, and writes the tables.
 ///
-/// Whatever the requests are, and in whatever order leases, expiries, repeats and damaged or foreign certificates come, a
-/// number that is written is that of the first good hand-in for its entry, and the double-dummy value of its deal. With
-/// all refusals but a failed sink nothing was written.
+/// Whatever the requests are, and in whatever order leases, expiries, repeats and damaged or foreign certificates come,
+/// a number that is written is that of the first good hand-in for its entry, and the double-dummy value of its deal.
+/// With all refusals but a failed sink nothing was written.
 pub fn replay_tables<O: Sink>(
     alloc: Global,
     text: &[u8],

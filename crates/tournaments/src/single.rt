@@ -10,8 +10,8 @@ use crate::laws::tables_are_read;
 use crate::texts::{open_book, take_boards};
 use crate::working::work_through;
 use cards::{Sink, Source};
-use farm::{Clock, is_true_history};
-use lease_book::Book;
+use lease_book::{Book, is_true_history};
+use lease_desk::Clock;
 use partition_solver::Solver;
 use std::alloc::Global;
 use streams::read_all;
@@ -35,7 +35,8 @@ pub fn make_single<I: Source, O: Sink, S: Solver, C: Clock>(
 ) -> Result<(Report, Book), MakeFault>
     requires tries { AreTries tries }
     requires budget { 0 < budget }
-    ensures made { MakesTables (IsWholeRun (S.may_find solver.now) (C.may_tell clock.now) budget) term tries (I.state input.old)
+    ensures made { MakesTables (IsWholeRun (S.may_find solver.now) (C.may_tell clock.now) budget) term tries
+        (I.state input.old)
         (I.state input.new) (O.state output.old) (O.state output.new) result }
     ensures one_thread { IfErr result (λ fault. fault ≢ NoThread) }
 {

@@ -11,7 +11,7 @@ use pbn_deals::{Board, PbnFault, boards_are_printable, read_boards};
 use std::alloc::Global;
 
 /// The boards of a PBN text, or why there are none.
-pub(crate) fn take_boards(alloc: Global, text: &[u8]) -> Result<Vec<Board>, MakeFault>
+pub fn take_boards(alloc: Global, text: &[u8]) -> Result<Vec<Board>, MakeFault>
     ensures boards { TakesBoards text.now result }
     ensures few { IfOk result (λ boards. AreBoards boards.items) }
 {

@@ -3,28 +3,29 @@
 ghost use Rattle.std.specs.Prelude.{◌≡◌, [], IfOk, OnOk, MatchOption};
 ghost use Rattle.lease_book.specs.Histories.{deal_of};
 ghost use Rattle.partition_solver.specs.Answers.{MayAnswer};
-ghost use Rattle.tournaments.specs.Asking.{IsVerdictOn, IsFoundFor};
+ghost use Rattle.tournaments.specs.Asking.{IsVerdictOnFound, IsFoundFor};
 ghost use Rattle.tournaments.specs.Working.{GivesOut, WorksOn};
 
 use cards::Layout;
 use certificate_graph::Answer;
 use checker::{HandFault, OutOfMemory, Verdict, check_entry};
-use farm::Clock;
 use lease_book::{Book, Entry, Reply};
+use lease_desk::Clock;
 use partition_solver::Solver;
 use pbn_deals::Board;
 use std::alloc::Global;
 
 /// The layout of an entry's board, if it has one.
 fn layout_for(boards: &[Board], entry: Entry) -> Option<&Layout>
-    ensures { MatchOption result (deal_of boards.now entry.board ≡ None) (λ layout. deal_of boards.now entry.board ≡ Some layout.now) }
+    ensures { MatchOption result (deal_of boards.now entry.board ≡ None)
+        (λ layout. deal_of boards.now entry.board ≡ Some layout.now) }
 {
     boards.get(entry.board)?.deal.as_ref()
 }
 
 /// The checker's verdict on an answer for an entry, whose layout this is.
 fn verdict_of(layout: &Layout, entry: Entry, answer: &Answer) -> Verdict
-    ensures { IsVerdictOn layout.now entry (Some answer.now) (Some result) }
+    ensures { IsVerdictOnFound layout.now entry (Some answer.now) (Some result) }
 {
     let checked = check_entry(
         layout,
@@ -37,8 +38,8 @@ fn verdict_of(layout: &Layout, entry: Entry, answer: &Answer) -> Verdict
     checked.map_err(HandFault::Entry)
 }
 
-/// The solver's answer for an entry, whose layout this is: none where nothing was found within the budget, and where the
-/// solver had no memory. Fails only where memory runs out for the answer's graphs.
+/// The solver's answer for an entry, whose layout this is: none where nothing was found within the budget, and where
+/// the solver had no memory. Fails only where memory runs out for the answer's graphs.
 fn answer_for<S: Solver>(
     alloc: Global,
     layout: &Layout,

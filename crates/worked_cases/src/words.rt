@@ -126,8 +126,8 @@ fn room_of(field: &str) -> usize {
     }
 }
 
-/// What comes of the words of a case: the exit status, what is on the output and on the error output, and what is left of
-/// an input of at most 64 bytes.
+/// What comes of the words of a case: the exit status, what is on the output and on the error output, and what is left
+/// of an input of at most 64 bytes.
 pub fn answer_words<R: Threads + Wait + Sync>(
     rt: &R,
     alloc: Global,
@@ -197,7 +197,8 @@ fn say_lines(name: &str, printed: &[u8], out: &mut String) -> Result<(), AllocEr
     Ok(())
 }
 
-/// What comes of the words of a case, over no input: the exit status, and the lines on the output and on the error output.
+/// What comes of the words of a case, over no input: the exit status, and the lines on the output and on the error
+/// output.
 pub fn answer_lines<R: Threads + Wait + Sync>(
     rt: &R,
     alloc: Global,

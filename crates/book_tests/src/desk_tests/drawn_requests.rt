@@ -1,5 +1,5 @@
-//! Requests that a worker at a desk draws by a fixed run of numbers. Some are stale, repeated, damaged, for another's lease or
-//! for another board, and the clock goes back at times.
+//! Requests that a worker at a desk draws by a fixed run of numbers. Some are stale, repeated, damaged, for another's
+//! lease or for another board, and the clock goes back at times.
 
 use crate::fixed_numbers::next;
 use crate::lease_tests::long_list::{pick, some_answer, some_entry};
@@ -40,8 +40,8 @@ impl Worker {
         self.own.get(self.own.len().wrapping_sub(back)).copied()
     }
 
-    /// A lease, and an entry to name under it: in nine of sixteen cases its own and mostly the right entry, in one a lease
-    /// that is never given, and else any that may have been given.
+    /// A lease, and an entry to name under it: in nine of sixteen cases its own and mostly the right entry, in one a
+    /// lease that is never given, and else any that may have been given.
     fn some_lease(&self, number: u64) -> (u64, Entry) {
         let choice = number / 16;
         let named = some_entry(choice);

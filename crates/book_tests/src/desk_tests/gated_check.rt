@@ -55,8 +55,8 @@ impl Sign {
     }
 }
 
-/// Two chairs: under the first lease one hands in, and its check begins when the other has leased. The other leases when
-/// the one is about to be checked.
+/// Two chairs: under the first lease one hands in, and its check begins when the other has leased. The other leases
+/// when the one is about to be checked.
 #[derive(Drop)]
 struct Overtaking {
     handed_in: Sign,

@@ -1,5 +1,5 @@
-//! Four and eight threads at one desk, each with a chair: the receipts are one history, and its replies are those that a plain
-//! search finds.
+//! Four and eight threads at one desk, each with a chair: the receipts are one history, and its replies are those that
+//! a plain search finds.
 
 ghost use Rattle.std.specs.Prelude.{◌≡◌};
 ghost use Rattle.lease_desk.specs.Desks.{IsChairOf, number_of};

@@ -44,8 +44,8 @@ fn work_side_by_side<R: Abort + Threads + Wait + Sync, S: Shift>(
     }
 }
 
-/// Opens a desk over boards with these layouts, and closes it after the work from so many chairs. All receipts are the closed
-/// history.
+/// Opens a desk over boards with these layouts, and closes it after the work from so many chairs. All receipts are the
+/// closed history.
 pub fn closed_after<R: Abort + Threads + Wait + Sync, S: Shift>(
     rt: &R,
     alloc: Global,

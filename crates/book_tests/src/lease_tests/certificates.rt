@@ -56,8 +56,8 @@ pub fn nothing(alloc: Global, trump: Trump, side: Side) -> Result<Vec<u8>, Alloc
     )
 }
 
-/// The text of a graph that shows the trick of this holder's ace, where this seat leads: the side plays its cards, and the
-/// opponents have one each.
+/// The text of a graph that shows the trick of this holder's ace, where this seat leads: the side plays its cards, and
+/// the opponents have one each.
 fn ace(alloc: Global, trump: Trump, holder: Seat, leader: Seat) -> Result<Vec<u8>, AllocError> {
     let mut text = joined(
         alloc,

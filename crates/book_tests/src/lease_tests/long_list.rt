@@ -1,5 +1,5 @@
-//! Long lists of requests, some stale, repeated, damaged or for another entry: each reply and each publication is the one
-//! that a slow search of the list finds. In two of them boards share their deals.
+//! Long lists of requests, some stale, repeated, damaged or for another entry: each reply and each publication is the
+//! one that a slow search of the list finds. In two of them boards share their deals.
 
 use super::certificates::{Answer, EAST_HIGH, NORTH_HIGH, boards};
 use super::slow_book::{Ask, DECLARERS, Past, Rules, TRUMPS, entry_of, leased, published, reply};
@@ -169,7 +169,8 @@ pub fn kind_of(reply: Reply) -> usize {
     }
 }
 
-/// The publications of the book are those that the search finds, for all entries, and for those of a board that isn't there.
+/// The publications of the book are those that the search finds, for all entries, and for those of a board that isn't
+/// there.
 fn same_publications<R: Abort>(rt: &R, book: &Book, firsts: &[Option<usize>], past: &[Past]) {
     for board in 0..=firsts.len() {
         for declarer in DECLARERS {

@@ -23,7 +23,8 @@ const FIRSTS: [(Option<&str>, usize); 6] = [
     (Some(EAST_HIGH), 2),
 ];
 
-/// A twin is told by the layouts alone. An entry of a board without a deal, or of one that isn't there, is told as it is.
+/// A twin is told by the layouts alone. An entry of a board without a deal, or of one that isn't there, is told as it
+/// is.
 #[test]
 fn least_twins(rt: HostRuntime) -> Result<(), Fail> {
     let layouts = FIRSTS.map(|(layout, _)| layout);

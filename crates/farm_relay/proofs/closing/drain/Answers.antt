@@ -1,5 +1,4 @@
 use Rattle.std.proofs.Common.{arith}
-use Rattle.crossbeam_channel.specs.Claims.{view}
 use Rattle.farm_relay.proofs.Moves.{takes, sees}
 use Rattle.farm_relay.proofs.Joining.{drained_message, drained_mark, drained}
 use Rattle.farm_relay.proofs.closing.drain.Goals as goal

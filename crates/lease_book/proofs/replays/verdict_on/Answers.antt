@@ -5,7 +5,7 @@ use Rattle.cards.specs.Deal.{Deal}
 use Rattle.checker.specs.declared.entries.Shown.{Shown}
 use Rattle.checker.specs.declared.hand_faults.HandFault.{HandFault}
 use Rattle.checker.specs.declared.hand_faults.HandFault.TheVariants.{NoDeal}
-use Rattle.checker.specs.declared.hand_faults.OutOfMemory.{OutOfMemory}
+use Rattle.cards.specs.declared.faults.OutOfMemory.{OutOfMemory}
 use Rattle.checker.specs.Verdicts.{IsVerdict}
 use Rattle.lease_book.specs.declared.entries.Entry.{Entry}
 use Rattle.lease_book.specs.Proofs.{evidence_of}

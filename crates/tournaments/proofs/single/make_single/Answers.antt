@@ -2,7 +2,7 @@
 use Rattle.std.proofs.Common.{◌≡◌, ◌∙◌, ap, subst, rules}
 use Rattle.lease_book.specs.Histories.{Terms}
 use Rattle.lease_book.specs.Books.{Ledger}
-use Rattle.farm.specs.Publications.{IsTrueHistory}
+use Rattle.lease_book.specs.TrueHistories.{IsTrueHistory}
 use Rattle.tournaments.proofs.single.make_single.Goals as goal
 
 pub returns-clause-made : goal.returns-clause-made

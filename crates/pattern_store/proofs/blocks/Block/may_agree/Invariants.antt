@@ -1,7 +1,7 @@
 -- Whether one of the records so far agrees.
 use Rattle.std.proofs.Common.{◌<◌, ◌↔◌, ℕ, IsTrue}
 use Rattle.pattern_store.specs.Blocks.{record_at}
-use Rattle.pattern_store.specs.Records.{AgreesNear}
+use Rattle.pattern_store.specs.Record.{AgreesNear}
 use Rattle.pattern_store.proofs.blocks.Block.may_agree.Given as goal
 
 abbrev pub invariant-loop-place : goal.invariant-loop-place

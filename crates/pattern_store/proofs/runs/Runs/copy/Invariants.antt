@@ -1,6 +1,6 @@
 -- What lists have they had.
 use Rattle.std.proofs.Common.{◌≡◌}
-use Rattle.pattern_store.specs.Found.{Keeps}
+use Rattle.pattern_store.specs.Records.{Keeps}
 use Rattle.pattern_store.proofs.runs.Runs.copy.Given as goal
 
 abbrev pub invariant-loop-place : goal.invariant-loop-place

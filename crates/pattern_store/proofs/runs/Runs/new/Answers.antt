@@ -1,6 +1,6 @@
 use Rattle.std.proofs.Common.{List, ◌∷◌, [], ◌++◌, refl, ap, ◌∙◌, sym, subst}
 use Rattle.pattern_store.specs.declared.blocks.Block.{Block}
-use Rattle.pattern_store.specs.Found.{HoldNothing}
+use Rattle.pattern_store.specs.Records.{HoldNothing}
 use Rattle.pattern_store.proofs.FoundLaws.{holds_nothing}
 use Rattle.pattern_store.proofs.runs.Runs.new.Goals as goal
 

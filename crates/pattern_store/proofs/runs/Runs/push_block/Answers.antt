@@ -1,6 +1,6 @@
 use Rattle.std.proofs.Common.{List, refl, rules, sym, subst}
 use Rattle.pattern_store.specs.declared.blocks.Block.{Block}
-use Rattle.pattern_store.specs.Found.{Keeps}
+use Rattle.pattern_store.specs.Records.{Keeps}
 use Rattle.pattern_store.proofs.FoundLaws.{keeps_pushed}
 use Rattle.pattern_store.proofs.runs.Runs.push_block.Goals as goal
 

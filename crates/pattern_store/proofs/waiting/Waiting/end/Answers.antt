@@ -1,5 +1,5 @@
 use Rattle.std.proofs.Common.{◌∙◌, subst}
-use Rattle.pattern_store.specs.declared.records.Record.{Record}
+use Rattle.pattern_store.specs.declared.record.Record.{Record}
 use Rattle.pattern_store.specs.Blocks.{LosesServed}
 use Rattle.pattern_store.proofs.Passing.{passes_then, loses_then}
 use Rattle.pattern_store.proofs.waiting.Waiting.end.Goals as goal

@@ -25,9 +25,9 @@ loop-above-preserved c =
       | then-len-depth+in-Some w ↦
           (ap (λ (v : ArrayVec Seat). v.items) w.owners-is
           ∙ (w.push.ensures.items ∙ owner_listed words depth n owners w.in-Some.seat step c.loop-above.invariant
-          (rw (← c.len.ensures.value) w.if-len-depth.true) (sym w.holder.ensures ∙ w.in-Some.is)))
+          (rw (← c.len.ensures.value) w.if-len-depth.true) (sym w.holder_by_words.ensures ∙ w.in-Some.is)))
       | then-len-depth+in_default w ↦
-          (ap (λ (v : ArrayVec Seat). v.items) w.owners-is ∙ nobody_listed words depth n owners step c.loop-above.invariant (sym w.holder.ensures ∙ w.in_default.is))
+          (ap (λ (v : ArrayVec Seat). v.items) w.owners-is ∙ nobody_listed words depth n owners step c.loop-above.invariant (sym w.holder_by_words.ensures ∙ w.in_default.is))
       | else-len-depth w ↦
           (ap (λ (v : ArrayVec Seat). v.items) w.owners-is ∙ list_is_full words depth n owners step c.loop-above.invariant (rw (← c.len.ensures.value) w.if-len-depth.false))
     ]

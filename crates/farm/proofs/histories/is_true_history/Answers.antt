@@ -1,5 +1,0 @@
-use Rattle.farm.proofs.PublicationLaws.{true_history}
-use Rattle.farm.proofs.histories.is_true_history.Goals as goal
-
-pub returns : goal.returns
-returns c = true_history c.args.book.now.terms c.args.book.now.events c.history-events.ensures.legal c.published-number.ensures.proven

@@ -1,0 +1,10 @@
+use Rattle.std.proofs.Common.{rules}
+use Rattle.std.proofs.lemmas.Option.{IfSome_then}
+use Rattle.pattern_store.proofs.FoundLaws.{finds_at}
+use Rattle.pattern_store.proofs.records.Records.find.Goals as goal
+
+pub returns-in-Some : goal.returns-in-Some
+returns-in-Some g c =
+    IfSome_then c.number_of.result c.number_of.ensures.some
+    (λ found is. finds_at c.args.self.now c.args.list c.args.need _ c.loop-number.number c.in-Some.place found c.in_ok-block.block.now
+    c.in_ok-block.ensures (search rules) is (search rules) (search rules) (c.in-Some.ensures.some.2, c.in-Some.ensures.some.3))

@@ -1,4 +1,0 @@
-use Rattle.patterns.proofs.layout_patterns.Pattern.matches.Goals as goal
-
-pub returns : goal.returns
-returns c = rw (← c.self.view_is) c.matches.ensures

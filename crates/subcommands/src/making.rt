@@ -1,0 +1,76 @@
+//! The tables by many threads.
+
+ghost use Rattle.std.specs.Prelude.{◌≡◌, IfOk, IsSome, Some};
+ghost use Rattle.farm.specs.Runs.{IsRun};
+ghost use Rattle.farm.specs.Leases.{AreSettledOnce};
+ghost use Rattle.subcommands.specs.Halts.{halted_fault};
+ghost use Rattle.tournaments.specs.Making.{MakesTables};
+ghost use Rattle.tournaments.specs.declared.faults.MakeFault.TheVariants as faults;
+
+use cards::{DeviceFault, Sink, Source};
+use farm::{Clock, FarmFault, Means, Settings, run_farm};
+use lease_book::Book;
+use lease_desk::Gate;
+use partition_solver::Solver;
+use std::alloc::Global;
+use std::sync::Wait;
+use std::thread::Threads;
+use streams::read_all;
+use tables::{Report, write_tables};
+use tournaments::{MakeFault, tables_are_read, take_boards};
+
+/// Why nothing is made where a farm over boards of a text was halted.
+fn halted(fault: FarmFault) -> MakeFault
+    requires { IsSome (halted_fault fault) }
+    ensures { halted_fault fault ≡ Some result }
+{
+    match fault {
+        FarmFault::OutOfMemory => MakeFault::OutOfMemory,
+        FarmFault::NoThread => MakeFault::NoThread,
+        FarmFault::Book(_) => unreachable!(),
+    }
+}
+
+/// The fault of a sink. (That of a source is an `InputFault`.)
+fn sink_failed(_fault: DeviceFault) -> MakeFault
+    ensures { result ≡ faults.Write }
+{
+    MakeFault::Write
+}
+
+/// Reads the boards of a PBN text to its end, has a farm work through them as the settings say, and writes the tables
+/// of what was shown. The book of the run is handed out.
+///
+/// Whatever the solver answers, the gate does and the clock tells, and in whatever order the threads work, a number
+/// that is written is the double-dummy value of its deal, and is written once: an answer whose certificates don't show
+/// it gives none. No lease is settled twice. With all refusals but a failed sink nothing was written.
+pub fn make_tables<
+    I: Source,
+    O: Sink,
+    S: Solver + Sync,
+    G: Gate + Sync,
+    C: Clock + Sync,
+    R: Threads + Wait + Sync,
+>(
+    rt: &R,
+    alloc: Global,
+    input: &mut I,
+    output: &mut O,
+    settings: Settings,
+    means: &Means<'_, S, G, C>,
+) -> Result<(Report, Book), MakeFault>
+    ensures tables { MakesTables (IsRun (C.may_tell means.now.clock.now)) settings.term settings.tries
+        (I.state input.old) (I.state input.new)
+        (O.state output.old) (O.state output.new) result }
+    ensures once { IfOk result (λ made. AreSettledOnce made.1.events) }
+{
+    let text = read_all(alloc, input)?;
+    let boards = take_boards(alloc, text.as_slice())?;
+    let book = match run_farm(rt, alloc, boards, settings, means) {
+        Ok(book) => book,
+        Err(fault) => return Err(halted(fault)),
+    };
+    tables_are_read();
+    let report = write_tables(&book, output).map_err(sink_failed)?;
+    Ok((report, book))
+}
