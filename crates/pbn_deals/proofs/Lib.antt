@@ -22,3 +22,10 @@ pub mod CountedOn
 pub mod TrailingReturn
 pub mod TextsInTurn
 pub mod NoRoom
+pub mod OnePieces
+pub mod SomePieces
+pub mod LinesOfText
+pub mod PiecesRead
+pub mod LinesRead
+pub mod TagMoved
+pub mod RowsBack

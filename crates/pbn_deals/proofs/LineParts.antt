@@ -7,11 +7,11 @@ use Rattle.pbn_deals.proofs.CutLemmas.{lines_of-cut, lines_of-last, after_shorte
 use Rattle.pbn_deals.proofs.TagParts.{split, split_nowhere, split_at}
 
 -- ---- parts
-lacks_rest : (byte : ℕ) (front rest : List ℕ) → Lacks byte (front ++ rest) → Lacks byte rest
+pub lacks_rest : (byte : ℕ) (front rest : List ℕ) → Lacks byte (front ++ rest) → Lacks byte rest
 lacks_rest byte [] rest h = h
 lacks_rest byte (first ∷ front) rest h = lacks_rest byte front rest (All-tail (λ other. other ≢ byte) first (front ++ rest) h)
 
-lacks_front : (byte : ℕ) (front rest : List ℕ) → Lacks byte (front ++ rest) → Lacks byte front
+pub lacks_front : (byte : ℕ) (front rest : List ℕ) → Lacks byte (front ++ rest) → Lacks byte front
 lacks_front byte [] rest h = All-nil (λ other. other ≢ byte)
 lacks_front byte (first ∷ front) rest h =
     All-cons (λ other. other ≢ byte) first front (All-head (λ other. other ≢ byte) first (front ++ rest) h)
@@ -29,7 +29,7 @@ lacks_middle byte sign text front middle more rest e h =
     (lacks_front byte middle (sign ∷ (more ++ rest)) tail, lacks_rest byte more rest after)
 
 -- ---- lines
-without_return-lacks : (byte : ℕ) (line : List ℕ) → Lacks byte line → Lacks byte (without_return line)
+pub without_return-lacks : (byte : ℕ) (line : List ℕ) → Lacks byte line → Lacks byte (without_return line)
 without_return-lacks byte [] h = h
 without_return-lacks byte (last ∷ []) h = go (eqb last 13) where
   go : (b : Bool) → Lacks byte (cond b [] (last ∷ []))

@@ -52,14 +52,14 @@ after_name-ends (byte ∷ bytes) = go (is_name_byte byte) (after_name-ends bytes
   go false h = ([], refl)
 
 -- ---- the value, which goes up to the next quote
-value_front-lacks : (text : List ℕ) → Lacks 34 (value_front text)
+pub value_front-lacks : (text : List ℕ) → Lacks 34 (value_front text)
 value_front-lacks [] = All-nil (λ other. other ≢ 34)
 value_front-lacks (byte ∷ bytes) = go (eqb byte 34) refl (value_front-lacks bytes) where
   go : (b : Bool) → eqb byte 34 ≡ b → Lacks 34 (value_front bytes) → Lacks 34 (cond b [] (byte ∷ value_front bytes))
   go true e h = All-nil (λ other. other ≢ 34)
   go false e h = All-cons (λ other. other ≢ 34) byte (value_front bytes) (eqb-false byte 34 e) h
 
-value_whole : (text after : List ℕ) → after_value text ≡ Some after → text ≡ value_front text ++ 34 ∷ after
+pub value_whole : (text after : List ℕ) → after_value text ≡ Some after → text ≡ value_front text ++ 34 ∷ after
 value_whole [] after e = absurd (cc)
 value_whole (byte ∷ bytes) after e = go (eqb byte 34) refl (value_whole bytes after) e where
   go : (b : Bool) → eqb byte 34 ≡ b → (after_value bytes ≡ Some after → bytes ≡ value_front bytes ++ 34 ∷ after) → cond b (Some bytes) (after_value bytes) ≡ Some after → byte ∷ bytes ≡ cond b [] (byte ∷ value_front bytes) ++ 34 ∷ after

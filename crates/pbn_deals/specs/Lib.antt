@@ -8,6 +8,8 @@ pub mod Tags
 pub mod Games
 pub mod Lines
 pub mod Reading
+pub mod Pieces
+pub mod LineBoards
 pub mod Printable
 pub mod TwoTexts
 pub mod Views

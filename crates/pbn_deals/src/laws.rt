@@ -1,6 +1,7 @@
 //! What holds of the rules alone.
 
 ghost use Rattle.pbn_deals.specs.LayoutValue.{HasOneLayout, HasSomeLayout};
+ghost use Rattle.pbn_deals.specs.LineBoards.{AreBoardsOfLines, TextsAreLines};
 ghost use Rattle.pbn_deals.specs.Printable.{BoardsArePrintable};
 ghost use Rattle.pbn_deals.specs.Reading.{HasOneAnswer, HasSomeAnswer};
 ghost use Rattle.pbn_deals.specs.TwoTexts.{TextsAreReadInTurn};
@@ -28,6 +29,18 @@ pub fn boards_are_printable()
 /// both.
 pub fn texts_are_read_in_turn()
     ensures { TextsAreReadInTurn }
+{}
+
+/// Each text is read as lines with their ends, and each line as its pieces, in one way; with its byte order mark they
+/// are all its bytes.
+pub fn texts_are_lines()
+    ensures { TextsAreLines }
+{}
+
+/// The boards of a text are those that the tag pairs among the pieces of its lines say: so a text whose pieces differ
+/// in nothing else has the same boards.
+pub fn boards_are_of_lines()
+    ensures { AreBoardsOfLines }
 {}
 
 /// A Deal value alone says one layout, or has one fault, and never two: so what

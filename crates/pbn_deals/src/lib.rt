@@ -20,6 +20,7 @@ pub use deal_values::read_layout;
 pub use faults::PbnFault;
 pub use games::MOST_BOARDS;
 pub use laws::{
-    boards_are_printable, one_answer, one_layout, some_answer, some_layout, texts_are_read_in_turn,
+    boards_are_of_lines, boards_are_printable, one_answer, one_layout, some_answer, some_layout,
+    texts_are_lines, texts_are_read_in_turn,
 };
 pub use readers::read_boards;

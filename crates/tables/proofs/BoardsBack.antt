@@ -19,7 +19,7 @@ use Rattle.pbn_deals.specs.Games.{Tags, no_tags, boards_of, SaysDeal, board_tag,
 use Rattle.pbn_deals.specs.Lines.{is_line_feed, without_return, lines_of, is_escaped, is_blank_line}
 use Rattle.pbn_deals.specs.Reading.{Ends, Scans, at_end, at_tag, at_line_comment, Answers, no_line, escaped_line, blank_line, whole_line, put_boards}
 use Rattle.tables.specs.DealText.{deal_text}
-use Rattle.tables.specs.TablesText.{Results, tag_line, deal_value, row_text, result_row, entry_row, rows_text, entries, right_in_two, is_complete, published_count, table_tag, incomplete_line, table_text, board_text, numbered_text, tables_text}
+use Rattle.tables.specs.TablesText.{Results, line_feed, tag_line, deal_value, row_text, result_row, entry_row, rows_text, entries, right_in_two, is_complete, published_count, table_tag, incomplete_text, table_text, board_text, numbered_text, tables_text}
 use Rattle.pbn_deals.specs.Printable.{IsBoardDeal, IsPrintable}
 use Rattle.tables.specs.ReadBack.{AreTricks, AreReadBack}
 use Rattle.tables.proofs.DealsBack.{reads_back}
@@ -43,70 +43,60 @@ idle_step line rest tags count answer idle more = λ number.
     (whole_line idle.not_escaped idle.not_blank (idle.read number count tags) (more (number + 1)))
 
 -- ---- rows
-unfoldable pub row_body : Seat → Trump → ℕ → List ℕ
-row_body declarer denomination tricks = (seat_letter declarer ++ (32 ∷ [])) ++ (right_in_two (trump_letters denomination) ++ (32 ∷ right_in_two (decimal tricks)))
-
-row_body-calm : (declarer : Seat) (denomination : Trump) (tricks : ℕ) → tricks ≤ 13 → is_calm (row_body declarer denomination tricks) ≡ true
-unfolding row_body
-row_body-calm declarer denomination tricks h =
+pub row_text-calm : (declarer : Seat) (denomination : Trump) (tricks : ℕ) → tricks ≤ 13 → is_calm (row_text declarer denomination tricks) ≡ true
+unfolding row_text
+row_text-calm declarer denomination tricks h =
     is_calm-append (seat_letter declarer ++ (32 ∷ [])) _ (is_calm-append (seat_letter declarer) (32 ∷ []) (seat_letter-calm declarer) refl)
     (is_calm-append (right_in_two (trump_letters denomination)) (32 ∷ right_in_two (decimal tricks)) (denomination-calm denomination)
     (right_in_two-calm (decimal tricks) (decimal-calm tricks (omega arith))))
 
-row_body-not_escaped : (declarer : Seat) (denomination : Trump) (tricks : ℕ) → is_escaped (row_body declarer denomination tricks) ≡ false
-unfolding row_body
-row_body-not_escaped North denomination tricks = refl
-row_body-not_escaped East denomination tricks = refl
-row_body-not_escaped South denomination tricks = refl
-row_body-not_escaped West denomination tricks = refl
+row_text-not_escaped : (declarer : Seat) (denomination : Trump) (tricks : ℕ) → is_escaped (row_text declarer denomination tricks) ≡ false
+unfolding row_text
+row_text-not_escaped North denomination tricks = refl
+row_text-not_escaped East denomination tricks = refl
+row_text-not_escaped South denomination tricks = refl
+row_text-not_escaped West denomination tricks = refl
 
-row_body-not_blank : (declarer : Seat) (denomination : Trump) (tricks : ℕ) → is_blank_line (row_body declarer denomination tricks) ≡ false
-unfolding row_body
-row_body-not_blank North denomination tricks = refl
-row_body-not_blank East denomination tricks = refl
-row_body-not_blank South denomination tricks = refl
-row_body-not_blank West denomination tricks = refl
+row_text-not_blank : (declarer : Seat) (denomination : Trump) (tricks : ℕ) → is_blank_line (row_text declarer denomination tricks) ≡ false
+unfolding row_text
+row_text-not_blank North denomination tricks = refl
+row_text-not_blank East denomination tricks = refl
+row_text-not_blank South denomination tricks = refl
+row_text-not_blank West denomination tricks = refl
 
-pub row-idle : (declarer : Seat) (denomination : Trump) (tricks : ℕ) → tricks ≤ 13 → IsIdle (row_body declarer denomination tricks)
+pub row-idle : (declarer : Seat) (denomination : Trump) (tricks : ℕ) → tricks ≤ 13 → IsIdle (row_text declarer denomination tricks)
 row-idle declarer denomination tricks h =
-    let calm = row_body-calm declarer denomination tricks h in
+    let calm = row_text-calm declarer denomination tricks h in
     record {
       as_line = IsLine-from_tame _ (IsTame-from_calm _ calm);
-      not_escaped = row_body-not_escaped declarer denomination tricks;
-      not_blank = row_body-not_blank declarer denomination tricks;
+      not_escaped = row_text-not_escaped declarer denomination tricks;
+      not_blank = row_text-not_blank declarer denomination tricks;
       read = λ number count tags. Scans-quiet number count false tags _ (IsQuiet-from_calm _ calm);
     }
 
-pub row_text-is : (declarer : Seat) (denomination : Trump) (tricks : ℕ) (rest : List ℕ) → row_text declarer denomination tricks ++ rest ≡ row_body declarer denomination tricks ++ 10 ∷ rest
-unfolding row_text row_body
-row_text-is declarer denomination tricks rest = simp append_assoc
+-- a line, its line feed, and what stands behind them
+pub line_more : (line rows rest : List ℕ) → ((line ++ line_feed) ++ rows) ++ rest ≡ line ++ 10 ∷ (rows ++ rest)
+line_more line rows rest = append_assoc (line ++ line_feed) rows rest ∙ append_assoc line line_feed (rows ++ rest)
 
-rows_step : (results : Results) (some : List (Seat × Trump)) (rest : List ℕ) (tags : Tags) (count : ℕ) (answer : Result (List Board) PbnFault) → ((declarer : Seat) (denomination : Trump) → IfSome (results declarer denomination) (λ tricks. tricks ≤ 13)) → AnswersText tags count rest answer → AnswersText tags count (flat_map (entry_row results) some ++ rest) answer
+rows_step : (results : Results) (some : List (Seat × Trump)) (rest : List ℕ) (tags : Tags) (count : ℕ) (answer : Result (List Board) PbnFault) → ((declarer : Seat) (denomination : Trump) → IfSome (results declarer denomination) (λ tricks. tricks ≤ 13)) → AnswersText tags count rest answer → AnswersText tags count (flat_map (entry_row line_feed results) some ++ rest) answer
 rows_step results [] rest tags count answer small more = more
 rows_step results (entry ∷ some) rest tags count answer small more =
     let after = rows_step results some rest tags count answer small more in
     go (results entry.0 entry.1) (small entry.0 entry.1) after
   where
-    go : (result : Option ℕ) → IfSome result (λ tricks. tricks ≤ 13) → AnswersText tags count (flat_map (entry_row results) some ++ rest) answer → AnswersText tags count ((result_row entry.0 entry.1 result ++ flat_map (entry_row results) some) ++ rest) answer
+    go : (result : Option ℕ) → IfSome result (λ tricks. tricks ≤ 13) → AnswersText tags count (flat_map (entry_row line_feed results) some ++ rest) answer → AnswersText tags count ((result_row line_feed entry.0 entry.1 result ++ flat_map (entry_row line_feed results) some) ++ rest) answer
     go None h after = after
     go (Some tricks) h after =
         subst (λ (text : List ℕ). AnswersText tags count text answer)
-        (sym (append_assoc (row_text entry.0 entry.1 tricks) (flat_map (entry_row results) some) rest ∙ row_text-is entry.0 entry.1 tricks (flat_map (entry_row results) some ++ rest)))
-        (idle_step (row_body entry.0 entry.1 tricks) (flat_map (entry_row results) some ++ rest) tags count answer (row-idle entry.0 entry.1 tricks h) after)
+        (sym (line_more (row_text entry.0 entry.1 tricks) (flat_map (entry_row line_feed results) some) rest))
+        (idle_step (row_text entry.0 entry.1 tricks) (flat_map (entry_row line_feed results) some ++ rest) tags count answer (row-idle entry.0 entry.1 tricks h) after)
 
 -- ---- the table of a board
-unfoldable pub table_tag_body : List ℕ
-table_tag_body = codes "[OptimumResultTable " ++ (34 ∷ codes "Declarer;Denomination") ++ (92 ∷ codes "2R;Result") ++ (92 ∷ codes "2R") ++ (34 ∷ 93 ∷ [])
-
-pub table_tag-is : table_tag ≡ table_tag_body ++ (10 ∷ [])
-unfolding table_tag table_tag_body
-table_tag-is = refl
-
 table_tag_tag : Tag
 table_tag_tag = record { name = codes "OptimumResultTable"; value = codes "Declarer;Denomination" ++ (92 ∷ codes "2R;Result") ++ (92 ∷ codes "2R"); rest = [] }
 
-table_tag-read : (number count : ℕ) (tags : Tags) → Scans number count false tags table_tag_body (Ends tags false)
-unfolding table_tag_body table_tag_tag
+table_tag-read : (number count : ℕ) (tags : Tags) → Scans number count false tags table_tag (Ends tags false)
+unfolding table_tag table_tag_tag
 table_tag-read number count tags = at_tag {tag = table_tag_tag} refl refl (other_tag refl refl) at_end
 
 -- no line feed and no carriage return
@@ -121,24 +111,17 @@ IsTame-from_test (byte ∷ bytes) h =
     let two = and_parts (not (eqb byte 13)) _ one.1 in
     (eqb-false byte 10 (not-true _ one.0), eqb-false byte 13 (not-true _ two.0), IsTame-from_test bytes two.1)
 
-pub table_tag-idle : IsIdle table_tag_body
-unfolding table_tag_body
+pub table_tag-idle : IsIdle table_tag
+unfolding table_tag
 table_tag-idle = record {
-  as_line = IsLine-from_tame table_tag_body (IsTame-from_test table_tag_body refl);
+  as_line = IsLine-from_tame table_tag (IsTame-from_test table_tag refl);
   not_escaped = refl;
   not_blank = refl;
   read = table_tag-read;
 }
 
-unfoldable pub incomplete_body : ℕ → List ℕ
-incomplete_body published = codes "; table incomplete: " ++ (decimal published ++ codes " of 20")
-
-pub incomplete_line-is : (published : ℕ) (rest : List ℕ) → incomplete_line published ++ rest ≡ incomplete_body published ++ 10 ∷ rest
-unfolding incomplete_line incomplete_body
-incomplete_line-is published rest = simp append_assoc
-
-pub incomplete-idle : (published : ℕ) → published ≤ 20 → IsIdle (incomplete_body published)
-unfolding incomplete_body
+pub incomplete-idle : (published : ℕ) → published ≤ 20 → IsIdle (incomplete_text published)
+unfolding incomplete_text
 incomplete-idle published h = record {
   as_line = IsLine-from_tame _ (IsTame-append (codes "; table incomplete: ") _ (IsTame-from_test (codes "; table incomplete: ") refl) (IsTame-append (decimal published) (codes " of 20") (IsTame-from_calm _ (decimal-calm published h)) (IsTame-from_test (codes " of 20") refl)));
   not_escaped = refl;
@@ -150,20 +133,18 @@ pub published_count-le : (results : Results) → published_count results ≤ 20
 unfolding published_count
 published_count-le results = count_by-le-length (λ (entry : Seat × Trump). is_some (results entry.0 entry.1)) entries
 
-table_step : (results : Results) (rest : List ℕ) (tags : Tags) (count : ℕ) (answer : Result (List Board) PbnFault) → ((declarer : Seat) (denomination : Trump) → IfSome (results declarer denomination) (λ tricks. tricks ≤ 13)) → AnswersText tags count rest answer → AnswersText tags count (table_text results ++ rest) answer
+table_step : (results : Results) (rest : List ℕ) (tags : Tags) (count : ℕ) (answer : Result (List Board) PbnFault) → ((declarer : Seat) (denomination : Trump) → IfSome (results declarer denomination) (λ tricks. tricks ≤ 13)) → AnswersText tags count rest answer → AnswersText tags count (table_text line_feed results ++ rest) answer
 unfolding table_text rows_text
 table_step results rest tags count answer small more =
     elim (cases_Bool (is_complete results)) [
       | inl t ↦
           let rows = rows_step results entries rest tags count answer small more in
-          let text : (table_tag ++ rows_text results) ++ rest ≡ table_tag_body ++ 10 ∷ (rows_text results ++ rest) =
-          append_assoc table_tag (rows_text results) rest ∙ (ap (λ (l : List ℕ). l ++ (rows_text results ++ rest)) table_tag-is ∙ append_assoc table_tag_body (10 ∷ []) (rows_text results ++ rest)) in
-          subst (λ (b : Bool). AnswersText tags count ((cond b (table_tag ++ rows_text results) (incomplete_line (published_count results))) ++ rest) answer) (sym t)
-          (subst (λ (l : List ℕ). AnswersText tags count l answer) (sym text) (idle_step table_tag_body (rows_text results ++ rest) tags count answer table_tag-idle rows))
+          subst (λ (b : Bool). AnswersText tags count ((cond b ((table_tag ++ line_feed) ++ rows_text line_feed results) (incomplete_text (published_count results) ++ line_feed)) ++ rest) answer) (sym t)
+          (subst (λ (l : List ℕ). AnswersText tags count l answer) (sym (line_more table_tag (rows_text line_feed results) rest)) (idle_step table_tag (rows_text line_feed results ++ rest) tags count answer table_tag-idle rows))
       | inr f ↦
-          subst (λ (b : Bool). AnswersText tags count ((cond b (table_tag ++ rows_text results) (incomplete_line (published_count results))) ++ rest) answer) (sym f)
-          (subst (λ (l : List ℕ). AnswersText tags count l answer) (sym (incomplete_line-is (published_count results) rest))
-          (idle_step (incomplete_body (published_count results)) rest tags count answer (incomplete-idle (published_count results) (published_count-le results)) more))
+          subst (λ (b : Bool). AnswersText tags count ((cond b ((table_tag ++ line_feed) ++ rows_text line_feed results) (incomplete_text (published_count results) ++ line_feed)) ++ rest) answer) (sym f)
+          (subst (λ (l : List ℕ). AnswersText tags count l answer) (sym (append_assoc (incomplete_text (published_count results)) line_feed rest))
+          (idle_step (incomplete_text (published_count results)) rest tags count answer (incomplete-idle (published_count results) (published_count-le results)) more))
     ]
 
 -- ---- tag pairs with a value
@@ -249,17 +230,17 @@ blank_step rest tags count answer more = λ number.
     subst (λ (lines : List (List ℕ)). Answers number None tags count lines (put_boards (boards_of tags) answer)) (sym (lines_of-line [] rest (record { no_feed = All-from_recursion _ [] tt; no_return = refl })))
     (blank_line refl refl (more (number + 1)))
 
-pub board_text-is : (board : Board) (results : Results) (rest : List ℕ) → board_text board results ++ rest ≡ tag_body (codes "Board") board.name ++ 10 ∷ (tag_body (codes "Deal") (deal_value board.deal) ++ 10 ∷ (table_text results ++ 10 ∷ rest))
+pub board_text-is : (board : Board) (results : Results) (rest : List ℕ) → board_text board results ++ rest ≡ tag_body (codes "Board") board.name ++ 10 ∷ (tag_body (codes "Deal") (deal_value board.deal) ++ 10 ∷ (table_text line_feed results ++ 10 ∷ rest))
 unfolding board_text
 board_text-is board results rest =
-    let table = table_text results ++ (10 ∷ []) in
+    let table = table_text line_feed results ++ (10 ∷ []) in
     let deal = tag_line (codes "Deal") (deal_value board.deal) in
     append_assoc (tag_line (codes "Board") board.name) (deal ++ table) rest
     ∙ (tag_line-is (codes "Board") board.name ((deal ++ table) ++ rest)
     ∙ ap (λ (l : List ℕ). tag_body (codes "Board") board.name ++ 10 ∷ l)
     (append_assoc deal table rest
     ∙ (tag_line-is (codes "Deal") (deal_value board.deal) (table ++ rest)
-    ∙ ap (λ (l : List ℕ). tag_body (codes "Deal") (deal_value board.deal) ++ 10 ∷ l) (append_assoc (table_text results) (10 ∷ []) rest))))
+    ∙ ap (λ (l : List ℕ). tag_body (codes "Deal") (deal_value board.deal) ++ 10 ∷ l) (append_assoc (table_text line_feed results) (10 ∷ []) rest))))
 
 board_step : (board : Board) (results : Results) (rest : List ℕ) (count : ℕ) (boards : List Board) → IsPrintable board → IsReadable board.deal → ((declarer : Seat) (denomination : Trump) → IfSome (results declarer denomination) (λ tricks. tricks ≤ 13)) → count < greatest_count → AnswersText no_tags (count + 1) rest (Ok boards) → AnswersText no_tags count (board_text board results ++ rest) (Ok (board ∷ boards))
 unfolding board_text both_tags
@@ -270,14 +251,14 @@ board_step board results rest count boards printable readable small room more = 
     let quoteless = no_quote name (recursion_from_All _ name printable.no_quote) in
     let feed = feedless name (recursion_from_All _ name printable.one_line) in
     let ending : AnswersText tags count (10 ∷ rest) (Ok (board ∷ boards)) = blank_step rest tags count (Ok boards) more in
-    let table : AnswersText tags count (table_text results ++ 10 ∷ rest) (Ok (board ∷ boards)) = table_step results (10 ∷ rest) tags count (Ok (board ∷ boards)) small ending in
+    let table : AnswersText tags count (table_text line_feed results ++ 10 ∷ rest) (Ok (board ∷ boards)) = table_step results (10 ∷ rest) tags count (Ok (board ∷ boards)) small ending in
     let deal_line = tag_body (codes "Deal") value in
-    let deal : AnswersText (name_tags name) count (deal_line ++ 10 ∷ (table_text results ++ 10 ∷ rest)) (Ok (board ∷ boards)) =
-    λ number. subst (λ (lines : List (List ℕ)). Answers number None (name_tags name) count lines (Ok (board ∷ boards))) (sym (lines_of-line deal_line (table_text results ++ 10 ∷ rest) (tag-line (codes "Deal") value (refl, (refl, (refl, (refl, tt)))) readable.one_line)))
+    let deal : AnswersText (name_tags name) count (deal_line ++ 10 ∷ (table_text line_feed results ++ 10 ∷ rest)) (Ok (board ∷ boards)) =
+    λ number. subst (λ (lines : List (List ℕ)). Answers number None (name_tags name) count lines (Ok (board ∷ boards))) (sym (lines_of-line deal_line (table_text line_feed results ++ 10 ∷ rest) (tag-line (codes "Deal") value (refl, (refl, (refl, (refl, tt)))) readable.one_line)))
     (whole_line (tag_body-not_escaped (codes "Deal") value) (tag_body-not_blank (codes "Deal") value) (deal_line-read number count name value board.deal readable.quoteless readable.says room) (table (number + 1))) in
     let board_line = tag_body (codes "Board") name in
-    let first : AnswersText no_tags count (board_line ++ 10 ∷ (deal_line ++ 10 ∷ (table_text results ++ 10 ∷ rest))) (Ok (board ∷ boards)) =
-    λ number. subst (λ (lines : List (List ℕ)). Answers number None no_tags count lines (Ok (board ∷ boards))) (sym (lines_of-line board_line (deal_line ++ 10 ∷ (table_text results ++ 10 ∷ rest)) (tag-line (codes "Board") name (refl, (refl, (refl, (refl, (refl, tt))))) feed)))
+    let first : AnswersText no_tags count (board_line ++ 10 ∷ (deal_line ++ 10 ∷ (table_text line_feed results ++ 10 ∷ rest))) (Ok (board ∷ boards)) =
+    λ number. subst (λ (lines : List (List ℕ)). Answers number None no_tags count lines (Ok (board ∷ boards))) (sym (lines_of-line board_line (deal_line ++ 10 ∷ (table_text line_feed results ++ 10 ∷ rest)) (tag-line (codes "Board") name (refl, (refl, (refl, (refl, (refl, tt))))) feed)))
     (whole_line (tag_body-not_escaped (codes "Board") name) (tag_body-not_blank (codes "Board") name) (board_line-read number count name quoteless printable.own_name) (deal (number + 1))) in
     subst (λ (l : List ℕ). Answers number None no_tags count (lines_of l) (Ok (board ∷ boards))) (sym (board_text-is board results rest)) (first number)
 

@@ -18,13 +18,13 @@ use Rattle.pbn_deals.specs.declared.boards.Board.{Board}
 use Rattle.pbn_deals.specs.DealValue.{words_of}
 use Rattle.pbn_deals.specs.Lines.{lines_of}
 use Rattle.pbn_deals.specs.Printable.{IsPrintable}
-use Rattle.tables.specs.TablesText.{Results, deal_value, right_in_two, entries, is_complete, published_count, table_text, board_text, numbered_text}
+use Rattle.tables.specs.TablesText.{Results, line_feed, deal_value, row_text, right_in_two, entries, is_complete, published_count, table_tag, incomplete_text, table_text, board_text, numbered_text}
 use Rattle.tables.specs.ReadBack.{AreTricks}
 use Rattle.tables.specs.PageReading.{all_items, Row, seat_named, denomination_named, number_named, row_of_words, row_in, Table, Rows, Incomplete, rows_table, count_of_words, value_of_tag, value_in, table_in, Block, block_in, is_empty_line, has_lines, blocks_of, page_in}
 use Rattle.tables.specs.WrittenOnce.{numbers_in, SaysResults, SaysBoard, SayBoards, PagesAreRead}
 use Rattle.tables.proofs.SmallNumbers.{for_small}
 use Rattle.tables.proofs.CalmTexts.{NoQuote}
-use Rattle.tables.proofs.BoardsBack.{row_body, table_tag_body, incomplete_body, published_count-le, tag_body, board_tag_of, deal_tag_of, no_quote, IsReadable, readable_deal}
+use Rattle.tables.proofs.BoardsBack.{published_count-le, tag_body, board_tag_of, deal_tag_of, no_quote, IsReadable, readable_deal}
 use Rattle.tables.proofs.PageLines.{AreSmall, result_lines, entry_lines, complete-lines, incomplete-lines, empty-line, board-lines, page-lines}
 
 -- ---- a row
@@ -34,8 +34,8 @@ number-word = for_small (λ n text. words_of (right_in_two text) ≡ text ∷ []
 number-named : (n : ℕ) → n ≤ 20 → number_named (decimal n) ≡ Some n
 number-named = for_small (λ n text. number_named text ≡ Some n) refl refl refl refl refl refl refl refl refl refl refl refl refl refl refl refl refl refl refl refl refl
 
-row-words : (declarer : Seat) (denomination : Trump) (tricks : ℕ) → words_of (row_body declarer denomination tricks) ≡ seat_letter declarer ∷ trump_letters denomination ∷ words_of (right_in_two (decimal tricks))
-unfolding row_body
+row-words : (declarer : Seat) (denomination : Trump) (tricks : ℕ) → words_of (row_text declarer denomination tricks) ≡ seat_letter declarer ∷ trump_letters denomination ∷ words_of (right_in_two (decimal tricks))
+unfolding row_text
 row-words North trump.Nt tricks = refl
 row-words North (trump.Suit Spades) tricks = refl
 row-words North (trump.Suit Hearts) tricks = refl
@@ -70,9 +70,9 @@ denomination-named (trump.Suit Hearts) = refl
 denomination-named (trump.Suit Diamonds) = refl
 denomination-named (trump.Suit Clubs) = refl
 
-row-read : (declarer : Seat) (denomination : Trump) (tricks : ℕ) → tricks ≤ 13 → row_in (row_body declarer denomination tricks) ≡ Some (record { declarer = declarer; denomination = denomination; tricks = tricks })
+row-read : (declarer : Seat) (denomination : Trump) (tricks : ℕ) → tricks ≤ 13 → row_in (row_text declarer denomination tricks) ≡ Some (record { declarer = declarer; denomination = denomination; tricks = tricks })
 row-read declarer denomination tricks h =
-    let words : words_of (row_body declarer denomination tricks) ≡ seat_letter declarer ∷ trump_letters denomination ∷ decimal tricks ∷ [] =
+    let words : words_of (row_text declarer denomination tricks) ≡ seat_letter declarer ∷ trump_letters denomination ∷ decimal tricks ∷ [] =
     row-words declarer denomination tricks ∙ ap (λ (words : List (List ℕ)). seat_letter declarer ∷ trump_letters denomination ∷ words) (number-word tricks (omega arith)) in
     ap row_of_words words ∙ rw (seat-named declarer, denomination-named denomination, number-named tricks (omega arith)) refl
 
@@ -167,13 +167,13 @@ record ReadsTable (results : Results) : Type 0 where
   line : List ℕ
   below : List (List ℕ)
   table : Table
-  lines : (rest : List ℕ) → lines_of (table_text results ++ rest) ≡ line ∷ (below ++ lines_of rest)
+  lines : (rest : List ℕ) → lines_of (table_text line_feed results ++ rest) ≡ line ∷ (below ++ lines_of rest)
   some_bytes : AllByRecursion (λ line. is_empty_line line ≡ false) (line ∷ below)
   read : table_in line below ≡ Some table
   says : SaysResults results table
 
-row-some_bytes : (declarer : Seat) (denomination : Trump) (tricks : ℕ) → is_empty_line (row_body declarer denomination tricks) ≡ false
-unfolding row_body
+row-some_bytes : (declarer : Seat) (denomination : Trump) (tricks : ℕ) → is_empty_line (row_text declarer denomination tricks) ≡ false
+unfolding row_text
 row-some_bytes North denomination tricks = refl
 row-some_bytes East denomination tricks = refl
 row-some_bytes South denomination tricks = refl
@@ -187,57 +187,76 @@ rows-some_bytes results (entry ∷ some) = go (results entry.0 entry.1) (rows-so
     go None more = more
     go (Some tricks) more = (row-some_bytes entry.0 entry.1 tricks, more)
 
-table_tag-some_bytes : is_empty_line table_tag_body ≡ false
-unfolding table_tag_body
+table_tag-some_bytes : is_empty_line table_tag ≡ false
+unfolding table_tag
 table_tag-some_bytes = refl
 
-rows_below : (lines : List (List ℕ)) → table_in table_tag_body lines ≡ rows_table (all_items (map row_in lines))
-unfolding table_tag_body
+rows_below : (lines : List (List ℕ)) → table_in table_tag lines ≡ rows_table (all_items (map row_in lines))
+unfolding table_tag
 rows_below lines = refl
 
-incomplete-some_bytes : (count : ℕ) → is_empty_line (incomplete_body count) ≡ false
-unfolding incomplete_body
+incomplete-some_bytes : (count : ℕ) → is_empty_line (incomplete_text count) ≡ false
+unfolding incomplete_text
 incomplete-some_bytes count = refl
 
-incomplete-alone : (count : ℕ) → table_in (incomplete_body count) [] ≡ count_of_words (words_of (incomplete_body count))
-unfolding incomplete_body
+incomplete-alone : (count : ℕ) → table_in (incomplete_text count) [] ≡ count_of_words (words_of (incomplete_text count))
+unfolding incomplete_text
 incomplete-alone count = refl
 
-incomplete-words : (count : ℕ) → count ≤ 20 → count_of_words (words_of (incomplete_body count)) ≡ Some (Incomplete count)
-unfolding incomplete_body
+incomplete-words : (count : ℕ) → count ≤ 20 → count_of_words (words_of (incomplete_text count)) ≡ Some (Incomplete count)
+unfolding incomplete_text
 incomplete-words = for_small (λ n text. count_of_words (words_of (codes "; table incomplete: " ++ (text ++ codes " of 20"))) ≡ Some (Incomplete n)) refl refl refl refl refl refl refl refl refl refl refl refl refl refl refl refl refl refl refl refl refl
 
 is_complete-from : (results : Results) → published_count results ≡ 20 → is_complete results ≡ true
 unfolding is_complete
 is_complete-from results e = rw e refl
 
-fewer : (results : Results) → is_complete results ≡ false → published_count results < 20
+pub fewer : (results : Results) → is_complete results ≡ false → published_count results < 20
 fewer results e =
     let other : published_count results ≡ 20 → ⊥ = λ same. absurd (let t = is_complete-from results same in cc) in
     let most = published_count-le results in
     omega (arith, most, other)
 
+-- how a table is read that is complete, and one that is not
+pub complete_read : (results : Results) → AreSmall results → is_complete results ≡ true → (table : Table) × (table_in table_tag (flat_map (entry_lines results) entries) ≡ Some table) × SaysResults results table
+complete_read results small t = (
+  Rows (map (row_at results) entries),
+  rows_below (flat_map (entry_lines results) entries) ∙ ap rows_table (rows-read results entries small (all_known results t)),
+  rows-say results t,
+)
+
+pub incomplete_read : (results : Results) → is_complete results ≡ false → (table : Table) × (table_in (incomplete_text (published_count results)) [] ≡ Some table) × SaysResults results table
+incomplete_read results f = (
+  Incomplete (published_count results),
+  incomplete-alone (published_count results) ∙ incomplete-words (published_count results) (published_count-le results),
+  (refl, fewer results f),
+)
+
 reads_table : (results : Results) → AreSmall results → ReadsTable results
 reads_table results small =
     elim (cases_Bool (is_complete results)) [
-      | inl t ↦ record {
-        line = table_tag_body;
-        below = flat_map (entry_lines results) entries;
-        table = Rows (map (row_at results) entries);
-        lines = λ rest. complete-lines results rest small t;
-        some_bytes = (table_tag-some_bytes, rows-some_bytes results entries);
-        read = rows_below (flat_map (entry_lines results) entries) ∙ ap rows_table (rows-read results entries small (all_known results t));
-        says = rows-say results t;
-      }
-      | inr f ↦ record {
-        line = incomplete_body (published_count results);
-        below = [];
-        table = Incomplete (published_count results);
-        lines = λ rest. incomplete-lines results rest f;
-        some_bytes = (incomplete-some_bytes (published_count results), tt);
-        read = incomplete-alone (published_count results) ∙ incomplete-words (published_count results) (published_count-le results);
-        says = (refl, fewer results f);
-      }
+      | inl t ↦
+          let it = complete_read results small t in
+          record {
+            line = table_tag;
+            below = flat_map (entry_lines results) entries;
+            table = it.0;
+            lines = λ rest. complete-lines results rest small t;
+            some_bytes = (table_tag-some_bytes, rows-some_bytes results entries);
+            read = it.1;
+            says = it.2;
+          }
+      | inr f ↦
+          let it = incomplete_read results f in
+          record {
+            line = incomplete_text (published_count results);
+            below = [];
+            table = it.0;
+            lines = λ rest. incomplete-lines results rest f;
+            some_bytes = (incomplete-some_bytes (published_count results), tt);
+            read = it.1;
+            says = it.2;
+          }
     ]
 
 -- ---- a block
@@ -278,7 +297,7 @@ reads_board board results printable readable small =
     record {
       block = block;
       read = λ rest blocks more.
-          let below : lines_of (table_text results ++ 10 ∷ rest) ≡ t.line ∷ (t.below ++ [] ∷ lines_of rest) = t.lines (10 ∷ rest) ∙ ap (λ (lines : List (List ℕ)). t.line ∷ (t.below ++ lines)) (empty-line rest) in
+          let below : lines_of (table_text line_feed results ++ 10 ∷ rest) ≡ t.line ∷ (t.below ++ [] ∷ lines_of rest) = t.lines (10 ∷ rest) ∙ ap (λ (lines : List (List ℕ)). t.line ∷ (t.below ++ lines)) (empty-line rest) in
           let lines : lines_of (board_text board results ++ rest) ≡ (board_line ∷ deal_line ∷ t.line ∷ t.below) ++ [] ∷ lines_of rest = board-lines board results rest printable readable ∙ ap (λ (lines : List (List ℕ)). board_line ∷ deal_line ∷ lines) below in
           let cut = cut_block board_line (deal_line ∷ t.line ∷ t.below) (lines_of rest) (tag-some_bytes (codes "Board") name, (tag-some_bytes (codes "Deal") value, t.some_bytes)) in
           ap (λ (lines : List (List ℕ)). all_items (map block_in (blocks_of lines))) lines

@@ -8,9 +8,9 @@ use Rattle.cards.specs.declared.suits.Trump.{Trump}
 use Rattle.pbn_deals.specs.declared.boards.Board.{Board}
 use Rattle.pbn_deals.specs.Lines.{lines_of}
 use Rattle.pbn_deals.specs.Printable.{IsPrintable}
-use Rattle.tables.specs.TablesText.{Results, deal_value, row_text, result_row, entry_row, rows_text, entries, is_complete, published_count, table_tag, incomplete_line, table_text, board_text, numbered_text, tables_text}
+use Rattle.tables.specs.TablesText.{Results, line_feed, deal_value, row_text, result_row, entry_row, rows_text, entries, is_complete, published_count, table_tag, incomplete_text, table_text, board_text, numbered_text, tables_text}
 use Rattle.tables.proofs.LinesBack.{lines_of-line}
-use Rattle.tables.proofs.BoardsBack.{row_body, row-idle, row_text-is, table_tag_body, table_tag-is, table_tag-idle, incomplete_body, incomplete_line-is, incomplete-idle, published_count-le, tag_body, feedless, tag-line, IsReadable, board_text-is, first_line, first_line-is}
+use Rattle.tables.proofs.BoardsBack.{row-idle, line_more, table_tag-idle, incomplete-idle, published_count-le, tag_body, feedless, tag-line, IsReadable, board_text-is, first_line, first_line-is}
 
 -- each known result is at most 13
 abbrev pub AreSmall : Results → Type 0
@@ -18,60 +18,56 @@ AreSmall results = (declarer : Seat) (denomination : Trump) → IfSome (results 
 
 -- the lines of the rows
 abbrev pub result_lines : Seat → Trump → Option ℕ → List (List ℕ)
-result_lines declarer denomination (Some tricks) = row_body declarer denomination tricks ∷ []
+result_lines declarer denomination (Some tricks) = row_text declarer denomination tricks ∷ []
 result_lines declarer denomination None = []
 
 abbrev pub entry_lines : Results → Seat × Trump → List (List ℕ)
 entry_lines results entry = result_lines entry.0 entry.1 (results entry.0 entry.1)
 
-pub rows-lines : (results : Results) (some : List (Seat × Trump)) (rest : List ℕ) → AreSmall results → lines_of (flat_map (entry_row results) some ++ rest) ≡ flat_map (entry_lines results) some ++ lines_of rest
+pub rows-lines : (results : Results) (some : List (Seat × Trump)) (rest : List ℕ) → AreSmall results → lines_of (flat_map (entry_row line_feed results) some ++ rest) ≡ flat_map (entry_lines results) some ++ lines_of rest
 rows-lines results [] rest small = refl
 rows-lines results (entry ∷ some) rest small =
     go (results entry.0 entry.1) (small entry.0 entry.1) (rows-lines results some rest small)
   where
-    go : (result : Option ℕ) → IfSome result (λ tricks. tricks ≤ 13) → lines_of (flat_map (entry_row results) some ++ rest) ≡ flat_map (entry_lines results) some ++ lines_of rest → lines_of ((result_row entry.0 entry.1 result ++ flat_map (entry_row results) some) ++ rest) ≡ (result_lines entry.0 entry.1 result ++ flat_map (entry_lines results) some) ++ lines_of rest
+    go : (result : Option ℕ) → IfSome result (λ tricks. tricks ≤ 13) → lines_of (flat_map (entry_row line_feed results) some ++ rest) ≡ flat_map (entry_lines results) some ++ lines_of rest → lines_of ((result_row line_feed entry.0 entry.1 result ++ flat_map (entry_row line_feed results) some) ++ rest) ≡ (result_lines entry.0 entry.1 result ++ flat_map (entry_lines results) some) ++ lines_of rest
     go None h after = after
     go (Some tricks) h after =
-        let row = row_body entry.0 entry.1 tricks in
-        let more = flat_map (entry_row results) some ++ rest in
-        ap lines_of (append_assoc (row_text entry.0 entry.1 tricks) (flat_map (entry_row results) some) rest ∙ row_text-is entry.0 entry.1 tricks more)
+        let row = row_text entry.0 entry.1 tricks in
+        let more = flat_map (entry_row line_feed results) some ++ rest in
+        ap lines_of (line_more row (flat_map (entry_row line_feed results) some) rest)
         ∙ (lines_of-line row more (row-idle entry.0 entry.1 tricks h).as_line ∙ ap (λ (lines : List (List ℕ)). row ∷ lines) after)
 
 -- the lines of a table
-table_text-at : (results : Results) (b : Bool) → is_complete results ≡ b → table_text results ≡ cond b (table_tag ++ rows_text results) (incomplete_line (published_count results))
+table_text-at : (results : Results) (b : Bool) → is_complete results ≡ b → table_text line_feed results ≡ cond b ((table_tag ++ line_feed) ++ rows_text line_feed results) (incomplete_text (published_count results) ++ line_feed)
 unfolding table_text
-table_text-at results b e = ap (λ (c : Bool). cond c (table_tag ++ rows_text results) (incomplete_line (published_count results))) e
+table_text-at results b e = ap (λ (c : Bool). cond c ((table_tag ++ line_feed) ++ rows_text line_feed results) (incomplete_text (published_count results) ++ line_feed)) e
 
-pub complete-lines : (results : Results) (rest : List ℕ) → AreSmall results → is_complete results ≡ true → lines_of (table_text results ++ rest) ≡ table_tag_body ∷ (flat_map (entry_lines results) entries ++ lines_of rest)
+pub complete-lines : (results : Results) (rest : List ℕ) → AreSmall results → is_complete results ≡ true → lines_of (table_text line_feed results ++ rest) ≡ table_tag ∷ (flat_map (entry_lines results) entries ++ lines_of rest)
 unfolding rows_text
 complete-lines results rest small e =
-    let rows = flat_map (entry_row results) entries in
-    let text : table_text results ++ rest ≡ table_tag_body ++ 10 ∷ (rows ++ rest) =
-    ap (λ (l : List ℕ). l ++ rest) (table_text-at results true e)
-    ∙ (append_assoc table_tag rows rest
-    ∙ (ap (λ (l : List ℕ). l ++ (rows ++ rest)) table_tag-is ∙ append_assoc table_tag_body (10 ∷ []) (rows ++ rest))) in
-    ap lines_of text
-    ∙ (lines_of-line table_tag_body (rows ++ rest) table_tag-idle.as_line
-    ∙ ap (λ (lines : List (List ℕ)). table_tag_body ∷ lines) (rows-lines results entries rest small))
+    let rows = flat_map (entry_row line_feed results) entries in
+    ap lines_of (ap (λ (l : List ℕ). l ++ rest) (table_text-at results true e) ∙ line_more table_tag rows rest)
+    ∙ (lines_of-line table_tag (rows ++ rest) table_tag-idle.as_line
+    ∙ ap (λ (lines : List (List ℕ)). table_tag ∷ lines) (rows-lines results entries rest small))
 
-pub incomplete-lines : (results : Results) (rest : List ℕ) → is_complete results ≡ false → lines_of (table_text results ++ rest) ≡ incomplete_body (published_count results) ∷ lines_of rest
+pub incomplete-lines : (results : Results) (rest : List ℕ) → is_complete results ≡ false → lines_of (table_text line_feed results ++ rest) ≡ incomplete_text (published_count results) ∷ lines_of rest
 incomplete-lines results rest e =
     let count = published_count results in
-    ap lines_of (ap (λ (l : List ℕ). l ++ rest) (table_text-at results false e) ∙ incomplete_line-is count rest)
-    ∙ lines_of-line (incomplete_body count) rest (incomplete-idle count (published_count-le results)).as_line
+    ap lines_of (ap (λ (l : List ℕ). l ++ rest) (table_text-at results false e) ∙ append_assoc (incomplete_text count) line_feed rest)
+    ∙ lines_of-line (incomplete_text count) rest (incomplete-idle count (published_count-le results)).as_line
 
 -- an empty line
 pub empty-line : (rest : List ℕ) → lines_of (10 ∷ rest) ≡ [] ∷ lines_of rest
 empty-line rest = lines_of-line [] rest (record { no_feed = All-from_recursion _ [] tt; no_return = refl })
 
 -- the lines of a block
-pub board-lines : (board : Board) (results : Results) (rest : List ℕ) → IsPrintable board → IsReadable board.deal → lines_of (board_text board results ++ rest) ≡ tag_body (codes "Board") board.name ∷ tag_body (codes "Deal") (deal_value board.deal) ∷ lines_of (table_text results ++ 10 ∷ rest)
+pub board-lines : (board : Board) (results : Results) (rest : List ℕ) → IsPrintable board → IsReadable board.deal → lines_of (board_text board results ++ rest) ≡ tag_body (codes "Board") board.name ∷ tag_body (codes "Deal") (deal_value board.deal) ∷ lines_of (table_text line_feed results ++ 10 ∷ rest)
 board-lines board results rest printable readable =
     let name = board.name in
     let value = deal_value board.deal in
     let board_line = tag_body (codes "Board") name in
     let deal_line = tag_body (codes "Deal") value in
-    let below = table_text results ++ 10 ∷ rest in
+    let below = table_text line_feed results ++ 10 ∷ rest in
     let feed = feedless name (recursion_from_All _ name printable.one_line) in
     ap lines_of (board_text-is board results rest)
     ∙ (lines_of-line board_line (deal_line ++ 10 ∷ below) (tag-line (codes "Board") name (refl, (refl, (refl, (refl, (refl, tt))))) feed)

@@ -18,6 +18,9 @@ use Rattle.tables.specs.DealText.{deal_text}
 abbrev pub Results : Type 0
 Results = Seat → Trump → Option ℕ
 
+abbrev pub line_feed : List ℕ
+line_feed = 10 ∷ []
+
 -- a text and its line feed
 abbrev pub ended_line : List ℕ → List ℕ
 ended_line text = text ++ 10 ∷ []
@@ -55,19 +58,19 @@ right_in_two text = if nat_lt (length text) 2 then 32 ∷ text else text
 unfoldable pub row_text : Seat → Trump → ℕ → List ℕ
 row_text declarer denomination tricks =
     (seat_letter declarer ++ (32 ∷ []))
-    ++ (right_in_two (trump_letters denomination) ++ (32 ∷ (right_in_two (decimal tricks) ++ (10 ∷ []))))
+    ++ (right_in_two (trump_letters denomination) ++ (32 ∷ right_in_two (decimal tricks)))
 
--- the row of an entry that has a result
-abbrev pub result_row : Seat → Trump → Option ℕ → List ℕ
-result_row declarer denomination (Some tricks) = row_text declarer denomination tricks
-result_row declarer denomination None = []
+-- the row of an entry that has a result, with the end of its line
+abbrev pub result_row : List ℕ → Seat → Trump → Option ℕ → List ℕ
+result_row end declarer denomination (Some tricks) = row_text declarer denomination tricks ++ end
+result_row end declarer denomination None = []
 
-abbrev pub entry_row : Results → Seat × Trump → List ℕ
-entry_row results entry = result_row entry.0 entry.1 (results entry.0 entry.1)
+abbrev pub entry_row : List ℕ → Results → Seat × Trump → List ℕ
+entry_row end results entry = result_row end entry.0 entry.1 (results entry.0 entry.1)
 
 -- the rows of a board
-unfoldable pub rows_text : Results → List ℕ
-rows_text results = flat_map (entry_row results) entries
+unfoldable pub rows_text : List ℕ → Results → List ℕ
+rows_text end results = flat_map (entry_row end results) entries
 
 -- how many of these entries have a result
 abbrev pub published_among : Results → List (Seat × Trump) → ℕ
@@ -83,23 +86,24 @@ is_complete results = published_count results == 20
 -- the heading of a complete table
 unfoldable pub table_tag : List ℕ
 table_tag =
-    ended_line (codes "[OptimumResultTable " ++ (34 ∷ codes "Declarer;Denomination")
-    ++ (92 ∷ codes "2R;Result") ++ (92 ∷ codes "2R") ++ (34 ∷ 93 ∷ []))
+    codes "[OptimumResultTable " ++ (34 ∷ codes "Declarer;Denomination")
+    ++ (92 ∷ codes "2R;Result") ++ (92 ∷ codes "2R") ++ (34 ∷ 93 ∷ [])
 
 -- what stands in place of an incomplete table
-unfoldable pub incomplete_line : ℕ → List ℕ
-incomplete_line published = codes "; table incomplete: " ++ (decimal published ++ ended_line (codes " of 20"))
+unfoldable pub incomplete_text : ℕ → List ℕ
+incomplete_text published = codes "; table incomplete: " ++ (decimal published ++ codes " of 20")
 
--- the table of a board
-unfoldable pub table_text : Results → List ℕ
-table_text results =
-    if is_complete results then table_tag ++ rows_text results else incomplete_line (published_count results)
+-- the table of a board, each of its lines with this end
+unfoldable pub table_text : List ℕ → Results → List ℕ
+table_text end results =
+    if is_complete results then (table_tag ++ end) ++ rows_text end results
+    else incomplete_text (published_count results) ++ end
 
 -- one board: its name, its deal, its table, and an empty line
 unfoldable pub board_text : Board → Results → List ℕ
 board_text board results =
     tag_line (codes "Board") board.name
-    ++ (tag_line (codes "Deal") (deal_value board.deal) ++ (table_text results ++ (10 ∷ [])))
+    ++ (tag_line (codes "Deal") (deal_value board.deal) ++ (table_text line_feed results ++ (10 ∷ [])))
 
 -- each board with its results, found by its place
 abbrev pub numbered_text : (ℕ → Results) → ℕ × Board → List ℕ

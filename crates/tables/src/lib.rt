@@ -1,7 +1,8 @@
 //! The tables of boards as a PBN text.
 //!
-//! [`write_sheet`] prints the boards of a [`Sheet`] with the results that are known of them, and [`write_tables`] those
-//! of a book of leases. They take no memory; after a fault of the sink a beginning of the text has gone out.
+//! [`write_sheet`] prints the boards of a [`Sheet`] with the results that are known of them, [`write_tables`] those of
+//! a book of leases, and [`write_table`] the table of one board. They take no memory; after a fault of the sink a
+//! beginning of the text has gone out.
 #![tactic(auto)]
 
 mod books;
@@ -19,3 +20,4 @@ pub use laws::{
 };
 pub use sheet_text::write_sheet;
 pub use sheets::{Report, Sheet};
+pub use tables::write_table;

@@ -1,6 +1,7 @@
 //! A text of several pieces.
 
 ghost use Rattle.std.specs.List.{flat_map};
+ghost use Rattle.std.specs.Prelude.{◌++◌};
 ghost use Rattle.cards.specs.Devices.{Writes};
 
 use cards::{DeviceFault, Sink, write_all};
@@ -13,4 +14,17 @@ pub(crate) fn write_pieces<S: Sink>(sink: &mut S, pieces: &[&[u8]]) -> Result<()
         write_all(sink, piece)?;
     }
     Ok(())
+}
+
+/// Writes a line of several pieces, with this end.
+pub(crate) fn write_line<S: Sink>(
+    sink: &mut S,
+    pieces: &[&[u8]],
+    end: &[u8],
+) -> Result<(), DeviceFault>
+    ensures { Writes (S.state sink.old) (S.state sink.new)
+        (flat_map (λ piece. piece.now) pieces.now ++ end.now) result }
+{
+    write_pieces(sink, pieces)?;
+    write_all(sink, end)
 }

@@ -38,7 +38,7 @@ fn write_board<S: Sink, T: Sheet>(
 {
     write_pieces(sink, &[b"[Board \"", board.name.as_bytes(), b"\"]\n"])?;
     write_deal(sink, &board.deal)?;
-    let complete = write_table(sink, sheet, place)?;
+    let complete = write_table(sink, sheet, place, b"\n")?;
     write_all(sink, b"\n")?;
     Ok(complete)
 }

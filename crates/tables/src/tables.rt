@@ -1,18 +1,21 @@
 //! The table of a board.
 
-ghost use Rattle.std.specs.Prelude.{◌≡◌, ◌<◌, ◌≤◌, IfOk};
+ghost use Rattle.std.specs.Prelude.{◌≡◌, ◌<◌, ◌≤◌, ◌++◌, IfOk};
 ghost use Rattle.std.specs.List.{flat_map};
 ghost use Rattle.cards.specs.Devices.{Writes};
 ghost use Rattle.tables.specs.TablesText.{entry_row, entries_of, rows_text, table_text};
-ghost use Rattle.tables.specs.TablesText.{published_among, published_count, is_complete, incomplete_line};
+ghost use Rattle.tables.specs.TablesText.{published_among, published_count, is_complete, incomplete_text};
 
-use crate::pieces::write_pieces;
+use crate::pieces::write_line;
 use crate::rows::{two_places, write_row};
 use crate::sheets::Sheet;
-use cards::{DeviceFault, Seat, Sink, Trump, write_all};
+use cards::{DeviceFault, Seat, Sink, Trump};
 
 /// The declarers in the order of the rows.
 const DECLARERS: [Seat; 4] = [Seat::North, Seat::South, Seat::East, Seat::West];
+
+/// The heading of a complete table (PBN 2.1, the OptimumResultTable tag).
+const TABLE_TAG: &[u8] = b"[OptimumResultTable \"Declarer;Denomination\\2R;Result\\2R\"]";
 
 /// Writes the rows of a declarer.
 fn write_declarer_rows<S: Sink, T: Sheet>(
@@ -20,24 +23,30 @@ fn write_declarer_rows<S: Sink, T: Sheet>(
     sheet: &T,
     board: usize,
     declarer: Seat,
+    end: &[u8],
 ) -> Result<(), DeviceFault>
     ensures { Writes (S.state sink.old) (S.state sink.new)
-        (flat_map (entry_row (T.results_of sheet.now board)) (entries_of declarer)) result }
+        (flat_map (entry_row end.now (T.results_of sheet.now board)) (entries_of declarer)) result }
 {
     for trump in Trump::ALL {
         if let Some(tricks) = sheet.result(board, declarer, trump) {
-            write_row(sink, declarer, trump, tricks)?;
+            write_row(sink, declarer, trump, tricks, end)?;
         }
     }
     Ok(())
 }
 
 /// Writes the rows of a board.
-fn write_rows<S: Sink, T: Sheet>(sink: &mut S, sheet: &T, board: usize) -> Result<(), DeviceFault>
-    ensures { Writes (S.state sink.old) (S.state sink.new) (rows_text (T.results_of sheet.now board)) result }
+fn write_rows<S: Sink, T: Sheet>(
+    sink: &mut S,
+    sheet: &T,
+    board: usize,
+    end: &[u8],
+) -> Result<(), DeviceFault>
+    ensures { Writes (S.state sink.old) (S.state sink.new) (rows_text end.now (T.results_of sheet.now board)) result }
 {
     for declarer in DECLARERS {
-        write_declarer_rows(sink, sheet, board, declarer)?;
+        write_declarer_rows(sink, sheet, board, declarer, end)?;
     }
     Ok(())
 }
@@ -69,9 +78,9 @@ fn count_results<T: Sheet>(sheet: &T, board: usize) -> u8
 }
 
 /// Writes the line that stands in place of an incomplete table.
-fn write_incomplete<S: Sink>(sink: &mut S, published: u8) -> Result<(), DeviceFault>
+fn write_incomplete<S: Sink>(sink: &mut S, published: u8, end: &[u8]) -> Result<(), DeviceFault>
     requires { published < 100 }
-    ensures { Writes (S.state sink.old) (S.state sink.new) (incomplete_line published) result }
+    ensures { Writes (S.state sink.old) (S.state sink.new) (incomplete_text published ++ end.now) result }
 {
     let places = two_places(published);
     let digits = if published < 10 {
@@ -79,28 +88,28 @@ fn write_incomplete<S: Sink>(sink: &mut S, published: u8) -> Result<(), DeviceFa
     } else {
         &places[..]
     };
-    write_pieces(sink, &[b"; table incomplete: ", digits, b" of 20\n"])
+    write_line(sink, &[b"; table incomplete: ", digits, b" of 20"], end)
 }
 
-/// Writes the table of a board, and tells whether it is complete.
-pub(crate) fn write_table<S: Sink, T: Sheet>(
+/// Writes the table of a board of the sheet, by its place from 0, each line with this end, and tells whether it is
+/// complete. After a fault of the sink a beginning of the text has gone out. Takes no memory.
+pub fn write_table<S: Sink, T: Sheet>(
     sink: &mut S,
     sheet: &T,
     board: usize,
+    end: &[u8],
 ) -> Result<bool, DeviceFault>
-    ensures writes { Writes (S.state sink.old) (S.state sink.new) (table_text (T.results_of sheet.now board)) result }
+    ensures writes { Writes (S.state sink.old) (S.state sink.new)
+        (table_text end.now (T.results_of sheet.now board)) result }
     ensures complete { IfOk result (λ complete. complete ≡ is_complete (T.results_of sheet.now board)) }
 {
     let published = count_results(sheet, board);
     let is_short = published < 20;
     if is_short {
-        write_incomplete(sink, published)?;
+        write_incomplete(sink, published, end)?;
         return Ok(false);
     }
-    write_all(
-        sink,
-        b"[OptimumResultTable \"Declarer;Denomination\\2R;Result\\2R\"]\n",
-    )?;
-    write_rows(sink, sheet, board)?;
+    write_line(sink, &[TABLE_TAG], end)?;
+    write_rows(sink, sheet, board, end)?;
     Ok(true)
 }

@@ -1,4 +1,4 @@
-use Rattle.std.proofs.Common.{◌≡◌, ℕ, List, Bor, [], ◌∷◌, ◌++◌, ◌∙◌, ap}
+use Rattle.std.proofs.Common.{◌≡◌, ℕ, List, Bor, [], ◌∷◌, ◌++◌, ◌∙◌, ap, append-nil}
 use Rattle.std.specs.Fmt.{decimal}
 use Rattle.cards.specs.Pack.{trump_letters}
 use Rattle.cards.specs.Seats.{seat_letter}
@@ -19,5 +19,5 @@ returns g c =
       | else-letters-lt2 w ↦ ap (λ indent. indent ++ letters) (ap now w.indent-is) ∙ right_in_two-full letters w.if-letters-lt2.false
     ] in
     let declarer : c.as_bytes.result.now ≡ seat_letter c.args.declarer = c.as_bytes.ensures.value ∙ c.letter.ensures in
-    let text = row-from_pieces (seat_letter c.args.declarer) c.if-letters-lt2.indent.now letters (right_in_two (trump_letters c.args.trump)) (32 ∷ (right_in_two (decimal c.args.tricks) ++ (10 ∷ []))) (padded ∙ ap right_in_two named) in
-    rw (declarer, c.two_places.ensures, text) at c.write_pieces.ensures
+    let text = row-from_pieces (seat_letter c.args.declarer) c.if-letters-lt2.indent.now letters (right_in_two (trump_letters c.args.trump)) (32 ∷ (right_in_two (decimal c.args.tricks) ++ [])) (padded ∙ ap right_in_two named) in
+    rw (declarer, c.two_places.ensures, text, append-nil (right_in_two (decimal c.args.tricks))) at c.write_line.ensures

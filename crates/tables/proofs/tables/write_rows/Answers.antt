@@ -9,18 +9,18 @@ pub returns-in_err-write_declarer_rows : goal.returns-in_err-write_declarer_rows
 returns-in_err-write_declarer_rows g c =
     let results = g.T.Sheet.results_of c.args.sheet.now c.args.board in
     Writes-err c.from_residual.result _ c.from_residual.ensures.1
-    (rw (rows_text-by_declarer results) at
-    (AddsBeginning-piece (declarer_rows results) declarers c.loop-declarer.declarer-index North (omega arith) c.loop-declarer.invariant.wrote c.in_err-write_declarer_rows.ensures))
+    (rw (rows_text-by_declarer c.args.end.now results) at
+    (AddsBeginning-piece (declarer_rows c.args.end.now results) declarers c.loop-declarer.declarer-index North (omega arith) c.loop-declarer.invariant.wrote c.in_err-write_declarer_rows.ensures))
 
 pub loop-declarer-preserved : goal.loop-declarer-preserved
 loop-declarer-preserved g c =
     let results = g.T.Sheet.results_of c.args.sheet.now c.args.board in
     record {
       items = refl;
-      wrote = Adds-piece (declarer_rows results) declarers c.loop-declarer.declarer-index North (omega arith) c.loop-declarer.invariant.wrote c.in_ok-write_declarer_rows.ensures;
+      wrote = Adds-piece (declarer_rows c.args.end.now results) declarers c.loop-declarer.declarer-index North (omega arith) c.loop-declarer.invariant.wrote c.in_ok-write_declarer_rows.ensures;
     }
 
 pub returns : goal.returns
 returns g c =
     let results = g.T.Sheet.results_of c.args.sheet.now c.args.board in
-    rw (pieces-all (declarer_rows results) declarers c.loop-declarer.declarer-index (omega arith), rows_text-by_declarer results) at c.loop-declarer.invariant.wrote
+    rw (pieces-all (declarer_rows c.args.end.now results) declarers c.loop-declarer.declarer-index (omega arith), rows_text-by_declarer c.args.end.now results) at c.loop-declarer.invariant.wrote
