@@ -1,0 +1,301 @@
+-- What is written stays as it is, where its tables are written anew with the same results.
+use Rattle.std.proofs.Common.{◌≡◌, ℕ, Bool, true, false, cond, ◌&&◌, ◌||◌, List, [], ◌∷◌, ◌++◌, is_some, refl, sym, ◌∙◌, ap, subst, append_assoc, append-nil, flat_map, inl, inr}
+use Rattle.std.specs.List.{list_any, list_all, enumerate_from}
+use Rattle.std.proofs.lemmas.List.{append_cancel_right}
+use Rattle.pbn_deals.specs.declared.boards.Board.{Board}
+use Rattle.pbn_deals.specs.Games.{Tags}
+use Rattle.pbn_deals.specs.Lines.{without_mark}
+use Rattle.pbn_deals.specs.Pieces.{Piece, Space, Comment, Pair, Data, NoPair, ends_with_return, Kind, Gap, Escaped, OfGame, body_of, Line, line_bytes, mark_of, HasLines}
+use Rattle.pbn_deals.specs.Tags.{is_deal}
+use Rattle.pbn_deals.proofs.LinesOfText.{marked}
+use Rattle.pbn_deals.proofs.RowsBack.{IsEnded, row_of}
+use Rattle.tables.specs.TablesText.{Results}
+use Rattle.whole_texts.specs.OldTables.{is_table, left_pieces, has_more, put_left, table_behind_line, without_tables, is_count, is_escaped_kind, without_counts, left_of, is_deal_pair, is_deal_kind, has_deal}
+use Rattle.whole_texts.specs.WholeText.{Game, put_line, games_of, section_lines, if_none, first_end, new_end, deal_end, with_ends, with_section, dealt_lines, behind, games_lines, whole_lines}
+use Rattle.whole_texts.specs.Laws.{StayTheSame}
+use Rattle.whole_texts.proofs.LeftLines.{Ended}
+use Rattle.whole_texts.proofs.SectionLines.{IsEnd, AllEnded}
+use Rattle.whole_texts.proofs.WholeLines.{GamesFollow, games_follow, games_whole, lines_of_games, given_ends, deal_ended, left_of_ended, first_ended, ended_split}
+use Rattle.whole_texts.proofs.SameBoards.{no_deal, AddsLines, adds_none, adds_escaped, adds_line, dealt_adds, GamesHave, last_game, next_game, games_have}
+use Rattle.whole_texts.proofs.CleanLines.{left_of_clean, ends_clean, counts_twice, counts_ends, section_goes, left_twice}
+use Rattle.whole_texts.proofs.WrittenLines.{have_boards, lines_follow, lines_ended, lines_whole, out_lines}
+
+-- ---- the Deal tag stays
+left_deal : (in_table : Bool) (pieces : List Piece) → list_any is_deal_pair pieces ≡ true → (list_any is_deal_pair (left_pieces in_table pieces) ≡ true) × (has_more (left_pieces in_table pieces) ≡ true)
+left_deal in_table [] e = absurd (cc)
+left_deal in_table (Space byte ∷ pieces) e = left_deal in_table pieces e
+left_deal in_table (Comment bytes ∷ pieces) e = ((left_deal in_table pieces e).0, refl)
+left_deal in_table (Pair name value bytes ∷ pieces) e = go (is_table name) refl (is_deal name) refl e (left_deal true pieces) (left_deal false pieces) where
+  go : (t : Bool) → is_table name ≡ t → (d : Bool) → is_deal name ≡ d → (d || list_any is_deal_pair pieces) ≡ true → (list_any is_deal_pair pieces ≡ true → (list_any is_deal_pair (left_pieces true pieces) ≡ true) × (has_more (left_pieces true pieces) ≡ true)) → (list_any is_deal_pair pieces ≡ true → (list_any is_deal_pair (left_pieces false pieces) ≡ true) × (has_more (left_pieces false pieces) ≡ true)) → (list_any is_deal_pair (cond t (left_pieces true pieces) (Pair name value bytes ∷ left_pieces false pieces)) ≡ true) × (has_more (cond t (left_pieces true pieces) (Pair name value bytes ∷ left_pieces false pieces)) ≡ true)
+  go true t true d f gone kept = absurd (no_deal name t d)
+  go true t false d f gone kept = gone f
+  go false t true d f gone kept = (ap (λ b. b || list_any is_deal_pair (left_pieces false pieces)) d, refl)
+  go false t false d f gone kept = (ap (λ b. b || list_any is_deal_pair (left_pieces false pieces)) d ∙ (kept f).0, refl)
+left_deal true (Data bytes ∷ pieces) e = left_deal true pieces e
+left_deal false (Data bytes ∷ pieces) e = ((left_deal false pieces e).0, refl)
+left_deal in_table (NoPair bytes ∷ pieces) e = ((left_deal in_table pieces e).0, refl)
+
+abbrev any_deal : List Line → Bool
+any_deal lines = list_any (λ line. is_deal_kind line.kind) lines
+
+or_right : (a b : Bool) → b ≡ true → (a || b) ≡ true
+or_right true b e = refl
+or_right false b e = e
+
+put_deal : (in_table : Bool) (kind : Kind) (end : List ℕ) (lines rest : List Line) → (is_deal_kind kind || any_deal lines) ≡ true → (any_deal lines ≡ true → any_deal rest ≡ true) → any_deal (put_left in_table kind end rest) ≡ true
+put_deal in_table (Gap bytes) end lines rest e more = more e
+put_deal in_table (Escaped bytes) end lines rest e more = more e
+put_deal in_table (OfGame pieces) end lines rest e more = go (list_any is_deal_pair pieces) refl (has_more (left_pieces in_table pieces)) refl e where
+  go : (d : Bool) → list_any is_deal_pair pieces ≡ d → (b : Bool) → has_more (left_pieces in_table pieces) ≡ b → (d || any_deal lines) ≡ true → any_deal (cond b (record { kind = OfGame (left_pieces in_table pieces); end = end } ∷ rest) rest) ≡ true
+  go true d true m f = ap (λ x. x || any_deal rest) (left_deal in_table pieces d).0
+  go true d false m f = let k = (left_deal in_table pieces d).1 in absurd (let x : true ≡ false = sym k ∙ m in cc)
+  go false d true m f = or_right (list_any is_deal_pair (left_pieces in_table pieces)) (any_deal rest) (more f)
+  go false d false m f = more f
+
+tables_deal : (in_table : Bool) (lines : List Line) → any_deal lines ≡ true → any_deal (without_tables in_table lines) ≡ true
+tables_deal in_table [] e = e
+tables_deal in_table (line ∷ lines) e = put_deal in_table line.kind line.end lines (without_tables (table_behind_line in_table line.kind) lines) e (tables_deal (table_behind_line in_table line.kind) lines)
+
+count_no_deal : (kind : Kind) → is_count kind ≡ true → is_deal_kind kind ≡ false
+count_no_deal (OfGame (Comment bytes ∷ [])) e = refl
+count_no_deal (Gap bytes) e = refl
+count_no_deal (Escaped bytes) e = refl
+count_no_deal (OfGame []) e = refl
+count_no_deal (OfGame (Comment bytes ∷ piece ∷ pieces)) e = absurd (cc)
+count_no_deal (OfGame (Space byte ∷ pieces)) e = absurd (cc)
+count_no_deal (OfGame (Pair name value bytes ∷ pieces)) e = absurd (cc)
+count_no_deal (OfGame (Data bytes ∷ pieces)) e = absurd (cc)
+count_no_deal (OfGame (NoPair bytes ∷ pieces)) e = absurd (cc)
+
+counts_deal : (lines : List Line) → any_deal lines ≡ true → any_deal (without_counts lines) ≡ true
+counts_deal [] e = e
+counts_deal (line ∷ lines) e = go (is_count line.kind) refl (list_all (λ other. is_escaped_kind other.kind) (without_counts lines)) (is_deal_kind line.kind) refl e (counts_deal lines) where
+  go : (c : Bool) → is_count line.kind ≡ c → (a d : Bool) → is_deal_kind line.kind ≡ d → (d || any_deal lines) ≡ true → (any_deal lines ≡ true → any_deal (without_counts lines) ≡ true) → any_deal (cond (c && a) (without_counts lines) (line ∷ without_counts lines)) ≡ true
+  go true c true true d f more = let x : true ≡ false = sym d ∙ count_no_deal line.kind c in absurd (cc)
+  go true c true false d f more = more f
+  go true c false true d f more = ap (λ x. x || any_deal (without_counts lines)) d
+  go true c false false d f more = or_right (is_deal_kind line.kind) (any_deal (without_counts lines)) (more f)
+  go false c a true d f more = ap (λ x. x || any_deal (without_counts lines)) d
+  go false c a false d f more = or_right (is_deal_kind line.kind) (any_deal (without_counts lines)) (more f)
+
+pub left_of_deal : (lines : List Line) → has_deal lines ≡ true → has_deal (left_of lines) ≡ true
+left_of_deal lines e = counts_deal (without_tables false lines) (tables_deal false lines e)
+
+ends_deal : (end : List ℕ) (lines : List Line) → any_deal (with_ends end lines) ≡ any_deal lines
+ends_deal end [] = refl
+ends_deal end (line ∷ []) = refl
+ends_deal end (line ∷ next ∷ lines) = ap (λ b. is_deal_kind line.kind || b) (ends_deal end (next ∷ lines))
+
+append_deal : (lines others : List Line) → any_deal lines ≡ true → any_deal (lines ++ others) ≡ true
+append_deal [] others e = absurd (cc)
+append_deal (line ∷ lines) others e = go (is_deal_kind line.kind) e (append_deal lines others) where
+  go : (d : Bool) → (d || any_deal lines) ≡ true → (any_deal lines ≡ true → any_deal (lines ++ others) ≡ true) → (d || any_deal (lines ++ others)) ≡ true
+  go true f more = refl
+  go false f more = more f
+
+pub dealt_deal : (other : List ℕ) (results : ℕ → Results) (boards : List (ℕ × Board)) (lines : List Line) → has_deal lines ≡ true → has_deal (dealt_lines other results boards lines) ≡ true
+dealt_deal other results [] lines e = left_of_deal lines e
+dealt_deal other results (numbered ∷ more) lines e = go (is_some numbered.1.deal) where
+  end : List ℕ
+  end = deal_end other (left_of lines)
+
+  go : (b : Bool) → has_deal (cond b (with_section other (results numbered.0) (left_of lines)) (left_of lines)) ≡ true
+  go true = append_deal (with_ends end (left_of lines)) (section_lines end (results numbered.0)) (ends_deal end (left_of lines) ∙ left_of_deal lines e)
+  go false = left_of_deal lines e
+
+-- ---- ends
+-- an end that a line has
+has_end : (other end : List ℕ) → IsEnd end → if_none other end ≡ end
+has_end other end (inl e) = ap (if_none other) e ∙ sym e
+has_end other end (inr e) = ap (if_none other) e ∙ sym e
+
+row_end : (line : Line) → IsEnded (row_of line) → IsEnd line.end
+row_end line (lacks, inl e) = inl e
+row_end line (lacks, inr (e, n)) = inr e
+
+ends_stay : (end : List ℕ) (lines : List Line) → AllEnded lines → with_ends end lines ≡ lines
+ends_stay end [] h = refl
+ends_stay end (line ∷ []) h = ap (λ e. record { kind = line.kind; end = e } ∷ []) (has_end (new_end end line.kind) line.end (row_end line h.0))
+ends_stay end (line ∷ next ∷ lines) h = ap (λ l. line ∷ l) (ends_stay end (next ∷ lines) h.1)
+
+new_again : (other : List ℕ) (kind : Kind) → new_end (new_end other kind) kind ≡ new_end other kind
+new_again other kind = go (ends_with_return (body_of kind)) where
+  go : (b : Bool) → cond b (13 ∷ 10 ∷ []) (cond b (13 ∷ 10 ∷ []) other) ≡ cond b (13 ∷ 10 ∷ []) other
+  go true = refl
+  go false = refl
+
+new_is_end : (other : List ℕ) (kind : Kind) → IsEnd other → IsEnd (new_end other kind)
+new_is_end other kind e = go (ends_with_return (body_of kind)) where
+  go : (b : Bool) → IsEnd (cond b (13 ∷ 10 ∷ []) other)
+  go true = inl refl
+  go false = e
+
+-- the last line
+last_again : (other other' : List ℕ) (line : Line) → IsEnd other → Ended (line ∷ []) → if_none (new_end other' line.kind) (if_none (new_end (if_none (new_end other line.kind) line.end) line.kind) line.end) ≡ if_none (new_end other line.kind) line.end
+last_again other other' line e (inl (is, more)) =
+    let own = row_end line is in
+    ap (if_none (new_end other' line.kind)) (has_end (new_end (if_none (new_end other line.kind) line.end) line.kind) line.end own) ∙ (has_end (new_end other' line.kind) line.end own ∙ sym (has_end (new_end other line.kind) line.end own))
+last_again other other' line e (inr ((lacks, none, w), m)) =
+    let given = new_end other line.kind in
+    let first : if_none (new_end (if_none given line.end) line.kind) line.end ≡ given =
+    ap (λ x. if_none (new_end (if_none given x) line.kind) x) none ∙ new_again other line.kind in
+    ap (if_none (new_end other' line.kind)) first ∙ (has_end (new_end other' line.kind) given (new_is_end other line.kind e) ∙ sym (ap (if_none given) none))
+
+deal_again : (other other' : List ℕ) (lines : List Line) → IsEnd other → Ended lines → any_deal lines ≡ true → deal_end other' (with_ends (deal_end other lines) lines) ≡ deal_end other lines
+deal_again other other' [] e h d = absurd (cc)
+deal_again other other' (line ∷ []) e h d = go (is_deal_kind line.kind) d where
+  go : (b : Bool) → (b || false) ≡ true → cond b (if_none (new_end other' line.kind) (if_none (new_end (cond b (if_none (new_end other line.kind) line.end) other) line.kind) line.end)) other' ≡ cond b (if_none (new_end other line.kind) line.end) other
+  go true f = last_again other other' line e h
+  go false f = absurd (cc)
+deal_again other other' (line ∷ next ∷ lines) e (inr (u, n)) d = absurd (cc)
+deal_again other other' (line ∷ next ∷ lines) e (inl (is, more)) d = go (is_deal_kind line.kind) d (deal_again other other' (next ∷ lines) e more) where
+  rest : List ℕ
+  rest = deal_end other (next ∷ lines)
+
+  go : (b : Bool) → (b || any_deal (next ∷ lines)) ≡ true → (any_deal (next ∷ lines) ≡ true → deal_end other' (with_ends rest (next ∷ lines)) ≡ rest) → cond b (if_none (new_end other' line.kind) line.end) (deal_end other' (with_ends (cond b (if_none (new_end other line.kind) line.end) rest) (next ∷ lines))) ≡ cond b (if_none (new_end other line.kind) line.end) rest
+  go true f later = has_end (new_end other' line.kind) line.end (row_end line is) ∙ sym (has_end (new_end other line.kind) line.end (row_end line is))
+  go false f later = later f
+
+-- ---- a game with a Deal tag
+dealt_again : (other other' : List ℕ) (results : ℕ → Results) (boards : List (ℕ × Board)) (lines : List Line) → IsEnd other → Ended (left_of lines) → has_deal lines ≡ true → dealt_lines other' results boards (dealt_lines other results boards lines) ≡ dealt_lines other results boards lines
+dealt_again other other' results [] lines e h d = left_twice lines
+dealt_again other other' results (numbered ∷ more) lines e h d = go (is_some numbered.1.deal) where
+  those : Results
+  those = results numbered.0
+
+  left : List Line
+  left = left_of lines
+
+  end : List ℕ
+  end = deal_end other left
+
+  kept : List Line
+  kept = with_ends end left
+
+  is_end : IsEnd end
+  is_end = deal_ended other left e h
+
+  goes : left_of (kept ++ section_lines end those) ≡ kept
+  goes = section_goes end those kept (ends_clean end left (left_of_clean lines)) (counts_ends end left (counts_twice (without_tables false lines)))
+
+  again : deal_end other' kept ≡ end
+  again = deal_again other other' left e h (left_of_deal lines d)
+
+  go : (b : Bool) → cond b (with_section other' those (left_of (cond b (with_section other those left) left))) (left_of (cond b (with_section other those left) left)) ≡ cond b (with_section other those left) left
+  go true =
+      ap (with_section other' those) goes
+      ∙ (ap (λ x. with_ends x kept ++ section_lines x those) again
+      ∙ ap (λ k. k ++ section_lines end those) (ends_stay end kept (given_ends end left is_end h)))
+  go false = left_twice lines
+
+-- ---- games
+-- lines without a gap stand in one game
+adds_games : {count : ℕ} {tags last : Tags} {lines : List Line} → AddsLines count tags lines last → (rest : List Line) (game : Game) (games : List Game) → games_of rest ≡ game ∷ games → games_of (lines ++ rest) ≡ record { lines = lines ++ game.lines; gap = game.gap } ∷ games
+adds_games adds_none rest game games e = e
+adds_games (adds_escaped {bytes = bytes} {end} r) rest game games e = ap (put_line (record { kind = Escaped bytes; end = end })) (adds_games r rest game games e)
+adds_games (adds_line {pieces = pieces} {end} a r) rest game games e = ap (put_line (record { kind = OfGame pieces; end = end })) (adds_games r rest game games e)
+
+pub games_back : {count : ℕ} {tags : Tags} {games : List Game} {boards : List Board} → GamesHave count tags games boards → games_of (lines_of_games games) ≡ games
+games_back (last_game {lines = lines} a) =
+    ap games_of (append-nil (lines ++ []))
+    ∙ (adds_games a [] (record { lines = []; gap = [] }) [] refl ∙ ap (λ l. record { lines = l; gap = [] } ∷ []) (append-nil lines))
+games_back (next_game {lines = lines} {bytes} {end} {games} a g) =
+    let gap : Line = record { kind = Gap bytes; end = end } in
+    ap games_of (append_assoc lines (gap ∷ []) (lines_of_games games))
+    ∙ (adds_games a (gap ∷ lines_of_games games) (record { lines = []; gap = gap ∷ [] }) games (ap (λ g. record { lines = []; gap = gap ∷ [] } ∷ g) (games_back g))
+    ∙ ap (λ l. record { lines = l; gap = gap ∷ [] } ∷ games) (append-nil lines))
+
+-- the games that are written
+abbrev pub game_written : List ℕ → (ℕ → Results) → List (ℕ × Board) → Game → Game
+game_written other results boards game = record { lines = cond (has_deal game.lines) (dealt_lines other results boards game.lines) game.lines; gap = game.gap }
+
+abbrev boards_behind : List (ℕ × Board) → Game → List (ℕ × Board)
+boards_behind boards game = cond (has_deal game.lines) (behind boards) boards
+
+abbrev pub games_written : List ℕ → (ℕ → Results) → List (ℕ × Board) → List Game → List Game
+games_written other results boards [] = []
+games_written other results boards (game ∷ games) = game_written other results boards game ∷ games_written other results (boards_behind boards game) games
+
+pub written_lines : (other : List ℕ) (results : ℕ → Results) (boards : List (ℕ × Board)) (games : List Game) → lines_of_games (games_written other results boards games) ≡ games_lines other results boards games
+written_lines other results boards [] = refl
+written_lines other results boards (game ∷ games) = go (has_deal game.lines) (written_lines other results (behind boards) games) (written_lines other results boards games) where
+  go : (b : Bool) → lines_of_games (games_written other results (behind boards) games) ≡ games_lines other results (behind boards) games → lines_of_games (games_written other results boards games) ≡ games_lines other results boards games → (cond b (dealt_lines other results boards game.lines) game.lines ++ game.gap) ++ lines_of_games (games_written other results (cond b (behind boards) boards) games) ≡ cond b (dealt_lines other results boards game.lines ++ (game.gap ++ games_lines other results (behind boards) games)) (game.lines ++ (game.gap ++ games_lines other results boards games))
+  go true next same = append_assoc (dealt_lines other results boards game.lines) game.gap (lines_of_games (games_written other results (behind boards) games)) ∙ ap (λ r. dealt_lines other results boards game.lines ++ (game.gap ++ r)) next
+  go false next same = append_assoc game.lines game.gap (lines_of_games (games_written other results boards games)) ∙ ap (λ r. game.lines ++ (game.gap ++ r)) same
+
+-- they are games of lines with tags
+line_of : (other : List ℕ) (results : ℕ → Results) (numbered : List (ℕ × Board)) {count : ℕ} {tags last : Tags} (lines : List Line) → AddsLines count tags lines last → AddsLines count tags (cond (has_deal lines) (dealt_lines other results numbered lines) lines) last
+line_of other results numbered {count} {tags} {last} lines a = go (has_deal lines) where
+  go : (b : Bool) → AddsLines count tags (cond b (dealt_lines other results numbered lines) lines) last
+  go true = dealt_adds count other results numbered a
+  go false = a
+
+pub written_have : (other : List ℕ) (results : ℕ → Results) (numbered : List (ℕ × Board)) {count : ℕ} {tags : Tags} {games : List Game} {boards : List Board} → GamesHave count tags games boards → GamesHave count tags (games_written other results numbered games) boards
+written_have other results numbered (last_game {lines = lines} a) = last_game (line_of other results numbered lines a)
+written_have other results numbered (next_game {lines = lines} {games = games} a g) = next_game (line_of other results numbered lines a) (written_have other results (cond (has_deal lines) (behind numbered) numbered) g)
+
+-- what was written of each game stays
+abbrev pub GamesEnded : List Game → Type 0
+GamesEnded [] = Unit {0}
+GamesEnded (game ∷ games) = Ended (left_of game.lines) × GamesEnded games
+
+again_lines : (other other' : List ℕ) (results : ℕ → Results) (boards : List (ℕ × Board)) (games : List Game) → IsEnd other → GamesEnded games → games_lines other' results boards (games_written other results boards games) ≡ games_lines other results boards games
+again_lines other other' results boards [] e h = refl
+again_lines other other' results boards (game ∷ games) e h = go (has_deal game.lines) refl (again_lines other other' results (behind boards) games e h.1) (again_lines other other' results boards games e h.1) where
+  go : (b : Bool) → has_deal game.lines ≡ b → games_lines other' results (behind boards) (games_written other results (behind boards) games) ≡ games_lines other results (behind boards) games → games_lines other' results boards (games_written other results boards games) ≡ games_lines other results boards games → games_lines other' results boards (record { lines = cond b (dealt_lines other results boards game.lines) game.lines; gap = game.gap } ∷ games_written other results (cond b (behind boards) boards) games) ≡ cond b (dealt_lines other results boards game.lines ++ (game.gap ++ games_lines other results (behind boards) games)) (game.lines ++ (game.gap ++ games_lines other results boards games))
+  go true d next same =
+      let dealt = dealt_lines other results boards game.lines in
+      ap (λ b. cond b (dealt_lines other' results boards dealt ++ (game.gap ++ games_lines other' results (behind boards) (games_written other results (behind boards) games))) (dealt ++ (game.gap ++ games_lines other' results boards (games_written other results (behind boards) games)))) (dealt_deal other results boards game.lines d)
+      ∙ (ap (λ l. l ++ (game.gap ++ games_lines other' results (behind boards) (games_written other results (behind boards) games))) (dealt_again other other' results boards game.lines e h.0 d)
+      ∙ ap (λ r. dealt ++ (game.gap ++ r)) next)
+  go false d next same =
+      ap (λ b. cond b (dealt_lines other' results boards game.lines ++ (game.gap ++ games_lines other' results (behind boards) (games_written other results boards games))) (game.lines ++ (game.gap ++ games_lines other' results boards (games_written other results boards games)))) d
+      ∙ ap (λ r. game.lines ++ (game.gap ++ r)) same
+
+all_of : (lines : List Line) → AllEnded lines → Ended lines
+all_of [] h = tt
+all_of (line ∷ lines) h = inl (h.0, all_of lines h.1)
+
+front_ended : (lines others : List Line) → Ended (lines ++ others) → Ended lines
+front_ended lines others h =
+    elim (ended_split lines others h) [
+      | inl both ↦ all_of lines both.0
+      | inr both ↦ both.0
+    ]
+
+back_ended : (lines others : List Line) → Ended (lines ++ others) → Ended others
+back_ended lines others h =
+    elim (ended_split lines others h) [
+      | inl both ↦ both.1
+      | inr both ↦ subst Ended (sym both.1) tt
+    ]
+
+pub games_ended : (games : List Game) → GamesFollow false games → Ended (lines_of_games games) → GamesEnded games
+games_ended [] f h = tt
+games_ended (game ∷ games) f h =
+    let here = front_ended (game.lines ++ game.gap) (lines_of_games games) h in
+    (left_of_ended f.0 (front_ended game.lines game.gap here), games_ended games f.2 (back_ended (game.lines ++ game.gap) (lines_of_games games) h))
+
+-- ---- the text
+pub stay_the_same : StayTheSame
+stay_the_same text boards results written answer small whole =
+    let lines = whole.lines in
+    let numbered = enumerate_from 0 boards in
+    let out = whole_lines boards results lines in
+    let have = games_have (have_boards text boards lines answer whole.read) in
+    let gs = games_written (first_end lines) results numbered (games_of lines) in
+    let flat : lines_of_games gs ≡ out = written_lines (first_end lines) results numbered (games_of lines) in
+    let back : games_of out ≡ gs = ap games_of (sym flat) ∙ games_back (written_have (first_end lines) results numbered have) in
+    let ended = games_ended (games_of lines) (games_follow refl (lines_follow text lines whole.read)) (subst Ended (sym (games_whole lines)) (lines_ended text lines whole.read)) in
+    let same : whole_lines boards results out ≡ out =
+    ap (games_lines (first_end out) results numbered) back
+    ∙ again_lines (first_end lines) (first_end out) results numbered (games_of lines) (first_ended lines (lines_ended text lines whole.read)) ended in
+    let read : HasLines written out = subst (λ t. HasLines t out) (sym whole.is) (out_lines text boards results lines answer small whole.read) in
+    let rest : without_mark written ≡ flat_map line_bytes out = lines_whole written out read in
+    let mark : mark_of text ≡ mark_of written =
+    append_cancel_right (mark_of text) (mark_of written) (flat_map line_bytes out) (sym whole.is ∙ (marked written ∙ ap (λ r. mark_of written ++ r) rest)) in
+    record {
+      lines = out;
+      read = read;
+      is = whole.is ∙ (ap (λ m. m ++ flat_map line_bytes out) mark ∙ ap (λ l. mark_of written ++ flat_map line_bytes l) (sym same));
+    }

@@ -1,0 +1,12 @@
+pub mod LeftPieces
+pub mod LeftSigns
+pub mod LeftLines
+pub mod SectionLines
+pub mod WholeLines
+pub mod SameBoards
+pub mod FirstBytes
+pub mod WrittenLines
+pub mod CleanLines
+pub mod AgainSame
+pub mod NothingLost
+pub mod ShownOnce

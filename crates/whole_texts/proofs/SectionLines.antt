@@ -1,0 +1,124 @@
+-- The lines of a section can stand in a text, and are read as what they are.
+use Rattle.std.proofs.Common.{◌≡◌, ◌≢◌, ℕ, ◌≤◌, Bool, true, false, cond, List, [], ◌∷◌, ◌++◌, Option, Some, None, refl, sym, ◌∙◌, ap, subst, flat_map, inl, inr, ◌⊎◌}
+use Rattle.std.specs.Prelude.{codes, IfSome}
+use Rattle.std.proofs.lemmas.Bool.{eqb-false, cases_Bool}
+use Rattle.std.proofs.lemmas.List.Elements.{All-weaker}
+use Rattle.cards.specs.declared.seats.Seat.{Seat}
+use Rattle.cards.specs.declared.seats.Seat.TheVariants.{North, East, South, West}
+use Rattle.cards.specs.declared.suits.Trump.{Trump}
+use Rattle.pbn_deals.specs.Lines.{is_line_feed, without_return}
+use Rattle.pbn_deals.specs.Reading.{Lacks, IsData, meaning_of}
+use Rattle.pbn_deals.specs.Pieces.{Comment, is_data, ends_with_return, HasPieces, at_line_end, section_data, line_comment, tag_pair, OfGame, LineIs, is_of_game, Line}
+use Rattle.pbn_deals.proofs.LinesOfText.{body_of-line}
+use Rattle.pbn_deals.proofs.RowsBack.{IsEnded, row_of, Follow, follow_none, follow_line}
+use Rattle.tables.specs.TablesText.{Results, entries, row_text, is_complete, published_count, table_tag, incomplete_text}
+use Rattle.tables.proofs.LinesBack.{IsLine, IsQuiet}
+use Rattle.tables.proofs.CalmTexts.{IsQuiet-from_calm}
+use Rattle.tables.proofs.BoardsBack.{row_text-calm, row-idle, table_tag-idle, incomplete-idle, published_count-le}
+use Rattle.tables.proofs.PageLines.{AreSmall}
+use Rattle.whole_texts.specs.WholeText.{as_data, row_lines, entry_lines, table_pair, section_lines}
+
+-- ---- ends of lines
+abbrev pub IsEnd : List ℕ → Type 0
+IsEnd end = (end ≡ 13 ∷ 10 ∷ []) ⊎ (end ≡ 10 ∷ [])
+
+abbrev pub AllEnded : List Line → Type 0
+AllEnded [] = Unit {0}
+AllEnded (line ∷ lines) = IsEnded (row_of line) × AllEnded lines
+
+pub all_append : (lines others : List Line) → AllEnded lines → AllEnded others → AllEnded (lines ++ others)
+all_append [] others h g = g
+all_append (line ∷ lines) others h g = (h.0, all_append lines others h.1 g)
+
+return_shortens : (bytes : List ℕ) → ends_with_return bytes ≡ true → without_return bytes ≡ bytes → ⊥
+return_shortens [] e f = cc
+return_shortens (byte ∷ []) e f = let none : [] ≡ byte ∷ [] = sym (ap (λ b. cond b [] (byte ∷ [])) e) ∙ f in absurd (cc)
+return_shortens (byte ∷ other ∷ bytes) e f = let tails : without_return (other ∷ bytes) ≡ other ∷ bytes = cc in return_shortens (other ∷ bytes) e tails
+
+-- a line that is read as it was printed, with an end
+pub printed_ended : (line end : List ℕ) → IsLine line → IsEnd end → IsEnded (record { bytes = line; end = end })
+printed_ended line end is e =
+    let lacks : Lacks 10 line = All-weaker (λ byte. is_line_feed byte ≡ false) (λ byte. byte ≢ 10) (λ byte n. eqb-false byte 10 n) line is.no_feed in
+    let stays : ends_with_return line ≡ false = elim (cases_Bool (ends_with_return line)) [ inl t ↦ absurd (return_shortens line t is.no_return) | inr f ↦ f ] in
+    elim e [
+      | inl r ↦ (lacks, inl r)
+      | inr f ↦ (lacks, inr (f, stays))
+    ]
+
+-- ---- rows
+data_row : (bytes : List ℕ) → IsQuiet bytes → HasPieces true bytes (as_data bytes) false
+data_row [] h = at_line_end
+data_row (byte ∷ bytes) (inl blank, more) = section_data (ap (is_data true) blank) (data_row bytes more)
+data_row (byte ∷ bytes) (inr plain, more) = section_data (ap (is_data true) plain) (data_row bytes more)
+
+quiet_tail : (byte : ℕ) (bytes : List ℕ) → IsQuiet (byte ∷ bytes) → IsQuiet bytes
+quiet_tail byte bytes h = h.1
+
+row_first : (declarer : Seat) (denomination : Trump) (tricks : ℕ) → (byte : ℕ) × (bytes : List ℕ) × (row_text declarer denomination tricks ≡ byte ∷ bytes) × (meaning_of byte ≡ IsData)
+unfolding row_text
+row_first North denomination tricks = (78, _, refl, refl)
+row_first East denomination tricks = (69, _, refl, refl)
+row_first South denomination tricks = (83, _, refl, refl)
+row_first West denomination tricks = (87, _, refl, refl)
+
+row_pieces : (text : List ℕ) (byte : ℕ) (bytes : List ℕ) → text ≡ byte ∷ bytes → meaning_of byte ≡ IsData → IsQuiet text → HasPieces false text (as_data text) false
+row_pieces text byte bytes e m h =
+    subst (λ t. HasPieces false t (as_data t) false) (sym e)
+    (section_data (ap (is_data false) m) (data_row bytes (quiet_tail byte bytes (subst IsQuiet e h))))
+
+pub row_line : (declarer : Seat) (denomination : Trump) (tricks : ℕ) → tricks ≤ 13 → LineIs false (row_text declarer denomination tricks) (OfGame (as_data (row_text declarer denomination tricks))) false
+row_line declarer denomination tricks h =
+    let idle = row-idle declarer denomination tricks h in
+    let first = row_first declarer denomination tricks in
+    is_of_game idle.not_escaped idle.not_blank
+    (row_pieces (row_text declarer denomination tricks) first.0 first.1 first.2 first.3 (IsQuiet-from_calm (row_text declarer denomination tricks) (row_text-calm declarer denomination tricks h)))
+
+-- ---- the heading, and the line in its place
+table_line : LineIs false table_tag (OfGame (table_pair ∷ [])) false
+unfolding table_tag
+table_line =
+    is_of_game refl refl
+    (tag_pair (codes "OptimumResultTable " ++ (34 ∷ codes "Declarer;Denomination") ++ (92 ∷ codes "2R;Result") ++ (92 ∷ codes "2R") ++ (34 ∷ 93 ∷ []))
+    {tag = record { name = codes "OptimumResultTable"; value = codes "Declarer;Denomination" ++ (92 ∷ codes "2R;Result") ++ (92 ∷ codes "2R"); rest = [] }}
+    refl refl refl at_line_end)
+
+count_line : (count : ℕ) → LineIs false (incomplete_text count) (OfGame (Comment (incomplete_text count) ∷ [])) false
+unfolding incomplete_text
+count_line count = is_of_game refl refl (line_comment refl)
+
+-- ---- a section
+rows_follow : (end : List ℕ) (results : Results) (some : List (Seat × Trump)) → AreSmall results → Follow false (flat_map (entry_lines end results) some) false
+rows_follow end results [] small = follow_none
+rows_follow end results (entry ∷ some) small = go (results entry.0 entry.1) (small entry.0 entry.1) (rows_follow end results some small) where
+  go : (result : Option ℕ) → IfSome result (λ tricks. tricks ≤ 13) → Follow false (flat_map (entry_lines end results) some) false → Follow false (row_lines end entry.0 entry.1 result ++ flat_map (entry_lines end results) some) false
+  go None h more = more
+  go (Some tricks) h more = follow_line (row_line entry.0 entry.1 tricks h) more
+
+pub section_follows : (end : List ℕ) (results : Results) → AreSmall results → Follow false (section_lines end results) false
+section_follows end results small = go (is_complete results) where
+  go : (b : Bool) → Follow false (cond b (record { kind = OfGame (table_pair ∷ []); end = end } ∷ flat_map (entry_lines end results) entries) (record { kind = OfGame (Comment (incomplete_text (published_count results)) ∷ []); end = end } ∷ [])) false
+  go true = follow_line table_line (rows_follow end results entries small)
+  go false = follow_line (count_line (published_count results)) follow_none
+
+rows_ended : (end : List ℕ) (results : Results) (some : List (Seat × Trump)) → IsEnd end → AreSmall results → AllEnded (flat_map (entry_lines end results) some)
+rows_ended end results [] e small = tt
+rows_ended end results (entry ∷ some) e small = go (results entry.0 entry.1) (small entry.0 entry.1) (rows_ended end results some e small) where
+  go : (result : Option ℕ) → IfSome result (λ tricks. tricks ≤ 13) → AllEnded (flat_map (entry_lines end results) some) → AllEnded (row_lines end entry.0 entry.1 result ++ flat_map (entry_lines end results) some)
+  go None h more = more
+  go (Some tricks) h more =
+      let text = row_text entry.0 entry.1 tricks in
+      let ended = printed_ended text end (row-idle entry.0 entry.1 tricks h).as_line e in
+      (subst (λ b. IsEnded (record { bytes = b; end = end })) (sym (body_of-line (row_line entry.0 entry.1 tricks h))) ended, more)
+
+pub section_ended : (end : List ℕ) (results : Results) → IsEnd end → AreSmall results → AllEnded (section_lines end results)
+section_ended end results e small = go (is_complete results) where
+  count : ℕ
+  count = published_count results
+
+  go : (b : Bool) → AllEnded (cond b (record { kind = OfGame (table_pair ∷ []); end = end } ∷ flat_map (entry_lines end results) entries) (record { kind = OfGame (Comment (incomplete_text count) ∷ []); end = end } ∷ []))
+  go true =
+      let ended = printed_ended table_tag end table_tag-idle.as_line e in
+      (subst (λ b. IsEnded (record { bytes = b; end = end })) (sym (body_of-line table_line)) ended, rows_ended end results entries e small)
+  go false =
+      let ended = printed_ended (incomplete_text count) end (incomplete-idle count (published_count-le results)).as_line e in
+      (subst (λ b. IsEnded (record { bytes = b; end = end })) (sym (body_of-line (count_line count))) ended, tt)

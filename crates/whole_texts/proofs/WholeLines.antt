@@ -1,0 +1,242 @@
+-- The lines that are written of a text follow one another, and can stand in a text.
+use Rattle.std.proofs.Common.{◌≡◌, ℕ, Bool, true, false, cond, ◌&&◌, List, [], ◌∷◌, ◌++◌, is_some, refl, sym, ◌∙◌, ap, subst, append_assoc, append-nil, flat_map, map, inl, inr, ◌⊎◌}
+use Rattle.std.specs.List.{list_all}
+use Rattle.pbn_deals.specs.declared.boards.Board.{Board}
+use Rattle.pbn_deals.specs.Pieces.{Piece, bytes_of, ends_with_return, Kind, OfGame, body_of, LineIs, is_escaped_line, is_gap, is_of_game, is_in_comment, closes_comment, Line}
+use Rattle.pbn_deals.proofs.RowsBack.{IsEnded, row_of, Follow, follow_none, follow_line, follow_append}
+use Rattle.tables.specs.TablesText.{Results, line_feed}
+use Rattle.tables.proofs.PageLines.{AreSmall}
+use Rattle.whole_texts.specs.OldTables.{left_pieces, table_behind, has_more, without_tables, is_count, is_escaped_kind, without_counts, left_of, is_deal_kind, has_deal}
+use Rattle.whole_texts.specs.WholeText.{Game, put_line, is_gap_kind, games_of, section_lines, if_none, first_end, new_end, deal_end, with_ends, with_section, dealt_lines, behind, games_lines}
+use Rattle.whole_texts.proofs.LeftLines.{Ended, left_follows, left_ended, counts_follow, counts_ended, ended_line}
+use Rattle.whole_texts.proofs.SectionLines.{IsEnd, AllEnded, all_append, section_follows, section_ended}
+
+-- ---- what is left of a game
+pub left_of_follows : {lines : List Line} → Follow false lines false → Follow false (left_of lines) false
+left_of_follows h = counts_follow (left_follows false h)
+
+pub left_of_ended : {lines : List Line} → Follow false lines false → Ended lines → Ended (left_of lines)
+left_of_ended {lines} f h = counts_ended (without_tables false lines) (left_ended false f h)
+
+-- all of them have ends
+line_all : (in_table : Bool) {is_open last : Bool} {line : List ℕ} {those : List Piece} (end : List ℕ) (left : List Line) (b : Bool) → LineIs is_open line (OfGame those) last → IsEnded (record { bytes = flat_map bytes_of those; end = end }) → AllEnded left → AllEnded (cond b (record { kind = OfGame (left_pieces in_table those); end = end } ∷ left) left)
+line_all in_table end left true l h more = (ended_line in_table end l h, more)
+line_all in_table end left false l h more = more
+
+left_all : (in_table : Bool) {is_open last : Bool} {lines : List Line} → Follow is_open lines last → AllEnded lines → AllEnded (without_tables in_table lines)
+left_all in_table follow_none h = tt
+left_all in_table (follow_line (is_escaped_line e) r) h = (h.0, left_all in_table r h.1)
+left_all in_table (follow_line (is_gap e b) r) h = (h.0, left_all in_table r h.1)
+left_all in_table (follow_line {end = end} {lines} (is_of_game {pieces = those} e b p) r) h =
+    line_all in_table end (without_tables (table_behind in_table those) lines) (has_more (left_pieces in_table those)) (is_of_game e b p) h.0 (left_all (table_behind in_table those) r h.1)
+left_all in_table (follow_line (is_in_comment l) r) h = (h.0, left_all in_table r h.1)
+left_all in_table (follow_line {end = end} {lines} (closes_comment text {pieces = those} e l p) r) h =
+    (ended_line in_table end (closes_comment text e l p) h.0, left_all (table_behind in_table those) r h.1)
+
+counts_all : (lines : List Line) → AllEnded lines → AllEnded (without_counts lines)
+counts_all [] h = tt
+counts_all (line ∷ lines) h = go (is_count line.kind && list_all (λ other. is_escaped_kind other.kind) (without_counts lines)) (counts_all lines h.1) where
+  go : (b : Bool) → AllEnded (without_counts lines) → AllEnded (cond b (without_counts lines) (line ∷ without_counts lines))
+  go true more = more
+  go false more = (h.0, more)
+
+left_of_all : {lines : List Line} → Follow false lines false → AllEnded lines → AllEnded (left_of lines)
+left_of_all {lines} f h = counts_all (without_tables false lines) (left_all false f h)
+
+-- ---- ends
+pub ends_follow : (end : List ℕ) {is_open last : Bool} {lines : List Line} → Follow is_open lines last → Follow is_open (with_ends end lines) last
+ends_follow end follow_none = follow_none
+ends_follow end (follow_line l follow_none) = follow_line l follow_none
+ends_follow end (follow_line l (follow_line l' r)) = follow_line l (ends_follow end (follow_line l' r))
+
+new_ended : (end : List ℕ) (kind : Kind) → IsEnd end → IsEnd (new_end end kind)
+new_ended end kind e = go (ends_with_return (body_of kind)) where
+  go : (b : Bool) → IsEnd (cond b (13 ∷ 10 ∷ []) end)
+  go true = inl refl
+  go false = e
+
+-- a line that had no end
+given_end : (end : List ℕ) (line : Line) → IsEnd end → (n : List ℕ) → n ≡ new_end end line.kind → (b : Bool) → ends_with_return (body_of line.kind) ≡ b → (n ≡ 13 ∷ 10 ∷ []) ⊎ ((n ≡ 10 ∷ []) × (ends_with_return (body_of line.kind) ≡ false))
+given_end end line e n is true r = inl (is ∙ ap (λ b. cond b (13 ∷ 10 ∷ []) end) r)
+given_end end line (inl e) n is false r = inl (is ∙ (ap (λ b. cond b (13 ∷ 10 ∷ []) end) r ∙ e))
+given_end end line (inr e) n is false r = inr (is ∙ (ap (λ b. cond b (13 ∷ 10 ∷ []) end) r ∙ e), r)
+
+last_given : (end : List ℕ) (line : Line) → IsEnd end → Ended (line ∷ []) → IsEnded (record { bytes = body_of line.kind; end = if_none (new_end end line.kind) line.end })
+last_given end line e (inl ((lacks, inl r), more)) = (lacks, inl (ap (if_none (new_end end line.kind)) r))
+last_given end line e (inl ((lacks, inr (f, n)), more)) = (lacks, inr (ap (if_none (new_end end line.kind)) f, n))
+last_given end line e (inr ((lacks, none, w), m)) =
+    (lacks, given_end end line e (if_none (new_end end line.kind) line.end) (ap (if_none (new_end end line.kind)) none) (ends_with_return (body_of line.kind)) refl)
+
+pub given_ends : (end : List ℕ) (lines : List Line) → IsEnd end → Ended lines → AllEnded (with_ends end lines)
+given_ends end [] e h = tt
+given_ends end (line ∷ []) e h = (last_given end line e h, tt)
+given_ends end (line ∷ next ∷ lines) e (inl (is, more)) = (is, given_ends end (next ∷ lines) e more)
+given_ends end (line ∷ next ∷ lines) e (inr (u, n)) = absurd (cc)
+
+some_end : (other : List ℕ) (line : Line) → IsEnd other → (lines : List Line) → Ended (line ∷ lines) → IsEnd (if_none other line.end)
+some_end other line e lines (inl ((lacks, inl r), more)) = inl (ap (if_none other) r)
+some_end other line e lines (inl ((lacks, inr (f, n)), more)) = inr (ap (if_none other) f)
+some_end other line e lines (inr ((lacks, none, w), m)) = subst (λ x. IsEnd (if_none other x)) (sym none) e
+
+tail_ended : (line : Line) (lines : List Line) → Ended (line ∷ lines) → Ended lines
+tail_ended line lines (inl (is, more)) = more
+tail_ended line [] (inr (u, n)) = tt
+tail_ended line (next ∷ lines) (inr (u, n)) = absurd (cc)
+
+pub deal_ended : (other : List ℕ) (lines : List Line) → IsEnd other → Ended lines → IsEnd (deal_end other lines)
+deal_ended other [] e h = e
+deal_ended other (line ∷ lines) e h = go (is_deal_kind line.kind) (deal_ended other lines e (tail_ended line lines h)) where
+  go : (b : Bool) → IsEnd (deal_end other lines) → IsEnd (cond b (if_none (new_end other line.kind) line.end) (deal_end other lines))
+  go true more = some_end (new_end other line.kind) line (new_ended other line.kind e) lines h
+  go false more = more
+
+pub first_ended : (lines : List Line) → Ended lines → IsEnd (first_end lines)
+first_ended [] h = inr refl
+first_ended (line ∷ lines) h = some_end line_feed line (inr refl) lines h
+
+-- ---- one list of lines behind another
+pub ended_join : (lines others : List Line) → AllEnded lines → Ended others → Ended (lines ++ others)
+ended_join [] others h g = g
+ended_join (line ∷ lines) others h g = inl (h.0, ended_join lines others h.1 g)
+
+none_of : (lines others : List Line) → map row_of (lines ++ others) ≡ [] → (lines ≡ []) × (others ≡ [])
+none_of [] [] e = (refl, refl)
+none_of [] (line ∷ others) e = absurd (cc)
+none_of (line ∷ lines) others e = absurd (cc)
+
+pub ended_split : (lines others : List Line) → Ended (lines ++ others) → (AllEnded lines × Ended others) ⊎ (Ended lines × (others ≡ []))
+ended_split [] others h = inl (tt, h)
+ended_split (line ∷ lines) others (inl (is, more)) =
+    elim (ended_split lines others more) [
+      | inl (all, rest) ↦ inl ((is, all), rest)
+      | inr (some, none) ↦ inr (inl (is, some), none)
+    ]
+ended_split (line ∷ lines) others (inr (u, n)) = let none = none_of lines others n in inr (inr (u, ap (map row_of) none.0), none.1)
+
+all_ended : (lines : List Line) → AllEnded lines → Ended lines
+all_ended [] h = tt
+all_ended (line ∷ lines) h = inl (h.0, all_ended lines h.1)
+
+-- ---- games
+abbrev pub GamesFollow : Bool → List Game → Type 0
+GamesFollow is_open [] = Unit {0}
+GamesFollow is_open (game ∷ games) = Follow is_open game.lines false × Follow false game.gap false × GamesFollow false games
+
+put_follows : {is_open is_open' : Bool} {bytes : List ℕ} {kind : Kind} (end : List ℕ) (games : List Game) → LineIs is_open bytes kind is_open' → GamesFollow is_open' games → GamesFollow is_open (put_line (record { kind = kind; end = end }) games)
+put_follows end [] l h = tt
+put_follows end (game ∷ games) l h = (follow_line l h.0, h.1, h.2)
+
+pub games_follow : {is_open last : Bool} {lines : List Line} → last ≡ false → Follow is_open lines last → GamesFollow is_open (games_of lines)
+games_follow e (follow_none {is_open}) = (subst (λ o. Follow is_open [] o) e follow_none, follow_none, tt)
+games_follow e (follow_line {end = end} {lines} (is_escaped_line f) r) = put_follows end (games_of lines) (is_escaped_line f) (games_follow e r)
+games_follow e (follow_line (is_gap f b) r) = (follow_none, follow_line (is_gap f b) follow_none, games_follow e r)
+games_follow e (follow_line {end = end} {lines} (is_of_game f b p) r) = put_follows end (games_of lines) (is_of_game f b p) (games_follow e r)
+games_follow e (follow_line {end = end} {lines} (is_in_comment l) r) = put_follows end (games_of lines) (is_in_comment l) (games_follow e r)
+games_follow e (follow_line {end = end} {lines} (closes_comment text f l p) r) = put_follows end (games_of lines) (closes_comment text f l p) (games_follow e r)
+
+-- the lines of games, one after another
+abbrev pub lines_of_games : List Game → List Line
+lines_of_games games = flat_map (λ game. game.lines ++ game.gap) games
+
+some_games : (lines : List Line) → (game : Game) × (games : List Game) × (games_of lines ≡ game ∷ games)
+some_games [] = (record { lines = []; gap = [] }, [], refl)
+some_games (line ∷ lines) = go (is_gap_kind line.kind) (some_games lines) where
+  go : (b : Bool) → ((game : Game) × (games : List Game) × (games_of lines ≡ game ∷ games)) → (game : Game) × (games : List Game) × (cond b (record { lines = []; gap = line ∷ [] } ∷ games_of lines) (put_line line (games_of lines)) ≡ game ∷ games)
+  go true more = (_, _, refl)
+  go false more = (record { lines = line ∷ more.0.lines; gap = more.0.gap }, more.1, ap (put_line line) more.2)
+
+pub games_whole : (lines : List Line) → lines_of_games (games_of lines) ≡ lines
+games_whole [] = refl
+games_whole (line ∷ lines) = go (is_gap_kind line.kind) (games_whole lines) (some_games lines) where
+  go : (b : Bool) → lines_of_games (games_of lines) ≡ lines → ((game : Game) × (games : List Game) × (games_of lines ≡ game ∷ games)) → lines_of_games (cond b (record { lines = []; gap = line ∷ [] } ∷ games_of lines) (put_line line (games_of lines))) ≡ line ∷ lines
+  go true whole more = ap (λ x. line ∷ x) whole
+  go false whole more = ap (λ g. lines_of_games (put_line line g)) more.2 ∙ ap (λ x. line ∷ x) (sym (ap lines_of_games more.2) ∙ whole)
+
+-- ---- the whole
+abbrev pub AreSmallAll : (ℕ → Results) → Type 0
+AreSmallAll results = (place : ℕ) → AreSmall (results place)
+
+module _ (other : List ℕ) (results : ℕ → Results) (small : AreSmallAll results) where
+  dealt_follows : (boards : List (ℕ × Board)) {lines : List Line} → Follow false lines false → Follow false (dealt_lines other results boards lines) false
+  dealt_follows [] h = left_of_follows h
+  dealt_follows (numbered ∷ more) {lines} h = go (is_some numbered.1.deal) where
+    go : (b : Bool) → Follow false (cond b (with_section other (results numbered.0) (left_of lines)) (left_of lines)) false
+    go true = follow_append (ends_follow (deal_end other (left_of lines)) (left_of_follows h)) (section_follows (deal_end other (left_of lines)) (results numbered.0) (small numbered.0))
+    go false = left_of_follows h
+
+  pub whole_follows : (boards : List (ℕ × Board)) (games : List Game) → GamesFollow false games → Follow false (games_lines other results boards games) false
+  whole_follows boards [] h = follow_none
+  whole_follows boards (game ∷ games) h = go (has_deal game.lines) (whole_follows (behind boards) games h.2) (whole_follows boards games h.2) where
+    go : (b : Bool) → Follow false (games_lines other results (behind boards) games) false → Follow false (games_lines other results boards games) false → Follow false (cond b (dealt_lines other results boards game.lines ++ (game.gap ++ games_lines other results (behind boards) games)) (game.lines ++ (game.gap ++ games_lines other results boards games))) false
+    go true next same = follow_append (dealt_follows boards h.0) (follow_append h.1 next)
+    go false next same = follow_append h.0 (follow_append h.1 same)
+
+  module _ (is_end : IsEnd other) where
+    section_all : (place : ℕ) {lines : List Line} → Follow false lines false → Ended lines → AllEnded (with_section other (results place) (left_of lines))
+    section_all place {lines} f h =
+        let left = left_of_ended f h in
+        let end = deal_ended other (left_of lines) is_end left in
+        all_append (with_ends (deal_end other (left_of lines)) (left_of lines)) (section_lines (deal_end other (left_of lines)) (results place)) (given_ends (deal_end other (left_of lines)) (left_of lines) end left) (section_ended (deal_end other (left_of lines)) (results place) end (small place))
+
+    dealt_all : (boards : List (ℕ × Board)) {lines : List Line} → Follow false lines false → AllEnded lines → AllEnded (dealt_lines other results boards lines)
+    dealt_all [] f h = left_of_all f h
+    dealt_all (numbered ∷ more) {lines} f h = go (is_some numbered.1.deal) where
+      go : (b : Bool) → AllEnded (cond b (with_section other (results numbered.0) (left_of lines)) (left_of lines))
+      go true = section_all numbered.0 f (all_ended lines h)
+      go false = left_of_all f h
+
+    dealt_ended : (boards : List (ℕ × Board)) {lines : List Line} → Follow false lines false → Ended lines → Ended (dealt_lines other results boards lines)
+    dealt_ended [] f h = left_of_ended f h
+    dealt_ended (numbered ∷ more) {lines} f h = go (is_some numbered.1.deal) where
+      go : (b : Bool) → Ended (cond b (with_section other (results numbered.0) (left_of lines)) (left_of lines))
+      go true = all_ended (with_section other (results numbered.0) (left_of lines)) (section_all numbered.0 f h)
+      go false = left_of_ended f h
+
+    -- where there are no lines, none are written
+    no_rest : (lines others : List Line) → lines ++ others ≡ [] → (lines ≡ []) × (others ≡ [])
+    no_rest [] others e = (refl, e)
+    no_rest (line ∷ lines) others e = absurd (cc)
+
+    none_whole : (boards : List (ℕ × Board)) (games : List Game) → lines_of_games games ≡ [] → games_lines other results boards games ≡ []
+    none_whole boards [] e = refl
+    none_whole boards (game ∷ games) e =
+        let here = no_rest (game.lines ++ game.gap) (lines_of_games games) e in
+        let parts = no_rest game.lines game.gap here.0 in
+        let next = games_lines other results (behind boards) games in
+        let same = games_lines other results boards games in
+        subst (λ l. cond (has_deal l) (dealt_lines other results boards l ++ (game.gap ++ next)) (l ++ (game.gap ++ same)) ≡ []) (sym parts.0)
+        (ap (λ g. g ++ same) parts.1 ∙ none_whole boards games here.1)
+
+    -- the gap behind a game, and the games behind it
+    rest_ended : (gap rest rest' : List Line) → Ended (gap ++ rest) → (Ended rest → Ended rest') → (rest ≡ [] → rest' ≡ []) → Ended (gap ++ rest')
+    rest_ended gap rest rest' h goes none =
+        elim (ended_split gap rest h) [
+          | inl (all, more) ↦ ended_join gap rest' all (goes more)
+          | inr (some, no_more) ↦ subst (λ r. Ended (gap ++ r)) (sym (none no_more)) (subst Ended (sym (append-nil gap)) some)
+        ]
+
+    nothing_behind : (lines rest : List Line) → rest ≡ [] → Ended lines → Ended (lines ++ rest)
+    nothing_behind lines rest e h = subst (λ r. Ended (lines ++ r)) (sym e) (subst Ended (sym (append-nil lines)) h)
+
+    pub whole_ended : (boards : List (ℕ × Board)) (games : List Game) → GamesFollow false games → Ended (lines_of_games games) → Ended (games_lines other results boards games)
+    whole_ended boards [] f h = tt
+    whole_ended boards (game ∷ games) f h =
+        go (has_deal game.lines) (ended_split game.lines (game.gap ++ rest) (subst Ended (append_assoc game.lines game.gap rest) h)) (whole_ended (behind boards) games f.2) (whole_ended boards games f.2)
+      where
+        rest : List Line
+        rest = lines_of_games games
+
+        next : List Line
+        next = games_lines other results (behind boards) games
+
+        same : List Line
+        same = games_lines other results boards games
+
+        none_behind : (boards' : List (ℕ × Board)) → game.gap ++ rest ≡ [] → game.gap ++ games_lines other results boards' games ≡ []
+        none_behind boards' e = let parts = no_rest game.gap rest e in ap (λ g. g ++ games_lines other results boards' games) parts.0 ∙ none_whole boards' games parts.1
+
+        go : (b : Bool) → (AllEnded game.lines × Ended (game.gap ++ rest)) ⊎ (Ended game.lines × (game.gap ++ rest ≡ [])) → (Ended rest → Ended next) → (Ended rest → Ended same) → Ended (cond b (dealt_lines other results boards game.lines ++ (game.gap ++ next)) (game.lines ++ (game.gap ++ same)))
+        go true (inl (all, more)) to_next to_same = ended_join (dealt_lines other results boards game.lines) (game.gap ++ next) (dealt_all boards f.0 all) (rest_ended game.gap rest next more to_next (none_whole (behind boards) games))
+        go false (inl (all, more)) to_next to_same = ended_join game.lines (game.gap ++ same) all (rest_ended game.gap rest same more to_same (none_whole boards games))
+        go true (inr (some, none)) to_next to_same = nothing_behind (dealt_lines other results boards game.lines) (game.gap ++ next) (none_behind (behind boards) none) (dealt_ended boards f.0 some)
+        go false (inr (some, none)) to_next to_same = nothing_behind game.lines (game.gap ++ same) (none_behind boards none) some

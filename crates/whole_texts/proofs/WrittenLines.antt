@@ -1,0 +1,79 @@
+-- What is written of a text has the lines that were meant.
+use Rattle.std.proofs.Common.{◌≡◌, ℕ, false, List, ◌++◌, Ok, refl, sym, ◌∙◌, subst, flat_map}
+use Rattle.std.specs.List.{enumerate_from}
+use Rattle.pbn_deals.specs.declared.boards.Board.{Board}
+use Rattle.pbn_deals.specs.Games.{no_tags}
+use Rattle.pbn_deals.specs.Lines.{without_mark}
+use Rattle.pbn_deals.specs.Pieces.{rows_of, Line, line_bytes, AreLines, mark_of, HasLines}
+use Rattle.pbn_deals.specs.LineBoards.{HaveBoards}
+use Rattle.pbn_deals.specs.Reading.{TextAnswers}
+use Rattle.pbn_deals.proofs.LinesOfText.{text_lines, bytes_of-lines, bytes_of-rows}
+use Rattle.pbn_deals.proofs.LinesRead.{boards_of_lines}
+use Rattle.pbn_deals.proofs.RowsBack.{AreEnded, text_ended, Follow, follow, rows_are, lines_back}
+use Rattle.tables.specs.TablesText.{Results}
+use Rattle.tables.specs.ReadBack.{AreTricks}
+use Rattle.whole_texts.specs.WholeText.{games_of, first_end, whole_lines}
+use Rattle.whole_texts.specs.Laws.{KeepBoards}
+use Rattle.whole_texts.proofs.LeftLines.{Ended}
+use Rattle.whole_texts.proofs.SectionLines.{IsEnd}
+use Rattle.whole_texts.proofs.WholeLines.{GamesFollow, games_follow, games_whole, first_ended, whole_follows, whole_ended}
+use Rattle.whole_texts.proofs.SameBoards.{GamesHave, games_have, whole_have}
+use Rattle.whole_texts.proofs.FirstBytes.{FirstOf, whole_first, unmarked}
+
+-- a text's lines are one list
+same_lines : (text : List ℕ) (lines others : List Line) → HasLines text lines → HasLines text others → lines ≡ others
+same_lines text lines others one other =
+    let it = text_lines text in
+    (it.one lines false one).0 ∙ sym (it.one others false other).0
+
+pub have_boards : (text : List ℕ) (boards : List Board) (lines : List Line) → TextAnswers text (Ok boards) → HasLines text lines → HaveBoards 0 no_tags lines boards
+have_boards text boards lines answer has =
+    let said = boards_of_lines.said text boards answer in
+    subst (λ l. HaveBoards 0 no_tags l boards) (same_lines text said.0 lines said.1 has) said.2
+
+module _ (text : List ℕ) (lines : List Line) (has : HasLines text lines) where
+  pub lines_follow : Follow false lines false
+  lines_follow = follow has
+
+  pub lines_ended : Ended lines
+  lines_ended = subst AreEnded (rows_are has) (text_ended (without_mark text))
+
+  pub lines_whole : without_mark text ≡ flat_map line_bytes lines
+  lines_whole = sym (bytes_of-lines has ∙ bytes_of-rows (without_mark text))
+
+module _ (text : List ℕ) (boards : List Board) (results : ℕ → Results) (lines : List Line) (answer : TextAnswers text (Ok boards)) (small : AreTricks results) (has : HasLines text lines) where
+  abbrev out : List Line
+  out = whole_lines boards results lines
+
+  games_are : GamesFollow false (games_of lines)
+  games_are = games_follow refl (lines_follow text lines has)
+
+  is_end : IsEnd (first_end lines)
+  is_end = first_ended lines (lines_ended text lines has)
+
+  out_follows : Follow false out false
+  out_follows = whole_follows (first_end lines) results small (enumerate_from 0 boards) (games_of lines) games_are
+
+  pub out_ended : Ended out
+  out_ended =
+      whole_ended (first_end lines) results small is_end (enumerate_from 0 boards) (games_of lines) games_are
+      (subst Ended (sym (games_whole lines)) (lines_ended text lines has))
+
+  out_have : GamesHave 0 no_tags (games_of lines) boards
+  out_have = games_have (have_boards text boards lines answer has)
+
+  pub out_boards : HaveBoards 0 no_tags out boards
+  out_boards = whole_have (first_end lines) results (enumerate_from 0 boards) out_have
+
+  out_first : FirstOf lines out
+  out_first = subst (λ l. FirstOf l out) (games_whole lines) (whole_first (first_end lines) results (enumerate_from 0 boards) out_have games_are)
+
+  pub out_lines : HasLines (mark_of text ++ flat_map line_bytes out) out
+  out_lines =
+      subst (λ t. AreLines false (rows_of t) out false) (sym (unmarked text lines out (lines_whole text lines has) out_ended out_first))
+      (lines_back out out_follows out_ended)
+
+pub keep_boards : KeepBoards
+keep_boards text boards results written answer small whole =
+    subst (λ t. TextAnswers t (Ok boards)) (sym whole.is)
+    (boards_of_lines.says (mark_of text ++ flat_map line_bytes (whole_lines boards results whole.lines)) (whole_lines boards results whole.lines) boards (out_lines text boards results whole.lines answer small whole.read) (out_boards text boards results whole.lines answer small whole.read))

@@ -1,0 +1,3 @@
+pub mod OldTables
+pub mod WholeText
+pub mod Laws

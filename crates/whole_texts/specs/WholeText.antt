@@ -1,0 +1,121 @@
+-- A PBN text as it was read, with the tables of its boards in place of those that it had.
+use Rattle.std.specs.Prelude.{◌≡◌, ℕ, Bool, true, false, List, [], ◌∷◌, ◌++◌, map, is_some, codes}
+use Rattle.std.specs.Prelude.{Option, None, Some, if◌then◌else◌}
+use Rattle.std.specs.List.{flat_map, enumerate_from}
+use Rattle.cards.specs.declared.seats.Seat.{Seat}
+use Rattle.cards.specs.declared.suits.Trump.{Trump}
+use Rattle.pbn_deals.specs.declared.boards.Board.{Board}
+use Rattle.pbn_deals.specs.Pieces.{Piece, Comment, Pair, Data, Kind, Gap, Escaped, OfGame, body_of, Line, line_bytes}
+use Rattle.pbn_deals.specs.Pieces.{ends_with_return, mark_of, HasLines}
+use Rattle.tables.specs.TablesText.{Results, entries, row_text, is_complete, published_count, table_tag}
+use Rattle.tables.specs.TablesText.{incomplete_text, line_feed}
+use Rattle.whole_texts.specs.OldTables.{is_deal_kind, has_deal, left_of}
+
+-- ---- games
+-- the lines of a game, and the line behind them that ends it, if there is one
+pub record Game : Type 0 where
+  pub lines : List Line
+  pub gap : List Line
+
+abbrev pub put_line : Line → List Game → List Game
+put_line line [] = []
+put_line line (game ∷ games) = record { lines = line ∷ game.lines; gap = game.gap } ∷ games
+
+abbrev pub is_gap_kind : Kind → Bool
+is_gap_kind (Gap bytes) = true
+is_gap_kind (Escaped bytes) = false
+is_gap_kind (OfGame pieces) = false
+
+-- the games of a text: the last one goes to its end
+abbrev pub games_of : List Line → List Game
+games_of [] = record { lines = []; gap = [] } ∷ []
+games_of (line ∷ lines) =
+    if is_gap_kind line.kind then (record { lines = []; gap = line ∷ [] } ∷ games_of lines)
+    else put_line line (games_of lines)
+
+-- ---- the section of a board
+-- bytes of section data
+abbrev pub as_data : List ℕ → List Piece
+as_data bytes = map (λ byte. Data (byte ∷ [])) bytes
+
+abbrev pub row_lines : List ℕ → Seat → Trump → Option ℕ → List Line
+row_lines end declarer denomination (Some tricks) =
+    record { kind = OfGame (as_data (row_text declarer denomination tricks)); end = end } ∷ []
+row_lines end declarer denomination None = []
+
+abbrev pub entry_lines : List ℕ → Results → Seat × Trump → List Line
+entry_lines end results entry = row_lines end entry.0 entry.1 (results entry.0 entry.1)
+
+-- the tag pair of a table
+abbrev pub table_pair : Piece
+table_pair =
+    Pair (codes "OptimumResultTable")
+    (codes "Declarer;Denomination" ++ (92 ∷ codes "2R;Result") ++ (92 ∷ codes "2R")) table_tag
+
+-- the table where all twenty results are known, else how many are, in lines with this end
+abbrev pub section_lines : List ℕ → Results → List Line
+section_lines end results =
+    if is_complete results
+    then (record { kind = OfGame (table_pair ∷ []); end = end } ∷ flat_map (entry_lines end results) entries)
+    else (record { kind = OfGame (Comment (incomplete_text (published_count results)) ∷ []); end = end } ∷ [])
+
+-- ---- ends of lines
+-- an end, or another where there is none
+abbrev pub if_none : List ℕ → List ℕ → List ℕ
+if_none other [] = other
+if_none other (byte ∷ bytes) = byte ∷ bytes
+
+-- the end of the first line, if it has one
+abbrev pub first_end : List Line → List ℕ
+first_end [] = line_feed
+first_end (line ∷ lines) = if_none line_feed line.end
+
+-- an end for a line that has none: a carriage return that is the line's own isn't made a part of the end
+abbrev pub new_end : List ℕ → Kind → List ℕ
+new_end end kind = if ends_with_return (body_of kind) then (13 ∷ 10 ∷ []) else end
+
+-- the end of the line of the Deal tag: the one that it gets, where it has none
+abbrev pub deal_end : List ℕ → List Line → List ℕ
+deal_end other [] = other
+deal_end other (line ∷ lines) =
+    if is_deal_kind line.kind then if_none (new_end other line.kind) line.end else deal_end other lines
+
+-- the lines, the last of them with an end
+abbrev pub with_ends : List ℕ → List Line → List Line
+with_ends end [] = []
+with_ends end (line ∷ []) = record { kind = line.kind; end = if_none (new_end end line.kind) line.end } ∷ []
+with_ends end (line ∷ next ∷ lines) = line ∷ with_ends end (next ∷ lines)
+
+-- ---- the whole
+-- what is left of a game whose board has a deal, and the section
+abbrev pub with_section : List ℕ → Results → List Line → List Line
+with_section other results left =
+    with_ends (deal_end other left) left ++ section_lines (deal_end other left) results
+
+-- a game with a Deal tag
+abbrev pub dealt_lines : List ℕ → (ℕ → Results) → List (ℕ × Board) → List Line → List Line
+dealt_lines other results [] lines = left_of lines
+dealt_lines other results (numbered ∷ more) lines =
+    if is_some numbered.1.deal then with_section other (results numbered.0) (left_of lines) else left_of lines
+
+abbrev pub behind : List (ℕ × Board) → List (ℕ × Board)
+behind [] = []
+behind (numbered ∷ more) = more
+
+-- games one after another: those with a Deal tag are the boards', in their order
+abbrev pub games_lines : List ℕ → (ℕ → Results) → List (ℕ × Board) → List Game → List Line
+games_lines other results boards [] = []
+games_lines other results boards (game ∷ games) =
+    if has_deal game.lines
+    then dealt_lines other results boards game.lines ++ (game.gap ++ games_lines other results (behind boards) games)
+    else game.lines ++ (game.gap ++ games_lines other results boards games)
+
+abbrev pub whole_lines : List Board → (ℕ → Results) → List Line → List Line
+whole_lines boards results lines =
+    games_lines (first_end lines) results (enumerate_from 0 boards) (games_of lines)
+
+-- what is written of a text that is read as these boards, with their results
+pub record WholeText (text : List ℕ) (boards : List Board) (results : ℕ → Results) (written : List ℕ) : Type 0 where
+  pub lines : List Line
+  pub read : HasLines text lines
+  pub is : written ≡ mark_of text ++ flat_map line_bytes (whole_lines boards results lines)
