@@ -15,13 +15,13 @@ use Rattle.pbn_deals.proofs.TagParts.{split, split_nowhere, split_at}
 abbrev IsSame : Kind → Kind → Bool → Bool → Type 0
 IsSame kind kind' is_open is_open' = (kind ≡ kind') × (is_open ≡ is_open')
 
-true_or_false : {b : Bool} → b ≡ true → b ≡ false → ⊥
+pub true_or_false : {b : Bool} → b ≡ true → b ≡ false → ⊥
 true_or_false e f = let g : true ≡ false = sym e ∙ f in absurd (cc)
 
 moved : {pieces : List Piece} {is_open : Bool} {rest rest' : List ℕ} → rest ≡ rest' → HasPieces false rest pieces is_open → HasPieces false rest' pieces is_open
 moved {pieces} {is_open} e h = subst (λ t. HasPieces false t pieces is_open) e h
 
-one_line : {is_open last last' : Bool} {line : List ℕ} {kind kind' : Kind} → LineIs is_open line kind last → LineIs is_open line kind' last' → IsSame kind kind' last last'
+pub one_line : {is_open last last' : Bool} {line : List ℕ} {kind kind' : Kind} → LineIs is_open line kind last → LineIs is_open line kind' last' → IsSame kind kind' last last'
 one_line (is_escaped_line e) (is_escaped_line e') = (refl, refl)
 one_line (is_escaped_line e) (is_gap f b) = absurd (true_or_false e f)
 one_line (is_escaped_line e) (is_of_game f b h) = absurd (true_or_false e f)
@@ -113,7 +113,7 @@ joined_more : (byte : ℕ) (part : List ℕ) (parts : List (List ℕ)) → joine
 joined_more byte part [] = refl
 joined_more byte part (next ∷ parts) = refl
 
-split_nonempty : (text : List ℕ) → (first : List ℕ) × (rest : List (List ℕ)) × (slice_split is_line_feed text ≡ first ∷ rest)
+pub split_nonempty : (text : List ℕ) → (first : List ℕ) × (rest : List (List ℕ)) × (slice_split is_line_feed text ≡ first ∷ rest)
 split_nonempty [] = ([], [], refl)
 split_nonempty (byte ∷ bytes) =
     elim (cases_Bool (is_line_feed byte)) [

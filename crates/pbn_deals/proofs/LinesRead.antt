@@ -11,6 +11,7 @@ use Rattle.pbn_deals.specs.Pieces.{Piece, HasPieces, Gap, Escaped, OfGame, LineI
 use Rattle.pbn_deals.specs.LineBoards.{AddsPieces, adds_nothing, adds_silent, HaveBoards, at_text_end, behind_gap, behind_escaped, behind_line, AreBoardsOfLines}
 use Rattle.pbn_deals.proofs.OneAnswer.{one_answer}
 use Rattle.pbn_deals.proofs.PiecesRead.{reads, scans_pieces}
+use Rattle.pbn_deals.proofs.LinesOfText.{true_or_false}
 
 -- ---- the rows of a text are its lines; behind a last line feed stands one line more, without bytes
 abbrev Spell : List Row → List (List ℕ) → Type 0
@@ -60,9 +61,6 @@ last_found {number} count tags {lines} answer e r =
     let none : answer ≡ Ok [] = one_answer (subst (λ l. Answers number None no_tags (count + length (boards_of tags)) l answer) e r) no_line in
     let same : Ok (boards_of tags) ≡ put_boards (boards_of tags) answer = ap Ok (sym (append-nil (boards_of tags))) ∙ sym (ap (put_boards (boards_of tags)) none) in
     subst (λ a. FoundIn false count tags [] a) same (record { lines = []; are = no_more; have = at_text_end })
-
-true_or_false : {b : Bool} → b ≡ true → b ≡ false → ⊥
-true_or_false e f = let g : true ≡ false = sym e ∙ f in absurd (cc)
 
 no_bytes : (text rest : List ℕ) → [] ≡ text ++ 125 ∷ rest → ⊥
 no_bytes [] rest e = absurd (cc)

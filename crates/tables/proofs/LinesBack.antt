@@ -3,23 +3,16 @@ use Rattle.std.proofs.Common.{◌≡◌, ◌≢◌, ℕ, Bool, true, false, List
 use Rattle.std.specs.List.{slice_split, AllByRecursion, All}
 use Rattle.std.proofs.lemmas.List.Elements.{All-from_recursion}
 use Rattle.std.proofs.lemmas.List.Splits.{slice_split_at}
-use Rattle.std.proofs.lemmas.Bool.{cases_Bool, ne_eqb}
+use Rattle.std.proofs.lemmas.Bool.{ne_eqb}
 use Rattle.pbn_deals.specs.Lines.{is_line_feed, without_return, ended, lines_of}
 use Rattle.pbn_deals.specs.Reading.{meaning_of, IsSpace, IsData, Ends, Scans, at_end, at_blank, at_plain}
 use Rattle.pbn_deals.specs.Games.{Tags}
+use Rattle.pbn_deals.proofs.LinesOfText.{split_nonempty}
 
 -- a line that is read as it was printed
 pub record IsLine (line : List ℕ) : Type 0 where
   pub no_feed : All (λ byte. is_line_feed byte ≡ false) line
   pub no_return : without_return line ≡ line
-
-split_nonempty : (text : List ℕ) → (first : List ℕ) × (rest : List (List ℕ)) × (slice_split is_line_feed text ≡ first ∷ rest)
-split_nonempty [] = ([], [], refl)
-split_nonempty (byte ∷ bytes) =
-    elim (cases_Bool (is_line_feed byte)) [
-      | inl t ↦ ([], slice_split is_line_feed bytes, rw t refl)
-      | inr f ↦ let more = split_nonempty bytes in (byte ∷ more.0, more.1, rw (f, more.2) refl)
-    ]
 
 -- the first line of a text, and the lines after it
 pub lines_of-line : (line rest : List ℕ) → IsLine line → lines_of (line ++ 10 ∷ rest) ≡ line ∷ lines_of rest

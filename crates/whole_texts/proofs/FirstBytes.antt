@@ -15,16 +15,10 @@ use Rattle.whole_texts.specs.OldTables.{is_table, left_pieces, table_behind, has
 use Rattle.whole_texts.specs.WholeText.{Game, entry_lines, table_pair, section_lines, deal_end, with_ends, with_section, dealt_lines, behind, games_lines}
 use Rattle.whole_texts.proofs.LeftPieces.{left_bytes, data_stays, open_left}
 use Rattle.whole_texts.proofs.LeftSigns.{starts, starts_not, none_starts, blank_means, means_blank}
-use Rattle.whole_texts.proofs.LeftLines.{Ended, counts_follow, left_follows}
+use Rattle.whole_texts.proofs.LeftLines.{false_unless, Ended, counts_follow, left_follows}
 use Rattle.whole_texts.proofs.WholeLines.{GamesFollow, lines_of_games}
 use Rattle.whole_texts.proofs.SameBoards.{GamesHave, last_game, next_game}
-
-true_or_false : {b : Bool} → b ≡ true → b ≡ false → ⊥
-true_or_false e f = let g : true ≡ false = sym e ∙ f in absurd (cc)
-
-false_unless : (b : Bool) → (b ≡ true → ⊥) → b ≡ false
-false_unless true n = absurd (n refl)
-false_unless false n = refl
+use Rattle.pbn_deals.proofs.LinesOfText.{true_or_false}
 
 -- ---- pieces
 -- the first byte of the mark of UTF-8 is section data

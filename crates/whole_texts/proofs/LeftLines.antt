@@ -14,11 +14,9 @@ use Rattle.tables.specs.TablesText.{incomplete_text}
 use Rattle.whole_texts.specs.OldTables.{left_pieces, table_behind, has_more, without_tables, is_count, is_escaped_kind, without_counts}
 use Rattle.whole_texts.proofs.LeftPieces.{left_bytes, left_outside, open_left}
 use Rattle.whole_texts.proofs.LeftSigns.{still_of_game, not_blank, return_left, return_more, sign_ends, left_return, left_lacks}
+use Rattle.pbn_deals.proofs.LinesOfText.{true_or_false}
 
-true_or_false : {b : Bool} → b ≡ true → b ≡ false → ⊥
-true_or_false e f = let g : true ≡ false = sym e ∙ f in absurd (cc)
-
-false_unless : (b : Bool) → (b ≡ true → ⊥) → b ≡ false
+pub false_unless : (b : Bool) → (b ≡ true → ⊥) → b ≡ false
 false_unless true n = absurd (n refl)
 false_unless false n = refl
 

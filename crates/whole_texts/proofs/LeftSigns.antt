@@ -12,9 +12,7 @@ use Rattle.pbn_deals.proofs.SomePieces.{bytes_of-pieces}
 use Rattle.pbn_deals.proofs.LineParts.{lacks_rest, lacks_front}
 use Rattle.whole_texts.specs.OldTables.{is_table, left_pieces, has_more}
 use Rattle.whole_texts.proofs.LeftPieces.{left_bytes, data_stays}
-
-true_or_false : {b : Bool} → b ≡ true → b ≡ false → ⊥
-true_or_false e f = let g : true ≡ false = sym e ∙ f in absurd (cc)
+use Rattle.pbn_deals.proofs.LinesOfText.{true_or_false}
 
 -- ---- meanings of bytes
 pub blank_means : (byte : ℕ) → is_blank byte ≡ true → meaning_of byte ≡ IsSpace
