@@ -29,3 +29,6 @@ pub mod PiecesRead
 pub mod LinesRead
 pub mod TagMoved
 pub mod RowsBack
+pub mod FirstPiecesOf
+pub mod FirstRows
+pub mod LineStarts

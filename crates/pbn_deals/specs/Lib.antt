@@ -10,6 +10,7 @@ pub mod Lines
 pub mod Reading
 pub mod Pieces
 pub mod LineBoards
+pub mod FirstPieces
 pub mod Printable
 pub mod TwoTexts
 pub mod Views

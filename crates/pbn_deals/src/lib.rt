@@ -12,6 +12,8 @@ mod laws;
 mod letters;
 mod line_cuts;
 mod line_reader;
+mod line_starts;
+mod pieces;
 mod readers;
 mod tags;
 
@@ -23,4 +25,8 @@ pub use laws::{
     boards_are_of_lines, boards_are_printable, one_answer, one_layout, some_answer, some_layout,
     texts_are_lines, texts_are_read_in_turn,
 };
+pub use line_cuts::without_mark;
+pub use line_starts::{LineStart, line_start};
+pub use pieces::{Piece, Row, first_piece, first_row, front_of};
 pub use readers::read_boards;
+pub use tags::is_same_name;

@@ -11,7 +11,7 @@ use crate::tags::split_at_byte;
 const BYTE_ORDER_MARK: &[u8] = b"\xef\xbb\xbf";
 
 /// The text without the byte order mark at its start.
-pub(crate) fn without_mark(text: &[u8]) -> &[u8]
+pub fn without_mark(text: &[u8]) -> &[u8]
     ensures value { result.now ≡ without_mark text.now }
     ensures within { length result.now ≤ length text.now }
 {
@@ -22,7 +22,7 @@ pub(crate) fn without_mark(text: &[u8]) -> &[u8]
 }
 
 /// The line without the carriage return at its end.
-fn without_return(line: &[u8]) -> &[u8]
+pub(crate) fn without_return(line: &[u8]) -> &[u8]
     ensures { result.now ≡ without_return line.now }
 {
     match line {

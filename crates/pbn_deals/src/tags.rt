@@ -3,7 +3,7 @@
 ghost use Rattle.std.specs.Prelude.{◌≡◌, ◌≢◌, ◌≤◌, ◌∷◌, ◌++◌, MatchOption, IfSome, All, length};
 ghost use Rattle.pbn_deals.specs.Letters.{is_letter};
 ghost use Rattle.pbn_deals.specs.Reading.{Lacks};
-ghost use Rattle.pbn_deals.specs.Tags.{is_name_byte, name_front, after_name, is_board, is_deal, is_inherited, tag_of};
+ghost use Rattle.pbn_deals.specs.Tags.{is_name_byte, name_front, after_name, is_board, is_deal, is_inherited, is_same_name, tag_of};
 ghost use Rattle.pbn_deals.specs.Views.{tag_seen};
 
 use crate::hands::after_blanks;
@@ -57,31 +57,36 @@ fn is_letter(capital: u8, byte: u8) -> bool
     byte == capital || byte == capital + 32
 }
 
+/// Whether the name is this one, which is given in capitals, in any case.
+pub fn is_same_name(capitals: &[u8], name: &[u8]) -> bool
+    requires { All (λ capital. capital ≤ 90) capitals.now }
+    ensures { result ≡ is_same_name capitals.now name.now }
+{
+    let mut rest = name;
+    for capital in capitals {
+        let [byte, others @ ..] = rest else {
+            return false;
+        };
+        if !is_letter(*capital, *byte) {
+            return false;
+        }
+        rest = others;
+    }
+    rest.is_empty()
+}
+
 /// Whether the name is `Board`, in any case.
 pub(crate) fn is_board(name: &[u8]) -> bool
     ensures { result ≡ is_board name.now }
 {
-    match name {
-        [b, o, a, r, d] => is_letter(b'B', *b)
-            && is_letter(b'O', *o)
-            && is_letter(b'A', *a)
-            && is_letter(b'R', *r)
-            && is_letter(b'D', *d),
-        _ => false,
-    }
+    is_same_name(b"BOARD", name)
 }
 
 /// Whether the name is `Deal`, in any case.
 pub(crate) fn is_deal(name: &[u8]) -> bool
     ensures { result ≡ is_deal name.now }
 {
-    match name {
-        [d, e, a, l] => is_letter(b'D', *d)
-            && is_letter(b'E', *e)
-            && is_letter(b'A', *a)
-            && is_letter(b'L', *l),
-        _ => false,
-    }
+    is_same_name(b"DEAL", name)
 }
 
 /// Whether the value is handed on from another game.
