@@ -1,5 +1,5 @@
 -- The boards with their places, one by one.
-use Rattle.std.proofs.Common.{◌≡◌, ℕ, ◌+◌, ◌<◌, Bool, true, false, List, length, take, get_or, sym, ◌∙◌, ap, arith, count_by}
+use Rattle.std.proofs.Common.{◌≡◌, ℕ, ◌+◌, ◌<◌, Bool, true, false, List, [], None, length, take, get_or, sym, ◌∙◌, ap, arith, count_by}
 use Rattle.std.specs.List.{enumerate_from}
 use Rattle.std.proofs.lemmas.List.FromFn.{get_or-enumerate_from, length-enumerate_from}
 use Rattle.std.proofs.lemmas.List.Sums.{count_by_more_yes, count_by_more_no}
@@ -19,11 +19,22 @@ module _ (boards : List Board) (results : ℕ → Results) (place : ℕ) (board 
   pub text-at : numbered_text results (get_or (enumerate_from 0 boards) place (0, board)) ≡ board_text board (results place)
   text-at = ap (numbered_text results) at-place
 
-  is_complete-at : (flag : Bool) → is_complete (results place) ≡ flag → is_complete (results (get_or (enumerate_from 0 boards) place (0, board)).0) ≡ flag
-  is_complete-at flag e = ap (λ (numbered : ℕ × Board). is_complete (results numbered.0)) at-place ∙ e
+-- how many of the boards so far have a complete table
+module _ (boards : List Board) (results : ℕ → Results) (place : ℕ) (within : place < length boards) where
+  none : Board
+  none = record { name = []; deal = None }
+
+  is_complete-at : (flag : Bool) → is_complete (results place) ≡ flag → is_complete (results (get_or (enumerate_from 0 boards) place (0, none)).0) ≡ flag
+  is_complete-at flag e =
+      let same : 0 + place ≡ place = omega arith in
+      ap (λ (numbered : ℕ × Board). is_complete (results numbered.0)) (get_or-enumerate_from 0 boards place (0, none) within)
+      ∙ (ap (λ n. is_complete (results n)) same ∙ e)
+
+  place-there : place < length (enumerate_from 0 boards)
+  place-there = omega (arith, within, length-enumerate_from 0 boards)
 
   pub counts-one : is_complete (results place) ≡ true → count_by (λ numbered. is_complete (results numbered.0)) (take (place + 1) (enumerate_from 0 boards)) ≡ count_by (λ numbered. is_complete (results numbered.0)) (take place (enumerate_from 0 boards)) + 1
-  counts-one e = count_by_more_yes (λ (numbered : ℕ × Board). is_complete (results numbered.0)) (enumerate_from 0 boards) place (0, board) place-within (is_complete-at true e)
+  counts-one e = count_by_more_yes (λ (numbered : ℕ × Board). is_complete (results numbered.0)) (enumerate_from 0 boards) place (0, none) place-there (is_complete-at true e)
 
   pub counts-none : is_complete (results place) ≡ false → count_by (λ numbered. is_complete (results numbered.0)) (take (place + 1) (enumerate_from 0 boards)) ≡ count_by (λ numbered. is_complete (results numbered.0)) (take place (enumerate_from 0 boards))
-  counts-none e = count_by_more_no (λ (numbered : ℕ × Board). is_complete (results numbered.0)) (enumerate_from 0 boards) place (0, board) place-within (is_complete-at false e)
+  counts-none e = count_by_more_no (λ (numbered : ℕ × Board). is_complete (results numbered.0)) (enumerate_from 0 boards) place (0, none) place-there (is_complete-at false e)

@@ -18,9 +18,9 @@ pub rows_text-by_declarer : (end : List ℕ) (results : Results) → flat_map (d
 unfolding rows_text
 rows_text-by_declarer end results = flat_map-twice (entry_row end results) entries_of declarers
 
-pub is_complete-short : (results : Results) (m : ℕ) → m ≡ published_count results → m < 20 → is_complete results ≡ false
+pub is_complete-short : (results : Results) (m : ℕ) → m ≡ published_count results → (m ≡ 20 → ⊥) → is_complete results ≡ false
 unfolding is_complete
-is_complete-short results m e h = ne_eqb (published_count results) 20 (λ q. absurd (omega (arith, e, q)))
+is_complete-short results m e h = ne_eqb (published_count results) 20 (λ q. h (e ∙ q))
 
 pub is_complete-full : (results : Results) (m : ℕ) → m ≡ published_count results → m ≡ 20 → is_complete results ≡ true
 unfolding is_complete
@@ -29,7 +29,7 @@ is_complete-full results m e h = eq-eqb (published_count results) 20 (sym e ∙ 
 pub table_text-short : (end : List ℕ) (results : Results) (m : ℕ) → m ≡ published_count results → m < 20 → incomplete_text m ++ end ≡ table_text end results
 unfolding table_text
 table_text-short end results m e h =
-    ap (λ n. incomplete_text n ++ end) e ∙ sym (ap (λ b. cond b ((table_tag ++ end) ++ rows_text end results) (incomplete_text (published_count results) ++ end)) (is_complete-short results m e h))
+    ap (λ n. incomplete_text n ++ end) e ∙ sym (ap (λ b. cond b ((table_tag ++ end) ++ rows_text end results) (incomplete_text (published_count results) ++ end)) (is_complete-short results m e (λ q. absurd (omega (arith, q, h)))))
 
 pub table_text-full : (end : List ℕ) (results : Results) (m : ℕ) → m ≡ published_count results → m ≡ 20 → (table_tag ++ end) ++ rows_text end results ≡ table_text end results
 unfolding table_text

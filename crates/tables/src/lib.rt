@@ -20,4 +20,4 @@ pub use laws::{
 };
 pub use sheet_text::write_sheet;
 pub use sheets::{Report, Sheet};
-pub use tables::write_table;
+pub use tables::{count_complete, write_table};

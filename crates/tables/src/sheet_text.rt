@@ -2,12 +2,12 @@
 
 ghost use Rattle.std.specs.Prelude.{◌≡◌, codes, length, IfOk};
 ghost use Rattle.cards.specs.Devices.{Writes};
-ghost use Rattle.tables.specs.TablesText.{tag_line, deal_value, board_text, is_complete, tables_text, complete_count};
+ghost use Rattle.tables.specs.TablesText.{tag_line, deal_value, board_text, tables_text, complete_count};
 
 use crate::deals::write_layout;
 use crate::pieces::write_pieces;
 use crate::sheets::{Report, Sheet};
-use crate::tables::write_table;
+use crate::tables::{count_complete, write_table};
 use cards::{DeviceFault, Layout, Sink, write_all};
 use pbn_deals::Board;
 
@@ -25,22 +25,19 @@ fn write_deal<S: Sink>(sink: &mut S, deal: &Option<Layout>) -> Result<(), Device
     }
 }
 
-/// Writes a board, and tells whether its table is complete.
+/// Writes a board.
 fn write_board<S: Sink, T: Sheet>(
     sink: &mut S,
     sheet: &T,
     place: usize,
     board: &Board,
-) -> Result<bool, DeviceFault>
-    ensures writes { Writes (S.state sink.old) (S.state sink.new)
-        (board_text board.now (T.results_of sheet.now place)) result }
-    ensures complete { IfOk result (λ complete. complete ≡ is_complete (T.results_of sheet.now place)) }
+) -> Result<(), DeviceFault>
+    ensures { Writes (S.state sink.old) (S.state sink.new) (board_text board.now (T.results_of sheet.now place)) result }
 {
     write_pieces(sink, &[b"[Board \"", board.name.as_bytes(), b"\"]\n"])?;
     write_deal(sink, &board.deal)?;
-    let complete = write_table(sink, sheet, place, b"\n")?;
-    write_all(sink, b"\n")?;
-    Ok(complete)
+    write_table(sink, sheet, place, b"\n")?;
+    write_all(sink, b"\n")
 }
 
 /// Writes the tables of the sheet's boards, and tells how many boards there are and how many of their tables are
@@ -54,14 +51,11 @@ pub fn write_sheet<T: Sheet, S: Sink>(sheet: &T, sink: &mut S) -> Result<Report,
 {
     write_all(sink, b"% PBN 2.1\n")?;
     let boards = sheet.boards();
-    let mut complete = 0;
     for (place, board) in boards.iter().enumerate() {
-        if write_board(sink, sheet, place, board)? {
-            complete += 1;
-        }
+        write_board(sink, sheet, place, board)?;
     }
     Ok(Report {
         boards: boards.len(),
-        complete,
+        complete: count_complete(sheet),
     })
 }

@@ -1,10 +1,10 @@
 //! The table of a board.
 
-ghost use Rattle.std.specs.Prelude.{◌≡◌, ◌<◌, ◌≤◌, ◌++◌, IfOk};
+ghost use Rattle.std.specs.Prelude.{◌≡◌, ◌<◌, ◌≤◌, ◌++◌};
 ghost use Rattle.std.specs.List.{flat_map};
 ghost use Rattle.cards.specs.Devices.{Writes};
 ghost use Rattle.tables.specs.TablesText.{entry_row, entries_of, rows_text, table_text};
-ghost use Rattle.tables.specs.TablesText.{published_among, published_count, is_complete, incomplete_text};
+ghost use Rattle.tables.specs.TablesText.{published_among, published_count, complete_count, incomplete_text};
 
 use crate::pieces::write_line;
 use crate::rows::{two_places, write_row};
@@ -91,25 +91,33 @@ fn write_incomplete<S: Sink>(sink: &mut S, published: u8, end: &[u8]) -> Result<
     write_line(sink, &[b"; table incomplete: ", digits, b" of 20"], end)
 }
 
-/// Writes the table of a board of the sheet, by its place from 0, each line with this end, and tells whether it is
-/// complete. After a fault of the sink a beginning of the text has gone out. Takes no memory.
+/// How many boards of the sheet have all twenty results.
+pub fn count_complete<T: Sheet>(sheet: &T) -> usize
+    ensures { result ≡ complete_count (T.boards_of sheet.now) (T.results_of sheet.now) }
+{
+    let mut complete = 0;
+    for place in 0..sheet.boards().len() {
+        if count_results(sheet, place) == 20 {
+            complete += 1;
+        }
+    }
+    complete
+}
+
+/// Writes the table of a board of the sheet, by its place from 0, each line with this end. After a fault of the sink a
+/// beginning of the text has gone out. Takes no memory.
 pub fn write_table<S: Sink, T: Sheet>(
     sink: &mut S,
     sheet: &T,
     board: usize,
     end: &[u8],
-) -> Result<bool, DeviceFault>
-    ensures writes { Writes (S.state sink.old) (S.state sink.new)
-        (table_text end.now (T.results_of sheet.now board)) result }
-    ensures complete { IfOk result (λ complete. complete ≡ is_complete (T.results_of sheet.now board)) }
+) -> Result<(), DeviceFault>
+    ensures { Writes (S.state sink.old) (S.state sink.new) (table_text end.now (T.results_of sheet.now board)) result }
 {
     let published = count_results(sheet, board);
-    let is_short = published < 20;
-    if is_short {
-        write_incomplete(sink, published, end)?;
-        return Ok(false);
+    if published < 20 {
+        return write_incomplete(sink, published, end);
     }
     write_line(sink, &[TABLE_TAG], end)?;
-    write_rows(sink, sheet, board, end)?;
-    Ok(true)
+    write_rows(sink, sheet, board, end)
 }

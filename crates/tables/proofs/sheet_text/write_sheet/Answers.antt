@@ -1,13 +1,11 @@
-use Rattle.std.proofs.Common.{ℕ, ◌∙◌, sym, ap, arith, rules, take_all, count_by}
+use Rattle.std.proofs.Common.{arith, rules}
 use Rattle.std.specs.List.{flat_map, enumerate_from}
 use Rattle.std.proofs.lemmas.List.FromFn.{length-enumerate_from}
 use Rattle.cards.proofs.DeviceLemmas.{Adds-twice}
 use Rattle.cards.proofs.WriteLemmas.{AddsBeginning-stop, AddsBeginning-then, Adds-piece, AddsBeginning-piece, Writes-err, pieces-all}
-use Rattle.pbn_deals.specs.declared.boards.Board.{Board}
-use Rattle.tables.specs.TablesText.{numbered_text, tables_text, is_complete, complete_count}
-use Rattle.tables.proofs.BoardLemmas.{place-within, text-at, counts-one, counts-none}
+use Rattle.tables.specs.TablesText.{numbered_text, tables_text}
+use Rattle.tables.proofs.BoardLemmas.{place-within, text-at}
 use Rattle.tables.proofs.sheet_text.write_sheet.Goals as goal
-use Rattle.tables.proofs.sheet_text.write_sheet.Goals.{then-branch, else-branch}
 
 pub returns-in_err-write_all-clause-writes : goal.returns-in_err-write_all-clause-writes
 unfolding tables_text
@@ -28,7 +26,7 @@ returns-in_err-write_board-clause-writes g c =
     (Writes-err c.from_residual-in_err-write_board.result _ c.from_residual-in_err-write_board.ensures.1
     (AddsBeginning-then c.loop-place.invariant.first_line
     (AddsBeginning-piece (numbered_text results) (enumerate_from 0 boards) place (0, board) (place-within boards results place board (omega arith) c.index-boards-place.is) c.loop-place.invariant.wrote
-    (rw (text-at boards results place board (omega arith) c.index-boards-place.is) c.in_err-write_board.ensures.writes))))
+    (rw (text-at boards results place board (omega arith) c.index-boards-place.is) c.in_err-write_board.ensures))))
 
 pub loop-place-preserved : goal.loop-place-preserved
 loop-place-preserved g c =
@@ -42,12 +40,7 @@ loop-place-preserved g c =
       begun = inv.begun;
       first_line = inv.first_line;
       wrote = Adds-piece (numbered_text results) (enumerate_from 0 boards) place (0, board) (place-within boards results place board (omega arith) is) inv.wrote
-          (rw (text-at boards results place board (omega arith) is) c.in_ok-write_board.ensures.writes);
-      counted = elim c.if-branch.branch [
-        | then-branch w ↦ let one = counts-one boards results place board (omega arith) is (sym c.in_ok-write_board.ensures.complete ∙ w.if-branch.true) in omega (arith, one)
-        | else-branch w ↦ let none = counts-none boards results place board (omega arith) is (sym c.in_ok-write_board.ensures.complete ∙ w.if-branch.false) in omega (arith, none)
-      ];
-      bound = elim c.if-branch.branch [ then-branch w ↦ omega arith | else-branch w ↦ omega arith ];
+          (rw (text-at boards results place board (omega arith) is) c.in_ok-write_board.ensures);
     }
 
 pub returns-clause-writes : goal.returns-clause-writes
@@ -58,14 +51,6 @@ returns-clause-writes g c =
     let inv = c.loop-place.invariant in
     let all = pieces-all (numbered_text results) (enumerate_from 0 boards) c.loop-place.place (omega (arith, length-enumerate_from 0 boards)) in
     rw (← c.boards-boards.ensures) (Adds-twice inv.first_line (rw all at inv.wrote))
-
-pub returns-clause-complete : goal.returns-clause-complete
-unfolding complete_count
-returns-clause-complete g c =
-    let boards = c.boards-boards.result.now in
-    let results = g.T.Sheet.results_of c.args.sheet.now in
-    let all = take_all c.loop-place.place (enumerate_from 0 boards) (omega (arith, length-enumerate_from 0 boards)) in
-    rw (← c.boards-boards.ensures) (c.loop-place.invariant.counted ∙ ap (count_by (λ (numbered : ℕ × Board). is_complete (results numbered.0))) all)
 
 pub loop-place-init : goal.loop-place-init
 loop-place-init g c = search rules

@@ -1,8 +1,8 @@
--- The first line and the boards so far have gone out, and those with a complete table are counted.
-use Rattle.std.proofs.Common.{◌≡◌, ◌≤◌, take, count_by, codes}
+-- The first line and the boards so far have gone out.
+use Rattle.std.proofs.Common.{take, codes}
 use Rattle.std.specs.List.{flat_map, enumerate_from}
 use Rattle.cards.specs.Devices.{Device, Adds}
-use Rattle.tables.specs.TablesText.{ended_line, numbered_text, is_complete}
+use Rattle.tables.specs.TablesText.{ended_line, numbered_text}
 use Rattle.tables.proofs.sheet_text.write_sheet.Given as goal
 
 abbrev pub invariant-loop-place : goal.invariant-loop-place
@@ -10,6 +10,4 @@ invariant-loop-place g l = record {
   begun : Device;
   first_line : Adds (g.S.Sink.state l.fn.sink) begun (ended_line (codes "% PBN 2.1"));
   wrote : Adds begun (g.S.Sink.state l.sink) (flat_map (numbered_text (g.T.Sheet.results_of l.sheet)) (take l.place (enumerate_from 0 l.boards)));
-  counted : l.complete ≡ count_by (λ numbered. is_complete (g.T.Sheet.results_of l.sheet numbered.0)) (take l.place (enumerate_from 0 l.boards));
-  bound : l.complete ≤ l.place;
 }
