@@ -12,16 +12,16 @@ use Rattle.pbn_deals.proofs.RowsBack.{IsEnded, row_of}
 use Rattle.tables.specs.TablesText.{Results}
 use Rattle.whole_texts.specs.OldTables.{is_table, left_pieces, has_more, put_left, table_behind_line, without_tables, is_count, is_escaped_kind, without_counts, left_of, is_deal_pair, is_deal_kind, has_deal}
 use Rattle.whole_texts.specs.WholeText.{Game, put_line, games_of, section_lines, if_none, first_end, new_end, deal_end, with_ends, with_section, dealt_lines, behind, games_lines, whole_lines}
-use Rattle.whole_texts.specs.Laws.{StayTheSame}
+use Rattle.whole_texts.specs.Laws.{StayTheSame, IsLineEnd}
 use Rattle.whole_texts.proofs.LeftLines.{Ended}
-use Rattle.whole_texts.proofs.SectionLines.{IsEnd, AllEnded}
+use Rattle.whole_texts.proofs.SectionLines.{AllEnded}
 use Rattle.whole_texts.proofs.WholeLines.{GamesFollow, games_follow, games_whole, lines_of_games, given_ends, deal_ended, left_of_ended, first_ended, ended_split}
 use Rattle.whole_texts.proofs.SameBoards.{no_deal, AddsLines, adds_none, adds_escaped, adds_line, dealt_adds, GamesHave, last_game, next_game, games_have}
 use Rattle.whole_texts.proofs.CleanLines.{left_of_clean, ends_clean, counts_twice, counts_ends, section_goes, left_twice}
 use Rattle.whole_texts.proofs.WrittenLines.{have_boards, lines_follow, lines_ended, lines_whole, out_lines}
 
 -- ---- the Deal tag stays
-left_deal : (in_table : Bool) (pieces : List Piece) → list_any is_deal_pair pieces ≡ true → (list_any is_deal_pair (left_pieces in_table pieces) ≡ true) × (has_more (left_pieces in_table pieces) ≡ true)
+pub left_deal : (in_table : Bool) (pieces : List Piece) → list_any is_deal_pair pieces ≡ true → (list_any is_deal_pair (left_pieces in_table pieces) ≡ true) × (has_more (left_pieces in_table pieces) ≡ true)
 left_deal in_table [] e = absurd (cc)
 left_deal in_table (Space byte ∷ pieces) e = left_deal in_table pieces e
 left_deal in_table (Comment bytes ∷ pieces) e = ((left_deal in_table pieces e).0, refl)
@@ -56,7 +56,7 @@ tables_deal : (in_table : Bool) (lines : List Line) → any_deal lines ≡ true 
 tables_deal in_table [] e = e
 tables_deal in_table (line ∷ lines) e = put_deal in_table line.kind line.end lines (without_tables (table_behind_line in_table line.kind) lines) e (tables_deal (table_behind_line in_table line.kind) lines)
 
-count_no_deal : (kind : Kind) → is_count kind ≡ true → is_deal_kind kind ≡ false
+pub count_no_deal : (kind : Kind) → is_count kind ≡ true → is_deal_kind kind ≡ false
 count_no_deal (OfGame (Comment bytes ∷ [])) e = refl
 count_no_deal (Gap bytes) e = refl
 count_no_deal (Escaped bytes) e = refl
@@ -105,11 +105,11 @@ dealt_deal other results (numbered ∷ more) lines e = go (is_some numbered.1.de
 
 -- ---- ends
 -- an end that a line has
-has_end : (other end : List ℕ) → IsEnd end → if_none other end ≡ end
+pub has_end : (other end : List ℕ) → IsLineEnd end → if_none other end ≡ end
 has_end other end (inl e) = ap (if_none other) e ∙ sym e
 has_end other end (inr e) = ap (if_none other) e ∙ sym e
 
-row_end : (line : Line) → IsEnded (row_of line) → IsEnd line.end
+pub row_end : (line : Line) → IsEnded (row_of line) → IsLineEnd line.end
 row_end line (lacks, inl e) = inl e
 row_end line (lacks, inr (e, n)) = inr e
 
@@ -118,20 +118,20 @@ ends_stay end [] h = refl
 ends_stay end (line ∷ []) h = ap (λ e. record { kind = line.kind; end = e } ∷ []) (has_end (new_end end line.kind) line.end (row_end line h.0))
 ends_stay end (line ∷ next ∷ lines) h = ap (λ l. line ∷ l) (ends_stay end (next ∷ lines) h.1)
 
-new_again : (other : List ℕ) (kind : Kind) → new_end (new_end other kind) kind ≡ new_end other kind
+pub new_again : (other : List ℕ) (kind : Kind) → new_end (new_end other kind) kind ≡ new_end other kind
 new_again other kind = go (ends_with_return (body_of kind)) where
   go : (b : Bool) → cond b (13 ∷ 10 ∷ []) (cond b (13 ∷ 10 ∷ []) other) ≡ cond b (13 ∷ 10 ∷ []) other
   go true = refl
   go false = refl
 
-new_is_end : (other : List ℕ) (kind : Kind) → IsEnd other → IsEnd (new_end other kind)
+new_is_end : (other : List ℕ) (kind : Kind) → IsLineEnd other → IsLineEnd (new_end other kind)
 new_is_end other kind e = go (ends_with_return (body_of kind)) where
-  go : (b : Bool) → IsEnd (cond b (13 ∷ 10 ∷ []) other)
+  go : (b : Bool) → IsLineEnd (cond b (13 ∷ 10 ∷ []) other)
   go true = inl refl
   go false = e
 
 -- the last line
-last_again : (other other' : List ℕ) (line : Line) → IsEnd other → Ended (line ∷ []) → if_none (new_end other' line.kind) (if_none (new_end (if_none (new_end other line.kind) line.end) line.kind) line.end) ≡ if_none (new_end other line.kind) line.end
+last_again : (other other' : List ℕ) (line : Line) → IsLineEnd other → Ended (line ∷ []) → if_none (new_end other' line.kind) (if_none (new_end (if_none (new_end other line.kind) line.end) line.kind) line.end) ≡ if_none (new_end other line.kind) line.end
 last_again other other' line e (inl (is, more)) =
     let own = row_end line is in
     ap (if_none (new_end other' line.kind)) (has_end (new_end (if_none (new_end other line.kind) line.end) line.kind) line.end own) ∙ (has_end (new_end other' line.kind) line.end own ∙ sym (has_end (new_end other line.kind) line.end own))
@@ -141,7 +141,7 @@ last_again other other' line e (inr ((lacks, none, w), m)) =
     ap (λ x. if_none (new_end (if_none given x) line.kind) x) none ∙ new_again other line.kind in
     ap (if_none (new_end other' line.kind)) first ∙ (has_end (new_end other' line.kind) given (new_is_end other line.kind e) ∙ sym (ap (if_none given) none))
 
-deal_again : (other other' : List ℕ) (lines : List Line) → IsEnd other → Ended lines → any_deal lines ≡ true → deal_end other' (with_ends (deal_end other lines) lines) ≡ deal_end other lines
+deal_again : (other other' : List ℕ) (lines : List Line) → IsLineEnd other → Ended lines → any_deal lines ≡ true → deal_end other' (with_ends (deal_end other lines) lines) ≡ deal_end other lines
 deal_again other other' [] e h d = absurd (cc)
 deal_again other other' (line ∷ []) e h d = go (is_deal_kind line.kind) d where
   go : (b : Bool) → (b || false) ≡ true → cond b (if_none (new_end other' line.kind) (if_none (new_end (cond b (if_none (new_end other line.kind) line.end) other) line.kind) line.end)) other' ≡ cond b (if_none (new_end other line.kind) line.end) other
@@ -157,7 +157,7 @@ deal_again other other' (line ∷ next ∷ lines) e (inl (is, more)) d = go (is_
   go false f later = later f
 
 -- ---- a game with a Deal tag
-dealt_again : (other other' : List ℕ) (results : ℕ → Results) (boards : List (ℕ × Board)) (lines : List Line) → IsEnd other → Ended (left_of lines) → has_deal lines ≡ true → dealt_lines other' results boards (dealt_lines other results boards lines) ≡ dealt_lines other results boards lines
+dealt_again : (other other' : List ℕ) (results : ℕ → Results) (boards : List (ℕ × Board)) (lines : List Line) → IsLineEnd other → Ended (left_of lines) → has_deal lines ≡ true → dealt_lines other' results boards (dealt_lines other results boards lines) ≡ dealt_lines other results boards lines
 dealt_again other other' results [] lines e h d = left_twice lines
 dealt_again other other' results (numbered ∷ more) lines e h d = go (is_some numbered.1.deal) where
   those : Results
@@ -172,7 +172,7 @@ dealt_again other other' results (numbered ∷ more) lines e h d = go (is_some n
   kept : List Line
   kept = with_ends end left
 
-  is_end : IsEnd end
+  is_end : IsLineEnd end
   is_end = deal_ended other left e h
 
   goes : left_of (kept ++ section_lines end those) ≡ kept
@@ -239,7 +239,7 @@ abbrev pub GamesEnded : List Game → Type 0
 GamesEnded [] = Unit {0}
 GamesEnded (game ∷ games) = Ended (left_of game.lines) × GamesEnded games
 
-again_lines : (other other' : List ℕ) (results : ℕ → Results) (boards : List (ℕ × Board)) (games : List Game) → IsEnd other → GamesEnded games → games_lines other' results boards (games_written other results boards games) ≡ games_lines other results boards games
+again_lines : (other other' : List ℕ) (results : ℕ → Results) (boards : List (ℕ × Board)) (games : List Game) → IsLineEnd other → GamesEnded games → games_lines other' results boards (games_written other results boards games) ≡ games_lines other results boards games
 again_lines other other' results boards [] e h = refl
 again_lines other other' results boards (game ∷ games) e h = go (has_deal game.lines) refl (again_lines other other' results (behind boards) games e h.1) (again_lines other other' results boards games e h.1) where
   go : (b : Bool) → has_deal game.lines ≡ b → games_lines other' results (behind boards) (games_written other results (behind boards) games) ≡ games_lines other results (behind boards) games → games_lines other' results boards (games_written other results boards games) ≡ games_lines other results boards games → games_lines other' results boards (record { lines = cond b (dealt_lines other results boards game.lines) game.lines; gap = game.gap } ∷ games_written other results (cond b (behind boards) boards) games) ≡ cond b (dealt_lines other results boards game.lines ++ (game.gap ++ games_lines other results (behind boards) games)) (game.lines ++ (game.gap ++ games_lines other results boards games))
@@ -256,14 +256,14 @@ all_of : (lines : List Line) → AllEnded lines → Ended lines
 all_of [] h = tt
 all_of (line ∷ lines) h = inl (h.0, all_of lines h.1)
 
-front_ended : (lines others : List Line) → Ended (lines ++ others) → Ended lines
+pub front_ended : (lines others : List Line) → Ended (lines ++ others) → Ended lines
 front_ended lines others h =
     elim (ended_split lines others h) [
       | inl both ↦ all_of lines both.0
       | inr both ↦ both.0
     ]
 
-back_ended : (lines others : List Line) → Ended (lines ++ others) → Ended others
+pub back_ended : (lines others : List Line) → Ended (lines ++ others) → Ended others
 back_ended lines others h =
     elim (ended_split lines others h) [
       | inl both ↦ both.1

@@ -10,3 +10,15 @@ pub mod CleanLines
 pub mod AgainSame
 pub mod NothingLost
 pub mod ShownOnce
+pub mod CountTexts
+pub mod LeftKinds
+pub mod FactsOf
+pub mod EndsBytes
+pub mod LineCuts
+pub mod SolidLines
+pub mod DealLines
+pub mod Gone
+pub mod PiecesGo
+pub mod LinesGo
+pub mod Surveys
+pub mod GamesGo

@@ -1,5 +1,5 @@
 -- The lines of a section can stand in a text, and are read as what they are.
-use Rattle.std.proofs.Common.{◌≡◌, ◌≢◌, ℕ, ◌≤◌, Bool, true, false, cond, List, [], ◌∷◌, ◌++◌, Option, Some, None, refl, sym, ◌∙◌, ap, subst, flat_map, inl, inr, ◌⊎◌}
+use Rattle.std.proofs.Common.{◌≡◌, ◌≢◌, ℕ, ◌≤◌, Bool, true, false, cond, List, [], ◌∷◌, ◌++◌, Option, Some, None, refl, sym, ◌∙◌, ap, subst, flat_map, inl, inr}
 use Rattle.std.specs.Prelude.{codes, IfSome}
 use Rattle.std.proofs.lemmas.Bool.{eqb-false, cases_Bool}
 use Rattle.std.proofs.lemmas.List.Elements.{All-weaker}
@@ -16,11 +16,8 @@ use Rattle.tables.proofs.LinesBack.{IsLine, IsQuiet}
 use Rattle.tables.proofs.CalmTexts.{IsQuiet-from_calm}
 use Rattle.tables.proofs.BoardsBack.{row_text-calm, row-idle, table_tag-idle, incomplete-idle, published_count-le}
 use Rattle.tables.proofs.PageLines.{AreSmall}
+use Rattle.whole_texts.specs.Laws.{IsLineEnd}
 use Rattle.whole_texts.specs.WholeText.{as_data, row_lines, entry_lines, table_pair, section_lines}
-
--- ---- ends of lines
-abbrev pub IsEnd : List ℕ → Type 0
-IsEnd end = (end ≡ 13 ∷ 10 ∷ []) ⊎ (end ≡ 10 ∷ [])
 
 abbrev pub AllEnded : List Line → Type 0
 AllEnded [] = Unit {0}
@@ -36,7 +33,7 @@ return_shortens (byte ∷ []) e f = let none : [] ≡ byte ∷ [] = sym (ap (λ 
 return_shortens (byte ∷ other ∷ bytes) e f = let tails : without_return (other ∷ bytes) ≡ other ∷ bytes = cc in return_shortens (other ∷ bytes) e tails
 
 -- a line that is read as it was printed, with an end
-pub printed_ended : (line end : List ℕ) → IsLine line → IsEnd end → IsEnded (record { bytes = line; end = end })
+pub printed_ended : (line end : List ℕ) → IsLine line → IsLineEnd end → IsEnded (record { bytes = line; end = end })
 printed_ended line end is e =
     let lacks : Lacks 10 line = All-weaker (λ byte. is_line_feed byte ≡ false) (λ byte. byte ≢ 10) (λ byte n. eqb-false byte 10 n) line is.no_feed in
     let stays : ends_with_return line ≡ false = elim (cases_Bool (ends_with_return line)) [ inl t ↦ absurd (return_shortens line t is.no_return) | inr f ↦ f ] in
@@ -100,7 +97,7 @@ section_follows end results small = go (is_complete results) where
   go true = follow_line table_line (rows_follow end results entries small)
   go false = follow_line (count_line (published_count results)) follow_none
 
-rows_ended : (end : List ℕ) (results : Results) (some : List (Seat × Trump)) → IsEnd end → AreSmall results → AllEnded (flat_map (entry_lines end results) some)
+rows_ended : (end : List ℕ) (results : Results) (some : List (Seat × Trump)) → IsLineEnd end → AreSmall results → AllEnded (flat_map (entry_lines end results) some)
 rows_ended end results [] e small = tt
 rows_ended end results (entry ∷ some) e small = go (results entry.0 entry.1) (small entry.0 entry.1) (rows_ended end results some e small) where
   go : (result : Option ℕ) → IfSome result (λ tricks. tricks ≤ 13) → AllEnded (flat_map (entry_lines end results) some) → AllEnded (row_lines end entry.0 entry.1 result ++ flat_map (entry_lines end results) some)
@@ -110,7 +107,7 @@ rows_ended end results (entry ∷ some) e small = go (results entry.0 entry.1) (
       let ended = printed_ended text end (row-idle entry.0 entry.1 tricks h).as_line e in
       (subst (λ b. IsEnded (record { bytes = b; end = end })) (sym (body_of-line (row_line entry.0 entry.1 tricks h))) ended, more)
 
-pub section_ended : (end : List ℕ) (results : Results) → IsEnd end → AreSmall results → AllEnded (section_lines end results)
+pub section_ended : (end : List ℕ) (results : Results) → IsLineEnd end → AreSmall results → AllEnded (section_lines end results)
 section_ended end results e small = go (is_complete results) where
   count : ℕ
   count = published_count results

@@ -6,10 +6,11 @@ use Rattle.pbn_deals.specs.Pieces.{Piece, bytes_of, ends_with_return, Kind, OfGa
 use Rattle.pbn_deals.proofs.RowsBack.{IsEnded, row_of, Follow, follow_none, follow_line, follow_append}
 use Rattle.tables.specs.TablesText.{Results, line_feed}
 use Rattle.tables.proofs.PageLines.{AreSmall}
+use Rattle.whole_texts.specs.Laws.{IsLineEnd}
 use Rattle.whole_texts.specs.OldTables.{left_pieces, table_behind, has_more, without_tables, is_count, is_escaped_kind, without_counts, left_of, is_deal_kind, has_deal}
 use Rattle.whole_texts.specs.WholeText.{Game, put_line, is_gap_kind, games_of, section_lines, if_none, first_end, new_end, deal_end, with_ends, with_section, dealt_lines, behind, games_lines}
 use Rattle.whole_texts.proofs.LeftLines.{Ended, left_follows, left_ended, counts_follow, counts_ended, ended_line}
-use Rattle.whole_texts.proofs.SectionLines.{IsEnd, AllEnded, all_append, section_follows, section_ended}
+use Rattle.whole_texts.proofs.SectionLines.{AllEnded, all_append, section_follows, section_ended}
 
 -- ---- what is left of a game
 pub left_of_follows : {lines : List Line} → Follow false lines false → Follow false (left_of lines) false
@@ -49,48 +50,48 @@ ends_follow end follow_none = follow_none
 ends_follow end (follow_line l follow_none) = follow_line l follow_none
 ends_follow end (follow_line l (follow_line l' r)) = follow_line l (ends_follow end (follow_line l' r))
 
-new_ended : (end : List ℕ) (kind : Kind) → IsEnd end → IsEnd (new_end end kind)
+new_ended : (end : List ℕ) (kind : Kind) → IsLineEnd end → IsLineEnd (new_end end kind)
 new_ended end kind e = go (ends_with_return (body_of kind)) where
-  go : (b : Bool) → IsEnd (cond b (13 ∷ 10 ∷ []) end)
+  go : (b : Bool) → IsLineEnd (cond b (13 ∷ 10 ∷ []) end)
   go true = inl refl
   go false = e
 
 -- a line that had no end
-given_end : (end : List ℕ) (line : Line) → IsEnd end → (n : List ℕ) → n ≡ new_end end line.kind → (b : Bool) → ends_with_return (body_of line.kind) ≡ b → (n ≡ 13 ∷ 10 ∷ []) ⊎ ((n ≡ 10 ∷ []) × (ends_with_return (body_of line.kind) ≡ false))
+given_end : (end : List ℕ) (line : Line) → IsLineEnd end → (n : List ℕ) → n ≡ new_end end line.kind → (b : Bool) → ends_with_return (body_of line.kind) ≡ b → (n ≡ 13 ∷ 10 ∷ []) ⊎ ((n ≡ 10 ∷ []) × (ends_with_return (body_of line.kind) ≡ false))
 given_end end line e n is true r = inl (is ∙ ap (λ b. cond b (13 ∷ 10 ∷ []) end) r)
 given_end end line (inl e) n is false r = inl (is ∙ (ap (λ b. cond b (13 ∷ 10 ∷ []) end) r ∙ e))
 given_end end line (inr e) n is false r = inr (is ∙ (ap (λ b. cond b (13 ∷ 10 ∷ []) end) r ∙ e), r)
 
-last_given : (end : List ℕ) (line : Line) → IsEnd end → Ended (line ∷ []) → IsEnded (record { bytes = body_of line.kind; end = if_none (new_end end line.kind) line.end })
+last_given : (end : List ℕ) (line : Line) → IsLineEnd end → Ended (line ∷ []) → IsEnded (record { bytes = body_of line.kind; end = if_none (new_end end line.kind) line.end })
 last_given end line e (inl ((lacks, inl r), more)) = (lacks, inl (ap (if_none (new_end end line.kind)) r))
 last_given end line e (inl ((lacks, inr (f, n)), more)) = (lacks, inr (ap (if_none (new_end end line.kind)) f, n))
 last_given end line e (inr ((lacks, none, w), m)) =
     (lacks, given_end end line e (if_none (new_end end line.kind) line.end) (ap (if_none (new_end end line.kind)) none) (ends_with_return (body_of line.kind)) refl)
 
-pub given_ends : (end : List ℕ) (lines : List Line) → IsEnd end → Ended lines → AllEnded (with_ends end lines)
+pub given_ends : (end : List ℕ) (lines : List Line) → IsLineEnd end → Ended lines → AllEnded (with_ends end lines)
 given_ends end [] e h = tt
 given_ends end (line ∷ []) e h = (last_given end line e h, tt)
 given_ends end (line ∷ next ∷ lines) e (inl (is, more)) = (is, given_ends end (next ∷ lines) e more)
 given_ends end (line ∷ next ∷ lines) e (inr (u, n)) = absurd (cc)
 
-some_end : (other : List ℕ) (line : Line) → IsEnd other → (lines : List Line) → Ended (line ∷ lines) → IsEnd (if_none other line.end)
+some_end : (other : List ℕ) (line : Line) → IsLineEnd other → (lines : List Line) → Ended (line ∷ lines) → IsLineEnd (if_none other line.end)
 some_end other line e lines (inl ((lacks, inl r), more)) = inl (ap (if_none other) r)
 some_end other line e lines (inl ((lacks, inr (f, n)), more)) = inr (ap (if_none other) f)
-some_end other line e lines (inr ((lacks, none, w), m)) = subst (λ x. IsEnd (if_none other x)) (sym none) e
+some_end other line e lines (inr ((lacks, none, w), m)) = subst (λ x. IsLineEnd (if_none other x)) (sym none) e
 
-tail_ended : (line : Line) (lines : List Line) → Ended (line ∷ lines) → Ended lines
+pub tail_ended : (line : Line) (lines : List Line) → Ended (line ∷ lines) → Ended lines
 tail_ended line lines (inl (is, more)) = more
 tail_ended line [] (inr (u, n)) = tt
 tail_ended line (next ∷ lines) (inr (u, n)) = absurd (cc)
 
-pub deal_ended : (other : List ℕ) (lines : List Line) → IsEnd other → Ended lines → IsEnd (deal_end other lines)
+pub deal_ended : (other : List ℕ) (lines : List Line) → IsLineEnd other → Ended lines → IsLineEnd (deal_end other lines)
 deal_ended other [] e h = e
 deal_ended other (line ∷ lines) e h = go (is_deal_kind line.kind) (deal_ended other lines e (tail_ended line lines h)) where
-  go : (b : Bool) → IsEnd (deal_end other lines) → IsEnd (cond b (if_none (new_end other line.kind) line.end) (deal_end other lines))
+  go : (b : Bool) → IsLineEnd (deal_end other lines) → IsLineEnd (cond b (if_none (new_end other line.kind) line.end) (deal_end other lines))
   go true more = some_end (new_end other line.kind) line (new_ended other line.kind e) lines h
   go false more = more
 
-pub first_ended : (lines : List Line) → Ended lines → IsEnd (first_end lines)
+pub first_ended : (lines : List Line) → Ended lines → IsLineEnd (first_end lines)
 first_ended [] h = inr refl
 first_ended (line ∷ lines) h = some_end line_feed line (inr refl) lines h
 
@@ -171,7 +172,7 @@ module _ (other : List ℕ) (results : ℕ → Results) (small : AreSmallAll res
     go true next same = follow_append (dealt_follows boards h.0) (follow_append h.1 next)
     go false next same = follow_append h.0 (follow_append h.1 same)
 
-  module _ (is_end : IsEnd other) where
+  module _ (is_end : IsLineEnd other) where
     section_all : (place : ℕ) {lines : List Line} → Follow false lines false → Ended lines → AllEnded (with_section other (results place) (left_of lines))
     section_all place {lines} f h =
         let left = left_of_ended f h in

@@ -1,5 +1,5 @@
 -- What is written of a text has the lines that were meant.
-use Rattle.std.proofs.Common.{◌≡◌, ℕ, false, List, ◌++◌, Ok, refl, sym, ◌∙◌, subst, flat_map}
+use Rattle.std.proofs.Common.{◌≡◌, ℕ, false, List, ◌++◌, Ok, refl, sym, ◌∙◌, ap, subst, flat_map}
 use Rattle.std.specs.List.{enumerate_from}
 use Rattle.pbn_deals.specs.declared.boards.Board.{Board}
 use Rattle.pbn_deals.specs.Games.{no_tags}
@@ -13,15 +13,14 @@ use Rattle.pbn_deals.proofs.RowsBack.{AreEnded, text_ended, Follow, follow, rows
 use Rattle.tables.specs.TablesText.{Results}
 use Rattle.tables.specs.ReadBack.{AreTricks}
 use Rattle.whole_texts.specs.WholeText.{games_of, first_end, whole_lines}
-use Rattle.whole_texts.specs.Laws.{KeepBoards}
+use Rattle.whole_texts.specs.Laws.{AreWrittenOne, KeepBoards, IsLineEnd}
 use Rattle.whole_texts.proofs.LeftLines.{Ended}
-use Rattle.whole_texts.proofs.SectionLines.{IsEnd}
 use Rattle.whole_texts.proofs.WholeLines.{GamesFollow, games_follow, games_whole, first_ended, whole_follows, whole_ended}
 use Rattle.whole_texts.proofs.SameBoards.{GamesHave, games_have, whole_have}
 use Rattle.whole_texts.proofs.FirstBytes.{FirstOf, whole_first, unmarked}
 
 -- a text's lines are one list
-same_lines : (text : List ℕ) (lines others : List Line) → HasLines text lines → HasLines text others → lines ≡ others
+pub same_lines : (text : List ℕ) (lines others : List Line) → HasLines text lines → HasLines text others → lines ≡ others
 same_lines text lines others one other =
     let it = text_lines text in
     (it.one lines false one).0 ∙ sym (it.one others false other).0
@@ -48,7 +47,7 @@ module _ (text : List ℕ) (boards : List Board) (results : ℕ → Results) (li
   games_are : GamesFollow false (games_of lines)
   games_are = games_follow refl (lines_follow text lines has)
 
-  is_end : IsEnd (first_end lines)
+  is_end : IsLineEnd (first_end lines)
   is_end = first_ended lines (lines_ended text lines has)
 
   out_follows : Follow false out false
@@ -72,6 +71,15 @@ module _ (text : List ℕ) (boards : List Board) (results : ℕ → Results) (li
   out_lines =
       subst (λ t. AreLines false (rows_of t) out false) (sym (unmarked text lines out (lines_whole text lines has) out_ended out_first))
       (lines_back out out_follows out_ended)
+
+pub one_is_written : AreWrittenOne
+one_is_written text boards results answer =
+    let said = boards_of_lines.said text boards answer in
+    record {
+      written = mark_of text ++ flat_map line_bytes (whole_lines boards results said.0);
+      whole = record { lines = said.0; read = said.1; is = refl };
+      one = λ other whole. whole.is ∙ ap (λ l. mark_of text ++ flat_map line_bytes (whole_lines boards results l)) (same_lines text whole.lines said.0 whole.read said.1);
+    }
 
 pub keep_boards : KeepBoards
 keep_boards text boards results written answer small whole =

@@ -12,6 +12,17 @@ use Rattle.tables.specs.WrittenOnce.{SaysResults}
 use Rattle.whole_texts.specs.OldTables.{has_deal, left_of}
 use Rattle.whole_texts.specs.WholeText.{Game, games_of, WholeText}
 
+-- one text is written of each that is read as boards
+pub record IsWrittenOne (text : List ℕ) (boards : List Board) (results : ℕ → Results) : Type 0 where
+  pub written : List ℕ
+  pub whole : WholeText text boards results written
+  pub one : (other : List ℕ) → WholeText text boards results other → other ≡ written
+
+abbrev pub AreWrittenOne : Type 0
+AreWrittenOne =
+    (text : List ℕ) (boards : List Board) (results : ℕ → Results) →
+    TextAnswers text (Ok boards) → IsWrittenOne text boards results
+
 -- what is written is read as the same boards, with the same names and deals
 abbrev pub KeepBoards : Type 0
 KeepBoards =

@@ -1,3 +1,10 @@
 pub mod OldTables
+pub mod Lefts
+pub mod Facts
+pub mod LineFacts
+pub mod LineEnds
+pub mod LeftText
 pub mod WholeText
+pub mod FirstGame
+pub mod WrittenGame
 pub mod Laws

@@ -60,10 +60,13 @@ without_tables in_table (line ∷ lines) =
     put_left in_table line.kind line.end (without_tables (table_behind_line in_table line.kind) lines)
 
 -- ---- lines that tell how many results were known
--- the line `; table incomplete: m of 20`, m below 20, and nothing else in it
+-- the comment `; table incomplete: m of 20`, m below 20
+abbrev pub is_count_text : List ℕ → Bool
+is_count_text bytes = list_any (λ count. bytes_eq bytes (incomplete_text count)) (range_with_len 0 20)
+
+-- such a comment, and nothing else in its line
 abbrev pub is_count : Kind → Bool
-is_count (OfGame (Comment bytes ∷ [])) =
-    list_any (λ count. bytes_eq bytes (incomplete_text count)) (range_with_len 0 20)
+is_count (OfGame (Comment bytes ∷ [])) = is_count_text bytes
 is_count _ = false
 
 abbrev pub is_escaped_kind : Kind → Bool

@@ -1,6 +1,11 @@
 //! What holds of each text that is written so.
 
-ghost use Rattle.whole_texts.specs.Laws.{KeepBoards, LoseNothing, ShowEachOnce, StayTheSame};
+ghost use Rattle.whole_texts.specs.Laws.{AreWrittenOne, KeepBoards, LoseNothing, ShowEachOnce, StayTheSame};
+
+/// Of each text that is read as boards one text is written, whatever the results are.
+pub fn one_is_written()
+    ensures { AreWrittenOne }
+{}
 
 /// What is written of a text is read as the same boards, with the same names and deals.
 pub fn boards_are_kept()

@@ -1,0 +1,12 @@
+-- The end that the last line of a text lacks.
+use Rattle.std.specs.Prelude.{ℕ, ◌==◌, List, [], ◌∷◌, Option, None, Some, if◌then◌else◌}
+
+-- the last byte of a text that ended with the first one, with these bytes more
+abbrev pub last_of : Option ℕ → List ℕ → Option ℕ
+last_of before [] = before
+last_of before (byte ∷ bytes) = last_of (Some byte) bytes
+
+-- what lines with this last byte lack of an end
+abbrev pub missing_end : Option ℕ → List ℕ → List ℕ
+missing_end None end = []
+missing_end (Some byte) end = if byte == 10 then [] else (if byte == 13 then (13 ∷ 10 ∷ []) else end)

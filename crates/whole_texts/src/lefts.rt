@@ -1,0 +1,48 @@
+//! What is left of a line whose old tables go.
+
+ghost use Rattle.std.specs.Prelude.{◌≡◌, ◌≢◌, ◌++◌, [], List};
+ghost use Rattle.pbn_deals.specs.Pieces as seen;
+ghost use Rattle.pbn_deals.specs.FirstPieces.{ArePieces};
+ghost use Rattle.whole_texts.specs.Lefts.{left_kind};
+
+use crate::counts::is_count_text;
+use pbn_deals::Piece;
+
+/// What is left of a line.
+#[derive(Clone, Copy)]
+pub(crate) enum Left {
+    /// No piece.
+    Nothing,
+    /// Blanks.
+    Blanks,
+    /// A line that tells how many results were known, and nothing else.
+    Count,
+    /// More than that.
+    More,
+}
+
+impl Left {
+    /// With one piece more, which stays.
+    pub(crate) fn with(self, piece: Piece<'_>) -> Left
+        ensures { (before pieces : List seen.Piece) → self ≡ left_kind before → ArePieces piece.entry pieces → pieces ≢ []
+            → result ≡ left_kind (before ++ pieces) }
+    {
+        match piece {
+            Piece::Blanks(_) => match self {
+                Left::Nothing | Left::Blanks => Left::Blanks,
+                Left::Count | Left::More => Left::More,
+            },
+            Piece::Comment(bytes) | Piece::OpenComment(bytes) => match self {
+                Left::Nothing => {
+                    if is_count_text(bytes) {
+                        Left::Count
+                    } else {
+                        Left::More
+                    }
+                }
+                Left::Blanks | Left::Count | Left::More => Left::More,
+            },
+            Piece::Pair { .. } | Piece::Data(_) | Piece::NoPair(_) => Left::More,
+        }
+    }
+}

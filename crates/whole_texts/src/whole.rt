@@ -1,0 +1,138 @@
+//! The whole text with its tables.
+
+ghost use Rattle.std.specs.Prelude.{◌≡◌, ◌≤◌, ◌++◌, ℕ, false, List, length, IfOk};
+ghost use Rattle.std.specs.List.{flat_map, enumerate_from};
+ghost use Rattle.cards.specs.Devices.{Writes};
+ghost use Rattle.pbn_deals.specs.Pieces.{Line, line_bytes, rows_of, AreLines};
+ghost use Rattle.tables.specs.TablesText.{table_text, complete_count};
+ghost use Rattle.whole_texts.specs.OldTables.{left_of};
+ghost use Rattle.whole_texts.specs.WholeText.{first_end, if_none, whole_lines, WholeText};
+ghost use Rattle.whole_texts.specs.LineEnds.{missing_end};
+ghost use Rattle.whole_texts.specs.LeftText.{WritesLast};
+ghost use Rattle.whole_texts.specs.FirstGame.{HasGameLines};
+ghost use Rattle.whole_texts.specs.WrittenGame.{WritesGame};
+
+use crate::games::{GameText, first_game};
+use crate::leaving::{Before, write_lines};
+use crate::line_ends::{if_none, missing_end};
+use cards::{DeviceFault, Sink, write_all};
+use pbn_deals::{first_row, front_of, without_mark};
+use tables::{Report, Sheet, count_complete, write_table};
+
+/// The end of the text's first line, if it has one, and else a line feed.
+fn first_end(text: &[u8]) -> &[u8]
+    ensures { (lines : List Line) → AreLines false (rows_of text.now) lines false → result.now ≡ first_end lines }
+{
+    let Some((row, _)) = first_row(text) else {
+        return b"\n";
+    };
+    if_none(b"\n", row.end)
+}
+
+/// Writes the lines of a game as they are.
+fn write_same<S: Sink>(sink: &mut S, game: &GameText<'_>) -> Result<(), DeviceFault>
+    ensures { (lines : List Line) → HasGameLines lines game.now
+        → Writes (S.state sink.old) (S.state sink.new) (flat_map line_bytes lines) result }
+{
+    write_all(sink, game.front)?;
+    write_all(sink, game.back)
+}
+
+/// Writes what is left of the lines of a game. Answers the last byte.
+fn write_left_of_game<S: Sink>(sink: &mut S, game: &GameText<'_>) -> Result<Option<u8>, DeviceFault>
+    ensures { (lines : List Line) → HasGameLines lines game.now
+        → WritesLast (S.state sink.old) (S.state sink.new) None (flat_map line_bytes (left_of lines)) result }
+{
+    let before = write_lines(sink, Before::first(), game.front, false)?;
+    let behind = write_lines(sink, before, game.back, true)?;
+    Ok(behind.last)
+}
+
+/// Writes the section of a board behind lines with this last byte: with the end of the Deal tag's line, and where it has
+/// none, with the end that it gets.
+fn write_section<T: Sheet, S: Sink>(
+    sink: &mut S,
+    sheet: &T,
+    place: usize,
+    deal_end: &[u8],
+    other: &[u8],
+    last: Option<u8>,
+) -> Result<(), DeviceFault>
+    ensures { Writes (S.state sink.old) (S.state sink.new)
+        (missing_end last (if_none other.now deal_end.now)
+        ++ table_text (if_none (missing_end last (if_none other.now deal_end.now)) deal_end.now)
+        (T.results_of sheet.now place)) result }
+{
+    let missing = missing_end(last, if_none(other, deal_end));
+    write_all(sink, missing)?;
+    write_table(sink, sheet, place, if_none(missing, deal_end))
+}
+
+/// Writes the lines of a game, of which the board is at this place, if it has a Deal tag. Answers the place of the next
+/// board.
+fn write_game<T: Sheet, S: Sink>(
+    sink: &mut S,
+    sheet: &T,
+    place: usize,
+    game: &GameText<'_>,
+    other: &[u8],
+) -> Result<usize, DeviceFault>
+    ensures { (lines : List Line) → HasGameLines lines game.now
+        → WritesGame (S.state sink.old) (S.state sink.new) (T.boards_of sheet.now) (T.results_of sheet.now) place
+        other.now lines result }
+{
+    let Some(deal_end) = game.deal_end else {
+        write_same(sink, game)?;
+        return Ok(place);
+    };
+    let last = write_left_of_game(sink, game)?;
+    let Some(board) = sheet.boards().get(place) else {
+        return Ok(place);
+    };
+    if board.deal.is_some() {
+        write_section(sink, sheet, place, deal_end, other, last)?;
+    }
+    Ok(place + 1)
+}
+
+/// Writes the games of a text.
+fn write_games<T: Sheet, S: Sink>(sink: &mut S, sheet: &T, text: &[u8]) -> Result<(), DeviceFault>
+    ensures { (lines : List Line) → AreLines false (rows_of text.now) lines false
+        → Writes (S.state sink.old) (S.state sink.new)
+        (flat_map line_bytes (whole_lines (T.boards_of sheet.now) (T.results_of sheet.now) lines)) result }
+{
+    let other = first_end(text);
+    let mut rest = text;
+    let mut place = 0;
+    while !rest.is_empty() {
+        let game = first_game(rest);
+        place = write_game(sink, sheet, place, &game, other)?;
+        write_all(sink, game.gap)?;
+        rest = game.rest;
+    }
+    Ok(())
+}
+
+/// Writes a text whose boards are those of the sheet, with their tables in place of those that it has, and tells how many
+/// boards there are and how many of their tables are complete. After a fault of the sink a beginning of the text has gone
+/// out. Takes no memory.
+pub fn write_whole<T: Sheet, S: Sink>(
+    text: &[u8],
+    sheet: &T,
+    sink: &mut S,
+) -> Result<Report, DeviceFault>
+    ensures writes { (written : List ℕ)
+        → WholeText text.now (T.boards_of sheet.now) (T.results_of sheet.now) written
+        → Writes (S.state sink.old) (S.state sink.new) written result }
+    ensures boards { IfOk result (λ report. report.boards ≡ length (T.boards_of sheet.now)) }
+    ensures complete { IfOk result (λ report. report.complete
+        ≡ complete_count (T.boards_of sheet.now) (T.results_of sheet.now)) }
+{
+    let lines = without_mark(text);
+    write_all(sink, front_of(text, lines))?;
+    write_games(sink, sheet, lines)?;
+    Ok(Report {
+        boards: sheet.boards().len(),
+        complete: count_complete(sheet),
+    })
+}
