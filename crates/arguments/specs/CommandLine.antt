@@ -10,7 +10,7 @@ use Rattle.clap.specs.declared.builder.command.Command.{Command}
 use Rattle.clap.specs.declared.builder.command.Command.TheViews.{out-Command as fields_of}
 use Rattle.clap.specs.declared.builder.value_parser.ValueParser.{ValueParser}
 use Rattle.clap.specs.declared.builder.value_parser.ValueParser.TheVariants.{Names, Signed, Unsigned}
-use Rattle.asked.specs.Options.{OptionNumbers, table_options, budget_option, progress_option}
+use Rattle.asked.specs.Options.{OptionNumbers, table_options, budget_option, progress_option, whole_option}
 use Rattle.cards.specs.Seats.{seat_letter}
 use Rattle.cards.specs.Pack.{trump_letters}
 use Rattle.cards.specs.declared.seats.Seat.TheVariants.{North, East, South, West}
@@ -59,7 +59,7 @@ flag name = record (new_rule name) {
 
 -- how tables are made
 abbrev pub settings : List Rule
-settings = map number_rule table_options ++ flag progress_option ∷ []
+settings = map number_rule table_options ++ flag progress_option ∷ flag whole_option ∷ []
 
 abbrev pub subcommand : Text → List Rule → Shape
 subcommand name rules = record (new_shape name) { rules = rules }

@@ -113,7 +113,9 @@ fn with_hand<'a>(
 fn with_settings<'a>(alloc: Global, command: Command<'a>) -> Result<Command<'a>, AllocError>
     ensures { IfOk result (AddsRules command.entry settings) }
 {
-    with_numbers(alloc, command, options::table_options())?.arg(flag_arg(alloc, &options::PROGRESS))
+    with_numbers(alloc, command, options::table_options())?
+        .arg(flag_arg(alloc, &options::PROGRESS))?
+        .arg(flag_arg(alloc, &options::WHOLE))
 }
 
 /// The command with these options.

@@ -48,7 +48,8 @@ Example:
 reads a PBN 2.1 text from the standard input and writes one to the standard
 output: of each board its name, its deal and its table, twenty numbers of tricks,
 each backed by certificates that were checked. Where some weren't found, a line such
-as `; table incomplete: 19 of 20` stands in place of the table.
+as `; table incomplete: 19 of 20` stands in place of the table. With --whole the text
+is written as it is, with the tables in it.
 
 What is refused, each with its line:
   1 TagForm        what begins with `[` is not a tag pair

@@ -60,6 +60,10 @@ abbrev pub table_options : List OptionNumbers
 table_options =
     solvers_option ∷ checkers_option ∷ term_option ∷ tries_option ∷ budget_option ∷ batch_option ∷ []
 
--- the option of `table` that has none: whether it is told how far the work has come
+-- an option of `table` that has none: whether it is told how far the work has come
 abbrev pub progress_option : List ℕ
 progress_option = codes "progress"
+
+-- another: whether the input is written as it is, with its tables in it
+abbrev pub whole_option : List ℕ
+whole_option = codes "whole"

@@ -128,3 +128,9 @@ pub const PROGRESS: FlagOption = FlagOption {
     name: "progress",
     help: "Tells on the error output how far the work has come, at most once a second and at the end",
 };
+
+/// Whether the input is written as it is, with its tables in it.
+pub const WHOLE: FlagOption = FlagOption {
+    name: "whole",
+    help: "Writes the input as it is, with its tables in it",
+};

@@ -32,6 +32,8 @@ pub enum Subcommand<'a> {
         settings: Settings,
         /// Whether the gate is told of the work.
         progress: bool,
+        /// Whether the input is written as it is, with its tables in it.
+        whole: bool,
     },
     /// Whether the answer that is the input is right.
     Check {

@@ -7,7 +7,7 @@ use Rattle.cards.specs.Pack.{trump_letters}
 use Rattle.asked.specs.declared.settings.Settings.{Settings}
 use Rattle.asked.specs.declared.subcommands.Subcommand.{Subcommand}
 use Rattle.asked.specs.declared.subcommands.Subcommand.TheVariants.{Plain, Solve, Table, Check}
-use Rattle.asked.specs.Options.{OptionNumbers, IsIn, budget_option, progress_option}
+use Rattle.asked.specs.Options.{OptionNumbers, IsIn, budget_option, progress_option, whole_option}
 use Rattle.asked.specs.Settings.{OfEach, numbers_in}
 use Rattle.matched_words.specs.declared.matched.NamedDeal.{NamedDeal}
 
@@ -45,8 +45,10 @@ Says name said (Plain layout leader trump) = (name ≡ codes "plain")
 Says name said (Solve layout declarer trump budget) = (name ≡ codes "solve")
     × SaysDeal said (codes "DECLARER") (record { layout = layout; seat = declarer; trump = trump })
     × SaysNumber said budget_option budget
-Says name said (Table settings progress) =
-    (name ≡ codes "table") × SaysSettings said settings × SaysFlag said progress_option progress
+Says name said (Table settings progress whole) = (name ≡ codes "table")
+    × SaysSettings said settings
+    × SaysFlag said progress_option progress
+    × SaysFlag said whole_option whole
 Says name said (Check layout declarer trump) = (name ≡ codes "check")
     × SaysDeal said (codes "DECLARER") (record { layout = layout; seat = declarer; trump = trump })
 

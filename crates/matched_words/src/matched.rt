@@ -66,7 +66,12 @@ fn table_subcommand<'a>(said: &ArgMatches<'a>) -> Option<Subcommand<'a>>
 {
     let settings = settings_of(said)?;
     let progress = flag_of(said, options::PROGRESS.name)?;
-    Some(Subcommand::Table { settings, progress })
+    let whole = flag_of(said, options::WHOLE.name)?;
+    Some(Subcommand::Table {
+        settings,
+        progress,
+        whole,
+    })
 }
 
 /// The settings that the options say.

@@ -28,6 +28,7 @@ fn status_of<R: Abort + Threads + Wait + Sync, S: Solver + Sync, G: Gate + Sync>
     let run = Subcommand::Table {
         settings,
         progress: true,
+        whole: false,
     };
     let mut streams = Streams {
         input: Bytes::new(BOARD, 7),

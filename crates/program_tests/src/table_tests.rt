@@ -31,7 +31,11 @@ pub fn tables(progress: bool, batch: usize) -> Result<Subcommand<'static>, Setti
         .with_tries(TRIES)?
         .with_budget(STEPS)?
         .with_batch(batch)?;
-    Ok(Subcommand::Table { settings, progress })
+    Ok(Subcommand::Table {
+        settings,
+        progress,
+        whole: false,
+    })
 }
 
 /// A file as a tournament writes it: CR LF, a comment over a blank line, words in small letters, section data with

@@ -5,4 +5,5 @@ pub mod VerdictLines
 pub mod Checks
 pub mod Solves
 pub mod Halts
+pub mod Made
 pub mod Runs

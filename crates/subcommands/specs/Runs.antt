@@ -1,12 +1,14 @@
 -- What a run does for what was asked, and how it ends.
-use Rattle.std.specs.Prelude.{◌≡◌, Result, Ok, Err, nat_lt, if◌then◌else◌, ◌⊎◌, Option, List, ℕ}
+use Rattle.std.specs.Prelude.{◌≡◌, Bool, true, false, Result, Ok, Err, nat_lt, if◌then◌else◌, ◌⊎◌, Option, List, ℕ}
 use Rattle.lease_book.specs.Books.{Ledger}
 use Rattle.lease_desk.specs.Moments.{MayTell}
 use Rattle.farm.specs.Runs.{IsRun}
-use Rattle.asked.specs.declared.settings.Settings.{Settings}
+use Rattle.subcommands.specs.declared.running.TableOptions.{TableOptions}
 use Rattle.tables.specs.declared.sheets.Report.{Report}
 use Rattle.tournaments.specs.declared.faults.MakeFault.{MakeFault}
-use Rattle.tournaments.specs.Making.{MakesTables}
+use Rattle.tournaments.specs.Making.{PageFact, MakesPage}
+use Rattle.tournaments.specs.Pages.{IsTablesPage}
+use Rattle.tournaments.specs.WholePages.{IsWholePage}
 use Rattle.partition_solver.specs.Answers.{MayFind}
 use Rattle.streams.specs.Flushes.{HandsOn}
 use Rattle.cards.specs.Devices.{Device, Fails, Adds, AddsBeginning}
@@ -25,14 +27,21 @@ use Rattle.subcommands.specs.Solves.{SolvesLayout}
 abbrev pub report_status : Report → Status
 report_status report = if nat_lt report.complete report.boards then Incomplete else Done
 
+-- the tables alone, or the input with them in it
+abbrev pub page_fact : Bool → PageFact
+page_fact false = IsTablesPage
+page_fact true = IsWholePage
+
 -- the tables of the boards of the input, and whether one is incomplete
-abbrev pub WritesTables : MayTell → Settings → Device → Device → Device → Device → Result Status RunFault → Type 0
-WritesTables may_tell settings source source' sink sink' (Ok status) =
+abbrev pub WritesTables : MayTell → TableOptions → Device → Device → Device → Device → Result Status RunFault → Type 0
+WritesTables may_tell options source source' sink sink' (Ok status) =
     (report : Report) × (book : Ledger) × (status ≡ report_status report)
-    × MakesTables (IsRun may_tell) settings.term settings.tries source source' sink sink' (Ok (report, book))
-WritesTables may_tell settings source source' sink sink' (Err fault) =
+    × MakesPage (IsRun may_tell) (page_fact options.whole) options.settings.term options.settings.tries source source'
+    sink sink' (Ok (report, book))
+WritesTables may_tell options source source' sink sink' (Err fault) =
     (made : MakeFault) × (fault ≡ make_fault made)
-    × MakesTables (IsRun may_tell) settings.term settings.tries source source' sink sink' (Err made)
+    × MakesPage (IsRun may_tell) (page_fact options.whole) options.settings.term options.settings.tries source source'
+    sink sink' (Err made)
 
 -- What came of a run, by what the solver may find and the clock may tell, and what its devices have given and got. A
 -- single layout leaves the input as it was.
@@ -45,8 +54,9 @@ Does may_find may_tell (Solve layout declarer trump budget) source source' sink 
     (status ≡ Done) × (source' ≡ source) × SolvesLayout may_find layout.now declarer trump budget sink sink' (Ok tt)
 Does may_find may_tell (Solve layout declarer trump budget) source source' sink sink' (Err fault) =
     (source' ≡ source) × SolvesLayout may_find layout.now declarer trump budget sink sink' (Err fault)
-Does may_find may_tell (Table settings progress) source source' sink sink' answer =
-    WritesTables may_tell settings source source' sink sink' answer
+Does may_find may_tell (Table settings progress whole) source source' sink sink' answer =
+    WritesTables may_tell (record { settings = settings; progress = progress; whole = whole }) source source' sink sink'
+    answer
 Does may_find may_tell (Check layout declarer trump) source source' sink sink' answer =
     ChecksAnswer layout.now declarer trump source source' sink sink' answer
 

@@ -17,7 +17,7 @@ pub use answers::{read_answer, text_is_one_answer};
 pub use asked::Subcommand;
 pub use checks::check_answer;
 pub use faults::{RunFault, tell};
-pub use making::make_tables;
+pub use making::{make_tables, make_whole};
 pub use plain::plain_line;
 pub use running::{close_output, run_subcommand, show};
 pub use solves::{answers_are_read_back, solve_layout};

@@ -4,7 +4,10 @@ ghost use Rattle.std.specs.Prelude.{◌≡◌, IfOk, IsSome, Some};
 ghost use Rattle.farm.specs.Runs.{IsRun};
 ghost use Rattle.farm.specs.Leases.{AreSettledOnce};
 ghost use Rattle.subcommands.specs.Halts.{halted_fault};
-ghost use Rattle.tournaments.specs.Making.{MakesTables};
+ghost use Rattle.tournaments.specs.Making.{MakesPage};
+ghost use Rattle.tournaments.specs.Pages.{IsTablesPage};
+ghost use Rattle.tournaments.specs.WholePages.{IsWholePage};
+ghost use Rattle.subcommands.specs.Made.{MakesBook};
 ghost use Rattle.tournaments.specs.declared.faults.MakeFault.TheVariants as faults;
 
 use cards::{DeviceFault, Sink, Source};
@@ -17,7 +20,8 @@ use std::sync::Wait;
 use std::thread::Threads;
 use streams::read_all;
 use tables::{Report, write_tables};
-use tournaments::{MakeFault, tables_are_read, take_boards};
+use tournaments::{MakeFault, tables_are_read, take_boards, whole_pages_are_read};
+use whole_texts::{one_is_written, write_whole};
 
 /// Why nothing is made where a farm over boards of a text was halted.
 fn halted(fault: FarmFault) -> MakeFault
@@ -36,6 +40,32 @@ fn sink_failed(_fault: DeviceFault) -> MakeFault
     ensures { result ≡ faults.Write }
 {
     MakeFault::Write
+}
+
+/// Reads a PBN text to its end, and has a farm work through its boards, as the settings say. The text and the book of the
+/// run are handed out.
+fn make_book<
+    I: Source,
+    S: Solver + Sync,
+    G: Gate + Sync,
+    C: Clock + Sync,
+    R: Threads + Wait + Sync,
+>(
+    rt: &R,
+    alloc: Global,
+    input: &mut I,
+    settings: Settings,
+    means: &Means<'_, S, G, C>,
+) -> Result<(Vec<u8>, Book), MakeFault>
+    ensures book { MakesBook (C.may_tell means.now.clock.now) settings (I.state input.old) (I.state input.new) result }
+    ensures once { IfOk result (λ made. AreSettledOnce made.1.events) }
+{
+    let text = read_all(alloc, input)?;
+    let boards = take_boards(alloc, text.as_slice())?;
+    match run_farm(rt, alloc, boards, settings, means) {
+        Ok(book) => Ok((text, book)),
+        Err(fault) => Err(halted(fault)),
+    }
 }
 
 /// Reads the boards of a PBN text to its end, has a farm work through them as the settings say, and writes the tables
@@ -59,18 +89,39 @@ pub fn make_tables<
     settings: Settings,
     means: &Means<'_, S, G, C>,
 ) -> Result<(Report, Book), MakeFault>
-    ensures tables { MakesTables (IsRun (C.may_tell means.now.clock.now)) settings.term settings.tries
-        (I.state input.old) (I.state input.new)
-        (O.state output.old) (O.state output.new) result }
+    ensures tables { MakesPage (IsRun (C.may_tell means.now.clock.now)) IsTablesPage settings.term settings.tries
+        (I.state input.old) (I.state input.new) (O.state output.old) (O.state output.new) result }
     ensures once { IfOk result (λ made. AreSettledOnce made.1.events) }
 {
-    let text = read_all(alloc, input)?;
-    let boards = take_boards(alloc, text.as_slice())?;
-    let book = match run_farm(rt, alloc, boards, settings, means) {
-        Ok(book) => book,
-        Err(fault) => return Err(halted(fault)),
-    };
+    let (_, book) = make_book(rt, alloc, input, settings, means)?;
     tables_are_read();
     let report = write_tables(&book, output).map_err(sink_failed)?;
+    Ok((report, book))
+}
+
+/// The same, but what is written is the text as it was read, with the tables of its boards in it.
+pub fn make_whole<
+    I: Source,
+    O: Sink,
+    S: Solver + Sync,
+    G: Gate + Sync,
+    C: Clock + Sync,
+    R: Threads + Wait + Sync,
+>(
+    rt: &R,
+    alloc: Global,
+    input: &mut I,
+    output: &mut O,
+    settings: Settings,
+    means: &Means<'_, S, G, C>,
+) -> Result<(Report, Book), MakeFault>
+    ensures whole { MakesPage (IsRun (C.may_tell means.now.clock.now)) IsWholePage settings.term settings.tries
+        (I.state input.old) (I.state input.new) (O.state output.old) (O.state output.new) result }
+    ensures once { IfOk result (λ made. AreSettledOnce made.1.events) }
+{
+    let (text, book) = make_book(rt, alloc, input, settings, means)?;
+    one_is_written();
+    whole_pages_are_read();
+    let report = write_whole(text.as_slice(), &book, output).map_err(sink_failed)?;
     Ok((report, book))
 }

@@ -1,18 +1,21 @@
 //! What a run does for what was asked, and how it ends.
 
 ghost use Rattle.std.specs.Prelude.{◌≡◌};
+ghost use Rattle.farm.specs.Runs.{IsRun};
 ghost use Rattle.streams.specs.Flushes.{inner_contents};
-ghost use Rattle.subcommands.specs.Runs.{Closes, Does, RunsSubcommand, Shows, WritesTables, report_status};
+ghost use Rattle.subcommands.specs.Runs.{Closes, Does, RunsSubcommand, Shows, WritesTables, page_fact, report_status};
+ghost use Rattle.tournaments.specs.Making.{MakesPage};
 
 use crate::checks::check_answer;
 use crate::faults::{RunFault, tell};
-use crate::making::make_tables;
+use crate::making::{make_tables, make_whole};
 use crate::plain::plain_line;
 use crate::solves::solve_layout;
 use crate::statuses::Status;
 use asked::{Settings, Subcommand};
 use cards::{Sink, Source, write_all};
 use farm::{Clock, Means};
+use lease_book::Book;
 use lease_desk::Gate;
 use partition_solver::Solver;
 use std::alloc::Global;
@@ -21,6 +24,7 @@ use std::sync::Wait;
 use std::thread::Threads;
 use streams::{Streams, WriterSink};
 use tables::Report;
+use tournaments::MakeFault;
 
 /// Does what is asked, and answers how the run ends.
 ///
@@ -98,8 +102,17 @@ fn try_subcommand<
             solve_layout(alloc, value, declarer, trump, budget, means.solver, output)?;
             Ok(Status::Done)
         }
-        Subcommand::Table { settings, progress } => {
-            write_tables(rt, alloc, settings, progress, means, input, output)
+        Subcommand::Table {
+            settings,
+            progress,
+            whole,
+        } => {
+            let options = TableOptions {
+                settings,
+                progress,
+                whole,
+            };
+            write_tables(rt, alloc, options, means, input, output)
         }
         Subcommand::Check {
             layout,
@@ -119,6 +132,43 @@ impl Gate for Unwatched {
     fn before_check(&self, _lease: u64) {}
 }
 
+/// What is asked of tables.
+#[derive(Clone, Copy)]
+pub struct TableOptions {
+    /// How the farm works.
+    pub settings: Settings,
+    /// Whether the gate is told of the work.
+    pub progress: bool,
+    /// Whether the input is written as it is, with its tables in it.
+    pub whole: bool,
+}
+
+/// Makes the tables of the boards of the input, alone or in the input.
+fn make_page<
+    P: Solver + Sync,
+    G: Gate + Sync,
+    C: Clock + Sync,
+    I: Source,
+    O: Sink,
+    R: Threads + Wait + Sync,
+>(
+    rt: &R,
+    alloc: Global,
+    options: TableOptions,
+    means: &Means<'_, P, G, C>,
+    input: &mut I,
+    output: &mut O,
+) -> Result<(Report, Book), MakeFault>
+    ensures { MakesPage (IsRun (C.may_tell means.now.clock.now)) (page_fact options.whole) options.settings.term
+        options.settings.tries (I.state input.old) (I.state input.new) (O.state output.old) (O.state output.new) result }
+{
+    if options.whole {
+        make_whole(rt, alloc, input, output, options.settings, means)
+    } else {
+        make_tables(rt, alloc, input, output, options.settings, means)
+    }
+}
+
 /// Writes the tables of the boards of the input. The gate is told of the work only where progress is asked for.
 fn write_tables<
     P: Solver + Sync,
@@ -130,18 +180,16 @@ fn write_tables<
 >(
     rt: &R,
     alloc: Global,
-    settings: Settings,
-    progress: bool,
+    options: TableOptions,
     means: &Means<'_, P, G, C>,
     input: &mut I,
     output: &mut O,
 ) -> Result<Status, RunFault>
-    ensures { WritesTables (C.may_tell means.now.clock.now) settings (I.state input.old) (I.state input.new)
-        (O.state output.old)
-        (O.state output.new) result }
+    ensures { WritesTables (C.may_tell means.now.clock.now) options (I.state input.old) (I.state input.new)
+        (O.state output.old) (O.state output.new) result }
 {
-    if progress {
-        let made = make_tables(rt, alloc, input, output, settings, means)?;
+    if options.progress {
+        let made = make_page(rt, alloc, options, means, input, output)?;
         return Ok(status_of(made.0));
     }
     let unwatched = Means {
@@ -149,7 +197,7 @@ fn write_tables<
         gate: &Unwatched,
         clock: means.clock,
     };
-    let made = make_tables(rt, alloc, input, output, settings, &unwatched)?;
+    let made = make_page(rt, alloc, options, &unwatched, input, output)?;
     Ok(status_of(made.0))
 }
 

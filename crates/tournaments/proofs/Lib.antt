@@ -1,3 +1,4 @@
 pub mod ReadLaws
 pub mod WorkLaws
 pub mod PageLaws
+pub mod WholePageLaws

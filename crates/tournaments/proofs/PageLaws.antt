@@ -39,7 +39,7 @@ printable_at boards number board printable there =
     subst IsPrintable (get_or_from_slice_get boards number board board there)
     (All-get_or IsPrintable boards number board (slice_get_within boards number board there) printable)
 
-are_tricks : (boards : List Board) (events : List Event) → All IsPrintable boards → AreValues boards events → AreTricks (book_results boards events)
+pub are_tricks : (boards : List Board) (events : List Event) → All IsPrintable boards → AreValues boards events → AreTricks (book_results boards events)
 are_tricks boards events printable values place declarer denomination = go (published_in boards events entry) refl
   where
     entry : Entry

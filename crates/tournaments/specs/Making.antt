@@ -17,11 +17,14 @@ use Rattle.tournaments.specs.Done.{IsDone}
 use Rattle.partition_solver.specs.Answers.{MayFind}
 use Rattle.tournaments.specs.Asking.{AreWorkedOn}
 use Rattle.lease_desk.specs.Moments.{MayTell, AreTimed}
-use Rattle.tournaments.specs.Pages.{history_text, IsReadOnce}
 
 -- what is so of the history of a run, over the terms of its book
 abbrev pub RunFact : Type 1
 RunFact = Terms → List Event → Type 0
+
+-- how a page is made of the text that was read, its boards and the history, and what is so of it
+abbrev pub PageFact : Type 1
+PageFact = List ℕ → List Board → List Event → List ℕ → Type 0
 
 -- the source was read to its end, and these are the boards of its text
 pub record HasBoards (old new : Device) (boards : List Board) : Type 0 where
@@ -45,40 +48,43 @@ pub record IsWholeRun (may_find : MayFind) (may_tell : MayTell) (budget : ℕ) (
   pub timed : AreTimed may_tell events
 
 -- The source was read to its end, the book is one over the boards of its text, with this term and these tries, after
--- such a run, and the sink has got the text of the boards with the numbers that the book's history publishes: a page
--- that is read as these boards, each number of which is the double-dummy value of its deal, and stands there once.
-pub record FillsTables (is_run : RunFact) (term tries : ℕ) (source source' sink sink' : Device) (report : Report)
-    (book : Ledger)
+-- such a run, and the sink has got such a page, with the numbers that the book's history publishes.
+pub record FillsPage (is_run : RunFact) (is_page : PageFact) (term tries : ℕ) (source source' sink sink' : Device)
+    (report : Report) (book : Ledger)
     : Type 0 where
   pub boards : List Board
   pub read : HasBoards source source' boards
   pub terms : book.terms ≡ record { boards = boards; term = term; tries = tries }
   pub run : is_run book.terms book.events
-  pub written : Adds sink sink' (history_text boards book.events)
-  pub page : IsReadOnce boards book.events (history_text boards book.events)
+  pub page : List ℕ
+  pub is : is_page read.text boards book.events page
+  pub written : Adds sink sink' page
   pub counts : AreReported boards book.events report
 
--- after such a run a beginning of the text was written, before the sink failed
-pub record FillsBeginning (is_run : RunFact) (term tries : ℕ) (source source' sink sink' : Device) : Type 0 where
+-- after such a run a beginning of the page was written, before the sink failed
+pub record BeginsPage (is_run : RunFact) (is_page : PageFact) (term tries : ℕ) (source source' sink sink' : Device)
+    : Type 0 where
   pub boards : List Board
   pub read : HasBoards source source' boards
   pub events : List Event
   pub run : is_run (record { boards = boards; term = term; tries = tries }) events
-  pub written : AddsBeginning sink sink' (history_text boards events)
+  pub page : List ℕ
+  pub is : is_page read.text boards events page
+  pub written : AddsBeginning sink sink' page
 
 -- What was answered, what the source has given and what the sink has got. Where the source failed or memory ran out,
 -- the bytes that were read are the first of the source. With all refusals but the last nothing was written.
-abbrev pub MakesTables : RunFact → ℕ → ℕ → Device → Device → Device → Device
+abbrev pub MakesPage : RunFact → PageFact → ℕ → ℕ → Device → Device → Device → Device
     → Result (Report × Ledger) MakeFault → Type 0
-MakesTables is_run term tries source source' sink sink' (Ok (report, book)) =
-    FillsTables is_run term tries source source' sink sink' report book
-MakesTables is_run term tries source source' sink sink' (Err OutOfMemory) =
+MakesPage is_run is_page term tries source source' sink sink' (Ok (report, book)) =
+    FillsPage is_run is_page term tries source source' sink sink' report book
+MakesPage is_run is_page term tries source source' sink sink' (Err OutOfMemory) =
     Loses source source' source.failed × (sink' ≡ sink)
-MakesTables is_run term tries source source' sink sink' (Err Read) =
+MakesPage is_run is_page term tries source source' sink sink' (Err Read) =
     Loses source source' (one_more source.failed) × (sink' ≡ sink)
-MakesTables is_run term tries source source' sink sink' (Err (Pbn fault)) =
+MakesPage is_run is_page term tries source source' sink sink' (Err (Pbn fault)) =
     (text : List ℕ) × IsReadToEnd source source' text × TextAnswers text (Err fault) × (sink' ≡ sink)
-MakesTables is_run term tries source source' sink sink' (Err NoThread) =
+MakesPage is_run is_page term tries source source' sink sink' (Err NoThread) =
     (boards : List Board) × HasBoards source source' boards × (sink' ≡ sink)
-MakesTables is_run term tries source source' sink sink' (Err Write) =
-    FillsBeginning is_run term tries source source' sink sink'
+MakesPage is_run is_page term tries source source' sink sink' (Err Write) =
+    BeginsPage is_run is_page term tries source source' sink sink'

@@ -38,6 +38,10 @@ pub record IsReadOnce (boards : List Board) (events : List Event) (page : List �
   pub boards_said : SayBoards (book_results boards events) (enumerate_from 0 boards) blocks
   pub values : AllZip (λ board block. IsTrueTable board block.table) boards blocks
 
+-- the page of all boards: that text, which is read so
+abbrev pub IsTablesPage : List ℕ → List Board → List Event → List ℕ → Type 0
+IsTablesPage text boards events page = (page ≡ history_text boards events) × IsReadOnce boards events page
+
 -- that is how the page is read that is written of the boards that any text says, after any true history over them
 abbrev pub TablesAreRead : Type 0
 TablesAreRead =

@@ -3,7 +3,8 @@
 ghost use Rattle.std.specs.Prelude.{◌<◌, ◌≢◌, IfErr};
 ghost use Rattle.lease_book.specs.Books.{AreTries};
 ghost use Rattle.tournaments.specs.declared.faults.MakeFault.TheVariants.{NoThread};
-ghost use Rattle.tournaments.specs.Making.{MakesTables, IsWholeRun};
+ghost use Rattle.tournaments.specs.Making.{MakesPage, IsWholeRun};
+ghost use Rattle.tournaments.specs.Pages.{IsTablesPage};
 
 use crate::faults::{MakeFault, write_failed};
 use crate::laws::tables_are_read;
@@ -35,9 +36,8 @@ pub fn make_single<I: Source, O: Sink, S: Solver, C: Clock>(
 ) -> Result<(Report, Book), MakeFault>
     requires tries { AreTries tries }
     requires budget { 0 < budget }
-    ensures made { MakesTables (IsWholeRun (S.may_find solver.now) (C.may_tell clock.now) budget) term tries
-        (I.state input.old)
-        (I.state input.new) (O.state output.old) (O.state output.new) result }
+    ensures made { MakesPage (IsWholeRun (S.may_find solver.now) (C.may_tell clock.now) budget) IsTablesPage
+        term tries (I.state input.old) (I.state input.new) (O.state output.old) (O.state output.new) result }
     ensures one_thread { IfErr result (λ fault. fault ≢ NoThread) }
 {
     let text = read_all(alloc, input)?;

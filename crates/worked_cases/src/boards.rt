@@ -2,12 +2,14 @@
 
 use crate::texts::{bytes_of, field, repeated, say_field, say_refusal};
 use cards::{Buffer, Bytes};
+use lease_book::Book;
 use partition_solver::Solver;
 use pbn_deals::{Board, read_boards, read_layout};
 use std::alloc::{AllocError, Global};
 use tables::Report;
 use test_support::idle::StandsStill;
 use tournaments::{MakeFault, make_single};
+use whole_texts::write_whole;
 
 /// Room for the tables of a case.
 const ROOM: usize = 4096;
@@ -57,7 +59,35 @@ fn say_tables(
     say_field(text, out)
 }
 
-/// The tables of a text by a solver, each entry of which is tried three times, or why there are none.
+/// The book and the report of a text by a solver, each entry of which is tried three times. The tables go to the sink.
+fn made_of<S: Solver>(
+    alloc: Global,
+    solver: &S,
+    text: &[u8],
+    sink: &mut Buffer,
+) -> Result<(Report, Book), MakeFault> {
+    let mut source = Bytes::new(text, 7);
+    make_single(
+        alloc,
+        &mut source,
+        sink,
+        600,
+        3,
+        10_000_000,
+        solver,
+        &StandsStill,
+    )
+}
+
+/// Why nothing was made.
+fn say_made_fault(fault: &MakeFault, out: &mut String) -> Result<(), AllocError> {
+    match fault {
+        MakeFault::Pbn(fault) => say_refusal(fault, fault.line(), out),
+        _ => out.push_str("out of memory, or out of room"),
+    }
+}
+
+/// The tables of a text by a solver, or why there are none.
 pub fn answer_tables<S: Solver>(
     alloc: Global,
     solver: &S,
@@ -65,21 +95,36 @@ pub fn answer_tables<S: Solver>(
     out: &mut String,
 ) -> Result<(), AllocError> {
     let text = repeated(alloc, case)?;
-    let mut source = Bytes::new(text.as_slice(), 7);
     let mut sink = Buffer::new(alloc, ROOM, 5)?;
-    let made = make_single(
-        alloc,
-        &mut source,
-        &mut sink,
-        600,
-        3,
-        10_000_000,
-        solver,
-        &StandsStill,
-    );
-    match made {
+    match made_of(alloc, solver, text.as_slice(), &mut sink) {
         Ok((report, book)) => say_tables(report, book.history().len(), sink.bytes(), out),
-        Err(MakeFault::Pbn(fault)) => say_refusal(&fault, fault.line(), out),
-        Err(_) => out.push_str("out of memory, or out of room"),
+        Err(fault) => say_made_fault(&fault, out),
+    }
+}
+
+/// Says how many tables are complete, and the text with them in it.
+fn say_whole(alloc: Global, text: &[u8], book: &Book, out: &mut String) -> Result<(), AllocError> {
+    let mut sink = Buffer::new(alloc, ROOM, 5)?;
+    match write_whole(text, book, &mut sink) {
+        Ok(Report { boards, complete }) => {
+            write!(out, "complete {complete} of {boards} |")?;
+            say_field(sink.bytes(), out)
+        }
+        Err(_) => out.push_str("out of room"),
+    }
+}
+
+/// A text with the tables by a solver in it, or why there are none.
+pub fn answer_whole<S: Solver>(
+    alloc: Global,
+    solver: &S,
+    case: &str,
+    out: &mut String,
+) -> Result<(), AllocError> {
+    let text = repeated(alloc, case)?;
+    let mut sink = Buffer::new(alloc, ROOM, 5)?;
+    match made_of(alloc, solver, text.as_slice(), &mut sink) {
+        Ok((_, book)) => say_whole(alloc, text.as_slice(), &book, out),
+        Err(fault) => say_made_fault(&fault, out),
     }
 }

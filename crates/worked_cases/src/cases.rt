@@ -1,6 +1,6 @@
 //! What is asked in a case.
 
-use crate::boards::{answer_boards, answer_layout, answer_tables};
+use crate::boards::{answer_boards, answer_layout, answer_tables, answer_whole};
 use crate::certificates::{answer_certificate, answer_cut, answer_judge};
 use crate::requests::answer_requests;
 use crate::texts::word;
@@ -24,6 +24,8 @@ pub fn answer_case<R: Threads + Wait + Sync>(
         "boards" => answer_boards(alloc, case, out),
         "tables" => answer_tables(alloc, &FindsNothing, case, out),
         "solved" => answer_tables(alloc, &Partition::new(), case, out),
+        "whole" => answer_whole(alloc, &FindsNothing, case, out),
+        "whole_solved" => answer_whole(alloc, &Partition::new(), case, out),
         "layout" => answer_layout(alloc, case, out),
         "certificate" => answer_certificate(alloc, case, out),
         "judge" => answer_judge(alloc, case, out),
