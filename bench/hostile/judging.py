@@ -6,11 +6,14 @@ from running import BETWEEN, LACKS, TABLE, module_of
 import checker
 
 reader = module_of("reading", "reader")
+writer = module_of("whole", "model")
 COUNTS = rb"ddfarm: \d+ of \d+ results, \d+ of \d+ boards, \d+ s"
 PROGRESS = re.compile(rb"(?:" + COUNTS + rb"\n)*" + COUNTS + rb", (\d+) tables incomplete\n")
 REFUSED = re.compile(
     rb"refused (?:9 KTooLarge|(?:declarer|defenders) (?:10 Text [1-6] [A-Za-z]+ line \d+|1 RootMissing|2 RootNeedless|3 RootTrump"
     rb"|4 RootSide|5 RootLead|6 RootNeed|7 RootPattern|8 Node \d+ [1-8] [A-Za-z]+))\n")
+# A board with a deal, and no result.
+DEALT = re.compile(rb'(\[Deal "N:.*"\]\n); table incomplete: 0 of 20\n')
 # Longer answers are not given to the slow checker too.
 SHORT = 20_000
 WRITING_FAILED = (1, b"ddfarm: writing failed\n")
@@ -50,18 +53,31 @@ def lacking_in(written):
     return sum(LACKS.fullmatch(game.rpartition(b"\n")[2]) is not None for game in written.split(BETWEEN))
 
 
-def table_fault(outcome, text, numbers, progress):
-    """What is wrong with an outcome of `table` on a text."""
-    status, written, told = reader.predict(text)
+def as_tables(written, text, predicted):
+    """What was written of a text with `--whole` as `table` writes it, whose boards are predicted, without a result; None where a section
+    lacks, or something else is lost or added."""
+    taken = writer.taken_out(written)
+    if taken is None or not writer.loses_nothing(taken[0], text):
+        return None
+    shown = iter(taken[1])
+    return DEALT.sub(lambda board: board[1] + writer.section(next(shown), b"\n"), predicted)
+
+
+def table_fault(outcome, text, numbers, words):
+    """What is wrong with an outcome of `table` with these words on a text."""
+    status, predicted, told = reader.predict(text)
     if status == 2:
-        return None if outcome == (status, written, told) else f"not refused with {told}"
-    fault = tables_fault(outcome.out, written, numbers)
+        return None if outcome == (status, predicted, told) else f"not refused with {told}"
+    written = as_tables(outcome.out, text, predicted) if "--whole" in words else outcome.out
+    if written is None:
+        return "a section lacks, or something is lost or added"
+    fault = tables_fault(written, predicted, numbers)
     if fault:
         return fault
-    lacking = lacking_in(outcome.out)
+    lacking = lacking_in(written)
     if outcome.status != (3 if lacking else 0):
         return f"another status with {lacking} incomplete tables"
-    if progress:
+    if "--progress" in words:
         return progress_fault(outcome.err, lacking)
     return "something is told" if outcome.err else None
 

@@ -4,12 +4,13 @@
 Usage: bench/hostile/soak.py [MINUTES [SEED]], by default ten minutes of seed 1. It needs Debian's libdds-dev and g++, and the
 program built (run ./ddfarm once).
 
-A turn is one run: `table` on a text of PBN that the seed spoils, with one to four threads of each kind, at times through a pipe that
-comes piece by piece; `check` on a spoiled answer; or a run whose output is closed after so many bytes. What it may end with is in
-judging.py: a text has to be refused as the reader of bench/reading says, else each number has to be DDS's; no number is accepted
-that is not DDS's; and nothing ends by a signal or takes over a minute. Each fault is told and kept, with its input, words, status
-and outputs, in a folder `faults` where the script runs. At the end it prints what was tried and met, and ends with status 1 where
-there was a fault. A turn depends on the seed and its number alone.
+A turn is one run: `table` on a text of PBN that the seed spoils, at times with `--whole`, with one to four threads of each kind, at
+times through a pipe that comes piece by piece; `check` on a spoiled answer; or a run whose output is closed after so many bytes. What
+it may end with is in judging.py: a text has to be refused as the reader of bench/reading says, else each number has to be DDS's, and
+what is written with `--whole` has to be, without its tables, the text without its own; no number is accepted that is not DDS's; and
+nothing ends by a signal or takes over a minute. Each fault is told and kept, with its input, words, status and outputs, in a folder
+`faults` where the script runs. At the end it prints what was tried and met, and ends with status 1 where there was a fault. A turn
+depends on the seed and its number alone.
 """
 import random
 import re
@@ -88,7 +89,7 @@ def words_of_table(source):
     threads = [str(source.randrange(1, 5)) for _ in range(2)]
     words = ["table", "--solvers", threads[0], "--checkers", threads[1], "--batch", str(source.randrange(1, 21))]
     words += ["--budget", str(source.choice(BUDGETS)), "--tries", str(source.choice([1, 1, 2]))]
-    words += source.choice([[], [], [], ["--term", "0"], ["--term", "1"]])
+    words += source.choice([[], [], [], ["--term", "0"], ["--term", "1"]]) + source.choice([[], [], ["--whole"]])
     return words + source.choice([[], [], ["--progress"]])
 
 
@@ -110,7 +111,7 @@ def damaged_text(source, stock):
     kind, text = sound_text(source, stock.deals)
     words, text = words_of_table(source), spoiled(source, text)
     outcome = run(words, text, DEADLINE)
-    return Turn(words, text, outcome, kind, table_fault(outcome, text, stock.numbers, "--progress" in words))
+    return Turn(words, text, outcome, kind, table_fault(outcome, text, stock.numbers, words))
 
 
 def text_in_pieces(source, stock):
@@ -118,7 +119,7 @@ def text_in_pieces(source, stock):
     _, text = sound_text(source, stock.deals)
     words, pieces = words_of_table(source), pieces_of(source, spoiled(source, text))
     outcome, text = run_in_pieces(words, pieces, DEADLINE), b"".join(pieces)
-    return Turn(words, text, outcome, "pieces", table_fault(outcome, text, stock.numbers, "--progress" in words))
+    return Turn(words, text, outcome, "pieces", table_fault(outcome, text, stock.numbers, words))
 
 
 def damaged_answer(source, stock):
@@ -135,10 +136,11 @@ def whole_run(source, stock):
     """Words and an input on which each run writes the same."""
     kind = source.choice(["many", "many", "quick", "solve", "check", "help"])
     answer = source.choice(stock.answers)
+    form = source.choice([[], [], ["--whole"]])
     if kind == "many":
-        return ["table", "--tries", "1", "--budget", "1"], many_games(source, None)[:source.randrange(1, 200_000)]
+        return ["table", *form, "--tries", "1", "--budget", "1"], many_games(source, None)[:source.randrange(1, 200_000)]
     if kind == "quick":
-        return ["table"], quick_games(source, None)
+        return ["table", *form], quick_games(source, None)
     if kind == "help":
         return ["--help"], b""
     return (["check", *answer.words], answer.text) if kind == "check" else (["solve", *source.choice(stock.solved).words], b"")
