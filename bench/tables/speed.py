@@ -1,12 +1,14 @@
 #!/usr/bin/env python3
-"""Times `ddfarm table` on texts of 4,096 boards, of about 1 MB and about 10 MB, beside `wc -l` on the same files.
+"""Times `ddfarm table` and `table --whole` on texts of 4,096 boards, of about 1 MB and about 10 MB, beside `wc -l`.
 
 Usage: bench/tables/speed.py. The program has to be built (run ./ddfarm once). Each figure is the best of five runs, with
-the output to a file. The longer text has the same boards with ninety lines of play more in each game. One try of one step
-finds no number: what is timed is reading, leasing and writing.
+the output to a file. The longer text has the same boards with ninety lines of play more in each game; each is tried with
+its deals, and once more with hands that aren't known. One try of one step finds no number: what is timed is reading,
+leasing, what a search makes ready, and writing.
 """
 import os
 import random
+import re
 import subprocess
 import tempfile
 import time
@@ -65,15 +67,18 @@ def best(command, path, output):
 
 
 def main():
+    command = [PROGRAM, "table", "--tries", "1", "--budget", "1"]
     with tempfile.TemporaryDirectory() as room:
+        path, output = os.path.join(room, "text.pbn"), os.path.join(room, "tables.pbn")
         for more_lines in (0, 90):
-            path, output = os.path.join(room, "text.pbn"), os.path.join(room, "tables.pbn")
-            with open(path, "w", newline="") as file:
-                file.write(text(more_lines))
-            ours = best([PROGRAM, "table", "--tries", "1", "--budget", "1"], path, output)
-            theirs = best(["wc", "-l"], path, os.path.join(room, "count"))
-            size, written = os.path.getsize(path), os.path.getsize(output)
-            print(f"{size} bytes read, {written} written: ddfarm table {ours:.0f} ms, wc -l {theirs:.0f} ms")
+            for known in (True, False):
+                given = text(more_lines)
+                with open(path, "w", newline="") as file:
+                    file.write(given if known else re.sub(r'\[Deal "[^"]*"', '[Deal "?"', given))
+                alone, whole = best(command, path, output), best([*command, "--whole"], path, output)
+                lines = best(["wc", "-l"], path, output)
+                deals = "deals" if known else "no deals"
+                print(f"{os.path.getsize(path)} bytes, {deals}: table {alone:.0f} ms, --whole {whole:.0f}, wc -l {lines:.0f}")
 
 
 if __name__ == "__main__":
