@@ -1,4 +1,5 @@
-"""Checks answers by the rules of docs/CERTIFICATES.md, apart from ddfarm's own checker: what `ddfarm check` has to print."""
+"""Checks answers by the rules of docs/CERTIFICATES.md, apart from ddfarm's own checker: what `ddfarm check` has to
+print."""
 from texts import SEATS, SUITS, TOPS, TextFault, read_answer, read_graph
 
 NOT_AN_ANSWER = "ddfarm: first line is not a result line"
@@ -72,7 +73,8 @@ def completed(lengths, owners):
 
 def covers(version, suits, left):
     """Whether a child covers what is left; by version 2 what is left may be completed."""
-    return all(suit.lengths == lengths and (owners if version == 1 else completed(lengths, owners)).startswith(suit.owners)
+    return all(suit.lengths == lengths
+               and (owners if version == 1 else completed(lengths, owners)).startswith(suit.owners)
                for suit, (lengths, owners) in zip(suits, left))
 
 
@@ -81,7 +83,8 @@ def is_excused(suits, seat, branches, card):
     if card[1] == "x":
         return False
     owners, last = suits[SUITS.index(card[0])].owners, TOPS.index(card[1])
-    return any(card[0] + TOPS[first] in branches and owners[first:last + 1] == seat * (last + 1 - first) for first in range(last))
+    return any(card[0] + TOPS[first] in branches and owners[first:last + 1] == seat * (last + 1 - first)
+               for first in range(last))
 
 
 def leaf_fault(graph, node, cards, children):

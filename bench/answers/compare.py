@@ -1,10 +1,11 @@
 #!/usr/bin/env python3
-"""Compares `ddfarm check` with the checker beside it (checker.py) on the answers of answers.tar.xz, as they are, as version 2
-and damaged: status, standard output and standard error, to the byte. What is accepted has to tell the tricks that DDS tells, and `ddfarm plain`
-has to tell them too where it takes the layout.
+"""Compares `ddfarm check` with the checker beside it (checker.py) on the answers of answers.tar.xz, as they are, as
+version 2 and damaged: status, standard output and standard error, to the byte. What is accepted has to tell the tricks
+that DDS tells, and `ddfarm plain` has to tell them too where it takes the layout.
 
-Usage: bench/answers/compare.py COUNT [SEED]. Each answer as it is and as version 2 without the branches that may be left out, and
-COUNT times each with each kind of damage (a tenth of that where it is longer than 100,000 bytes). The program has to be built (run ./ddfarm once). Ends with status 1 at the first difference.
+Usage: bench/answers/compare.py COUNT [SEED]. Each answer as it is and as version 2 without the branches that may be
+left out, and COUNT times each with each kind of damage (a tenth of that where it is longer than 100,000 bytes). The
+program has to be built (run ./ddfarm once). Ends with status 1 at the first difference.
 """
 import itertools
 import os
@@ -54,7 +55,8 @@ def compare(name, words, text, tricks):
 def compare_plain(name, layout, declarer, trump, tricks):
     """Compares with `ddfarm plain`: North and South take declarer's tricks, or what declarer's side leaves."""
     size = sum(map(len, layout[2:].split(" ")[0].split(".")))
-    done = subprocess.run([PROGRAM, "plain", layout, checker.seat_after(declarer, 1), trump], capture_output=True, check=False)
+    done = subprocess.run([PROGRAM, "plain", layout, checker.seat_after(declarer, 1), trump], capture_output=True,
+                          check=False)
     wanted = b"NS %d\n" % (tricks if checker.side_of(declarer) == "NS" else size - tricks)
     if size <= MOST_PLAIN and done.stdout != wanted:
         sys.exit(f"{name}: plain says {done.stdout}, not {wanted}")

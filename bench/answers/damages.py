@@ -1,5 +1,5 @@
-"""Ways to damage an answer's text. Each takes a source of random numbers and the bytes, and gives other bytes, or None where
-the text has nothing to damage so."""
+"""Ways to damage an answer's text. Each takes a source of random numbers and the bytes, and gives other bytes, or None
+where the text has nothing to damage so."""
 import re
 
 CARD = re.compile(rb"[SHDC][a-mx]")
@@ -7,12 +7,14 @@ CHILD = re.compile(rb"([NESW])(\d+)(?=[ }])")
 NODE = re.compile(rb"(?m)^([NESW]) (\d+) (\S+) (\S+) (\S+) (\S+) (\S+)$")
 BRANCH = re.compile(rb"(?<=[()}])[SHDC][a-mx]")
 HEAD = re.compile(rb"(?m)^(trump|side|nodes) .*$")
-HEADS = [b"trump NT", b"trump S", b"trump H", b"trump D", b"trump C", b"side NS", b"side EW", b"nodes 0", b"nodes 3", b"nodes 1000001"]
+HEADS = [b"trump NT", b"trump S", b"trump H", b"trump D", b"trump C", b"side NS", b"side EW", b"nodes 0", b"nodes 3",
+         b"nodes 1000001"]
 SEATS = b"NESW"
 
 
 def pick(random, pattern, text):
-    """One of the places where the pattern stands, each as likely as the others (nearly: a text is long, so from a place on)."""
+    """One of the places where the pattern stands, each as likely as the others (nearly: a text is long, so from a place
+    on)."""
     match = pattern.search(text, random.randrange(len(text)))
     return match or pattern.search(text)
 
@@ -126,7 +128,8 @@ def texts_exchanged(_, text):
 
 def byte_changed(random, text):
     place = random.randrange(len(text))
-    return put(text, place, place + 1, bytes([random.choice([random.randrange(256), random.choice(b"NESWSHDC()0123 .\nax{}")])]))
+    return put(text, place, place + 1, bytes([random.choice([random.randrange(256),
+                                                             random.choice(b"NESWSHDC()0123 .\nax{}")])]))
 
 
 def byte_lost(random, text):
@@ -138,5 +141,6 @@ def cut_short(random, text):
     return text[:random.randrange(len(text))]
 
 
-KINDS = [branch_out, branch_added, head_changed, card_changed, child_renamed, winner_changed, need_moved, lead_turned, owner_changed, length_changed,
+KINDS = [branch_out, branch_added, head_changed, card_changed, child_renamed, winner_changed, need_moved, lead_turned,
+         owner_changed, length_changed,
          node_repeated, tricks_moved, texts_exchanged, byte_changed, byte_lost, cut_short]

@@ -1,9 +1,9 @@
 #!/usr/bin/env python3
 """Measures the reading, checking and writing of certificates beside a loop that copies the bytes of the same texts.
 
-Usage: bench/answers/speed.py. It copies the crates into a folder of its own, proves and builds speed.rt.txt there, and runs it on
-each certificate of the answers with 13 cards a hand. It prints megabytes a second, and of the check leaves a second and
-nanoseconds a leaf: the least time of three runs of each text, added up over the texts.
+Usage: bench/answers/speed.py. It copies the crates into a folder of its own, proves and builds speed.rt.txt there, and
+runs it on each certificate of the answers with 13 cards a hand. It prints megabytes a second, and of the check leaves a
+second and nanoseconds a leaf: the least time of three runs of each text, added up over the texts.
 """
 import shutil
 import subprocess
@@ -59,7 +59,8 @@ def least_times(program, text):
     """The least microseconds of each thing that the program times on the text."""
     least = {}
     for _ in range(RUNS):
-        for line in subprocess.run([str(program)], check=True, capture_output=True, input=text).stdout.decode().splitlines():
+        run = subprocess.run([str(program)], check=True, capture_output=True, input=text)
+        for line in run.stdout.decode().splitlines():
             name, micros, total = line.split()
             if name == "check" and int(total) != TIMES["check"]:
                 raise SystemExit("a certificate was refused")

@@ -101,7 +101,8 @@ def is_pattern(suits):
     hands = [sum(suit.lengths[seat] for suit in suits) for seat in range(4)]
     return (all(sum(suit.lengths) <= 13 for suit in suits)
             and len(set(hands)) == 1 and 1 <= hands[0] <= 13
-            and all(suit.owners.count(name) <= suit.lengths[place] for suit in suits for place, name in enumerate(SEATS)))
+            and all(suit.owners.count(name) <= suit.lengths[place] for suit in suits
+                    for place, name in enumerate(SEATS)))
 
 
 def read_node(line, number, count):

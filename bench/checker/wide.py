@@ -1,9 +1,9 @@
 #!/usr/bin/env python3
 """Times the check of large graphs by one thread and by several, on 1, 2 and 4 processors, in one run.
 
-Usage: bench/checker/wide.py. It copies the crates into a folder of its own, proves and builds wide.rt.txt there, and runs it on
-graphs of 2,048, 20,000 and 200,000 nodes, all of them right, with so many processors allowed. It prints the milliseconds by the
-wall of the fastest of ten checks, and how many times as fast several threads were.
+Usage: bench/checker/wide.py. It copies the crates into a folder of its own, proves and builds wide.rt.txt there, and
+runs it on graphs of 2,048, 20,000 and 200,000 nodes, all of them right, with so many processors allowed. It prints the
+milliseconds by the wall of the fastest of ten checks, and how many times as fast several threads were.
 """
 import os
 import subprocess

@@ -1,11 +1,12 @@
 #!/usr/bin/env python3
 """Measures how many calls a second threads make at one desk of 4,096 boards with different deals.
 
-Usage: bench/desk/speed.py. It copies the crates into a folder of its own, proves and builds speed.rt.txt there, and runs it once.
-The same 81,920 calls are made on a book alone, at a desk with 1, 2, 4 and 8 threads, and with as many threads on a book under a
-mutex, where each event's maker is noted and each worker keeps its receipts, as at a desk. Half of the calls ask for leases, three
-eighths give them up and one eighth frees those that are due. No answer is handed in. Each is timed five times, in turn, and it
-prints the least of each time: calls a second by the wall, and nanoseconds of processor time a call, of all threads together.
+Usage: bench/desk/speed.py. It copies the crates into a folder of its own, proves and builds speed.rt.txt there, and
+runs it once. The same 81,920 calls are made on a book alone, at a desk with 1, 2, 4 and 8 threads, and with as many
+threads on a book under a mutex, where each event's maker is noted and each worker keeps its receipts, as at a desk.
+Half of the calls ask for leases, three eighths give them up and one eighth frees those that are due. No answer is
+handed in. Each is timed five times, in turn, and it prints the least of each time: calls a second by the wall, and
+nanoseconds of processor time a call, of all threads together.
 """
 import shutil
 import subprocess
@@ -76,7 +77,8 @@ def main():
         least = run(build(Path(name)))
     for (kind, threads), (wall, processors) in least.items():
         each = processors * 1000 / CALLS
-        print(f"{kind}, threads {threads}: {CALLS * 1e6 / wall:,.0f} calls a second, {each:.0f} ns of processor time a call")
+        print(f"{kind}, threads {threads}: {CALLS * 1e6 / wall:,.0f} calls a second, "
+              f"{each:.0f} ns of processor time a call")
     for kind in ("desk", "lock"):
         own = [(least[kind, 1][at] - least["book", 1][at]) * 1000 / CALLS for at in (0, 1)]
         print(f"{kind}'s own cost a call on one thread: {own[0]:.0f} ns by the wall, {own[1]:.0f} of processor time")

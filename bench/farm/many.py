@@ -1,9 +1,9 @@
 #!/usr/bin/env python3
-"""Fills the tables of many random boards with four solvers at the default budget and tries, and counts those that are complete
-and those that are DDS's.
+"""Fills the tables of many random boards with four solvers at the default budget and tries, and counts those that are
+complete and those that are DDS's.
 
-Usage: bench/farm/many.py [BOARDS [SEED]], by default 1,000 boards of seed 1000. It needs Debian's libdds-dev and g++, and the
-program built (run ./ddfarm once).
+Usage: bench/farm/many.py [BOARDS [SEED]], by default 1,000 boards of seed 1000. It needs Debian's libdds-dev and g++,
+and the program built (run ./ddfarm once).
 """
 import subprocess
 import sys
@@ -27,7 +27,8 @@ def main():
     printed = printed_tables(run.stdout)
     complete = sum(len(table) == 20 for table in printed)
     same = sum(table == numbers for table, numbers in zip(printed, tables.values()))
-    print(f"{len(tables)} boards of seed {words[1]}: {complete} tables complete, {same} DDS's, status {run.returncode},", end=" ")
+    print(f"{len(tables)} boards of seed {words[1]}: {complete} tables complete, {same} DDS's, "
+          f"status {run.returncode},", end=" ")
     print(f"{time.monotonic() - start:.0f} s")
 
 

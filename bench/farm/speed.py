@@ -1,11 +1,11 @@
 #!/usr/bin/env python3
-"""Times `ddfarm table` with 1, 2 and 4 solvers, each with 2 checkers, beside DDS's CalcAllTables with as many threads, over the
-same random boards.
+"""Times `ddfarm table` with 1, 2 and 4 solvers, each with 2 checkers, beside DDS's CalcAllTables with as many threads,
+over the same random boards.
 
-Usage: bench/farm/speed.py [BOARDS [SEED [ROUNDS]]], by default 100 boards of seed 2026 and three rounds. It needs Debian's
-libdds-dev and g++, and the program built (run ./ddfarm once). Of each it prints the seconds by the wall and of all processors
-together, the greatest memory, and how many times as fast it was as with one; every table has to be DDS's. The runs take turns,
-and the fastest of each is told.
+Usage: bench/farm/speed.py [BOARDS [SEED [ROUNDS]]], by default 100 boards of seed 2026 and three rounds. It needs
+Debian's libdds-dev and g++, and the program built (run ./ddfarm once). Of each it prints the seconds by the wall and of
+all processors together, the greatest memory, and how many times as fast it was as with one; every table has to be
+DDS's. The runs take turns, and the fastest of each is told.
 """
 import os
 import subprocess

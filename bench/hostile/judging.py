@@ -10,8 +10,8 @@ writer = module_of("whole", "model")
 COUNTS = rb"ddfarm: \d+ of \d+ results, \d+ of \d+ boards, \d+ s"
 PROGRESS = re.compile(rb"(?:" + COUNTS + rb"\n)*" + COUNTS + rb", (\d+) tables incomplete\n")
 REFUSED = re.compile(
-    rb"refused (?:9 KTooLarge|(?:declarer|defenders) (?:10 Text [1-6] [A-Za-z]+ line \d+|1 RootMissing|2 RootNeedless|3 RootTrump"
-    rb"|4 RootSide|5 RootLead|6 RootNeed|7 RootPattern|8 Node \d+ [1-8] [A-Za-z]+))\n")
+    rb"refused (?:9 KTooLarge|(?:declarer|defenders) (?:10 Text [1-6] [A-Za-z]+ line \d+|1 RootMissing|2 RootNeedless"
+    rb"|3 RootTrump|4 RootSide|5 RootLead|6 RootNeed|7 RootPattern|8 Node \d+ [1-8] [A-Za-z]+))\n")
 # A board with a deal, and no result.
 DEALT = re.compile(rb'(\[Deal "N:.*"\]\n); table incomplete: 0 of 20\n')
 # Longer answers are not given to the slow checker too.
@@ -54,8 +54,8 @@ def lacking_in(written):
 
 
 def as_tables(written, text, predicted):
-    """What was written of a text with `--whole` as `table` writes it, whose boards are predicted, without a result; None where a section
-    lacks, or something else is lost or added."""
+    """What was written of a text with `--whole` as `table` writes it, whose boards are predicted, without a result;
+    None where a section lacks, or something else is lost or added."""
     taken = writer.taken_out(written)
     if taken is None or not writer.loses_nothing(taken[0], text):
         return None
@@ -99,8 +99,8 @@ def check_fault(outcome, words, text, tricks):
 
 
 def unread_fault(outcome, whole, room):
-    """What is wrong with an outcome whose output was closed, of a run that ends as `whole` does where it is read to its end. What
-    was not read of it but written lies in the pipe, that has so much room."""
+    """What is wrong with an outcome whose output was closed, of a run that ends as `whole` does where it is read to its
+    end. What was not read of it but written lies in the pipe, that has so much room."""
     if not whole.out.startswith(outcome.out):
         return "other bytes were written"
     if (outcome.status, outcome.err) == WRITING_FAILED:

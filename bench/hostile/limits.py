@@ -1,14 +1,15 @@
 #!/usr/bin/env python3
-"""Runs the program where the system gives it little memory (RLIMIT_AS) or small stacks (RLIMIT_STACK), and tells how the runs end.
+"""Runs the program where the system gives it little memory (RLIMIT_AS) or small stacks (RLIMIT_STACK), and tells how
+the runs end.
 
-Usage: bench/hostile/limits.py [SEED], by default 2026, of one random board of thirteen cards a hand. It needs Debian's libdds-dev
-and g++, and the program built (run ./ddfarm once).
+Usage: bench/hostile/limits.py [SEED], by default 2026, of one random board of thirteen cards a hand. It needs Debian's
+libdds-dev and g++, and the program built (run ./ddfarm once).
 
-Stacks: from 16 kB, by doubling, to 8 MB and no limit. A run may end by a signal only where they are smaller than LEAST_STACK.
-Memory: from the least at which `ddfarm --help` ends with status 0, step by step until a run ends as it does with ample memory, and
-two steps further. Each run has to end with one of the statuses of docs/FORMATS.md and its line, within two minutes, and what it
-prints has to be what it prints with ample memory, a table that lacks a number aside. Prints how the runs ended, and ends with
-status 1 where one ended otherwise.
+Stacks: from 16 kB, by doubling, to 8 MB and no limit. A run may end by a signal only where they are smaller than
+LEAST_STACK. Memory: from the least at which `ddfarm --help` ends with status 0, step by step until a run ends as it
+does with ample memory, and two steps further. Each run has to end with one of the statuses of docs/FORMATS.md and its
+line, within two minutes, and what it prints has to be what it prints with ample memory, a table that lacks a number
+aside. Prints how the runs ended, and ends with status 1 where one ended otherwise.
 """
 import resource
 import signal
@@ -69,7 +70,8 @@ def lacks(game, full):
 def is_partly(text, ample):
     """Whether each table of a text is that of the ample text, or lacks a number; some does."""
     games, whole = text.split(BETWEEN), ample.split(BETWEEN)
-    return len(games) == len(whole) and games != whole and all(game == full or lacks(game, full) for game, full in zip(games, whole))
+    return len(games) == len(whole) and games != whole and all(game == full or lacks(game, full)
+                                                               for game, full in zip(games, whole))
 
 
 def is_partly_done(case, outcome):
@@ -95,7 +97,8 @@ def end_of(case, memory=UNLIMITED, stack=USUAL_STACK):
 
 
 def least_limit(low, high, step, does):
-    """The least limit that does, in steps: more than the low one, which doesn't do, and at most the high one, which does."""
+    """The least limit that does, in steps: more than the low one, which doesn't do, and at most the high one, which
+    does."""
     while high - low > step:
         middle = low + (high - low) // (2 * step) * step
         low, high = (low, middle) if does(middle) else (middle, high)
@@ -158,7 +161,8 @@ def is_stack_fault(size, end):
 
 
 def least_stack(case, ends):
-    """The least stack from which on a case ends well, to a page, where it doesn't with the smallest and does with the greatest."""
+    """The least stack from which on a case ends well, to a page, where it doesn't with the smallest and does with the
+    greatest."""
     bad = [number for number, (_, end) in enumerate(ends) if end != WELL]
     if not bad or STACKS[bad[-1]] in STACKS[-2:]:
         return "-"
@@ -179,7 +183,8 @@ def stack_faults(cases):
 
 
 def table_case(name, threads, text):
-    return case_of(f"table {name} {threads}/{threads}", ["table", "--solvers", str(threads), "--checkers", str(threads)], text)
+    return case_of(f"table {name} {threads}/{threads}",
+                   ["table", "--solvers", str(threads), "--checkers", str(threads)], text)
 
 
 def answer_cases(name, layout, declarer, trump):
@@ -192,7 +197,8 @@ def table_cases(deal, numbers):
     """The cases of tables, by so many threads of each kind. With ample memory they are DDS's."""
     club = (ROOT / "examples" / "club.pbn").read_bytes()
     board = f'[Board "1"]\n[Deal "{deal}"]\n'.encode()
-    cases = [table_case(name, threads, text) for name, text in (("club", club), ("random", board)) for threads in THREADS]
+    cases = [table_case(name, threads, text) for name, text in (("club", club), ("random", board))
+             for threads in THREADS]
     if cases[0].ample.out != (ROOT / "examples" / "club-tables.pbn").read_bytes():
         sys.exit("with ample memory the tables of the club are not DDS's")
     if speed.printed_tables(cases[-1].ample.out.decode()) != [numbers]:

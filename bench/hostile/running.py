@@ -39,10 +39,12 @@ def module_of(folder, name):
 
 
 def run(words, text=b"", seconds=120, limits=None, environment=None):
-    """The outcome of the program on these words and this input; `limits` is called in the new process before it starts."""
+    """The outcome of the program on these words and this input; `limits` is called in the new process before it
+    starts."""
     command = [str(PROGRAM), *words]
     try:
-        done = subprocess.run(command, input=text, capture_output=True, timeout=seconds, preexec_fn=limits, env=environment)
+        done = subprocess.run(command, input=text, capture_output=True, timeout=seconds, preexec_fn=limits,
+                              env=environment)
     except subprocess.TimeoutExpired as stopped:
         return Outcome(HANGS, stopped.stdout or b"", stopped.stderr or b"")
     return Outcome(done.returncode, done.stdout, done.stderr)
@@ -75,7 +77,8 @@ def status_of(process, seconds):
 def run_in_pieces(words, pieces, seconds):
     """The outcome on an input that comes through a pipe, piece by piece, of PIPE bytes at most."""
     with file_of() as output, file_of() as errors:
-        process = subprocess.Popen([str(PROGRAM), *words], stdin=subprocess.PIPE, stdout=output, stderr=errors, bufsize=0)
+        process = subprocess.Popen([str(PROGRAM), *words], stdin=subprocess.PIPE, stdout=output, stderr=errors,
+                                   bufsize=0)
         for piece in pieces:
             process.stdin.write(piece)
             time.sleep(0.001)
@@ -95,8 +98,8 @@ def read_from(end, count, seconds):
 
 
 def run_unread(words, text, count, room, signals, seconds):
-    """The outcome where so many bytes of the output are read, and then its pipe, with so much room, is closed; with `signals` the
-    signal of a closed pipe is as it is by default, else ignored."""
+    """The outcome where so many bytes of the output are read, and then its pipe, with so much room, is closed; with
+    `signals` the signal of a closed pipe is as it is by default, else ignored."""
     end, other_end = os.pipe()
     fcntl.fcntl(end, fcntl.F_SETPIPE_SZ, room)
     with file_of(text) as source, file_of() as errors:

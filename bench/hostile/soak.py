@@ -1,16 +1,17 @@
 #!/usr/bin/env python3
 """Gives the program damaged texts and answers, and outputs that are closed before their end, for so many minutes.
 
-Usage: bench/hostile/soak.py [MINUTES [SEED]], by default ten minutes of seed 1. It needs Debian's libdds-dev and g++, and the
-program built (run ./ddfarm once).
+Usage: bench/hostile/soak.py [MINUTES [SEED]], by default ten minutes of seed 1. It needs Debian's libdds-dev and g++,
+and the program built (run ./ddfarm once).
 
-A turn is one run: `table` on a text of PBN that the seed spoils, at times with `--whole`, with one to four threads of each kind, at
-times through a pipe that comes piece by piece; `check` on a spoiled answer; or a run whose output is closed after so many bytes. What
-it may end with is in judging.py: a text has to be refused as the reader of bench/reading says, else each number has to be DDS's, and
-what is written with `--whole` has to be, without its tables, the text without its own; no number is accepted that is not DDS's; and
-nothing ends by a signal or takes over a minute. Each fault is told and kept, with its input, words, status and outputs, in a folder
-`faults` where the script runs. At the end it prints what was tried and met, and ends with status 1 where there was a fault. A turn
-depends on the seed and its number alone.
+A turn is one run: `table` on a text of PBN that the seed spoils, at times with `--whole`, with one to four threads of
+each kind, at times through a pipe that comes piece by piece; `check` on a spoiled answer; or a run whose output is
+closed after so many bytes. What it may end with is in judging.py: a text has to be refused as the reader of
+bench/reading says, else each number has to be DDS's, and what is written with `--whole` has to be, without its tables,
+the text without its own; no number is accepted that is not DDS's; and nothing ends by a signal or takes over a minute.
+Each fault is told and kept, with its input, words, status and outputs, in a folder `faults` where the script runs. At
+the end it prints what was tried and met, and ends with status 1 where there was a fault. A turn depends on the seed and
+its number alone.
 """
 import random
 import re
@@ -95,7 +96,8 @@ def words_of_table(source):
 
 def met_in(outcome):
     """How an outcome is counted: its status, and what is told of it without numbers of lines and nodes."""
-    told = (outcome.err if outcome.status in (1, 2) else outcome.out if outcome.status == 4 else b"").decode(errors="replace")
+    told = outcome.err if outcome.status in (1, 2) else outcome.out if outcome.status == 4 else b""
+    told = told.decode(errors="replace")
     names = re.findall(r"[1-9] [A-Z][A-Za-z]+", told)
     return f"{outcome.status} {names[-1] if names else told.strip()}".strip()
 
@@ -138,12 +140,15 @@ def whole_run(source, stock):
     answer = source.choice(stock.answers)
     form = source.choice([[], [], ["--whole"]])
     if kind == "many":
-        return ["table", *form, "--tries", "1", "--budget", "1"], many_games(source, None)[:source.randrange(1, 200_000)]
+        text = many_games(source, None)
+        return ["table", *form, "--tries", "1", "--budget", "1"], text[:source.randrange(1, 200_000)]
     if kind == "quick":
         return ["table", *form], quick_games(source, None)
     if kind == "help":
         return ["--help"], b""
-    return (["check", *answer.words], answer.text) if kind == "check" else (["solve", *source.choice(stock.solved).words], b"")
+    if kind == "check":
+        return ["check", *answer.words], answer.text
+    return ["solve", *source.choice(stock.solved).words], b""
 
 
 def closed_output(source, stock):
@@ -202,7 +207,8 @@ def main():
     print(f"{sum(tried.values())} turns: {told(tried)}")
     for what in tried:
         for name, counts in (("of", kinds), ("ended", met)):
-            print(f"{what}, {name}: {told(Counter({key: count for (turn, key), count in counts.items() if turn == what}))}")
+            of_turn = Counter({key: count for (turn, key), count in counts.items() if turn == what})
+            print(f"{what}, {name}: {told(of_turn)}")
     print(f"{faults} faults")
     return 1 if faults else 0
 

@@ -142,7 +142,8 @@ def mark_put_in_front(_, text):
     return texts.MARK + text
 
 
-DAMAGES = [bit_flipped, byte_changed, bytes_lost, bytes_put_in, token_put_in, line_lost, line_doubled, lines_swapped, line_cut,
+DAMAGES = [bit_flipped, byte_changed, bytes_lost, bytes_put_in, token_put_in, line_lost, line_doubled, lines_swapped,
+           line_cut,
            part_doubled, cut_short, front_lost, ends_by_two, end_lost, mark_put_in_front]
 
 

@@ -1,11 +1,12 @@
 #!/usr/bin/env python3
 """Measures the calls of a lease book on more and more boards, up to the greatest number.
 
-Usage: bench/leases/speed.py [COMMIT]. It copies the crates into a folder of its own, proves and builds speed.rt.txt there, and
-runs it on 256, 512, .. 4,096 boards with different deals; by turns with the same over the crates of an older commit, if one is
-named. On each, all entries are leased, half of the leases expire and their entries are leased again, and a ready verdict is
-handed in for each entry. It prints the least processor time of five runs: of a call, or for an expiry of a lease that it frees,
-and of all calls together, and the greatest memory of a run beyond that of a run on 16 boards.
+Usage: bench/leases/speed.py [COMMIT]. It copies the crates into a folder of its own, proves and builds speed.rt.txt
+there, and runs it on 256, 512, .. 4,096 boards with different deals; by turns with the same over the crates of an older
+commit, if one is named. On each, all entries are leased, half of the leases expire and their entries are leased again,
+and a ready verdict is handed in for each entry. It prints the least processor time of five runs: of a call, or for an
+expiry of a lease that it frees, and of all calls together, and the greatest memory of a run beyond that of a run on 16
+boards.
 """
 import itertools
 import os
@@ -32,7 +33,8 @@ def layouts():
 
 
 def certificate(trump, leader, side, needs):
-    """The text that shows the trick of North's highest card for North and South, or that the other side needs nothing."""
+    """The text that shows the trick of North's highest card for North and South, or that the other side needs
+    nothing."""
     head = f"DDC 1\\ntrump {trump}\\nside {side}\\n"
     if not needs:
         return head + "nodes 0\\n"
@@ -73,7 +75,8 @@ def build(folder, source_of=ROOT):
     lines = (source_of / "crates.txt").read_text().splitlines()
     names = below(list(CRATES), lines)
     for name in names:
-        shutil.copytree(source_of / "crates" / name, folder / "crates" / name, ignore=shutil.ignore_patterns("must-fail"))
+        shutil.copytree(source_of / "crates" / name, folder / "crates" / name,
+                        ignore=shutil.ignore_patterns("must-fail"))
     (crate / "src").mkdir(parents=True)
     source = (HERE / "speed.rt.txt").read_text().replace("@ANSWERS@", answers())
     (crate / "src" / "main.rt").write_text(source)

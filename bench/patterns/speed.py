@@ -1,11 +1,12 @@
 #!/usr/bin/env python3
 """Measures the operations on patterns beside plain C over the same data.
 
-Usage: bench/patterns/speed.py. It copies the crates into a folder of its own, proves and builds speed.rt.txt there, builds
-speed.c by gcc -O2 for the same processors, which works on the same words, runs both several times, and prints the least time of
-a call of each in nanoseconds, and the ratio: on eight random deals with few owners a suit, on the same deals with all owners, and on eight
-endings of five cards a hand with all owners. A pattern matches, or covers, every other time; `packed` matches layouts that are
-packed already. Both add up what the calls answer, and the sums are compared.
+Usage: bench/patterns/speed.py. It copies the crates into a folder of its own, proves and builds speed.rt.txt there,
+builds speed.c by gcc -O2 for the same processors, which works on the same words, runs both several times, and prints
+the least time of a call of each in nanoseconds, and the ratio: on eight random deals with few owners a suit, on the
+same deals with all owners, and on eight endings of five cards a hand with all owners. A pattern matches, or covers,
+every other time; `packed` matches layouts that are packed already. Both add up what the calls answer, and the sums are
+compared.
 """
 
 import random
@@ -45,8 +46,10 @@ def rattle(folder):
         shutil.copytree(ROOT / "crates" / name, folder / "crates" / name, ignore=shutil.ignore_patterns("must-fail"))
     (crate / "src").mkdir(parents=True)
     (crate / "src" / "main.rt").write_text(filled("speed.rt.txt", "[", "]"))
-    lines = [line for line in (ROOT / "crates.txt").read_text().splitlines() if line.split(":")[0] in ("cards", "patterns", "pattern_step")]
-    (folder / "crates.txt").write_text("\n".join(lines + ["pattern_speed: cards patterns pattern_step arrayvec"]) + "\n")
+    lines = [line for line in (ROOT / "crates.txt").read_text().splitlines()
+             if line.split(":")[0] in ("cards", "patterns", "pattern_step")]
+    lines.append("pattern_speed: cards patterns pattern_step arrayvec")
+    (folder / "crates.txt").write_text("\n".join(lines) + "\n")
     subprocess.run(["git", "init", "-q", "."], cwd=folder, check=True)
     subprocess.run(["rt", "run"], cwd=crate, check=True, stdout=subprocess.DEVNULL)
     return crate / "out" / "pattern_speed"
@@ -84,7 +87,8 @@ def main():
     for (group, name), (micros, total) in theirs.items():
         mine = ours[(group, name)]
         same = "" if mine[1] == total else f"  THE SUMS DIFFER: {mine[1]} and {total}"
-        print(f"{GROUPS[group]}, {name}: {mine[0] * 1000 / CALLS:.0f} ns, C {micros * 1000 / CALLS:.0f} ns, ratio {mine[0] / micros:.1f}{same}")
+        print(f"{GROUPS[group]}, {name}: {mine[0] * 1000 / CALLS:.0f} ns, C {micros * 1000 / CALLS:.0f} ns, "
+              f"ratio {mine[0] / micros:.1f}{same}")
 
 
 if __name__ == "__main__":

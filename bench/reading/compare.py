@@ -1,9 +1,9 @@
 #!/usr/bin/env python3
-"""Compares `ddfarm table` with the reader beside it (reader.py): status, standard output and standard error, to the byte.
-What was written has to be read back as itself. One try of one step finds no number, so each table is incomplete.
+"""Compares `ddfarm table` with the reader beside it (reader.py): status, standard output and standard error, to the
+byte. What was written has to be read back as itself. One try of one step finds no number, so each table is incomplete.
 
-Usage: bench/reading/compare.py COUNT [SEED]. COUNT random texts of each kind, and all rows of up to four tokens between two
-boards. The program has to be built (run ./ddfarm once). Ends with status 1 at the first difference.
+Usage: bench/reading/compare.py COUNT [SEED]. COUNT random texts of each kind, and all rows of up to four tokens between
+two boards. The program has to be built (run ./ddfarm once). Ends with status 1 at the first difference.
 """
 import os
 import random
@@ -47,7 +47,8 @@ def all_texts(count, seed):
 def main():
     count, seed = int(sys.argv[1]), sys.argv[2] if len(sys.argv) > 2 else "1"
     answers = Counter(compare(text) for text in all_texts(count, seed))
-    print(f"{sum(answers.values())} texts, no difference:", ", ".join(f"{name} {times}" for name, times in answers.most_common()))
+    print(f"{sum(answers.values())} texts, no difference:",
+          ", ".join(f"{name} {times}" for name, times in answers.most_common()))
 
 
 main()

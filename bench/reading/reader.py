@@ -5,7 +5,8 @@ predict(text) answers the exit status, the standard output and the standard erro
 """
 import re
 
-NAMES = {1: "TagForm", 2: "OpenComment", 3: "SecondDeal", 4: "DealForm", 5: "CardTwice", 6: "HandSize", 7: "Inherited", 8: "TooManyBoards"}
+NAMES = {1: "TagForm", 2: "OpenComment", 3: "SecondDeal", 4: "DealForm", 5: "CardTwice", 6: "HandSize", 7: "Inherited",
+         8: "TooManyBoards"}
 MARK = b"\xef\xbb\xbf"
 BLANKS = b" \t"
 FALLING = b"AKQJT98765432"
@@ -139,7 +140,8 @@ def written(boards):
     for name, hands in boards:
         value = b"?"
         if hands is not None:
-            value = b"N:" + b" ".join(b".".join(bytes(sorted(group, key=FALLING.index)) for group in hand) for hand in hands)
+            value = b"N:" + b" ".join(b".".join(bytes(sorted(group, key=FALLING.index)) for group in hand)
+                                      for hand in hands)
         text += b'[Board "' + name + b'"]\n[Deal "' + value + b'"]\n; table incomplete: 0 of 20\n\n'
     return text
 

@@ -3,9 +3,12 @@ import itertools
 
 MARK = b"\xef\xbb\xbf"
 ENDS = [b"\n", b"\r\n"]
-TOKENS = [b"[", b"]", b'"', b"{", b"}", b";", b"%", b" ", b"\t", b"\r", b"\n", b"\r\n", b"\n\n", b"x", b"?", b"#", b"\x00", b"\xff", MARK]
-PIECES = [b'[Deal "?"]', b'[deal ""]', b'[Deal "#"]', b'[Deal "-"]', b'[Deal "N:- - - -"]', b'[Board "1"]', b'[BOARD "2"]', b'[Board "#"]']
-CALM = [b"{", b"}", b'"', b";", b"%", b" ", b"\t", b"\n", b"\r\n", b"\n\n", b"x", b'[Deal "?"]', b'[Board "a"]', b'[Event "x"]']
+TOKENS = [b"[", b"]", b'"', b"{", b"}", b";", b"%", b" ", b"\t", b"\r", b"\n", b"\r\n", b"\n\n", b"x", b"?", b"#",
+          b"\x00", b"\xff", MARK]
+PIECES = [b'[Deal "?"]', b'[deal ""]', b'[Deal "#"]', b'[Deal "-"]', b'[Deal "N:- - - -"]', b'[Board "1"]',
+          b'[BOARD "2"]', b'[Board "#"]']
+CALM = [b"{", b"}", b'"', b";", b"%", b" ", b"\t", b"\n", b"\r\n", b"\n\n", b"x", b'[Deal "?"]', b'[Board "a"]',
+        b'[Event "x"]']
 
 
 def blanks(source):
@@ -40,24 +43,31 @@ def deal_value(source):
     if source.random() < 0.1:
         hands[source.randrange(4)].pop()
     between = b" " + blanks(source)
-    value = source.choice([b"N", b"E", b"S", b"W", b"n", b"e", b"s", b"w"]) + b":" + blanks(source) + between.join(hand(source, cards) for cards in hands)
+    value = source.choice([b"N", b"E", b"S", b"W", b"n", b"e", b"s", b"w"]) + b":" + blanks(source)
+    value += between.join(hand(source, cards) for cards in hands)
     if source.random() < 0.3:
         place = source.randrange(len(value) + 1)
-        value = value[:place] + source.choice([b"", b".", b"-", b" ", b"A", b"1", b"\r", b"#"]) + value[place + source.randrange(2) :]
+        put = source.choice([b"", b".", b"-", b" ", b"A", b"1", b"\r", b"#"])
+        value = value[:place] + put + value[place + source.randrange(2) :]
     return blanks(source) + value + blanks(source)
 
 
 def tag(source):
     """A tag pair, spelled oddly."""
     name = source.choice([b"Board", b"board", b"Deal", b"Deal", b"dEAL", b"Event", b"Deal_", b"Boards"])
-    value = source.choice([b"1", b"", b"a;{b", b" #", b"\xc3\xa9"]) if name.lower() != b"deal" else source.choice([b"?", b" ", deal_value(source), deal_value(source)])
+    if name.lower() == b"deal":
+        value = source.choice([b"?", b" ", deal_value(source), deal_value(source)])
+    else:
+        value = source.choice([b"1", b"", b"a;{b", b" #", b"\xc3\xa9"])
     return b"[" + blanks(source) + name + blanks(source) + b'"' + value + b'"' + blanks(source) + b"]"
 
 
 def line(source):
     """A line of a game: tag pairs, comments and section data."""
-    kinds = [lambda: tag(source), lambda: b"{" + soup(source).replace(b"}", b"") + b"}", lambda: b"; x {", lambda: b'1C Pass "{;" [x', lambda: b"%{", lambda: b""]
-    return b"".join(source.choices(kinds, [8, 1, 1, 1, 1, 3])[0]() + blanks(source) for _ in range(source.choice([1, 1, 1, 2, 3])))
+    kinds = [lambda: tag(source), lambda: b"{" + soup(source).replace(b"}", b"") + b"}", lambda: b"; x {",
+             lambda: b'1C Pass "{;" [x', lambda: b"%{", lambda: b""]
+    return b"".join(source.choices(kinds, [8, 1, 1, 1, 1, 3])[0]() + blanks(source)
+                    for _ in range(source.choice([1, 1, 1, 2, 3])))
 
 
 def games(source):

@@ -1,9 +1,10 @@
 #!/usr/bin/env python3
-"""Compares the solver and the checker of this checkout with those of an older commit over the same random boards: nodes, leaves and
-bytes of the graphs, and the processor time of solving and of checking, each the least of three runs by turns.
+"""Compares the solver and the checker of this checkout with those of an older commit over the same random boards:
+nodes, leaves and bytes of the graphs, and the processor time of solving and of checking, each the least of three runs
+by turns.
 
-Usage: bench/solver/compare.py COMMIT [BOARDS [SEED]], by default 100 boards of seed 2026. Both are proved and built in folders of
-their own, from nothing.
+Usage: bench/solver/compare.py COMMIT [BOARDS [SEED]], by default 100 boards of seed 2026. Both are proved and built in
+folders of their own, from nothing.
 """
 import subprocess
 import sys

@@ -1,10 +1,10 @@
 #!/usr/bin/env python3
-"""Solves every entry of random endings of 1 to 12 cards a hand with `ddfarm solve`, gives each answer to `ddfarm check`, and compares
-the number that it accepts with DDS's.
+"""Solves every entry of random endings of 1 to 12 cards a hand with `ddfarm solve`, gives each answer to `ddfarm
+check`, and compares the number that it accepts with DDS's.
 
-Usage: bench/solver/endings.py [ENDINGS], by default 17 of each size; their seed is 5000 and the number of cards a hand. It needs
-Debian's libdds-dev and g++, and the built program. DDS's CalcDDtable doesn't play a single card a hand; there the one trick is looked
-at here.
+Usage: bench/solver/endings.py [ENDINGS], by default 17 of each size; their seed is 5000 and the number of cards a hand.
+It needs Debian's libdds-dev and g++, and the built program. DDS's CalcDDtable doesn't play a single card a hand; there
+the one trick is looked at here.
 """
 
 import subprocess

@@ -1,11 +1,11 @@
 #!/usr/bin/env python3
-"""Times `ddfarm table`, and the solver and the checker behind it, beside DDS's CalcDDtable over the same random boards, one
-thread, and compares the numbers.
+"""Times `ddfarm table`, and the solver and the checker behind it, beside DDS's CalcDDtable over the same random boards,
+one thread, and compares the numbers.
 
-Usage: bench/solver/speed.py [BOARDS [SEED [CARDS]]], by default 100 boards of seed 2026. It needs Debian's libdds-dev and g++.
-It copies the crates into a folder of its own, proves and builds speed.rt.txt there, and prints what came of the entries and the
-processor time of all: mean, median and worst board. `ddfarm table` is run where a board has thirteen cards a hand, and its greatest
-memory is told too.
+Usage: bench/solver/speed.py [BOARDS [SEED [CARDS]]], by default 100 boards of seed 2026. It needs Debian's libdds-dev
+and g++. It copies the crates into a folder of its own, proves and builds speed.rt.txt there, and prints what came of
+the entries and the processor time of all: mean, median and worst board. `ddfarm table` is run where a board has
+thirteen cards a hand, and its greatest memory is told too.
 """
 
 import os
@@ -78,7 +78,8 @@ def build(folder, lines, root=ROOT):
     (crate / "src").mkdir(parents=True)
     (crate / "src" / "main.rt").write_text(filled(lines))
     kept = [line for line in (root / "crates.txt").read_text().splitlines() if line.split(":")[0] in CRATES]
-    (folder / "crates.txt").write_text("\n".join(kept + ["solver_speed: partition_solver checker certificate_graph cards arrayvec"]) + "\n")
+    kept.append("solver_speed: partition_solver checker certificate_graph cards arrayvec")
+    (folder / "crates.txt").write_text("\n".join(kept) + "\n")
     subprocess.run(["git", "init", "-q", "."], cwd=folder, check=True)
     subprocess.run(["rt", "run"], cwd=crate, stdout=subprocess.DEVNULL)
     return crate / "out" / "solver_speed"
@@ -94,9 +95,11 @@ def told(name, micros):
 def report(run, theirs):
     """What came of our run beside DDS's times."""
     rows = [[int(word) for word in line.split()] for line in run.splitlines()]
-    entries, tries, wrong, unanswered, refused, nodes, leaves, size = (sum(row[place] for row in rows) for place in range(8))
+    entries, tries, wrong, unanswered, refused, nodes, leaves, size = (sum(row[place] for row in rows)
+                                                                       for place in range(8))
     print(f"{entries} entries, {tries} tries: {wrong} wrong, {unanswered} without an answer, {refused} refused")
-    print(f"{nodes / entries:.0f} nodes an entry; {nodes / len(rows):.0f} nodes a board with {leaves / len(rows):.0f} leaves, "
+    print(f"{nodes / entries:.0f} nodes an entry; "
+          f"{nodes / len(rows):.0f} nodes a board with {leaves / len(rows):.0f} leaves, "
           f"in texts of {size / len(rows):.0f} bytes")
     told("DDS", theirs)
     told("solving", [row[8] for row in rows])
@@ -124,7 +127,8 @@ def run_table(folder, lines, theirs):
     printed = [printed_table(game) for game in (folder / "tables.pbn").read_text().split("[Board ")[1:]]
     same = sum(table == numbers for table, numbers in zip(printed, tables.values()))
     seconds = usage.ru_utime + usage.ru_stime
-    print(f"ddfarm table: status {process.returncode}, {same} of {len(tables)} tables are DDS's, {usage.ru_maxrss // 1024} MB at most")
+    print(f"ddfarm table: status {process.returncode}, {same} of {len(tables)} tables are DDS's, "
+          f"{usage.ru_maxrss // 1024} MB at most")
     print(f"ddfarm table: {1000 * seconds / len(tables):.1f} ms a board, {1e6 * seconds / sum(theirs):.2f} times DDS")
 
 

@@ -1,12 +1,13 @@
 #!/usr/bin/env python3
-"""Measures a set of weights for the order of cards: how many steps the solver's search takes an entry, on random boards of a seed.
+"""Measures a set of weights for the order of cards: how many steps the solver's search takes an entry, on random boards
+of a seed.
 
-Usage: bench/solver/weights.py [BOARDS [SEED [FILE]]], by default 20 boards of seed 1 and the weights of the crate. FILE has 704
-whole numbers: those of `MODEST` and then those of `EAGER`, in the order in which `weights.rt` of `search_state` has them. Whatever the weights, the
-numbers of tricks are the same; what changes is how many cards are tried. The four declarers of a denomination share what is
-remembered, and the writing of graphs is not counted. It copies the crates into a folder of its own, and proves and builds
-`partition_solver` there as a program, with weights.rt.txt for its main file. Boards that measure should not be boards that a set was
-tuned on.
+Usage: bench/solver/weights.py [BOARDS [SEED [FILE]]], by default 20 boards of seed 1 and the weights of the crate. FILE
+has 704 whole numbers: those of `MODEST` and then those of `EAGER`, in the order in which `weights.rt` of `search_state`
+has them. Whatever the weights, the numbers of tricks are the same; what changes is how many cards are tried. The four
+declarers of a denomination share what is remembered, and the writing of graphs is not counted. It copies the crates
+into a folder of its own, and proves and builds `partition_solver` there as a program, with weights.rt.txt for its main
+file. Boards that measure should not be boards that a set was tuned on.
 """
 
 import random
@@ -70,7 +71,8 @@ def main():
         sys.exit(f"{sys.argv[3]} has {len(numbers)} numbers, and a set of weights has {COUNT}")
     with tempfile.TemporaryDirectory() as name:
         program = build(Path(name), boards, seed, numbers)
-        entries, steps = map(int, subprocess.run([str(program)], check=True, capture_output=True, text=True).stdout.split())
+        run = subprocess.run([str(program)], check=True, capture_output=True, text=True)
+        entries, steps = map(int, run.stdout.split())
     print(f"{boards} boards of seed {seed}, {entries} entries: {steps / entries:.0f} steps an entry")
 
 

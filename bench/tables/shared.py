@@ -1,9 +1,9 @@
 #!/usr/bin/env python3
-"""Times `ddfarm table` with one solver and one checker on 4,096 boards of one deal beside 4,096 boards of which the first alone has
-that deal, by turns.
+"""Times `ddfarm table` with one solver and one checker on 4,096 boards of one deal beside 4,096 boards of which the
+first alone has that deal, by turns.
 
-Usage: bench/tables/shared.py. The program has to be built (run ./ddfarm once). It prints the least processor time of five runs on
-each text and how many bytes were printed. All tables of the first text have to be the one of the second.
+Usage: bench/tables/shared.py. The program has to be built (run ./ddfarm once). It prints the least processor time of
+five runs on each text and how many bytes were printed. All tables of the first text have to be the one of the second.
 """
 import os
 import random

@@ -1,10 +1,10 @@
 #!/usr/bin/env python3
 """Times `ddfarm table` and `table --whole` on texts of 4,096 boards, of about 1 MB and about 10 MB, beside `wc -l`.
 
-Usage: bench/tables/speed.py. The program has to be built (run ./ddfarm once). Each figure is the best of five runs, with
-the output to a file. The longer text has the same boards with ninety lines of play more in each game; each is tried with
-its deals, and once more with hands that aren't known. One try of one step finds no number: what is timed is reading,
-leasing, what a search makes ready, and writing.
+Usage: bench/tables/speed.py. The program has to be built (run ./ddfarm once). Each figure is the best of five runs,
+with the output to a file. The longer text has the same boards with ninety lines of play more in each game; each is
+tried with its deals, and once more with hands that aren't known. One try of one step finds no number: what is timed is
+reading, leasing, what a search makes ready, and writing.
 """
 import os
 import random
@@ -78,7 +78,8 @@ def main():
                 alone, whole = best(command, path, output), best([*command, "--whole"], path, output)
                 lines = best(["wc", "-l"], path, output)
                 deals = "deals" if known else "no deals"
-                print(f"{os.path.getsize(path)} bytes, {deals}: table {alone:.0f} ms, --whole {whole:.0f}, wc -l {lines:.0f}")
+                print(f"{os.path.getsize(path)} bytes, {deals}: table {alone:.0f} ms, --whole {whole:.0f}, "
+                      f"wc -l {lines:.0f}")
 
 
 if __name__ == "__main__":

@@ -1,9 +1,11 @@
 #!/usr/bin/env python3
-"""Compares `ddfarm table --whole` on random texts (texts.py) with `ddfarm table` and with a second writer of whole texts (model.py).
+"""Compares `ddfarm table --whole` on random texts (texts.py) with `ddfarm table` and with a second writer of whole
+texts (model.py).
 
-Usage: bench/whole/compare.py [--texts COUNT] [--seed SEED] [--jobs JOBS] [--program PROGRAM], by default 2,000 texts of seed 1, as many
-jobs as there are processors, and the `ddfarm` of this repository. The texts have few deals, all found in a moment; in a part of the
-runs a small budget leaves tables incomplete. A text depends on the seed and its number alone.
+Usage: bench/whole/compare.py [--texts COUNT] [--seed SEED] [--jobs JOBS] [--program PROGRAM], by default 2,000 texts of
+seed 1, as many jobs as there are processors, and the `ddfarm` of this repository. The texts have few deals, all found
+in a moment; in a part of the runs a small budget leaves tables incomplete. A text depends on the seed and its number
+alone.
 
 Prints what was tried, or the first difference in full, and ends with status 1 where there was one.
 """
@@ -56,8 +58,8 @@ def end_fault(trial):
 
 
 def section_fault(trial):
-    """Each game whose deal is known has to end with a table or a line of how many results are known, and each game with a Deal tag has
-    to have no other; what they show has to be what `table` printed."""
+    """Each game whose deal is known has to end with a table or a line of how many results are known, and each game with
+    a Deal tag has to have no other; what they show has to be what `table` printed."""
     taken, printed = model.taken_out(trial.whole.out), model.taken_out(trial.plain.out)
     if taken is None or printed is None:
         return "a board lacks its section"
@@ -105,7 +107,8 @@ def counts_of(trial):
     _, shown = model.taken_out(trial.whole.out)
     counted = sum(isinstance(shows, int) for shows in shown)
     has_old = model.without(trial.text) != trial.text
-    return Counter({"texts": 1, "with old tables": int(has_old), "with a known deal": int(bool(shown)), "tables": len(shown) - counted,
+    return Counter({"texts": 1, "with old tables": int(has_old), "with a known deal": int(bool(shown)),
+                    "tables": len(shown) - counted,
                     "counts of incomplete tables": counted})
 
 
@@ -126,7 +129,9 @@ def judged(program, seed, number):
     budget, text = source.choice(BUDGETS), texts.text(source)
     trial = trial_of(program, budget, text)
     fault = fault_of(trial)
-    return (Counter(), f"text {number} of seed {seed}: {difference(trial, fault)}") if fault else (counts_of(trial), None)
+    if fault:
+        return Counter(), f"text {number} of seed {seed}: {difference(trial, fault)}"
+    return counts_of(trial), None
 
 
 def words_given():
@@ -144,7 +149,8 @@ def main():
     subprocess.run([given.program, "--help"], stdout=subprocess.DEVNULL, check=True)
     counts = Counter()
     with Pool(given.jobs) as pool:
-        for more, fault in pool.imap(functools.partial(judged, given.program, given.seed), range(given.texts), chunksize=4):
+        for more, fault in pool.imap(functools.partial(judged, given.program, given.seed), range(given.texts),
+                                     chunksize=4):
             if fault:
                 sys.exit(fault)
             counts.update(more)

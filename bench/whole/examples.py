@@ -1,9 +1,9 @@
 #!/usr/bin/env python3
-"""Tries `ddfarm table --whole` on each file under examples/, as it is and with its lines ended the other way, and on twenty deals that
-Debian's `dealer` prints, where that is installed. The checks are those of compare.py.
+"""Tries `ddfarm table --whole` on each file under examples/, as it is and with its lines ended the other way, and on
+twenty deals that Debian's `dealer` prints, where that is installed. The checks are those of compare.py.
 
-Usage: bench/whole/examples.py [BUDGET [PROGRAM]], by default 100,000 steps and the `ddfarm` of this repository. Prints a line for each
-text, or the first difference in full, and ends with status 1 where there was one.
+Usage: bench/whole/examples.py [BUDGET [PROGRAM]], by default 100,000 steps and the `ddfarm` of this repository. Prints
+a line for each text, or the first difference in full, and ends with status 1 where there was one.
 """
 import subprocess
 import sys
@@ -27,7 +27,8 @@ def texts():
         yield path.name, text
         yield f"{path.name} with other ends", with_other_ends(text)
     if DEALER.exists():
-        made = subprocess.run([DEALER, "-p", "20", "-s", "1"], input=b"action printpbn\n", capture_output=True, check=True)
+        made = subprocess.run([DEALER, "-p", "20", "-s", "1"], input=b"action printpbn\n", capture_output=True,
+                              check=True)
         yield "twenty deals of dealer", made.stdout
     else:
         print(f"{DEALER} is not installed")

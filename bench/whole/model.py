@@ -1,6 +1,6 @@
-"""A second writer of whole texts, to compare `ddfarm table --whole` with: a PBN text as it was read, with the tables of its boards in
-place of those that it had. It was written from the rules alone, shares nothing with ddfarm's own, and looks at each line by regular
-expressions. Only texts that are not refused have a meaning here.
+"""A second writer of whole texts, to compare `ddfarm table --whole` with: a PBN text as it was read, with the tables of
+its boards in place of those that it had. It was written from the rules alone, shares nothing with ddfarm's own, and
+looks at each line by regular expressions. Only texts that are not refused have a meaning here.
 
 What a section shows is a list of its twenty tricks, or the number of how many results are known.
 """
@@ -19,7 +19,8 @@ IN_DATA = re.compile(COMMENT + rb'|(?P<data>"[^"]*"?|[^;{"]+)', re.DOTALL)
 COUNT = re.compile(rb"; table incomplete: (1?[0-9]) of 20")
 ROW = re.compile(rb"([NSEW] (?:NT| [SHDC])) ( [0-9]|1[0-3])")
 
-# A piece of a line: its kind is a group's name above, or `escaped`; a tag pair has a name, in small letters, and a value.
+# A piece of a line: its kind is a group's name above, or `escaped`; a tag pair has a name, in small letters, and a
+# value.
 Piece = namedtuple("Piece", "kind bytes name value", defaults=(b"", b""))
 Line = namedtuple("Line", "pieces end")
 # Its lines, and the line that ends it, if there is one.
@@ -48,7 +49,8 @@ def pieces_of(line, is_open):
     while place < len(line):
         found = form.match(line, place)
         kind, place = found.lastgroup, found.end()
-        pieces.append(Piece(kind, found[0], found["name"].lower(), found["value"]) if kind == "pair" else Piece(kind, found[0]))
+        named = (found["name"].lower(), found["value"]) if kind == "pair" else ()
+        pieces.append(Piece(kind, found[0], *named))
         form = IN_DATA if kind == "data" else form
     return pieces, bool(pieces) and pieces[-1].kind == "open"
 
@@ -122,7 +124,8 @@ def is_count(line):
 
 
 def without_counts(lines):
-    """The lines without those at the end that tell how many results were known; escaped lines may stand between and behind."""
+    """The lines without those at the end that tell how many results were known; escaped lines may stand between and
+    behind."""
     end = len(lines)
     while end and (is_escaped(lines[end - 1]) or is_count(lines[end - 1])):
         end -= 1
@@ -141,7 +144,8 @@ def without(text):
 
 
 def loses_nothing(bare, text):
-    """Whether what was written, without its sections, is the text without its old tables. The last line may have got an end."""
+    """Whether what was written, without its sections, is the text without its old tables. The last line may have got an
+    end."""
     left = without(text)
     return bare == left or bare in (left + b"\n", left + b"\r\n") and not left.endswith(b"\n")
 
@@ -188,7 +192,8 @@ def read_section(lines):
 
 
 def taken_out(written):
-    """What was written without the section of each board whose deal is known, and what the sections show; None where one lacks."""
+    """What was written without the section of each board whose deal is known, and what the sections show; None where
+    one lacks."""
     mark, _, games = read(written)
     found = {place: read_section(game.lines) for place, game in enumerate(games) if is_dealt(game.lines)}
     if None in found.values():

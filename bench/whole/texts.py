@@ -1,5 +1,6 @@
-"""Texts for the comparison of whole texts: games with old tables, comments, escaped lines and other results, in lines of either end.
-Each function takes a source of random numbers; one that makes parts of a game answers lines without their ends.
+"""Texts for the comparison of whole texts: games with old tables, comments, escaped lines and other results, in lines
+of either end. Each function takes a source of random numbers; one that makes parts of a game answers lines without
+their ends.
 """
 from model import ENTRIES, HEADING, MARK
 
@@ -12,11 +13,16 @@ NO_COUNTS = [b"; table incomplete: 20 of 20", b"; table incomplete: 07 of 20", b
 ESCAPED = [b"%", b"% a", b"%{", b'%[Deal "?"]', b"%" + HEADING, b"%; table incomplete: 7 of 20", b"% \r"]
 TEXTS_IN_COMMENTS = [b"", b" a ", b'[Deal "?"]', HEADING, b"; table incomplete: 7 of 20", b"% b", b"{", b'"']
 SECTIONS = [[b'[OptimumScore "NS 2220"]'], [b'[Minimax "7NT"]', b"N NT 13"], [b'[DoubleDummyTricks "0"]', b"N  S 13"],
-            [b'[Auction "N"]', b'1NT "; x" {a} [Deal "?"] =1=', b"Pass"], [b'[Play "E"]', b"HK HA ; seven", b"S2 {x} -"],
-            [b'[Note "1:both {majors"]', b"}"], [b'[OptimumResultTables "x"]', b"N NT  1"], [b'[ScoreTable "Rank"]', b" 1"]]
-LINES = [b'[Event "a"]', b'[Board "1"]', b'[board "2"] [Site ""]', b'[Dealer "N"]{x}[Vulnerable "All"] ', b"; x", b" ; y ", b"{ z }",
-         b"  {c}  ", b"x", b'a [Deal "?"]', b'"quoted [x', b"}", b"]", b" \r", b"N NT  9", b" % b", b"\xff", MARK + b"d", b"{} ;"]
-FAULTS = [b"[x", b'[Deal "N"]', b'[Deal "#"]', b'[Deal "?"] [Deal "?"]', b"{", b'[Board "#1"]', b'[OptimumResultTable "x]']
+            [b'[Auction "N"]', b'1NT "; x" {a} [Deal "?"] =1=', b"Pass"],
+            [b'[Play "E"]', b"HK HA ; seven", b"S2 {x} -"],
+            [b'[Note "1:both {majors"]', b"}"], [b'[OptimumResultTables "x"]', b"N NT  1"],
+            [b'[ScoreTable "Rank"]', b" 1"]]
+LINES = [b'[Event "a"]', b'[Board "1"]', b'[board "2"] [Site ""]', b'[Dealer "N"]{x}[Vulnerable "All"] ', b"; x",
+         b" ; y ", b"{ z }",
+         b"  {c}  ", b"x", b'a [Deal "?"]', b'"quoted [x', b"}", b"]", b" \r", b"N NT  9", b" % b", b"\xff",
+         MARK + b"d", b"{} ;"]
+FAULTS = [b"[x", b'[Deal "N"]', b'[Deal "#"]', b'[Deal "?"] [Deal "?"]', b"{", b'[Board "#1"]',
+          b'[OptimumResultTable "x]']
 
 
 def blanks(source):
@@ -39,7 +45,8 @@ def tag(source, name, value):
 def quick_deal(source):
     """A deal of which each hand has one suit."""
     hands = [b".".join(RANKS if place == suit else b"" for place in range(4)) for suit in source.sample(range(4), 4)]
-    value = source.choice([b"N", b"E", b"S", b"W", b"n"]) + b":" + blanks(source) + source.choice([b" ", b" ", b" \t"]).join(hands)
+    value = source.choice([b"N", b"E", b"S", b"W", b"n"]) + b":" + blanks(source)
+    value += source.choice([b" ", b" ", b" \t"]).join(hands)
     return blanks(source) + value + blanks(source)
 
 
@@ -47,7 +54,8 @@ def open_comment(source):
     """A brace comment across lines, and what may stand before it and behind it."""
     before = source.choice([b"", b"", b" ", b"N NT  1 ", b'[Dealer "N"] ', b"x"])
     inside = source.choices([b" ", b"N NT  1", *TEXTS_IN_COMMENTS], k=source.randrange(4))
-    behind = source.choice([b"", b"", b" ", b" N  S  2", b' [Site "y"]', b' [OptimumResultTable "x"] 1', b"; z", b"{d} x", b"{", b"\r"])
+    behind = source.choice([b"", b"", b" ", b" N  S  2", b' [Site "y"]', b' [OptimumResultTable "x"] 1', b"; z",
+                            b"{d} x", b"{", b"\r"])
     return [before + b"{ open", *inside, b"still }" + behind] + ([b"again }"] if behind == b"{" else [])
 
 
@@ -59,8 +67,10 @@ def brace(source):
 def row(source):
     """A line of section data, as a table has it or with other things in it."""
     plain = source.choice(ENTRIES) + b" %2d" % source.randrange(14)
-    others = [b"  " + plain, plain + b" ; seven", b"N " + brace(source) + b" NT 1 " + brace(source), brace(source) + b" " + plain, b"N;",
-              b'"a;b{c" ' + plain, b'"open ' + plain, plain + b' [Dealer "N"]', b" % no", plain + b"\r", b"\t" + brace(source) + b" "]
+    others = [b"  " + plain, plain + b" ; seven", b"N " + brace(source) + b" NT 1 " + brace(source),
+              brace(source) + b" " + plain, b"N;",
+              b'"a;b{c" ' + plain, b'"open ' + plain, plain + b' [Dealer "N"]', b" % no", plain + b"\r",
+              b"\t" + brace(source) + b" "]
     return source.choice([plain] * 12 + others)
 
 
@@ -68,13 +78,16 @@ def between(source):
     """Nothing, mostly, or a line that may stand between those of a table and isn't its own."""
     if source.random() < 0.8:
         return []
-    return source.choice([[source.choice(ESCAPED)], [source.choice(COUNTS)], [brace(source)], [b"; alone"], open_comment(source)])
+    return source.choice([[source.choice(ESCAPED)], [source.choice(COUNTS)], [brace(source)], [b"; alone"],
+                          open_comment(source)])
 
 
 def heading(source):
     """The line of a table's tag, alone or with others."""
-    before = source.choice([b""] * 6 + [b" ", b'[Dealer "N"]', b'[Site "z"] ', brace(source) + b" ", b'[OptimumResultTable "y"] '])
-    others = [b" ", b" ; by hand", brace(source), b" N NT  1", b' [Scoring "MP"]', b' [Auction "N"] 1NT', b" {a} 1", b"\r",
+    before = source.choice([b""] * 6 + [b" ", b'[Dealer "N"]', b'[Site "z"] ', brace(source) + b" ",
+                                        b'[OptimumResultTable "y"] '])
+    others = [b" ", b" ; by hand", brace(source), b" N NT  1", b' [Scoring "MP"]', b' [Auction "N"] 1NT', b" {a} 1",
+              b"\r",
               b" " + brace(source) + b' [OptimumResultTable "z"] 2', source.choice(COUNTS)]
     value = source.choice([b"", b"x", b"Declarer;Denomination\\2R;Result\\2R", b"{a;"])
     return before + tag(source, b"OptimumResultTable", value) + source.choice([b""] * 6 + others)
@@ -95,8 +108,10 @@ def own_table(source):
 
 def deal_line(source, deal):
     """The line of a Deal tag, alone or with others."""
-    before = source.choice([b""] * 10 + [b" ", b'[Board "3"] ', brace(source), b'[OptimumResultTable "x"]', b'[optimumresulttable "x"] '])
-    behind = source.choice([b""] * 10 + [b" ", brace(source), b" ; c", b" x", b"\r", b' [Dealer "N"]', b'[OptimumResultTable "x"] 1 2',
+    before = source.choice([b""] * 10 + [b" ", b'[Board "3"] ', brace(source), b'[OptimumResultTable "x"]',
+                                         b'[optimumresulttable "x"] '])
+    behind = source.choice([b""] * 10 + [b" ", brace(source), b" ; c", b" x", b"\r", b' [Dealer "N"]',
+                                         b'[OptimumResultTable "x"] 1 2',
                                          b'[OptimumResultTable "x"] 1\r', b' [OptimumResultTable ""] [Site "z"]'])
     return before + tag(source, b"Deal", deal) + behind
 
@@ -119,7 +134,8 @@ def parts(source, most):
 
 
 def last_lines(source):
-    """Lines that stand last in a game: often none, else those that tell how many results were known, and escaped ones."""
+    """Lines that stand last in a game: often none, else those that tell how many results were known, and escaped
+    ones."""
     if source.random() < 0.6:
         return []
     return source.choices([*COUNTS, *COUNTS, *ESCAPED, *NO_COUNTS], k=source.randrange(1, 4))
@@ -154,4 +170,5 @@ def text(source):
     lines = source.choice([[], [], [b"% PBN 2.1"], gaps(source, 0)])
     for _ in range(source.choice([0, 1, 2, 2, 3, 3, 4, 5])):
         lines += game(source, deals) + gaps(source, 1)
-    return source.choice([b"", b"", b"", MARK, MARK, MARK + MARK]) + with_ends(source, lines[:-1] if source.random() < 0.6 else lines)
+    mark = source.choice([b"", b"", b"", MARK, MARK, MARK + MARK])
+    return mark + with_ends(source, lines[:-1] if source.random() < 0.6 else lines)
