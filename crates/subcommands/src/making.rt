@@ -99,7 +99,9 @@ pub fn make_tables<
     Ok((report, book))
 }
 
-/// The same, but what is written is the text as it was read, with the tables of its boards in it.
+/// Reads the boards of a PBN text to its end, has a farm work through them as the settings say, and writes the text as
+/// it was read, with the tables of what was shown in it. The book of the run is handed out. Of each number that is
+/// written, of leases and of refusals holds what [`make_tables`] says.
 pub fn make_whole<
     I: Source,
     O: Sink,

@@ -12,7 +12,7 @@ use pbn_deals::{first_row, front_of};
 /// A game of a text.
 #[derive(Clone, Copy)]
 pub(crate) struct GameText<'a> {
-    /// Its lines up to the last one that stays even if it isn't read, and isn't escaped.
+    /// Its lines up to the last of which more is left than a line that tells how many results were known.
     pub(crate) front: &'a [u8],
     /// Its lines behind that: of these go those that tell how many results were known.
     pub(crate) back: &'a [u8],
@@ -24,7 +24,7 @@ pub(crate) struct GameText<'a> {
     pub(crate) deal_end: Option<&'a [u8]>,
 }
 
-/// The end of the first line with a Deal tag, with a line more that does this and has this end.
+/// The end of the first line with a Deal tag, once a line was read that does this and has this end.
 fn with_deal_end<'a>(before: Option<&'a [u8]>, facts: LineFacts, end: &'a [u8]) -> Option<&'a [u8]>
     ensures { (lines : List Line) (in_table : Bool) (kind : Kind) (is_open : Bool)
         → FactsOfLine in_table kind is_open facts → IsDealEnd before.entry lines
