@@ -9,6 +9,7 @@ mod answers;
 mod bundles;
 mod claims;
 mod graph_writing;
+mod hints;
 mod last_hand;
 mod leaves;
 mod memory;

@@ -5,41 +5,6 @@ use crate::starts::{Found, Start};
 use pattern_store::{List, Record};
 use search_state::deals::CardsLeft;
 use search_state::relevant_cards::{depths_of, named_card, without_lone};
-use search_state::words::MIXER;
-use std::alloc::{AllocError, Global};
-
-/// There are 2 to this power of places for remembered leads.
-const HINT_BITS: u32 = 18;
-
-/// How many of them a row has.
-const HINT_ROW: usize = 64;
-
-/// Places for remembered leads.
-pub(crate) type HintRow = [u8; HINT_ROW];
-
-/// How many rows are made at a time.
-const ROWS_AT_ONCE: usize = 64;
-
-/// Rows in which no lead is remembered.
-const NO_HINTS: [HintRow; ROWS_AT_ONCE] = [[0; HINT_ROW]; ROWS_AT_ONCE];
-
-/// All places, in rows that are made many at a time: one place after another would take longer than a small search.
-pub(crate) fn no_hints(alloc: Global) -> Result<Vec<HintRow>, AllocError> {
-    let rows = (1usize << HINT_BITS) / HINT_ROW;
-    let mut hints = Vec::with_capacity(alloc, rows)?;
-    for _ in 0..rows / ROWS_AT_ONCE {
-        hints.extend_from_slice(NO_HINTS.as_slice())?;
-    }
-    Ok(hints)
-}
-
-/// The place of the lead that is remembered for such a start of a trick.
-fn hint_place(lengths: u64, start: &Start) -> usize {
-    let key = lengths
-        ^ (start.leader as u64).wrapping_shl(61)
-        ^ u64::from(start.want).wrapping_shl(57);
-    (key.wrapping_mul(MIXER) >> 64 - HINT_BITS) as usize
-}
 
 impl Search {
     /// What is remembered of the start of a trick for a side, if anything is.
@@ -131,25 +96,5 @@ impl Search {
             self.run_out();
         }
         Found { relevant, ..found }
-    }
-
-    /// Remembers that this lead succeeded.
-    pub(crate) fn remember_lead(&mut self, start: &Start, card: u64) {
-        let place = hint_place(self.held.lengths, start);
-        if let Some(row) = self.hints.get_mut(place / HINT_ROW) {
-            row[place % HINT_ROW] = (card.trailing_zeros() & 63) as u8 + 1;
-        }
-    }
-
-    /// The lead that succeeded before at such a place, or no card.
-    pub(crate) fn hint(&self, start: &Start) -> u64 {
-        let place = hint_place(self.held.lengths, start);
-        let Some(row) = self.hints.get(place / HINT_ROW) else {
-            return 0;
-        };
-        match row[place % HINT_ROW] {
-            0 => 0,
-            hint => 1u64.wrapping_shl(u32::from(hint) - 1),
-        }
     }
 }

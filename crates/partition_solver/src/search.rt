@@ -1,7 +1,7 @@
 //! The search: whether North and South can win so many of the tricks left. Each hand's turn is a function; what is held
 //! is changed before a call, and put back after it.
 
-use crate::remembering::{HintRow, no_hints};
+use crate::hints::{FEW_TRICKS, Hints, lead_place};
 use crate::starts::{Found, Start, is_ours, trick_for};
 use cards::{Layout, Trump};
 use pattern_store::Records;
@@ -31,8 +31,10 @@ pub(crate) struct Search {
     pub stopped: bool,
     /// How often something was remembered.
     pub adds: u32,
-    /// By lengths, leader and want the lead that succeeded last: its bit and one, or 0.
-    pub hints: Vec<HintRow>,
+    /// The leads that succeeded last.
+    pub leads: Hints,
+    /// The cards of second and third hands that did.
+    pub follows: Hints,
 }
 
 impl Search {
@@ -48,7 +50,8 @@ impl Search {
             memory_ran_out: false,
             stopped: false,
             adds: 0,
-            hints: no_hints(alloc)?,
+            leads: Hints::new(alloc)?,
+            follows: Hints::new(alloc)?,
         })
     }
 
@@ -106,7 +109,10 @@ impl Search {
                 return answer;
             }
             if found.ours == mover {
-                self.remember_lead(start, tried.card);
+                if tricks > FEW_TRICKS {
+                    self.leads
+                        .keep(lead_place(&self.held.hands, start), tried.card);
+                }
                 return self.remember(start, found, tried.card);
             }
             answer = answer.with_failed(tried, found);
@@ -124,7 +130,8 @@ impl Search {
         let before = self.held.before(seat);
         let runs = HandRuns::of(trick.legal(before.hand), start.left);
         let mut moves = Moves::of(&runs);
-        let mut next = self.first_second(tricks, start, trick, runs, &mut moves);
+        let place = self.hint_place(tricks, start, seat, runs, trick);
+        let mut next = self.first_second(tricks, start, trick, runs, place, &mut moves);
         let mut answer = Found::unless_one_succeeds(!mover);
         for _ in 0..MOST_CARDS {
             let Some(tried) = next else {
@@ -138,7 +145,7 @@ impl Search {
             let found = self.third(tricks, start, &after);
             self.held.put_back(seat, before);
             if self.stopped || found.ours == mover {
-                return found;
+                return self.succeeded(place, tried.card, found);
             }
             answer = answer.with_failed(tried, found);
             moves.skip(tried, found.relevant);
@@ -155,7 +162,8 @@ impl Search {
         let before = self.held.before(seat);
         let runs = HandRuns::of(trick.legal(before.hand), start.left);
         let mut moves = Moves::of(&runs);
-        let mut next = self.first_third(tricks, start, trick, runs, &mut moves);
+        let place = self.hint_place(tricks, start, seat, runs, trick);
+        let mut next = self.first_third(tricks, start, trick, runs, place, &mut moves);
         let mut answer = Found::unless_one_succeeds(!mover);
         for _ in 0..MOST_CARDS {
             let Some(tried) = next else {
@@ -169,7 +177,7 @@ impl Search {
             let found = self.last(tricks, start, &after);
             self.held.put_back(seat, before);
             if self.stopped || found.ours == mover {
-                return found;
+                return self.succeeded(place, tried.card, found);
             }
             answer = answer.with_failed(tried, found);
             moves.skip(tried, found.relevant);

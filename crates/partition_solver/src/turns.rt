@@ -1,8 +1,9 @@
 //! Which card of a turn is tried first.
 
+use crate::hints::{FEW_TRICKS, follow_place, lead_place};
 use crate::search::Search;
-use crate::starts::{Start, is_ours};
-use search_state::moves::{HandRuns, Move, Moves};
+use crate::starts::{Found, Start, is_ours};
+use search_state::moves::{HandRuns, Move, Moves, card_at};
 use search_state::positions::{Trick, Turn};
 
 impl Search {
@@ -25,10 +26,51 @@ impl Search {
         if runs.is_single() {
             return Some(moves.only(true));
         }
-        if let Some(hinted) = moves.of_top(self.hint(start)) {
+        if let Some(hinted) = moves.of_top(self.hinted_lead(tricks, start)) {
             return Some(hinted);
         }
         self.next_lead(tricks, start, runs, moves)
+    }
+
+    /// The lead that succeeded before at such a place, or no card.
+    fn hinted_lead(&self, tricks: u32, start: &Start) -> u64 {
+        if tricks <= FEW_TRICKS {
+            return 0;
+        }
+        match self.leads.bit(lead_place(&self.held.hands, start)) {
+            64 => 0,
+            bit => card_at(bit),
+        }
+    }
+
+    /// The place of a card of the second or third hand, where it has a choice and many tricks are left.
+    pub(crate) fn hint_place(
+        &self,
+        tricks: u32,
+        start: &Start,
+        seat: usize,
+        runs: HandRuns,
+        trick: &Trick,
+    ) -> Option<usize> {
+        if tricks <= FEW_TRICKS || runs.is_single() {
+            return None;
+        }
+        Some(follow_place(&self.held.hands, start, seat, runs.own, trick))
+    }
+
+    /// Has the card tried first that succeeded before in this place.
+    fn hint(&self, place: Option<usize>, moves: &mut Moves) {
+        if let Some(place) = place {
+            moves.hint(self.follows.bit(place));
+        }
+    }
+
+    /// What was found of a card that succeeded, which is remembered for its place.
+    pub(crate) fn succeeded(&mut self, place: Option<usize>, card: u64, found: Found) -> Found {
+        if let Some(place) = place {
+            self.follows.keep(place, card);
+        }
+        found
     }
 
     /// The next lead. Leads have weights from the second on, or where none succeeded before.
@@ -52,11 +94,13 @@ impl Search {
         start: &Start,
         trick: &Trick,
         runs: HandRuns,
+        place: Option<usize>,
         moves: &mut Moves,
     ) -> Option<Move> {
         if runs.is_single() {
             return Some(moves.only(trick.beats(runs.own, self.deal.trumps)));
         }
+        self.hint(place, moves);
         moves.add_second(runs, &self.turn(tricks, start, 1), trick);
         moves.next()
     }
@@ -68,11 +112,13 @@ impl Search {
         start: &Start,
         trick: &Trick,
         runs: HandRuns,
+        place: Option<usize>,
         moves: &mut Moves,
     ) -> Option<Move> {
         if runs.is_single() {
             return Some(moves.only(trick.beats(runs.own, self.deal.trumps)));
         }
+        self.hint(place, moves);
         moves.add_third(runs, &self.turn(tricks, start, 2), trick);
         moves.next()
     }

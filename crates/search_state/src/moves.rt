@@ -16,6 +16,9 @@ const TOP: i32 = 4096;
 
 const HIGHEST: i32 = 64;
 
+/// What is added for the card that is tried first.
+const HINTED: i32 = 1 << 30;
+
 /// A card to be tried, with the lowest and the highest card of its run.
 #[derive(Clone, Copy)]
 pub struct Move {
@@ -55,6 +58,8 @@ pub struct Moves {
     count: usize,
     /// The place of the run that is tried next.
     next: usize,
+    /// The bit of the card that is tried first, or 64.
+    hinted: u32,
 }
 
 /// The card of a bit.
@@ -119,7 +124,13 @@ impl Moves {
             runs: [0; ROOM],
             count: 0,
             next: 0,
+            hinted: 64,
         }
+    }
+
+    /// The card of this bit is tried first, where it is the one tried of its run; that of 64 is none.
+    pub fn hint(&mut self, bit: u32) {
+        self.hinted = bit;
     }
 
     /// The only run. Its highest card is tried, or its lowest.
@@ -149,6 +160,8 @@ impl Moves {
         let top = if tries_top { TOP } else { 0 };
         let cards = ((run.top & 63) as i32).wrapping_mul(HIGHEST) | (run.bottom & 63) as i32;
         let entry = weight.wrapping_mul(WEIGHED) | top | cards;
+        let is_hinted = run.choice(tries_top) == self.hinted;
+        let entry = entry.wrapping_add(if is_hinted { HINTED } else { 0 });
         let mut place = self.count;
         for before in (0..self.count).rev() {
             let other = self.runs[before & 15];
