@@ -6,4 +6,4 @@ mod settings;
 mod subcommands;
 
 pub use settings::{Settings, SettingsFault};
-pub use subcommands::Subcommand;
+pub use subcommands::{Subcommand, TableOptions};

@@ -27,14 +27,7 @@ pub enum Subcommand<'a> {
         budget: u64,
     },
     /// The tables of the boards of the input.
-    Table {
-        /// How many threads work on them, how often, and how long.
-        settings: Settings,
-        /// Whether the gate is told of the work.
-        progress: bool,
-        /// Whether the input is written as it is, with its tables in it.
-        whole: bool,
-    },
+    Table(TableOptions),
     /// Whether the answer that is the input is right.
     Check {
         /// The layout, in the form of a Deal value.
@@ -44,4 +37,15 @@ pub enum Subcommand<'a> {
         /// The denomination.
         trump: Trump,
     },
+}
+
+/// What is asked of tables.
+#[derive(Clone, Copy)]
+pub struct TableOptions {
+    /// How many threads work on them, how often, and how long.
+    pub settings: Settings,
+    /// Whether the gate is told of the work.
+    pub progress: bool,
+    /// Whether the input is written as it is, with its tables in it.
+    pub whole: bool,
 }

@@ -42,16 +42,16 @@ impl Lesson<Message, View> for Opens {
 }
 
 /// The message is taken for one call.
-pub struct Takes;
+pub struct Borrows;
 
-impl Outcome<Message, View> for Takes {
+impl Outcome<Message, View> for Borrows {
     ghost use Rattle.std.specs.Prelude.{false};
     ghost use Rattle.lease_desk.specs.Seats.{Took};
 
     ghost then = { Took false };
 }
 
-impl Lesson<Message, View> for Takes {
+impl Lesson<Message, View> for Borrows {
     ghost use Rattle.lease_desk.specs.Seats.{Silent};
 
     ghost fact = { Silent };

@@ -8,7 +8,7 @@ ghost use Rattle.lease_desk.specs.Views.{page_of, unopened, usher};
 ghost use Rattle.lease_desk.specs.Seats.{Took, MayGive, gave};
 
 use crate::messages::Message;
-use crate::rule::{DeskPass, DeskReceiver, DeskSender, Gives, Keeps, Opens, Takes};
+use crate::rule::{Borrows, DeskPass, DeskReceiver, DeskSender, Gives, Keeps, Opens};
 use std::sync::Wait;
 use std::thread;
 
@@ -39,7 +39,7 @@ pub(crate) fn take<R: Wait>(rt: &R, receiver: &DeskReceiver, pass: &mut DeskPass
     ensures took { Took false (view pass.old) result (view pass.new) }
 {
     for _ in rt.forever() {
-        if let Ok(message) = receiver.recv_as::<Takes, R>(rt, pass) {
+        if let Ok(message) = receiver.recv_as::<Borrows, R>(rt, pass) {
             return message;
         }
         thread::yield_now();

@@ -6,11 +6,12 @@ use Rattle.std.proofs.lemmas.Slice.Eq.{bytes_eq-Decides}
 use Rattle.clap.specs.Words.{Row, Text}
 use Rattle.asked.specs.declared.settings.Settings.{Settings}
 use Rattle.asked.specs.declared.subcommands.Subcommand.{Subcommand}
+use Rattle.asked.specs.declared.subcommands.TableOptions.{TableOptions}
 use Rattle.asked.specs.declared.subcommands.Subcommand.TheVariants.{Plain, Solve, Table, Check}
 use Rattle.asked.specs.declared.settings.SettingsFault.{SettingsFault}
 use Rattle.asked.specs.Settings.{Numbers, Sets, numbers_in}
-use Rattle.asked.specs.Options.{budget_option, progress_option, whole_option}
-use Rattle.matched_words.specs.Matches.{IsRead, Says, SaysDeal, SaysMatched, SaysFlag, SaysNumber, SaysSettings}
+use Rattle.asked.specs.Options.{budget_option}
+use Rattle.matched_words.specs.Matches.{IsRead, Says, SaysDeal, SaysMatched, SaysNumber, SaysTable}
 use Rattle.matched_words.specs.declared.matched.NamedDeal.{NamedDeal}
 
 pub nothing_read : {T : Type 0} (Said : T → Type 0) (read : Option T) → read ≡ None → ((x : T) → Said x → ⊥) → IsRead Said read
@@ -28,7 +29,7 @@ pub no_plain : (said : List Row) → ((deal : NamedDeal) → SaysDeal said (code
     → (read : Subcommand) → Says (codes "plain") said read → ⊥
 no_plain said none (Plain layout leader trump) h = none (record { layout = layout; seat = leader; trump = trump }) h.1
 no_plain said none (Solve layout declarer trump budget) h = absurd (apart (codes "plain") (codes "solve") refl h.0)
-no_plain said none (Table settings progress whole) h = absurd (apart (codes "plain") (codes "table") refl h.0)
+no_plain said none (Table options) h = absurd (apart (codes "plain") (codes "table") refl h.0)
 no_plain said none (Check layout declarer trump) h = absurd (apart (codes "plain") (codes "check") refl h.0)
 
 pub no_solve : (said : List Row)
@@ -36,23 +37,21 @@ pub no_solve : (said : List Row)
     → (read : Subcommand) → Says (codes "solve") said read → ⊥
 no_solve said none (Plain layout leader trump) h = absurd (apart (codes "solve") (codes "plain") refl h.0)
 no_solve said none (Solve layout declarer trump budget) h = none (record { layout = layout; seat = declarer; trump = trump }) budget h.1 h.2
-no_solve said none (Table settings progress whole) h = absurd (apart (codes "solve") (codes "table") refl h.0)
+no_solve said none (Table options) h = absurd (apart (codes "solve") (codes "table") refl h.0)
 no_solve said none (Check layout declarer trump) h = absurd (apart (codes "solve") (codes "check") refl h.0)
 
 pub no_table : (said : List Row)
-    → ((settings : Settings) (progress whole : Bool) → SaysSettings said settings
-    → SaysFlag said progress_option progress → SaysFlag said whole_option whole → ⊥)
-    → (read : Subcommand) → Says (codes "table") said read → ⊥
+    → ((options : TableOptions) → SaysTable said options → ⊥) → (read : Subcommand) → Says (codes "table") said read → ⊥
 no_table said none (Plain layout leader trump) h = absurd (apart (codes "table") (codes "plain") refl h.0)
 no_table said none (Solve layout declarer trump budget) h = absurd (apart (codes "table") (codes "solve") refl h.0)
-no_table said none (Table settings progress whole) h = none settings progress whole h.1 h.2 h.3
+no_table said none (Table options) h = none options h.1
 no_table said none (Check layout declarer trump) h = absurd (apart (codes "table") (codes "check") refl h.0)
 
 pub no_check : (said : List Row) → ((deal : NamedDeal) → SaysDeal said (codes "DECLARER") deal → ⊥)
     → (read : Subcommand) → Says (codes "check") said read → ⊥
 no_check said none (Plain layout leader trump) h = absurd (apart (codes "check") (codes "plain") refl h.0)
 no_check said none (Solve layout declarer trump budget) h = absurd (apart (codes "check") (codes "solve") refl h.0)
-no_check said none (Table settings progress whole) h = absurd (apart (codes "check") (codes "table") refl h.0)
+no_check said none (Table options) h = absurd (apart (codes "check") (codes "table") refl h.0)
 no_check said none (Check layout declarer trump) h = none (record { layout = layout; seat = declarer; trump = trump }) h.1
 
 -- ---- the words of the subcommand

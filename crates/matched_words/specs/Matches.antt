@@ -6,6 +6,7 @@ use Rattle.cards.specs.Seats.{seat_letter}
 use Rattle.cards.specs.Pack.{trump_letters}
 use Rattle.asked.specs.declared.settings.Settings.{Settings}
 use Rattle.asked.specs.declared.subcommands.Subcommand.{Subcommand}
+use Rattle.asked.specs.declared.subcommands.TableOptions.{TableOptions}
 use Rattle.asked.specs.declared.subcommands.Subcommand.TheVariants.{Plain, Solve, Table, Check}
 use Rattle.asked.specs.Options.{OptionNumbers, IsIn, budget_option, progress_option, whole_option}
 use Rattle.asked.specs.Settings.{OfEach, numbers_in}
@@ -38,6 +39,12 @@ flag_letters false = codes "false"
 abbrev pub SaysFlag : List Row → Text → Bool → Type 0
 SaysFlag said name flag = first_of name said ≡ Some (flag_letters flag)
 
+-- the words say the options of `table`
+abbrev pub SaysTable : List Row → TableOptions → Type 0
+SaysTable said options = SaysSettings said options.settings
+    × SaysFlag said progress_option options.progress
+    × SaysFlag said whole_option options.whole
+
 -- what was said after a subcommand's name is this
 abbrev pub Says : Text → List Row → Subcommand → Type 0
 Says name said (Plain layout leader trump) = (name ≡ codes "plain")
@@ -45,10 +52,7 @@ Says name said (Plain layout leader trump) = (name ≡ codes "plain")
 Says name said (Solve layout declarer trump budget) = (name ≡ codes "solve")
     × SaysDeal said (codes "DECLARER") (record { layout = layout; seat = declarer; trump = trump })
     × SaysNumber said budget_option budget
-Says name said (Table settings progress whole) = (name ≡ codes "table")
-    × SaysSettings said settings
-    × SaysFlag said progress_option progress
-    × SaysFlag said whole_option whole
+Says name said (Table options) = (name ≡ codes "table") × SaysTable said options
 Says name said (Check layout declarer trump) = (name ≡ codes "check")
     × SaysDeal said (codes "DECLARER") (record { layout = layout; seat = declarer; trump = trump })
 

@@ -9,7 +9,7 @@ ghost use Rattle.matched_words.specs.Matches.{IsRead, flag_letters, Says, SaysDe
 ghost use Rattle.matched_words.specs.Matches.{SaysSettings};
 
 use asked::options::{self, NumberOption};
-use asked::{Settings, Subcommand};
+use asked::{Settings, Subcommand, TableOptions};
 use cards::{Seat, Trump};
 use clap::ArgMatches;
 
@@ -67,11 +67,11 @@ fn table_subcommand<'a>(said: &ArgMatches<'a>) -> Option<Subcommand<'a>>
     let settings = settings_of(said)?;
     let progress = flag_of(said, options::PROGRESS.name)?;
     let whole = flag_of(said, options::WHOLE.name)?;
-    Some(Subcommand::Table {
+    Some(Subcommand::Table(TableOptions {
         settings,
         progress,
         whole,
-    })
+    }))
 }
 
 /// The settings that the options say.

@@ -14,7 +14,7 @@ use std::sync::atomic::{AtomicBool, AtomicU64};
 use std::test::Fail;
 use std::thread::Threads;
 use streams::Streams;
-use subcommands::{Status, Subcommand, run_subcommand};
+use subcommands::{Status, Subcommand, TableOptions, run_subcommand};
 use test_support::idle::LetsPass;
 
 /// Makes the tables of a board, and answers how that ends.
@@ -25,11 +25,11 @@ fn status_of<R: Abort + Threads + Wait + Sync, S: Solver + Sync, G: Gate + Sync>
     solver: &S,
     gate: &G,
 ) -> Result<Status, Fail> {
-    let run = Subcommand::Table {
+    let run = Subcommand::Table(TableOptions {
         settings,
         progress: true,
         whole: false,
-    };
+    });
     let mut streams = Streams {
         input: Bytes::new(BOARD, 7),
         output: Buffer::new(alloc, ROOM, ROOM)?,

@@ -11,7 +11,7 @@ use std::alloc::{AllocError, Global};
 use std::process::Abort;
 use std::sync::Arc;
 use std::test::Fail;
-use subcommands::{Status, Subcommand};
+use subcommands::{Status, Subcommand, TableOptions};
 use tables::Report;
 use test_support::idle::{FindsNothing, StandsStill};
 use tournaments::{MakeFault, make_single};
@@ -31,11 +31,11 @@ pub fn tables(progress: bool, batch: usize) -> Result<Subcommand<'static>, Setti
         .with_tries(TRIES)?
         .with_budget(STEPS)?
         .with_batch(batch)?;
-    Ok(Subcommand::Table {
+    Ok(Subcommand::Table(TableOptions {
         settings,
         progress,
         whole: false,
-    })
+    }))
 }
 
 /// A file as a tournament writes it: CR LF, a comment over a blank line, words in small letters, section data with

@@ -3,7 +3,6 @@ use Rattle.std.specs.Prelude.{◌≡◌, Bool, true, false, Result, Ok, Err, nat
 use Rattle.lease_book.specs.Books.{Ledger}
 use Rattle.lease_desk.specs.Moments.{MayTell}
 use Rattle.farm.specs.Runs.{IsRun}
-use Rattle.subcommands.specs.declared.running.TableOptions.{TableOptions}
 use Rattle.tables.specs.declared.sheets.Report.{Report}
 use Rattle.tournaments.specs.declared.faults.MakeFault.{MakeFault}
 use Rattle.tournaments.specs.Making.{PageFact, MakesPage}
@@ -17,6 +16,7 @@ use Rattle.subcommands.specs.declared.faults.RunFault.TheVariants.{Write}
 use Rattle.subcommands.specs.declared.statuses.Status.{Status}
 use Rattle.subcommands.specs.declared.statuses.Status.TheVariants.{Done, Failed, Refused, Incomplete, Rejected}
 use Rattle.asked.specs.declared.subcommands.Subcommand.{Subcommand}
+use Rattle.asked.specs.declared.subcommands.TableOptions.{TableOptions}
 use Rattle.asked.specs.declared.subcommands.Subcommand.TheVariants.{Plain, Solve, Table, Check}
 use Rattle.subcommands.specs.Statuses.{fault_status, make_fault, status_code, told_line, IsTold}
 use Rattle.subcommands.specs.PlainLine.{MeetsPlainLine}
@@ -54,9 +54,8 @@ Does may_find may_tell (Solve layout declarer trump budget) source source' sink 
     (status ≡ Done) × (source' ≡ source) × SolvesLayout may_find layout.now declarer trump budget sink sink' (Ok tt)
 Does may_find may_tell (Solve layout declarer trump budget) source source' sink sink' (Err fault) =
     (source' ≡ source) × SolvesLayout may_find layout.now declarer trump budget sink sink' (Err fault)
-Does may_find may_tell (Table settings progress whole) source source' sink sink' answer =
-    WritesTables may_tell (record { settings = settings; progress = progress; whole = whole }) source source' sink sink'
-    answer
+Does may_find may_tell (Table options) source source' sink sink' answer =
+    WritesTables may_tell options source source' sink sink' answer
 Does may_find may_tell (Check layout declarer trump) source source' sink sink' answer =
     ChecksAnswer layout.now declarer trump source source' sink sink' answer
 

@@ -14,7 +14,7 @@ mod statuses;
 mod verdict_lines;
 
 pub use answers::{read_answer, text_is_one_answer};
-pub use asked::Subcommand;
+pub use asked::{Subcommand, TableOptions};
 pub use checks::check_answer;
 pub use faults::{RunFault, tell};
 pub use making::{make_tables, make_whole};

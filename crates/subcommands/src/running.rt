@@ -12,7 +12,7 @@ use crate::making::{make_tables, make_whole};
 use crate::plain::plain_line;
 use crate::solves::solve_layout;
 use crate::statuses::Status;
-use asked::{Settings, Subcommand};
+use asked::{Subcommand, TableOptions};
 use cards::{Sink, Source, write_all};
 use farm::{Clock, Means};
 use lease_book::Book;
@@ -102,18 +102,7 @@ fn try_subcommand<
             solve_layout(alloc, value, declarer, trump, budget, means.solver, output)?;
             Ok(Status::Done)
         }
-        Subcommand::Table {
-            settings,
-            progress,
-            whole,
-        } => {
-            let options = TableOptions {
-                settings,
-                progress,
-                whole,
-            };
-            write_tables(rt, alloc, options, means, input, output)
-        }
+        Subcommand::Table(options) => write_tables(rt, alloc, options, means, input, output),
         Subcommand::Check {
             layout,
             declarer,
@@ -130,17 +119,6 @@ impl Gate for Unwatched {
     fn before_solve(&self, _lease: u64) {}
 
     fn before_check(&self, _lease: u64) {}
-}
-
-/// What is asked of tables.
-#[derive(Clone, Copy)]
-pub struct TableOptions {
-    /// How the farm works.
-    pub settings: Settings,
-    /// Whether the gate is told of the work.
-    pub progress: bool,
-    /// Whether the input is written as it is, with its tables in it.
-    pub whole: bool,
 }
 
 /// Makes the tables of the boards of the input, alone or in the input.

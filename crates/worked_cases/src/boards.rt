@@ -87,21 +87,6 @@ fn say_made_fault(fault: &MakeFault, out: &mut String) -> Result<(), AllocError>
     }
 }
 
-/// The tables of a text by a solver, or why there are none.
-pub fn answer_tables<S: Solver>(
-    alloc: Global,
-    solver: &S,
-    case: &str,
-    out: &mut String,
-) -> Result<(), AllocError> {
-    let text = repeated(alloc, case)?;
-    let mut sink = Buffer::new(alloc, ROOM, 5)?;
-    match made_of(alloc, solver, text.as_slice(), &mut sink) {
-        Ok((report, book)) => say_tables(report, book.history().len(), sink.bytes(), out),
-        Err(fault) => say_made_fault(&fault, out),
-    }
-}
-
 /// Says how many tables are complete, and the text with them in it.
 fn say_whole(alloc: Global, text: &[u8], book: &Book, out: &mut String) -> Result<(), AllocError> {
     let mut sink = Buffer::new(alloc, ROOM, 5)?;
@@ -114,17 +99,19 @@ fn say_whole(alloc: Global, text: &[u8], book: &Book, out: &mut String) -> Resul
     }
 }
 
-/// A text with the tables by a solver in it, or why there are none.
-pub fn answer_whole<S: Solver>(
+/// The tables of a text by a solver, alone or in the text, or why there are none.
+pub fn answer_page<S: Solver>(
     alloc: Global,
     solver: &S,
+    whole: bool,
     case: &str,
     out: &mut String,
 ) -> Result<(), AllocError> {
     let text = repeated(alloc, case)?;
     let mut sink = Buffer::new(alloc, ROOM, 5)?;
     match made_of(alloc, solver, text.as_slice(), &mut sink) {
-        Ok((_, book)) => say_whole(alloc, text.as_slice(), &book, out),
+        Ok((_, book)) if whole => say_whole(alloc, text.as_slice(), &book, out),
+        Ok((report, book)) => say_tables(report, book.history().len(), sink.bytes(), out),
         Err(fault) => say_made_fault(&fault, out),
     }
 }

@@ -1,6 +1,6 @@
 //! What is asked in a case.
 
-use crate::boards::{answer_boards, answer_layout, answer_tables, answer_whole};
+use crate::boards::{answer_boards, answer_layout, answer_page};
 use crate::certificates::{answer_certificate, answer_cut, answer_judge};
 use crate::requests::answer_requests;
 use crate::texts::word;
@@ -22,10 +22,10 @@ pub fn answer_case<R: Threads + Wait + Sync>(
 ) -> Result<(), AllocError> {
     match word(case, 0) {
         "boards" => answer_boards(alloc, case, out),
-        "tables" => answer_tables(alloc, &FindsNothing, case, out),
-        "solved" => answer_tables(alloc, &Partition::new(), case, out),
-        "whole" => answer_whole(alloc, &FindsNothing, case, out),
-        "whole_solved" => answer_whole(alloc, &Partition::new(), case, out),
+        "tables" => answer_page(alloc, &FindsNothing, false, case, out),
+        "solved" => answer_page(alloc, &Partition::new(), false, case, out),
+        "whole" => answer_page(alloc, &FindsNothing, true, case, out),
+        "whole_solved" => answer_page(alloc, &Partition::new(), true, case, out),
         "layout" => answer_layout(alloc, case, out),
         "certificate" => answer_certificate(alloc, case, out),
         "judge" => answer_judge(alloc, case, out),

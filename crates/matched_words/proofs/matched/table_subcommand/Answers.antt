@@ -5,7 +5,7 @@ use Rattle.matched_words.proofs.matched.table_subcommand.Goals as goal
 
 pub returns-in_err-settings : goal.returns-in_err-settings
 returns-in_err-settings c = nothing_read _ _ c.from_residual.ensures (no_table (rows_of (found_of c.args.said.now))
-    (λ settings progress whole said told kept. c.in_err-settings.ensures settings said))
+    (λ options said. c.in_err-settings.ensures options.settings said.0))
 
 pub returns-in_err-progress : goal.returns-in_err-progress
 returns-in_err-progress c = search rules
