@@ -42,7 +42,7 @@ four a b c d a' b' c' d' ea eb ec ed =
 same_hand : (deal : Deal) (seat : Seat) → printed.hand_of deal seat ≡ dealt.hand_of deal seat
 same_hand deal seat = four _ _ _ _ _ _ _ _ (same_suit deal seat Spades) (same_suit deal seat Hearts) (same_suit deal seat Diamonds) (same_suit deal seat Clubs)
 
-same_held : (deal : Deal) → printed.held_of deal ≡ dealt.held_of deal
+pub same_held : (deal : Deal) → printed.held_of deal ≡ dealt.held_of deal
 same_held deal =
     four _ _ _ _ _ _ _ _ (ap (map (held_by North)) (same_hand deal North)) (ap (map (held_by East)) (same_hand deal East)) (ap (map (held_by South)) (same_hand deal South)) (ap (map (held_by West)) (same_hand deal West))
 

@@ -68,8 +68,9 @@ fn write_next_hand<S: Sink>(sink: &mut S, layout: &Layout, seat: Seat) -> Result
     write_hand(sink, layout, seat)
 }
 
-/// Writes the value of the Deal tag for a layout.
-pub(crate) fn write_layout<S: Sink>(sink: &mut S, layout: &Layout) -> Result<(), DeviceFault>
+/// Writes the value of the Deal tag for a layout, from North on, with the ranks falling. After a fault of the sink a
+/// beginning of it has gone out. Takes no memory.
+pub fn write_layout<S: Sink>(sink: &mut S, layout: &Layout) -> Result<(), DeviceFault>
     ensures { Writes (S.state sink.old) (S.state sink.new) (deal_text layout.now) result }
 {
     write_all(sink, b"N:")?;

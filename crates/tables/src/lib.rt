@@ -1,8 +1,8 @@
 //! The tables of boards as a PBN text.
 //!
 //! [`write_sheet`] prints the boards of a [`Sheet`] with the results that are known of them, [`write_tables`] those of
-//! a book of leases, and [`write_table`] the table of one board. They take no memory; after a fault of the sink a
-//! beginning of the text has gone out.
+//! a book of leases, [`write_table`] the table of one board, and [`write_layout`] a deal. They take no memory; after a
+//! fault of the sink a beginning of the text has gone out.
 #![tactic(auto)]
 
 mod books;
@@ -15,6 +15,7 @@ mod sheets;
 mod tables;
 
 pub use books::write_tables;
+pub use deals::write_layout;
 pub use laws::{
     boards_are_read_back, pages_are_read, pages_say_one_thing, said_boards_are_read_back,
 };

@@ -1,0 +1,10 @@
+pub mod CutLemmas
+pub mod WordLemmas
+pub mod GraphLines
+pub mod HeadLemmas
+pub mod SectionLemmas
+pub mod WriteParts
+pub mod PieceLemmas
+pub mod PartLemmas
+pub mod RowLemmas
+pub mod TitleLemmas

@@ -1,0 +1,29 @@
+//! Evidence that is kept: what was found of a deal in one denomination, as data and as text.
+//!
+//! A [`Section`] has a layout, a denomination, claims for declarers, and the graphs of both sides that are to show
+//! them. Each has one text (docs/FORMATS.md), which [`write_section`] writes and [`read_section`] reads back; every
+//! other text is of no section. [`Sections`] reads a whole text from a source, piece by piece, whatever its bytes are.
+//! Whether the graphs show what is claimed is not asked here.
+#![tactic(auto)]
+
+mod claims;
+mod graphs_reading;
+mod head_reading;
+mod laws;
+mod parts;
+mod section_reading;
+mod section_writing;
+mod sections;
+mod vec_sinks;
+mod wholes;
+mod words;
+
+pub use claims::claims_in_order;
+pub use laws::{
+    one_row, one_section, one_text, parts_are_joined, sections_are_parts, sections_are_read_back,
+};
+pub use parts::Part;
+pub use section_reading::read_section;
+pub use section_writing::{section_bytes, write_section};
+pub use sections::Section;
+pub use wholes::Sections;

@@ -1,0 +1,117 @@
+//! A section of evidence.
+
+ghost use Rattle.std.specs.Prelude.{◌≡◌, ◌↔◌, IsTrue};
+ghost use Rattle.cards.specs.declared.seats.Side.TheVariants as side;
+ghost use Rattle.evidence.specs.Sections.{IsSection, IsGraphOf, MakesSection};
+
+use crate::claims::are_claims;
+use cards::{Layout, Side, Trump};
+use certificate_graph::Graph;
+use partition_solver::{Bundle, Claim};
+use std::marker::Model;
+
+/// What was found of a layout in one denomination: one to four claims, at most one for a declarer and in the order
+/// North, East, South, West, and the graphs of North and South and of East and West that are to show them.
+#[derive(Drop)]
+pub struct Section {
+    layout: Layout,
+    trump: Trump,
+    bundle: Bundle,
+}
+
+impl Model for Section {
+    ghost use Rattle.std.specs.Coded.{codes};
+    ghost use Rattle.certificate_graph.specs.TreeCodes.{tree_code};
+    ghost use Rattle.evidence.specs.Sections.{SectionShape, IsSection, shape_of};
+
+    ghost Value = { SectionShape };
+
+    ghost coded = { Prim.hlevel (codes, tree_code) };
+
+    ghost view = { λ section. shape_of section.layout section.trump section.bundle };
+
+    ghost invariant = { λ section. IsSection (shape_of section.layout section.trump section.bundle) };
+}
+
+/// Whether it is a graph of this side, with this trump.
+fn is_graph_of(trump: Trump, side: Side, graph: &Graph) -> bool
+    ensures { IsTrue result ↔ IsGraphOf trump side graph.now }
+{
+    graph.invariant();
+    graph.trump() == trump && graph.side() == side
+}
+
+impl Section {
+    /// The section of these. Where they are none, the bundle is handed back: it has no claim, or one of over 13 tricks,
+    /// or by a root that no graph can have, or claims not in the order of their declarers, each once; or a graph of
+    /// another denomination or of the other side. Takes no memory.
+    pub fn new(layout: Layout, trump: Trump, bundle: Bundle) -> Result<Section, Bundle>
+        ensures { MakesSection layout trump bundle result }
+    {
+        layout.invariant();
+        let is_section = !bundle.claims.is_empty()
+            && are_claims(0, bundle.claims.as_slice())
+            && is_graph_of(trump, Side::NorthSouth, &bundle.ns)
+            && is_graph_of(trump, Side::EastWest, &bundle.ew);
+        if !is_section {
+            return Err(bundle);
+        }
+        Ok(Section {
+            layout,
+            trump,
+            bundle,
+        })
+    }
+
+    /// The four hands.
+    pub fn layout(&self) -> &Layout
+        ensures { result.now ≡ self.now.deal }
+    {
+        &self.layout
+    }
+
+    /// The denomination.
+    pub fn trump(&self) -> Trump
+        ensures { result ≡ self.now.trump }
+    {
+        self.trump
+    }
+
+    /// The claims, in the order of their declarers.
+    pub fn claims(&self) -> &[Claim]
+        ensures { result.now ≡ self.now.claims }
+    {
+        self.bundle.claims.as_slice()
+    }
+
+    /// What North and South can win.
+    pub fn ns(&self) -> &Graph
+        ensures { result.now ≡ self.now.ns }
+    {
+        &self.bundle.ns
+    }
+
+    /// What East and West can win.
+    pub fn ew(&self) -> &Graph
+        ensures { result.now ≡ self.now.ew }
+    {
+        &self.bundle.ew
+    }
+
+    /// The claims and graphs, by value.
+    pub fn into_bundle(self) -> Bundle
+        ensures claims { result.claims.items ≡ self.claims }
+        ensures ns { result.ns.value ≡ self.ns }
+        ensures ew { result.ew.value ≡ self.ew }
+    {
+        let Section { bundle, .. } = self;
+        bundle
+    }
+
+    /// What every section keeps. It does nothing.
+    pub fn invariant(&self)
+        ensures { IsSection self.now }
+    {
+        let _ = &self.bundle;
+    }
+}
