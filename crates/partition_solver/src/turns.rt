@@ -24,9 +24,9 @@ impl Search {
         moves: &mut Moves,
     ) -> Option<Move> {
         if runs.is_single() {
-            return Some(moves.only(true));
+            return Some(runs.only(true));
         }
-        if let Some(hinted) = moves.of_top(self.hinted_lead(tricks, start)) {
+        if let Some(hinted) = runs.of_top(self.hinted_lead(tricks, start)) {
             return Some(hinted);
         }
         self.next_lead(tricks, start, runs, moves)
@@ -74,6 +74,7 @@ impl Search {
     }
 
     /// The next lead. Leads have weights from the second on, or where none succeeded before.
+    #[inline(always)]
     pub(crate) fn next_lead(
         &self,
         tricks: u32,
@@ -98,7 +99,7 @@ impl Search {
         moves: &mut Moves,
     ) -> Option<Move> {
         if runs.is_single() {
-            return Some(moves.only(trick.beats(runs.own, self.deal.trumps)));
+            return Some(runs.only(trick.beats(runs.own, self.deal.trumps)));
         }
         self.hint(place, moves);
         moves.add_second(runs, &self.turn(tricks, start, 1), trick);
@@ -116,7 +117,7 @@ impl Search {
         moves: &mut Moves,
     ) -> Option<Move> {
         if runs.is_single() {
-            return Some(moves.only(trick.beats(runs.own, self.deal.trumps)));
+            return Some(runs.only(trick.beats(runs.own, self.deal.trumps)));
         }
         self.hint(place, moves);
         moves.add_third(runs, &self.turn(tricks, start, 2), trick);
@@ -133,7 +134,7 @@ impl Search {
         moves: &mut Moves,
     ) -> Option<Move> {
         if runs.is_single() {
-            return Some(moves.only(trick.beats(runs.own, self.deal.trumps)));
+            return Some(runs.only(trick.beats(runs.own, self.deal.trumps)));
         }
         moves.add_last(runs, &self.turn(tricks, start, 3), trick);
         moves.next()

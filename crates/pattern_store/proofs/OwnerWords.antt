@@ -221,3 +221,31 @@ pairs_of depths =
     let split : depths ≡ depths / 256 * 2 ^ 8 + depths % 256 = omega arith in
     ap (λ d. bit_and d 3855) split
     ∙ omega (arith, and_block 8 (depths / 256) 15 (depths % 256) 15 (omega arith) (omega arith), and_mask (depths / 256) 4, and_mask (depths % 256) 4)
+
+-- ---- no owner after the eighth
+
+-- where a mask has the highest bit of the lowest four, and a number has no bit of the mask, those four make less than eight
+low_depth : (x rest : ℕ) → bit_and x (rest * 16 + 8) ≡ 0 → (x % 16 < 8) × (bit_and (x / 16) rest ≡ 0)
+low_depth x rest none =
+    let split : x ≡ x / 16 * 2 ^ 4 + x % 16 = omega arith in
+    let both : bit_and x (rest * 16 + 8) ≡ bit_and (x / 16) rest * 2 ^ 4 + bit_and (x % 16) 8 =
+    ap (λ y. bit_and y (rest * 16 + 8)) split ∙ and_block 4 (x / 16) rest (x % 16) 8 (omega arith) (omega arith) in
+    let halves : x % 16 ≡ x % 16 / 8 * 2 ^ 3 + x % 8 = omega arith in
+    let bit : bit_and (x % 16) 8 ≡ bit_and (x % 16 / 8) 1 * 2 ^ 3 + bit_and (x % 8) 0 =
+    ap (λ y. bit_and y 8) halves ∙ and_block 3 (x % 16 / 8) 1 (x % 8) 0 (omega arith) (omega arith) in
+    (omega (arith, none, both, bit, and_mask (x % 16 / 8) 1, and_zero (x % 8)), omega (arith, none, both))
+
+pub shallow : (depths : ℕ) → bit_and depths 34952 ≡ 0 → (suit : ℕ) → suit < 4 → depth_of depths suit < 8
+shallow depths none zero lt = omega (arith, (low_depth depths 2184 none).0)
+shallow depths none (suc zero) lt = omega (arith, (low_depth (depths / 16) 136 (low_depth depths 2184 none).1).0)
+shallow depths none (suc (suc zero)) lt =
+    omega (arith, (low_depth (depths / 16 / 16) 8 (low_depth (depths / 16) 136 (low_depth depths 2184 none).1).1).0)
+shallow depths none (suc (suc (suc zero))) lt =
+    omega (arith, (low_depth (depths / 16 / 16 / 16) 0 (low_depth (depths / 16 / 16) 8 (low_depth (depths / 16) 136 (low_depth depths 2184 none).1).1).1).0)
+shallow depths none (suc (suc (suc (suc suit)))) lt = absurd (omega (arith, lt))
+
+pub marks_none : (depths : ℕ) → ((suit : ℕ) → suit < 4 → depth_of depths suit < 8) → Marks 8 depths 0
+marks_none depths few suit s = record {
+  named = λ place lt named. absurd (omega (arith, named, few suit s));
+  others = λ place lt other. owner_zero suit place;
+}

@@ -4,7 +4,7 @@ ghost use Rattle.std.specs.Prelude.{◌≡◌, ◌↔◌, ◌<◌, ◌≤◌, �
 ghost use Rattle.pattern_store.specs.Blocks.{record_at, IsBlockOf, SetsPlace};
 ghost use Rattle.pattern_store.specs.Record.{AgreesNear, AgreesDeep, Differs, IsKnown};
 
-use crate::record::{FREE, Owners, Record, deep_mask};
+use crate::record::{FREE, Owners, Record, deep_mask, owners_in};
 
 /// How many records a block has.
 pub(crate) const PLACES: usize = 4;
@@ -129,6 +129,25 @@ impl Block {
             agrees |= (self.near[place] ^ near) & self.masks[place] == 0;
         }
         agrees
+    }
+
+    /// Whether a new record may serve one of these: whether some record names all that the new one names, of the first
+    /// eight cards of each suit, and alike.
+    pub(crate) fn may_be_served(&self, new: &Record) -> bool {
+        let mut served = false;
+        for place in 0..PLACES {
+            served |= ((self.near[place] ^ new.near) | !self.masks[place]) & new.mask == 0;
+        }
+        served
+    }
+
+    /// Whether some record names more owners than these.
+    pub(crate) fn names_more(&self, named: u16) -> bool {
+        let mut more = false;
+        for place in 0..PLACES {
+            more |= owners_in(self.facts[place].depths) > named;
+        }
+        more
     }
 
     /// Whether these are the owners that the record in a place names. Those after the eighth of a suit are asked for

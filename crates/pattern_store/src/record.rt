@@ -73,10 +73,21 @@ fn deep_bits(depth: u16) -> u64
 pub(crate) fn deep_mask(depths: u16) -> u64
     ensures { Marks 8 depths result }
 {
+    if depths & 0x8888 == 0 {
+        return 0;
+    }
     deep_bits(depths % 16)
         + deep_bits(depths / 16 % 16) * (1 << 16)
         + deep_bits(depths / 256 % 16) * (1 << 32)
         + deep_bits(depths / 4096) * (1 << 48)
+}
+
+/// How many owners depths name, four bits a suit.
+pub(crate) fn owners_in(depths: u16) -> u16
+    ensures { result ≡ named_in depths }
+{
+    let pairs = (depths & 0x0f0f).wrapping_add(depths >> 4 & 0x0f0f);
+    pairs.wrapping_add(pairs >> 8) & 0xff
 }
 
 /// The owners of this mask. They are not asked for where it is empty.
@@ -112,8 +123,7 @@ impl Record {
     pub fn owners_named(&self) -> u16
         ensures { result ≡ named_in self.now.depths }
     {
-        let pairs = (self.depths & 0x0f0f).wrapping_add(self.depths >> 4 & 0x0f0f);
-        pairs.wrapping_add(pairs >> 8) & 0xff
+        owners_in(self.depths)
     }
 
     /// Whether the record says at least what the other says.

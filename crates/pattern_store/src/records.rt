@@ -59,9 +59,6 @@ fn place_of<F: Fn() -> u64>(block: &Block, near: u64, deep: &F, need: u8) -> Opt
     ensures none { IfNone result ((place : ℕ) → place < 4 → need ≤ (record_at block.now place).need
         → Differs (record_at block.now place) near (F.post deep.now)) }
 {
-    if !block.may_agree(near) {
-        return None;
-    }
     for place in 0..PLACES {
         if block.need(place) >= need && block.agrees(place, near, deep) {
             return Some(place);
@@ -142,7 +139,9 @@ impl Records {
     {
         let span = self.shapes.span(list);
         for number in span.first()..span.end() {
-            let block = self.block(list, number)?;
+            let Some(block) = self.agreeing(list, number, near) else {
+                continue;
+            };
             if let Some(place) = place_of(block, near, &deep, need.max(1)) {
                 return number_of(number, place);
             }
@@ -166,12 +165,9 @@ impl Records {
         let mut first = None;
         let span = self.shapes.span(list);
         for number in span.first()..span.end() {
-            let Some(block) = self.block(list, number) else {
-                break;
-            };
-            if !block.may_agree(owners.near) {
+            let Some(block) = self.agreeing(list, number, owners.near) else {
                 continue;
-            }
+            };
             for place in 0..PLACES {
                 if block.need(place) < need.max(1) || !block.is_known(place, owners, known) {
                     continue;
@@ -188,12 +184,13 @@ impl Records {
         first
     }
 
-    /// The block with this number, if it is one of the list.
-    fn block(&self, list: List, number: u32) -> Option<&Block>
+    /// The block with this number, if it is one of the list and the first owners of some record are these. A block is
+    /// asked last for its list, since that lies apart from the owners.
+    fn agreeing(&self, list: List, number: u32, near: u64) -> Option<&Block>
         ensures { IfSome result (λ block. IsBlockIn self.now.blocks list number block.now) }
     {
         match self.runs.blocks.get(number as usize) {
-            Some(block) if block.is_of(list) => Some(block),
+            Some(block) if block.may_agree(near) && block.is_of(list) => Some(block),
             _ => None,
         }
     }

@@ -43,6 +43,7 @@ impl Waiting {
     }
 
     /// Goes past a place of a block: it may be taken, and what lies there may have to go on, or be dropped.
+    #[inline(never)]
     fn pass(&mut self, block: &mut Block, place: usize)
         requires { place < 4 }
         ensures passes { Passes block.old block.new self.old.moved self.new.moved }
@@ -67,15 +68,33 @@ impl Waiting {
         }
     }
 
+    /// Whether a block that it goes past may change: where it serves a record, or may take a place.
+    fn changes(&self, block: &Block) -> bool {
+        block.may_be_served(&self.told)
+            || self.waits && (self.stands || block.names_more(self.told.owners_named()))
+    }
+
+    /// Goes past the places of a block, if one of them may change.
+    fn pass_places(&mut self, block: &mut Block)
+        ensures passes { Passes block.old block.new self.old.moved self.new.moved }
+        ensures loses { LosesServed self.old.told block.old block.new self.old.moved self.new.moved }
+        ensures told { self.new.told ≡ self.old.told }
+    {
+        if !self.changes(block) {
+            return;
+        }
+        for place in 0..PLACES {
+            self.pass(block, place);
+        }
+    }
+
     /// Goes past a block. In the last one of its list what waits takes the first free place.
     pub(crate) fn pass_block(&mut self, block: &mut Block, is_last: bool)
         ensures passes { Passes block.old block.new self.old.moved self.new.moved }
         ensures loses { LosesServed self.old.told block.old block.new self.old.moved self.new.moved }
         ensures told { self.new.told ≡ self.old.told }
     {
-        for place in 0..PLACES {
-            self.pass(block, place);
-        }
+        self.pass_places(block);
         if is_last && !self.stands {
             self.end(block);
         }

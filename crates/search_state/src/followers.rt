@@ -106,6 +106,7 @@ impl Ruffs {
 
 impl Moves {
     /// Adds the cards of the second hand.
+    #[inline(always)]
     pub fn add_second(&mut self, runs: HandRuns, turn: &Turn, trick: &Trick) {
         if runs.own & trick.led != 0 {
             self.add_in_suit(runs, trick, InSuit::second(turn, trick));
@@ -116,6 +117,7 @@ impl Moves {
     }
 
     /// Adds the cards of the third hand.
+    #[inline(always)]
     pub fn add_third(&mut self, runs: HandRuns, turn: &Turn, trick: &Trick) {
         if runs.own & trick.led != 0 {
             self.add_in_suit(runs, trick, InSuit::third(turn, trick));
@@ -127,6 +129,7 @@ impl Moves {
     }
 
     /// Adds the cards of the last hand: where it follows suit upwards, winning ones first unless partner's stands.
+    #[inline(always)]
     pub fn add_last(&mut self, runs: HandRuns, turn: &Turn, trick: &Trick) {
         let stands = partner_stands(turn, trick);
         if runs.own & trick.led != 0 {
@@ -142,6 +145,7 @@ impl Moves {
     }
 
     /// Adds runs of the suit led.
+    #[inline(always)]
     fn add_in_suit(&mut self, mut runs: HandRuns, trick: &Trick, order: InSuit) {
         let best = trick.best_in_suit();
         for _ in 0..MOST_CARDS {
@@ -154,6 +158,7 @@ impl Moves {
     }
 
     /// Adds runs of the suit led of a last hand.
+    #[inline(always)]
     fn add_upwards(&mut self, mut runs: HandRuns, best: u64, stands: bool) {
         for _ in 0..MOST_CARDS {
             let Some(run) = runs.next() else {
@@ -166,6 +171,7 @@ impl Moves {
     }
 
     /// Adds runs of a hand without the suit led.
+    #[inline(always)]
     fn add_off(&mut self, mut runs: HandRuns, turn: &Turn, trick: &Trick, ruffs: Ruffs) {
         let trumps = turn.deal.trumps;
         let best = trick.best;

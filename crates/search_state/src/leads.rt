@@ -140,6 +140,7 @@ impl SuitLeads {
 
 impl Moves {
     /// Adds the leads.
+    #[inline(always)]
     pub fn add_leads(&mut self, mut runs: HandRuns, turn: &Turn) {
         let mut suit = SuitLeads::of(turn, runs.first_suit());
         for _ in 0..MOST_CARDS {

@@ -1,8 +1,7 @@
 //! The cards to be tried at a turn, in their order: one of each run of touching cards.
 
 use crate::words::{
-    ABOVE, below, bottoms, highest, highest_bit, lowest, lowest_bit, start_of, suit_of,
-    without_lowest,
+    below, bottoms, highest, highest_bit, lowest, lowest_bit, suit_of, without_lowest,
 };
 
 /// How many runs there is room for: more than a hand has.
@@ -49,9 +48,8 @@ pub struct Run {
 #[derive(Clone, Copy)]
 pub struct Moves {
     own: u64,
-    bottoms: u64,
-    /// The lowest card of each run that is not skipped.
-    waiting: u64,
+    /// The cards that have failed, and those that would fail alike. A run is skipped where its highest is one.
+    dead: u64,
     /// The runs by falling weight: the weight, whether the highest card is tried, and the bits of the highest and the
     /// lowest.
     runs: [i32; ROOM],
@@ -65,6 +63,13 @@ pub struct Moves {
 /// The card of a bit.
 pub fn card_at(bit: u32) -> u64 {
     1u64.wrapping_shl(bit)
+}
+
+impl Move {
+    /// All bits from the lowest card of the run up to the highest.
+    fn cards(&self) -> u64 {
+        self.top.wrapping_shl(1).wrapping_sub(self.bottom)
+    }
 }
 
 impl Run {
@@ -100,7 +105,32 @@ impl HandRuns {
         lowest_bit(self.bottoms) & 48
     }
 
+    /// The only run. Its highest card is tried, or its lowest.
+    pub fn only(&self, tries_top: bool) -> Move {
+        let top = highest(self.own);
+        Move {
+            card: if tries_top { top } else { self.bottoms },
+            bottom: self.bottoms,
+            top,
+        }
+    }
+
+    /// The run whose highest card is this, if there is one.
+    pub fn of_top(&self, card: u64) -> Option<Move> {
+        if card & self.own == 0 {
+            return None;
+        }
+        let bottom = highest(self.bottoms & (below(card) | card));
+        let above = self.bottoms & !below(bottom) & !bottom;
+        let top = highest(self.own & below(lowest(above)));
+        if top != card {
+            return None;
+        }
+        Some(Move { card, bottom, top })
+    }
+
     /// The next run.
+    #[inline(always)]
     pub fn next(&mut self) -> Option<Run> {
         if self.rest == 0 {
             return None;
@@ -119,8 +149,7 @@ impl Moves {
     pub fn of(runs: &HandRuns) -> Moves {
         Moves {
             own: runs.own,
-            bottoms: runs.bottoms,
-            waiting: runs.bottoms,
+            dead: 0,
             runs: [0; ROOM],
             count: 0,
             next: 0,
@@ -133,29 +162,13 @@ impl Moves {
         self.hinted = bit;
     }
 
-    /// The only run. Its highest card is tried, or its lowest.
-    pub fn only(&self, tries_top: bool) -> Move {
-        self.move_of(self.bottoms, tries_top)
-    }
-
-    /// The run whose highest card is this, if there is one. It is tried before the others have weights.
-    pub fn of_top(&self, card: u64) -> Option<Move> {
-        if card & self.own == 0 {
-            return None;
-        }
-        let tried = self.move_of(highest(self.bottoms & (below(card) | card)), true);
-        if tried.card != card {
-            return None;
-        }
-        Some(tried)
-    }
-
     /// Whether runs wait that have no weights yet.
     pub fn are_unsorted(&self) -> bool {
-        self.count == 0 && self.waiting != 0
+        self.count == 0 && self.own & !self.dead != 0
     }
 
     /// Puts a run where it belongs by its weight. Its highest card is tried, or its lowest.
+    #[inline(always)]
     pub(crate) fn add(&mut self, run: Run, tries_top: bool, weight: i32) {
         let top = if tries_top { TOP } else { 0 };
         let cards = ((run.top & 63) as i32).wrapping_mul(HIGHEST) | (run.bottom & 63) as i32;
@@ -176,13 +189,14 @@ impl Moves {
     }
 
     /// The next card.
+    #[inline(always)]
     pub fn next(&mut self) -> Option<Move> {
         for place in self.next..self.count {
             let entry = self.runs[place & 15];
-            let bottom = card_at((entry & 63) as u32);
-            if self.waiting & bottom != 0 {
+            let top = card_at((entry >> 6 & 63) as u32);
+            if self.dead & top == 0 {
                 self.next = place.wrapping_add(1);
-                let top = card_at((entry >> 6 & 63) as u32);
+                let bottom = card_at((entry & 63) as u32);
                 let card = if entry & TOP != 0 { top } else { bottom };
                 return Some(Move { card, bottom, top });
             }
@@ -190,38 +204,14 @@ impl Moves {
         None
     }
 
-    /// The card to be tried of the run that begins with this one: its highest, or its lowest.
-    fn move_of(&self, bottom: u64, tries_top: bool) -> Move {
-        let above = self.bottoms & !below(bottom) & !bottom;
-        let top = highest(self.own & below(lowest(above)));
-        Move {
-            card: if tries_top { top } else { bottom },
-            bottom,
-            top,
-        }
-    }
-
-    /// After a card failed for reasons that need these cards: runs of its suit that lie wholly below them would fail
-    /// alike, if its own does.
+    /// After a card failed for reasons that need these cards: cards of its suit that lie below them would fail alike,
+    /// if its whole run does.
     pub fn skip(&mut self, tried: Move, relevant: u64) {
-        self.waiting &= !tried.bottom;
-        if self.waiting == 0 {
-            return;
-        }
         let suit = suit_of(tried.bottom);
-        let named = relevant & suit;
-        let limit = if named == 0 {
-            ABOVE.wrapping_shl(start_of(tried.bottom))
-        } else {
-            lowest(named)
-        };
-        if tried.top >= limit {
-            return;
+        let alike = below(lowest(relevant & suit));
+        if tried.top <= alike {
+            self.dead |= suit & alike;
         }
-        let mut alike = self.waiting & suit & below(limit);
-        if limit & self.own != 0 {
-            alike &= !highest(self.bottoms & suit & (below(limit) | limit));
-        }
-        self.waiting &= !alike;
+        self.dead |= tried.cards();
     }
 }

@@ -7,7 +7,7 @@ const DEUCES: u64 = 0x0001_0001_0001_0001;
 /// The bits of the lowest suit.
 pub const SUIT: u64 = 0xffff;
 /// The bit above the ace of the lowest suit.
-pub(crate) const ABOVE: u64 = 0x2000;
+const ABOVE: u64 = 0x2000;
 /// How many cards a hand has at most: so many tricks there are, and so many cards a seat can choose from.
 pub const MOST_CARDS: u32 = 13;
 /// 2^64 over the golden ratio: a number times it has its bits mixed, the highest best.

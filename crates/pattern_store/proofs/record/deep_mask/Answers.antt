@@ -1,6 +1,6 @@
 use Rattle.std.proofs.Common.{subst, arith}
 use Rattle.pattern_store.specs.Record.{MarksSuit}
-use Rattle.pattern_store.proofs.OwnerWords.{marks_word}
+use Rattle.pattern_store.proofs.OwnerWords.{marks_word, shallow, marks_none}
 use Rattle.pattern_store.proofs.record.deep_mask.Goals as goal
 
 pub returns : goal.returns
@@ -8,3 +8,6 @@ returns c =
     marks_word 8 c.args.depths c.deep_bits.result c.deep_bits-2.result c.deep_bits-3.result c.deep_bits-4.result c.deep_bits.ensures.small c.deep_bits-2.ensures.small c.deep_bits-3.ensures.small c.deep_bits-4.ensures.small
     (subst (λ depth. MarksSuit 8 depth c.deep_bits.result) (omega arith) c.deep_bits.ensures.marks) c.deep_bits-2.ensures.marks c.deep_bits-3.ensures.marks
     (subst (λ depth. MarksSuit 8 depth c.deep_bits-4.result) (omega arith) c.deep_bits-4.ensures.marks)
+
+pub returns-then-depths-eq0 : goal.returns-then-depths-eq0
+returns-then-depths-eq0 c = marks_none c.args.depths (shallow c.args.depths c.if-depths-eq0.true)

@@ -1,28 +1,14 @@
 use Rattle.std.proofs.Common.{◌∙◌, subst}
 use Rattle.pattern_store.specs.declared.record.Record.{Record}
 use Rattle.pattern_store.specs.Blocks.{LosesServed}
-use Rattle.pattern_store.proofs.Passing.{passes_then, loses_then}
+use Rattle.pattern_store.proofs.Passing.{loses_then}
 use Rattle.pattern_store.proofs.waiting.Waiting.pass_block.Goals as goal
-
-pub loop-place-preserved : goal.loop-place-preserved
-loop-place-preserved c =
-    let old = c.args.block.now in
-    let now = c.loop-place.block in
-    let new = c.pass.new.block in
-    let came = c.args.self.now.moved in
-    let goes = c.loop-place.self.moved in
-    let then = c.pass.new.self.moved in record {
-      passes = passes_then old now new came goes then c.loop-place.invariant.passes c.pass.ensures.passes;
-      loses = loses_then c.args.self.now.told old now new came goes then c.loop-place.invariant.loses
-          (subst (λ (told : Record). LosesServed told now new goes then) c.loop-place.invariant.told c.pass.ensures.loses);
-      told = c.pass.ensures.told ∙ c.loop-place.invariant.told;
-    }
 
 pub returns-then-not-self-clause-loses : goal.returns-then-not-self-clause-loses
 returns-then-not-self-clause-loses c =
-    let now = c.loop-place.block in
+    let now = c.pass_places.new.block in
     let new = c.end.new.block in
-    let goes = c.loop-place.self.moved in
+    let goes = c.pass_places.new.self.moved in
     let then = c.end.new.self.moved in
-    loses_then c.args.self.now.told c.args.block.now now new c.args.self.now.moved goes then c.loop-place.invariant.loses
-    (subst (λ (told : Record). LosesServed told now new goes then) c.loop-place.invariant.told c.end.ensures.loses)
+    loses_then c.args.self.now.told c.args.block.now now new c.args.self.now.moved goes then c.pass_places.ensures.loses
+    (subst (λ (told : Record). LosesServed told now new goes then) c.pass_places.ensures.told c.end.ensures.loses)
