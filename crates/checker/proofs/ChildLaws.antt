@@ -4,11 +4,14 @@ use Rattle.std.specs.Prelude.{slice_get, MatchResult}
 use Rattle.std.proofs.lemmas.List.Elements.{All-cons, Contains-append_left, Contains-append_right, Contains-append_cases, Contains-push, Contains-push_cases}
 use Rattle.cards.specs.declared.seats.Seat.{Seat}
 use Rattle.patterns.specs.Shapes.{Shape, Covers}
+use Rattle.patterns.proofs.CompletionLaws.{Covers-completed}
 use Rattle.pattern_step.specs.declared.pat_cards.PatCard.{PatCard}
 use Rattle.pattern_step.specs.Tricks.{IsLeft}
 use Rattle.pattern_step.proofs.TrickLaws.{one_left}
 use Rattle.certificate_graph.specs.declared.children.Child.{Child}
 use Rattle.certificate_graph.specs.declared.nodes.Node.{Node}
+use Rattle.certificate_graph.specs.declared.versions.Version.{Version}
+use Rattle.certificate_graph.specs.declared.versions.Version.TheVariants.{One, Two}
 use Rattle.certificate_graph.specs.Graphs.{GraphShape}
 use Rattle.checker.specs.declared.faults.StepFault.{StepFault}
 use Rattle.checker.specs.Steps.{need_after, IsListed, rest_read, IsRightChild}
@@ -35,6 +38,11 @@ pub wrong_pattern : (graph : GraphShape) (node : Node) (cards : List PatCard) (c
     FailsToCover graph node cards child
 wrong_pattern graph node cards child next left there is fails =
     (next, there, λ (rest, is', covers). fails (subst (λ (s : Shape). Covers next.pattern (rest_read graph.version s)) (one_left node.pattern node.lead cards rest left is' is) covers))
+
+-- what covers the rest covers it as each version reads it
+pub read_covered : (version : Version) (pattern rest : Shape) → Covers pattern rest → Covers pattern (rest_read version rest)
+read_covered One pattern rest covers = covers
+read_covered Two pattern rest covers = Covers-completed pattern rest covers
 
 -- the fault of the first child is that of all
 pub here : (graph : GraphShape) (node : Node) (cards : List PatCard) (child : Child) (rest : List Child) (fault : StepFault) → IsChildrenFault graph node cards (child ∷ []) fault → IsChildrenFault graph node cards (child ∷ rest) fault

@@ -21,7 +21,8 @@ use Rattle.checker.specs.Soundness.{KeepsItsClaim, IsNamedBy, GraphsAreSound, En
 use Rattle.checker.proofs.Lines.{four_are_legal}
 use Rattle.checker.proofs.LineLaws.{on_lines}
 use Rattle.checker.proofs.TrickRest.{rest_is_smaller}
-use Rattle.checker.proofs.StepIsSound.{pattern_of, one_step}
+use Rattle.checker.proofs.OnTheWay.{pattern_of}
+use Rattle.checker.proofs.StepIsSound.{one_step}
 use Rattle.checker.proofs.PartLaws.{numbered}
 
 -- a node that a leaf names has a card less in each hand

@@ -19,7 +19,10 @@ pub mod TrickCards
 pub mod TrickWinner
 pub mod TrickRest
 pub mod TwoLines
+pub mod OnTheWay
 pub mod StepIsSound
 pub mod ClaimsAreSound
 pub mod ExtractLaws
 pub mod VersionLaws
+pub mod CardSetLaws
+pub mod SuitSetLaws

@@ -9,3 +9,4 @@ pub mod Soundness
 pub mod EntryFaults
 pub mod FaultWords
 pub mod Verdicts
+pub mod CardSets

@@ -27,29 +27,34 @@ fn need_after(side: Side, need: u8, winner: Seat) -> u8
     }
 }
 
-/// Whether the seat is among those listed.
-fn is_listed(children: &Children<'_>, seat: Seat) -> bool
-    ensures { IsTrue result ↔ IsListed children.now seat }
+/// The seats that are listed.
+fn seats_listed(children: &Children<'_>) -> SeatSet
+    ensures { (seat : Seat) → IsTrue (is_in result seat) ↔ IsListed children.now seat }
 {
     match children.split_first() {
-        None => false,
-        Some((child, rest)) => child.winner == seat || is_listed(&rest, seat),
+        None => SeatSet::new(),
+        Some((child, rest)) => seats_listed(&rest).with(child.winner),
     }
 }
 
-/// Whether the seat is listed just where it is one of the winners and something is needed when it has won.
-fn is_rightly_listed(
-    side: Side,
-    need: u8,
-    winners: SeatSet,
-    children: &Children<'_>,
-    seat: Seat,
-) -> bool
-    ensures { IsTrue result ↔ (IsListed children.now seat
-        ↔ (IsTrue (is_in winners seat) × (0 < need_after side need seat))) }
+/// Whether the seat is one of the winners, and something is needed when it has won.
+fn goes_on(side: Side, need: u8, winners: SeatSet, seat: Seat) -> bool
+    ensures { IsTrue result ↔ (IsTrue (is_in winners seat) × (0 < need_after side need seat)) }
 {
-    let goes_on = winners.contains(seat) && need_after(side, need, seat) > 0;
-    is_listed(children, seat) == goes_on
+    winners.contains(seat) && need_after(side, need, seat) > 0
+}
+
+/// The winners that have to go on.
+fn seats_going_on(side: Side, need: u8, winners: SeatSet) -> SeatSet
+    ensures { (seat : Seat) → IsTrue (is_in result seat)
+        ↔ (IsTrue (is_in winners seat) × (0 < need_after side need seat)) }
+{
+    SeatSet::of([
+        goes_on(side, need, winners, Seat::North),
+        goes_on(side, need, winners, Seat::East),
+        goes_on(side, need, winners, Seat::South),
+        goes_on(side, need, winners, Seat::West),
+    ])
 }
 
 /// Whether the seats listed are those that may win and have to go on.
@@ -57,28 +62,21 @@ fn lists_winners(graph: &Graph, node: &Node, trick: &[PatCard; 4], children: &Ch
     ensures { IsTrue result ↔ ListsWinners graph.now node.now trick.now children.now }
 {
     let winners = winners(&node.pattern, graph.trump(), node.lead, trick);
-    let side = graph.side();
-    is_rightly_listed(side, node.need, winners, children, Seat::North)
-        && is_rightly_listed(side, node.need, winners, children, Seat::East)
-        && is_rightly_listed(side, node.need, winners, children, Seat::South)
-        && is_rightly_listed(side, node.need, winners, children, Seat::West)
+    seats_listed(children) == seats_going_on(graph.side(), node.need, winners)
 }
 
-/// What is left, as the version reads it.
-fn as_read(version: Version, left: &Rest) -> Rest
-    ensures { result ≡ rest_read version left.now }
-{
-    match version {
-        Version::One => *left,
-        Version::Two => left.completed(),
-    }
-}
-
-/// Whether the pattern covers what is left, as the version reads it.
+/// Whether the pattern covers what is left, as the version reads it. Completed it is covered by all that cover it as it
+/// is, so it is completed only for the others.
 fn covers(version: Version, pattern: &Pattern, left: &Rest) -> bool
     ensures { IsTrue result ↔ Covers pattern.now (rest_read version left.now) }
 {
-    pattern.covers(&as_read(version, left))
+    if pattern.covers(left) {
+        return true;
+    }
+    match version {
+        Version::One => false,
+        Version::Two => pattern.covers(&left.completed()),
+    }
 }
 
 /// Checks that the node named goes on from what the four cards leave.

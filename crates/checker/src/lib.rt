@@ -6,6 +6,7 @@
 //! memory.
 #![tactic(auto)]
 
+mod card_sets;
 mod checked_graphs;
 mod claims;
 mod ends;

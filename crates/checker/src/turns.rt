@@ -9,6 +9,7 @@ ghost use Rattle.checker.specs.Steps.{player_after, MayComeNext, IsOwnTurn, IsOp
 ghost use Rattle.checker.specs.Steps.{AreAnswers};
 ghost use Rattle.checker.specs.Faults.{HasWrongBranch, IsOwnFault, IsReplyFault};
 
+use crate::card_sets::answer_by_sets;
 use crate::faults::StepFault;
 use crate::played::Played;
 use cards::{Seat, Side, Suit};
@@ -180,7 +181,11 @@ pub(crate) fn check_reply(
     }
     let pattern = &node.pattern;
     let seat = player_after(node, played);
-    let cards = legal(pattern, seat, played.led());
+    let led = played.led();
+    if answer_by_sets(version, pattern, seat, led, branches) {
+        return Ok(());
+    }
+    let cards = legal(pattern, seat, led);
     if !are_answered(version, pattern, seat, branches, cards.as_slice()) {
         return Err(StepFault::BranchMissing);
     }
