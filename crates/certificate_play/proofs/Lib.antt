@@ -1,0 +1,5 @@
+mod PromiseLaws
+mod StepLaws
+mod StandInLaws
+mod BranchLaws
+mod CopyLaws

@@ -1,0 +1,4 @@
+pub mod Promises
+pub mod Branches
+pub mod Steps
+pub mod Sides

@@ -1,0 +1,7 @@
+//! Dialogues over a finesse, worked out by hand.
+#![tactic(auto)]
+
+#[cfg(test)]
+mod dialogue_tests;
+#[cfg(test)]
+mod pieces;

@@ -1,0 +1,9 @@
+pub mod AskLaws
+pub mod ActLaws
+pub mod TextLaws
+pub mod SeatLaws
+pub mod LetterLaws
+pub mod TrailLaws
+pub mod LineLaws
+pub mod WordLaws
+pub mod ConverseLaws

@@ -1,0 +1,6 @@
+pub mod Words
+pub mod Lines
+pub mod Texts
+pub mod Trails
+pub mod Dialogues
+pub mod Conversing

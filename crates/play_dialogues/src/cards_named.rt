@@ -1,0 +1,99 @@
+//! The names of cards.
+
+ghost use Rattle.std.specs.Prelude.{◌≡◌, ◌∷◌, [], ◌++◌, MatchOption};
+ghost use Rattle.std.specs.Prelude.{List, ℕ};
+ghost use Rattle.cards.specs.declared.suits.Suit.{Suit};
+ghost use Rattle.cards.specs.declared.pack.Rank.{Rank};
+ghost use Rattle.cards.specs.declared.pack.Card.{Card};
+ghost use Rattle.cards.specs.Pack.{suit_letter, rank_letter};
+ghost use Rattle.play_dialogues.specs.Words.{NamesRank, NamesCard, NamesBySuit, NamesByRank};
+
+use cards::{Card, Rank, Suit};
+
+/// The suit with this letter.
+fn suit_of(letter: u8) -> Option<Suit>
+    ensures { MatchOption result
+        ((suit : Suit) → suit_letter suit ≡ letter ∷ [] → ⊥)
+        (λ suit. suit_letter suit ≡ letter ∷ []) }
+{
+    match letter {
+        b'S' => Some(Suit::Spades),
+        b'H' => Some(Suit::Hearts),
+        b'D' => Some(Suit::Diamonds),
+        b'C' => Some(Suit::Clubs),
+        _ => None,
+    }
+}
+
+/// The rank with this letter.
+fn rank_of(letter: u8) -> Option<Rank>
+    ensures { MatchOption result
+        ((rank : Rank) → rank_letter rank ≡ letter ∷ [] → ⊥)
+        (λ rank. rank_letter rank ≡ letter ∷ []) }
+{
+    match letter {
+        b'2' => Some(Rank::Two),
+        b'3' => Some(Rank::Three),
+        b'4' => Some(Rank::Four),
+        b'5' => Some(Rank::Five),
+        b'6' => Some(Rank::Six),
+        b'7' => Some(Rank::Seven),
+        b'8' => Some(Rank::Eight),
+        b'9' => Some(Rank::Nine),
+        b'T' => Some(Rank::Ten),
+        b'J' => Some(Rank::Jack),
+        b'Q' => Some(Rank::Queen),
+        b'K' => Some(Rank::King),
+        b'A' => Some(Rank::Ace),
+        _ => None,
+    }
+}
+
+/// The rank that these letters name.
+fn rank_named(letters: &[u8]) -> Option<Rank>
+    ensures { MatchOption result
+        ((rank : Rank) → NamesRank letters.now rank → ⊥)
+        (λ rank. NamesRank letters.now rank) }
+{
+    match letters {
+        [letter] => rank_of(*letter),
+        [b'1', b'0'] => Some(Rank::Ten),
+        _ => None,
+    }
+}
+
+/// The card that these letters name by its suit and then its rank.
+fn by_suit_first(letters: &[u8]) -> Option<Card>
+    ensures { MatchOption result
+        ((card : Card) → NamesBySuit letters.now card → ⊥)
+        (λ card. NamesBySuit letters.now card) }
+{
+    let (first, rest) = letters.split_first()?;
+    let suit = suit_of(*first)?;
+    let rank = rank_named(rest)?;
+    Some(Card { suit, rank })
+}
+
+/// The card that these letters name by its rank and then its suit.
+fn by_rank_first(letters: &[u8]) -> Option<Card>
+    ensures { MatchOption result
+        ((card : Card) → NamesByRank letters.now card → ⊥)
+        (λ card. NamesByRank letters.now card) }
+{
+    let (last, rest) = letters.split_last()?;
+    let suit = suit_of(*last)?;
+    let rank = rank_named(rest)?;
+    Some(Card { suit, rank })
+}
+
+/// The card that these letters name.
+pub(crate) fn card_named(letters: &[u8]) -> Option<Card>
+    ensures { MatchOption result
+        ((card : Card) → NamesCard letters.now card → ⊥)
+        (λ card. NamesCard letters.now card) }
+{
+    match by_suit_first(letters) {
+        Some(card) => Some(card),
+        None => by_rank_first(letters),
+    }
+}

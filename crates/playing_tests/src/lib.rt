@@ -1,0 +1,23 @@
+//! Plays by certificates, beside numbers counted from the rules of a trick.
+#![tactic(auto)]
+
+#[cfg(test)]
+mod contracts;
+#[cfg(test)]
+mod draws;
+#[cfg(test)]
+mod ending_tests;
+#[cfg(test)]
+mod expect;
+#[cfg(test)]
+mod foreign;
+#[cfg(test)]
+mod foreign_tests;
+#[cfg(test)]
+mod full_tests;
+#[cfg(test)]
+mod text_tests;
+#[cfg(test)]
+mod told;
+#[cfg(test)]
+mod worked_tests;
