@@ -1,88 +1,21 @@
 //! The work of a checker.
 
-ghost use Rattle.std.specs.Prelude.{◌≡◌, ◌+◌, ◌≤◌, ℕ, IfOk};
+ghost use Rattle.std.specs.Prelude.{◌≡◌, ◌+◌, ◌≤◌, ℕ};
 ghost use Rattle.farm_relay.specs.Relays.{PutsAtSame, put_by, taken_by, marks_of};
-ghost use Rattle.farm.specs.Findings.{graph_in, IsPairOf, IsClaimedOf, PutsClaim};
+ghost use Rattle.farm.specs.Findings.{PutsClaim};
 ghost use Rattle.farm.specs.Flows.{ClaimsOwn, of_found, all_claimed};
 ghost use Rattle.farm.specs.Posts.{StaysChecker};
 
 use crate::crews::Crew;
 use crate::posts::CheckerPost;
 use crate::tasks::{CheckedClaim, FoundBundle, Task};
-use cards::Side;
-use certificate_graph::Graph;
-use checker::{CheckedGraph, Claimed, Rooted};
+use bundle_checks::CheckedPair;
 use farm_relay::Putter;
 use lease_desk::Gate;
-use partition_solver::{Bundle, Claim};
-use std::alloc::{AllocError, Global};
-use std::sync::{Arc, Wait};
+use partition_solver::Bundle;
+use std::alloc::AllocError;
+use std::sync::Wait;
 use std::thread::Threads;
-
-/// The graphs of a bundle, each checked once.
-#[derive(Drop)]
-pub(crate) struct CheckedPair {
-    pub(crate) ns: Arc<CheckedGraph>,
-    pub(crate) ew: Arc<CheckedGraph>,
-}
-
-/// Checks a graph, once: a large one with as many threads as there are processors.
-fn checked<R: Threads + Sync>(
-    rt: &R,
-    alloc: Global,
-    graph: &Arc<Graph>,
-) -> Result<Arc<CheckedGraph>, AllocError>
-    ensures { IfOk result (λ checked. checked.value ≡ graph.now.value) }
-{
-    let graph = graph.clone()?;
-    Ok(Arc::new(alloc, CheckedGraph::of_wide(graph, rt))?)
-}
-
-impl CheckedPair {
-    /// Checks both graphs.
-    fn of<R: Threads + Sync>(
-        rt: &R,
-        alloc: Global,
-        bundle: &Bundle,
-    ) -> Result<CheckedPair, AllocError>
-        ensures { IfOk result (IsPairOf bundle.now) }
-    {
-        Ok(CheckedPair {
-            ns: checked(rt, alloc, &bundle.ns)?,
-            ew: checked(rt, alloc, &bundle.ew)?,
-        })
-    }
-
-    /// The graph of a side.
-    fn of_side(&self, side: Side) -> Result<Arc<CheckedGraph>, AllocError>
-        ensures { IfOk result (λ graph. graph.value ≡ graph_in self.now side) }
-    {
-        match side {
-            Side::NorthSouth => self.ns.clone(),
-            Side::EastWest => self.ew.clone(),
-        }
-    }
-
-    /// The claim on these graphs.
-    fn claimed(&self, claim: Claim) -> Result<Claimed, AllocError>
-        ensures { IfOk result (IsClaimedOf self.now claim) }
-    {
-        let side = claim.declarer.side();
-        let declarer = self.of_side(side)?;
-        let defenders = self.of_side(side.other())?;
-        Ok(Claimed {
-            k: claim.k,
-            declarer: Rooted {
-                graph: declarer,
-                root: claim.declarer_root,
-            },
-            defenders: Rooted {
-                graph: defenders,
-                root: claim.defenders_root,
-            },
-        })
-    }
-}
 
 /// Puts the claim for a lease, where there is one. A claim that is handed back is dropped; its lease stays.
 fn put_claim<R: Wait>(

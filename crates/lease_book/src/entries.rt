@@ -83,7 +83,7 @@ fn trump_at(place: usize) -> Trump
 
 impl Entry {
     /// The place of the entry among all entries, in their order.
-    pub(crate) fn place(&self) -> usize
+    pub fn place(&self) -> usize
         requires { self.now.board < 2 ^ 32 }
         ensures { result ≡ place_of self.now }
     {

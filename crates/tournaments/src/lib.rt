@@ -16,4 +16,4 @@ pub use faults::{MakeFault, write_failed};
 pub use laws::{tables_are_read, whole_pages_are_read};
 pub use replaying::replay_tables;
 pub use single::make_single;
-pub use texts::take_boards;
+pub use texts::{open_book, take_boards};

@@ -24,7 +24,7 @@ pub fn take_boards(alloc: Global, text: &[u8]) -> Result<Vec<Board>, MakeFault>
 }
 
 /// A book over boards of a text, without a history, unless memory runs out.
-pub(crate) fn open_book(
+pub fn open_book(
     alloc: Global,
     boards: Vec<Board>,
     term: u64,
