@@ -8,3 +8,4 @@ pub mod PieceLemmas
 pub mod PartLemmas
 pub mod RowLemmas
 pub mod TitleLemmas
+pub mod DamageLemmas

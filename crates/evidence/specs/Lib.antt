@@ -6,3 +6,4 @@ pub mod Pieces
 pub mod Ends
 pub mod Parts
 pub mod Wholes
+pub mod Damages

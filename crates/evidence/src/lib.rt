@@ -7,6 +7,7 @@
 #![tactic(auto)]
 
 mod claims;
+mod damages;
 mod graphs_reading;
 mod head_reading;
 mod laws;
@@ -19,6 +20,7 @@ mod wholes;
 mod words;
 
 pub use claims::claims_in_order;
+pub use damages::Damage;
 pub use laws::{
     one_row, one_section, one_text, parts_are_joined, sections_are_parts, sections_are_read_back,
 };

@@ -44,6 +44,13 @@ impl<S: Source> Sections<S> {
         }
     }
 
+    /// How many bytes stand before what comes next, at most 2 to the power of 64 less 1.
+    pub fn place(&self) -> u64
+        ensures { result ≡ self.now.before }
+    {
+        self.pieces.before
+    }
+
     /// What comes next: the first piece of what is left, or the end. After a fault the bytes that were read are lost;
     /// ask no more then.
     pub fn next(&mut self, alloc: Global) -> Result<Part, InputFault>
