@@ -1,0 +1,5 @@
+pub mod LeaseLaws
+pub mod BoardLaws
+pub mod ShownLaws
+pub mod ReadLaws
+pub mod PageLaws

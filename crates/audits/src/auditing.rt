@@ -1,0 +1,115 @@
+//! The tables that evidence shows.
+
+ghost use Rattle.std.specs.Prelude.{◌≡◌};
+ghost use Rattle.lease_book.specs.Books.{AreBoards};
+ghost use Rattle.tournaments.specs.Pages.{IsTablesPage};
+ghost use Rattle.tournaments.specs.WholePages.{IsWholePage};
+ghost use Rattle.audits.specs.Audits.{AuditsOrStops, AuditsOrHalts, AuditsTables};
+
+use crate::faults::AuditFault;
+use crate::leases::lease_all;
+use crate::reading::add_all;
+use cards::{Sink, Source};
+use evidence::{Damage, Sections};
+use lease_book::{Book, is_true_history};
+use pbn_deals::Board;
+use std::alloc::Global;
+use std::thread::Threads;
+use streams::{InputFault, read_all};
+use tables::{Report, write_tables};
+use tournaments::{MakeFault, open_book, tables_are_read, take_boards, whole_pages_are_read};
+use whole_texts::{one_is_written, write_whole};
+
+/// A book over the boards, in which what the evidence shows is published, and what was passed over.
+fn audit_boards<R: Threads + Sync, E: Source>(
+    rt: &R,
+    alloc: Global,
+    boards: Vec<Board>,
+    evidence: &mut Sections<E>,
+) -> Result<(Book, Damage), InputFault>
+    requires { AreBoards boards.items }
+    ensures { AuditsOrStops boards.items evidence.old evidence.new result }
+{
+    let Ok(mut book) = open_book(alloc, boards, 1, 1) else {
+        return Err(InputFault::OutOfMemory);
+    };
+    let Ok(leases) = lease_all(alloc, &mut book) else {
+        return Err(InputFault::OutOfMemory);
+    };
+    let damage = add_all(rt, alloc, &mut book, &leases, evidence)?;
+    is_true_history(&book);
+    Ok((book, damage))
+}
+
+/// Reads a PBN text to its end and then the evidence. The text is handed out, a book over its boards, in which what the
+/// evidence shows is published, and what was passed over.
+fn audit_text<R: Threads + Sync, I: Source, E: Source>(
+    rt: &R,
+    alloc: Global,
+    input: &mut I,
+    evidence: &mut Sections<E>,
+) -> Result<(Vec<u8>, Book, Damage), AuditFault>
+    ensures { AuditsOrHalts (I.state input.old) (I.state input.new) evidence.old evidence.new result }
+{
+    let text = match read_all(alloc, input) {
+        Ok(text) => text,
+        Err(InputFault::OutOfMemory) => return Err(AuditFault::Page(MakeFault::OutOfMemory)),
+        Err(InputFault::Read) => return Err(AuditFault::Page(MakeFault::Read)),
+    };
+    let boards = match take_boards(alloc, text.as_slice()) {
+        Ok(boards) => boards,
+        Err(fault) => return Err(AuditFault::Page(fault)),
+    };
+    match audit_boards(rt, alloc, boards, evidence) {
+        Ok((book, damage)) => Ok((text, book, damage)),
+        Err(InputFault::OutOfMemory) => Err(AuditFault::Page(MakeFault::OutOfMemory)),
+        Err(InputFault::Read) => Err(AuditFault::Evidence),
+    }
+}
+
+/// Reads the boards of a PBN text to its end and then the evidence, checks each section of it whose deal is on a board,
+/// and writes the tables of what was shown. The book and what was passed over are handed out. Nothing is searched.
+///
+/// Whatever the evidence is, a number that is written is the double-dummy value of its deal. An entry has one exactly
+/// where a section for its deal and denomination has a claim for its declarer that the graphs of the section show, and
+/// then that of the first such section: sections of other deals, damaged ones, false claims and repeats take nothing
+/// away. With all faults but a failed sink nothing was written.
+pub fn audit_tables<R: Threads + Sync, I: Source, E: Source, O: Sink>(
+    rt: &R,
+    alloc: Global,
+    input: &mut I,
+    evidence: &mut Sections<E>,
+    output: &mut O,
+) -> Result<(Report, Book, Damage), AuditFault>
+    ensures { AuditsTables IsTablesPage (I.state input.old) (I.state input.new) evidence.old evidence.new
+        (O.state output.old) (O.state output.new) result }
+{
+    let (_, book, damage) = audit_text(rt, alloc, input, evidence)?;
+    tables_are_read();
+    match write_tables(&book, output) {
+        Ok(report) => Ok((report, book, damage)),
+        Err(_) => Err(AuditFault::Page(MakeFault::Write)),
+    }
+}
+
+/// Reads a PBN text to its end and then the evidence, checks each section of it whose deal is on a board, and writes
+/// the text as it was read, with the tables of what was shown in it. The book and what was passed over are handed out.
+/// Of each number that is written and of faults holds what [`audit_tables`] says.
+pub fn audit_whole<R: Threads + Sync, I: Source, E: Source, O: Sink>(
+    rt: &R,
+    alloc: Global,
+    input: &mut I,
+    evidence: &mut Sections<E>,
+    output: &mut O,
+) -> Result<(Report, Book, Damage), AuditFault>
+    ensures { AuditsTables IsWholePage (I.state input.old) (I.state input.new) evidence.old evidence.new
+        (O.state output.old) (O.state output.new) result }
+{
+    let (text, book, damage) = audit_text(rt, alloc, input, evidence)?;
+    one_is_written();
+    whole_pages_are_read();
+    match write_whole(text.as_slice(), &book, output) {
+        Ok(report) => Ok((report, book, damage)),
+        Err(_) => Err(AuditFault::Page(MakeFault::Write)),
+    }
+}

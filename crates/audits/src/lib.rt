@@ -1,0 +1,13 @@
+//! The tables of a tournament from the evidence that was kept of it.
+//!
+//! Nothing is searched and nothing is trusted: a number is written only where the certificates of the evidence show it.
+#![tactic(auto)]
+
+mod auditing;
+mod faults;
+mod handing_in;
+mod leases;
+mod reading;
+
+pub use auditing::{audit_tables, audit_whole};
+pub use faults::AuditFault;
