@@ -1,0 +1,34 @@
+-- A list of sections of which one is taken, and of which some don't serve.
+use Rattle.std.proofs.Common.{◌≡◌, ℕ, ◌+◌, ◌<◌, List, [], ◌∷◌, ◌++◌, length, take, drop, set, get_or, sym, ◌∙◌, ap, subst, add-one}
+use Rattle.std.proofs.lemmas.List.{take-append-drop, drop_more, set_split, take_more}
+use Rattle.std.proofs.lemmas.List.Elements.{All-push}
+use Rattle.evidence_solvers.specs.declared.serving.Question.{Question}
+use Rattle.evidence_solvers.specs.declared.spans.Span.{Span}
+use Rattle.evidence_solvers.specs.declared.catalogs.Listed.{Listed}
+use Rattle.evidence_solvers.specs.Catalogs.{Serves, IsAnsweredOnce, NoneServe, TakesFirst}
+
+module _ (asked : Question) (sections : List Listed) (place : ℕ) (one : Listed) (within : place < length sections) (is : one ≡ get_or sections place one)
+    (none : NoneServe asked (take place sections)) where
+  pub none_more : (Serves asked one → ⊥) → NoneServe asked (take (place + 1) sections)
+  none_more unserved =
+      let longer : take (place + 1) sections ≡ take place sections ++ (one ∷ []) =
+      take_more sections place one within ∙ ap (λ (x : Listed). take place sections ++ (x ∷ [])) (sym is) in
+      subst (λ (l : List Listed). NoneServe asked l) (sym longer) (All-push (λ (l : Listed). Serves asked l → ⊥) (take place sections) one none unserved)
+
+  pub taken : (other : Listed) (span : Span) → Serves asked one → span ≡ one.span → IsAnsweredOnce one other asked.declarers.now
+      → TakesFirst asked sections (set sections place other) span
+  taken other span serves span_is once =
+      record {
+        before = take place sections;
+        listed = one;
+        answered = other;
+        after = drop (place + 1) sections;
+        old_is =
+            sym (take-append-drop place sections)
+            ∙ ap (λ (l : List Listed). take place sections ++ l) (drop_more sections place one within ∙ ap (λ (x : Listed). x ∷ drop (place + 1) sections) (sym is));
+        none_before = none;
+        serves = serves;
+        span_is = span_is;
+        once = once;
+        new_is = set_split sections place other within ∙ ap (λ (n : ℕ). take place sections ++ (other ∷ drop n sections)) (sym (add-one place));
+      }

@@ -1,0 +1,39 @@
+//! What is written of an answer.
+
+ghost use Rattle.std.specs.Prelude.{IfOk};
+ghost use Rattle.evidence_solvers.specs.Kept.{kept_of, IsKeptText};
+
+use cards::{Layout, OutOfMemory, Trump};
+use evidence::{Section, claims_in_order, section_bytes};
+use partition_solver::Bundle;
+use std::alloc::Global;
+
+/// The most bytes that a section may have which is read again: 512 MiB.
+const MOST_BYTES: usize = 536_870_912;
+
+/// The text of the section of an answer. None where the answer is no section, or its text too long to be read again.
+/// Fails only where memory runs out.
+pub(crate) fn kept_text(
+    alloc: Global,
+    layout: &Layout,
+    trump: Trump,
+    bundle: &Bundle,
+) -> Result<Option<Vec<u8>>, OutOfMemory>
+    ensures { IfOk result (IsKeptText (kept_of layout.now trump bundle.now)) }
+{
+    let Ok(ns) = bundle.ns.clone() else {
+        return Err(OutOfMemory);
+    };
+    let Ok(ew) = bundle.ew.clone() else {
+        return Err(OutOfMemory);
+    };
+    let claims = claims_in_order(bundle);
+    let Ok(section) = Section::new(*layout, trump, Bundle { ns, ew, claims }) else {
+        return Ok(None);
+    };
+    let text = section_bytes(alloc, &section)?;
+    if text.len() > MOST_BYTES {
+        return Ok(None);
+    }
+    Ok(Some(text))
+}
