@@ -11,6 +11,8 @@ use Rattle.clap.specs.declared.builder.command.Command.TheViews.{out-Command as 
 use Rattle.clap.specs.declared.builder.value_parser.ValueParser.{ValueParser}
 use Rattle.clap.specs.declared.builder.value_parser.ValueParser.TheVariants.{Names, Signed, Unsigned}
 use Rattle.asked.specs.Options.{OptionNumbers, table_options, budget_option, progress_option, whole_option}
+use Rattle.asked.specs.Options.{default_side, evidence_option, side_option, side_word}
+use Rattle.asked.specs.declared.sides.ContractSide.TheVariants.{Declarer, Defenders}
 use Rattle.cards.specs.Seats.{seat_letter}
 use Rattle.cards.specs.Pack.{trump_letters}
 use Rattle.cards.specs.declared.seats.Seat.TheVariants.{North, East, South, West}
@@ -18,11 +20,12 @@ use Rattle.cards.specs.declared.suits.Suit.TheVariants.{Spades, Hearts, Diamonds
 use Rattle.cards.specs.declared.suits.Trump.TheVariants.{Nt, Suit}
 use Rattle.arguments.specs.declared.command.Letters.{Letters}
 
--- the letters are those of the seats and of the denominations
+-- the letters are those of the seats and of the denominations, and the words those for the sides
 pub record AreLetters (letters : Letters) : Type 0 where
   pub seats : map (λ s. s.now) letters.seats.now ≡ map seat_letter (North ∷ East ∷ South ∷ West ∷ [])
   pub trumps : map (λ s. s.now) letters.trumps.now
       ≡ map trump_letters (Nt ∷ Suit Spades ∷ Suit Hearts ∷ Suit Diamonds ∷ Suit Clubs ∷ [])
+  pub sides : map (λ s. s.now) letters.sides.now ≡ map side_word (Declarer ∷ Defenders ∷ [])
 
 -- a word that has to be there
 abbrev pub word : Text → Rule
@@ -50,6 +53,15 @@ number_rule option = record (new_rule option.name) {
   value_names = 1;
 }
 
+-- `--name WORD`, with one of these texts, and the one that stands for a missing one
+abbrev pub choice_rule : Text → Bor (List (Bor Text)) → Text → Rule
+choice_rule name texts default = record (new_rule name) {
+  long = Some name;
+  parser = Some (Names texts);
+  defaults = default ∷ [];
+  value_names = 1;
+}
+
 -- `--name` alone
 abbrev pub flag : Text → Rule
 flag name = record (new_rule name) {
@@ -57,27 +69,46 @@ flag name = record (new_rule name) {
   action = Some SetTrue;
 }
 
+-- `--name TEXT`
+abbrev pub text_rule : Text → Rule
+text_rule name = record (new_rule name) {
+  long = Some name;
+  value_names = 1;
+}
+
 -- how tables are made
 abbrev pub settings : List Rule
-settings = map number_rule table_options ++ flag progress_option ∷ flag whole_option ∷ []
+settings = map number_rule table_options
+    ++ flag progress_option ∷ flag whole_option ∷ text_rule evidence_option ∷ []
 
 abbrev pub subcommand : Text → List Rule → Shape
 subcommand name rules = record (new_shape name) { rules = rules }
 
-abbrev pub plain : Letters → Shape
-plain letters = subcommand (codes "plain") (hand_words letters (codes "LEADER"))
+abbrev pub table : Shape
+table = subcommand (codes "table") settings
+
+abbrev pub audit : Shape
+audit = subcommand (codes "audit") (word (codes "FILE") ∷ flag whole_option ∷ [])
 
 abbrev pub solve : Letters → Shape
 solve letters = subcommand (codes "solve")
     (hand_words letters (codes "DECLARER") ++ number_rule budget_option ∷ [])
 
-abbrev pub table : Shape
-table = subcommand (codes "table") settings
-
 abbrev pub check : Letters → Shape
 check letters = subcommand (codes "check") (hand_words letters (codes "DECLARER"))
 
--- the program's words: one of the four subcommands has to be named
+abbrev pub line : Letters → Shape
+line letters = subcommand (codes "line") (hand_words letters (codes "DECLARER"))
+
+abbrev pub play : Letters → Shape
+play letters = subcommand (codes "play")
+    (hand_words letters (codes "DECLARER") ++ word (codes "ANSWER")
+    ∷ choice_rule side_option letters.sides (side_word default_side) ∷ [])
+
+abbrev pub plain : Letters → Shape
+plain letters = subcommand (codes "plain") (hand_words letters (codes "LEADER"))
+
+-- the program's words: one of the seven subcommands has to be named
 abbrev pub command_line : Letters → App
 command_line letters = record {
   top = record (new_shape (codes "ddfarm")) {
@@ -86,7 +117,7 @@ command_line letters = record {
     arg_required_else_help = true;
     subcommand_required = true;
   };
-  subs = plain letters ∷ solve letters ∷ table ∷ check letters ∷ [];
+  subs = table ∷ audit ∷ solve letters ∷ check letters ∷ line letters ∷ play letters ∷ plain letters ∷ [];
 }
 
 -- the argument has the rule, and is none of the subcommands' too

@@ -1,14 +1,14 @@
 //! The command line as `clap` is told of it.
 
-ghost use Rattle.std.specs.Prelude.{◌≡◌, IfOk, codes, map};
+ghost use Rattle.std.specs.Prelude.{◌≡◌, IfOk, map};
 ghost use Rattle.clap.specs.Words.{app_of};
 ghost use Rattle.asked.specs.Options.{numbers_of};
-ghost use Rattle.arguments.specs.CommandLine.{AddsRules, AreLetters, IsArg, IsLeaf, check, choice, command_line, flag};
-ghost use Rattle.arguments.specs.CommandLine.{hand_words, numbers_in_range};
-ghost use Rattle.arguments.specs.CommandLine.{number_rule, plain, settings, solve, table, word};
+ghost use Rattle.arguments.specs.CommandLine.{AddsRules, AreLetters, IsArg, IsLeaf, audit, check, choice, choice_rule};
+ghost use Rattle.arguments.specs.CommandLine.{command_line, flag, hand_words, line, numbers_in_range};
+ghost use Rattle.arguments.specs.CommandLine.{number_rule, plain, play, settings, solve, table, text_rule, word};
 
 use crate::help;
-use asked::options::{self, FlagOption, NumberOption};
+use asked::options::{self, ChoiceOption, FlagOption, NumberOption, TextOption};
 use clap::builder::ValueParser;
 use clap::{Arg, ArgAction, Command};
 use std::alloc::{AllocError, Global};
@@ -17,11 +17,14 @@ static SEATS: [&str; 4] = ["N", "E", "S", "W"];
 
 static TRUMPS: [&str; 5] = ["NT", "S", "H", "D", "C"];
 
-/// The letters of the seats and of the denominations, which `clap` takes by reference.
+static SIDES: [&str; 2] = ["declarer", "defenders"];
+
+/// The letters of the seats and of the denominations, and the words for the sides, which `clap` takes by reference.
 #[derive(Clone, Copy)]
 pub struct Letters<'a> {
     pub seats: &'a [&'a str],
     pub trumps: &'a [&'a str],
+    pub sides: &'a [&'a str],
 }
 
 pub(crate) fn known_letters() -> Letters<'static>
@@ -30,6 +33,7 @@ pub(crate) fn known_letters() -> Letters<'static>
     Letters {
         seats: SEATS.as_slice(),
         trumps: TRUMPS.as_slice(),
+        sides: SIDES.as_slice(),
     }
 }
 
@@ -45,19 +49,35 @@ pub(crate) fn command<'a>(alloc: Global, letters: Letters<'a>) -> Result<Command
         .arg_required_else_help(true)
         .disable_help_subcommand(true);
     command
-        .subcommand(plain_command(alloc, letters)?)?
-        .subcommand(solve_command(alloc, letters)?)?
         .subcommand(table_command(alloc)?)?
-        .subcommand(check_command(alloc, letters)?)
+        .subcommand(audit_command(alloc)?)?
+        .subcommand(solve_command(alloc, letters)?)?
+        .subcommand(check_command(alloc, letters)?)?
+        .subcommand(line_command(alloc, letters)?)?
+        .subcommand(play_command(alloc, letters)?)?
+        .subcommand(plain_command(alloc, letters)?)
 }
 
-fn plain_command<'a>(alloc: Global, letters: Letters<'a>) -> Result<Command<'a>, AllocError>
-    ensures { IfOk result (IsLeaf (plain letters.entry)) }
+fn table_command<'a>(alloc: Global) -> Result<Command<'a>, AllocError>
+    ensures { IfOk result (IsLeaf table) }
 {
-    let command = Command::new(alloc, "plain")
-        .about(help::PLAIN_ABOUT)
-        .after_help(help::PLAIN_EXAMPLE);
-    with_hand(alloc, command, letters, "LEADER", help::LEADER)
+    let command = Command::new(alloc, "table")
+        .about(help::TABLE_ABOUT)
+        .override_usage(help::TABLE_USAGE)
+        .after_help(help::TABLE_EXAMPLE);
+    with_settings(alloc, command)
+}
+
+fn audit_command<'a>(alloc: Global) -> Result<Command<'a>, AllocError>
+    ensures { IfOk result (IsLeaf audit) }
+{
+    let command = Command::new(alloc, "audit")
+        .about(help::AUDIT_ABOUT)
+        .override_usage(help::AUDIT_USAGE)
+        .after_help(help::AUDIT_EXAMPLE);
+    command
+        .arg(word_arg(alloc, "FILE", help::AUDIT_FILE))?
+        .arg(flag_arg(alloc, &options::WHOLE))
 }
 
 fn solve_command<'a>(alloc: Global, letters: Letters<'a>) -> Result<Command<'a>, AllocError>
@@ -83,14 +103,35 @@ fn check_command<'a>(alloc: Global, letters: Letters<'a>) -> Result<Command<'a>,
     with_hand(alloc, command, letters, "DECLARER", help::DECLARER)
 }
 
-fn table_command<'a>(alloc: Global) -> Result<Command<'a>, AllocError>
-    ensures { IfOk result (IsLeaf table) }
+fn line_command<'a>(alloc: Global, letters: Letters<'a>) -> Result<Command<'a>, AllocError>
+    ensures { IfOk result (IsLeaf (line letters.entry)) }
 {
-    let command = Command::new(alloc, "table")
-        .about(help::TABLE_ABOUT)
-        .override_usage(help::TABLE_USAGE)
-        .after_help(help::TABLE_EXAMPLE);
-    with_settings(alloc, command)
+    let command = Command::new(alloc, "line")
+        .about(help::LINE_ABOUT)
+        .override_usage(help::LINE_USAGE)
+        .after_help(help::LINE_EXAMPLE);
+    with_hand(alloc, command, letters, "DECLARER", help::DECLARER)
+}
+
+fn play_command<'a>(alloc: Global, letters: Letters<'a>) -> Result<Command<'a>, AllocError>
+    ensures { IfOk result (IsLeaf (play letters.entry)) }
+{
+    let command = Command::new(alloc, "play")
+        .about(help::PLAY_ABOUT)
+        .override_usage(help::PLAY_USAGE)
+        .after_help(help::PLAY_EXAMPLE);
+    with_hand(alloc, command, letters, "DECLARER", help::DECLARER)?
+        .arg(word_arg(alloc, "ANSWER", help::ANSWER))?
+        .arg(choice_option_arg(alloc, &options::SIDE, letters.sides))
+}
+
+fn plain_command<'a>(alloc: Global, letters: Letters<'a>) -> Result<Command<'a>, AllocError>
+    ensures { IfOk result (IsLeaf (plain letters.entry)) }
+{
+    let command = Command::new(alloc, "plain")
+        .about(help::PLAIN_ABOUT)
+        .after_help(help::PLAIN_EXAMPLE);
+    with_hand(alloc, command, letters, "LEADER", help::LEADER)
 }
 
 /// The command with the words of a layout, of a seat that has this name, and of the denomination.
@@ -104,7 +145,7 @@ fn with_hand<'a>(
     ensures { IfOk result (AddsRules command.entry (hand_words letters.entry seat.entry.now)) }
 {
     command
-        .arg(layout_arg(alloc))?
+        .arg(word_arg(alloc, "LAYOUT", help::LAYOUT))?
         .arg(choice_arg(alloc, seat, letters.seats, help))?
         .arg(choice_arg(alloc, "TRUMP", letters.trumps, help::TRUMP))
 }
@@ -115,7 +156,8 @@ fn with_settings<'a>(alloc: Global, command: Command<'a>) -> Result<Command<'a>,
 {
     with_numbers(alloc, command, options::table_options())?
         .arg(flag_arg(alloc, &options::PROGRESS))?
-        .arg(flag_arg(alloc, &options::WHOLE))
+        .arg(flag_arg(alloc, &options::WHOLE))?
+        .arg(text_arg(alloc, &options::EVIDENCE))
 }
 
 /// The command with these options.
@@ -132,10 +174,11 @@ fn with_numbers<'a>(
     Ok(command)
 }
 
-fn layout_arg<'a>(alloc: Global) -> Arg<'a>
-    ensures { IsArg (word (codes "LAYOUT")) result }
+/// A word that is any text.
+fn word_arg<'a>(alloc: Global, name: &'a str, help: &'a str) -> Arg<'a>
+    ensures { IsArg (word name.entry.now) result }
 {
-    Arg::new(alloc, "LAYOUT").required(true).help(help::LAYOUT)
+    Arg::new(alloc, name).required(true).help(help)
 }
 
 /// A word that is one of these texts.
@@ -176,5 +219,25 @@ fn flag_arg<'a>(alloc: Global, option: &FlagOption) -> Arg<'a>
     Arg::new(alloc, option.name)
         .long(option.name)
         .action(ArgAction::SetTrue)
+        .help(option.help)
+}
+
+fn choice_option_arg<'a>(alloc: Global, option: &ChoiceOption, texts: &'a [&'a str]) -> Arg<'a>
+    ensures { IsArg (choice_rule option.now.name.now texts.entry option.now.default.now) result }
+{
+    Arg::new(alloc, option.name)
+        .long(option.name)
+        .value_name(option.value_name)
+        .value_parser(texts)
+        .default_value(option.default)
+        .help(option.help)
+}
+
+fn text_arg<'a>(alloc: Global, option: &TextOption) -> Arg<'a>
+    ensures { IsArg (text_rule option.now.name.now) result }
+{
+    Arg::new(alloc, option.name)
+        .long(option.name)
+        .value_name(option.value_name)
         .help(option.help)
 }

@@ -5,37 +5,20 @@ Double-dummy results of bridge deals: how many tricks each side takes
 when all four hands are seen and both sides play best.";
 
 pub const EXAMPLE: &str = "\
-Example:
-  ddfarm plain \"N:AQ... 65... 32... K4...\" S NT
-prints NS 2: South leads towards North's ace and queen of spades.";
+Examples:
+  ddfarm table <club.pbn >tables.pbn
+writes the tables of all boards of a tournament; with --evidence club.dde it keeps the
+evidence for them.
+  ddfarm audit club.dde <club.pbn >tables.pbn
+writes what evidence shows of them: it is checked, and nothing is searched.
+  ddfarm solve \"N:A... K... Q... J...\" N NT >answer.txt
+  ddfarm check \"N:A... K... Q... J...\" N NT <answer.txt
+  ddfarm line \"N:A... K... Q... J...\" N NT <answer.txt
+  ddfarm play \"N:A... K... Q... J...\" N NT answer.txt
+find how many tricks declarer's side takes of four hands, check that, show how, a trick
+a line, and let you try to take more.
 
-pub const PLAIN_ABOUT: &str = "\
-Prints how many tricks North and South take from here on, with up to 4 cards a hand";
-
-pub const PLAIN_EXAMPLE: &str = "\
-Example:
-  ddfarm plain \"N:AQ... 65... 32... K4...\" S NT
-South leads at no-trump. West holds the king before North's ace and queen, so the
-finesse wins, and NS 2 is printed: two tricks for North and South, none for East
-and West.";
-
-pub const SOLVE_ABOUT: &str = "\
-Finds how many tricks declarer's side takes of a layout, with certificates";
-
-pub const SOLVE_USAGE: &str = "ddfarm solve [--budget STEPS] LAYOUT DECLARER TRUMP >answer.txt";
-
-pub const SOLVE_EXAMPLE: &str = "\
-Example:
-  ddfarm solve \"N:A... K... Q... J...\" N NT
-writes an answer to the standard output: a line `result 1`, since North takes 1
-trick, the certificate of declarer's side, an empty line, and that of the defenders.
-`ddfarm check` reads such a text and accepts it.
-
-Exit status:
-  0  an answer was found
-  1  the output failed, or memory ran out
-  2  the command line or the layout is refused
-  3  no answer was found in so many steps";
+`ddfarm table --help` tells more of `table`, and so of each command.";
 
 pub const TABLE_ABOUT: &str = "\
 Reads the boards of a tournament in PBN and writes their double-dummy tables";
@@ -43,13 +26,20 @@ Reads the boards of a tournament in PBN and writes their double-dummy tables";
 pub const TABLE_USAGE: &str = "ddfarm table [OPTIONS] <club.pbn >tables.pbn";
 
 pub const TABLE_EXAMPLE: &str = "\
-Example:
+Examples:
   ddfarm table <club.pbn >tables.pbn
 reads a PBN 2.1 text from the standard input and writes one to the standard
 output: of each board its name, its deal and its table, twenty numbers of tricks,
 each backed by certificates that were checked. Where some weren't found, a line such
 as `; table incomplete: 19 of 20` stands in place of the table. With --whole the text
 is written as it is, with the tables in it.
+  ddfarm table --evidence club.dde <club.pbn >tables.pbn
+writes the same, and keeps the certificates in club.dde, which is made where it isn't
+there. What it shows isn't searched again, and what is searched is added as it is found.
+So a run that was stopped goes on by the same line, and `ddfarm audit` makes the tables
+of club.dde on a machine that needn't trust this one. What is damaged in club.dde is
+told as by `ddfarm audit`. Where it can't be written any more, the tables are made all
+the same.
 
 What is refused, each with its line:
   1 TagForm        what begins with `[` is not a tag pair
@@ -63,10 +53,57 @@ What is refused, each with its line:
 
 Exit status:
   0  every table is complete
-  1  the input or the output failed, memory ran out outside a search, or a thread
-     could not be started
+  1  the input, the output or the evidence failed, FILE can't be opened, memory ran out
+     outside a search, or a thread could not be started
   2  the command line or the text is refused
   3  a table is incomplete: steps or memory ran out in a search";
+
+pub const AUDIT_ABOUT: &str = "\
+Reads the boards of a tournament and writes the tables that evidence shows of them";
+
+pub const AUDIT_USAGE: &str = "ddfarm audit [--whole] FILE <club.pbn >tables.pbn";
+
+pub const AUDIT_FILE: &str = "\
+The file with the evidence, or a pipe: it is read once, from front to back";
+
+pub const AUDIT_EXAMPLE: &str = "\
+Examples:
+  ddfarm audit club.dde <club.pbn >tables.pbn
+  ddfarm audit <(zstd -dc club.dde.zst) <club.pbn >tables.pbn
+reads the boards from the standard input, as `ddfarm table` does, and then evidence, as
+`ddfarm table --evidence club.dde` keeps it. Nothing is searched and nothing is trusted:
+each certificate is checked, and a number is written only where certificates show it.
+The tables are those of `ddfarm table`. Where some numbers weren't shown, a line such as
+`; table incomplete: 19 of 20` stands in place of the table. With --whole the text is
+written as it is, with the tables in it.
+
+Evidence is a row of sections, each for one deal in one denomination. Sections of other
+deals are passed over. So are damaged ones, and that is told once on the error output:
+  ddfarm: evidence: 2 sections are damaged, the first at byte 81920
+
+Exit status:
+  0  every table is complete
+  1  FILE can't be opened or read, the input or the output failed, or memory ran out
+  2  the command line is refused, or the text, as by `ddfarm table`
+  3  a table is incomplete: the evidence doesn't show all of its numbers";
+
+pub const SOLVE_ABOUT: &str = "\
+Finds how many tricks declarer's side takes of a layout, with certificates";
+
+pub const SOLVE_USAGE: &str = "ddfarm solve [--budget STEPS] LAYOUT DECLARER TRUMP >answer.txt";
+
+pub const SOLVE_EXAMPLE: &str = "\
+Example:
+  ddfarm solve \"N:A... K... Q... J...\" N NT
+writes an answer to the standard output: a line `result 1`, since North takes 1
+trick, the certificate of declarer's side, an empty line, and that of the defenders.
+`ddfarm check` reads such a text and accepts it, and `ddfarm line` shows how it is played.
+
+Exit status:
+  0  an answer was found
+  1  the output failed, or memory ran out
+  2  the command line or the layout is refused
+  3  no answer was found in so many steps";
 
 pub const CHECK_ABOUT: &str = "\
 Checks an answer: that declarer's side takes just so many tricks of a layout";
@@ -99,6 +136,75 @@ Exit status:
   2  the command line or the layout is refused, or the first line is not a result line
   4  the answer is refused";
 
+pub const LINE_ABOUT: &str = "\
+Shows how the tricks of an answer are taken: the line of play of its certificates";
+
+pub const LINE_USAGE: &str = "ddfarm line LAYOUT DECLARER TRUMP <answer.txt";
+
+pub const LINE_EXAMPLE: &str = "\
+Example:
+  ddfarm line \"N:A... K... Q... J...\" N NT <answer.txt
+reads an answer from the standard input as `ddfarm check` does. Where it is accepted,
+the line of play is written in which both sides follow their certificates, a trick a
+line:
+  accepted 1
+  1 E: SK SQ SJ SA N
+  declarer 1, defenders 0
+To trick 1 East leads the king of spades, South, West and North follow with the queen,
+the jack and the ace, and North wins it.
+
+What is refused is printed as by `ddfarm check`, and then there is no line of play.
+
+Exit status:
+  0  the answer is accepted
+  1  the input or the output failed, or memory ran out
+  2  the command line or the layout is refused, or the first line is not a result line
+  4  the answer is refused";
+
+pub const PLAY_ABOUT: &str = "\
+Plays one side's cards by the certificate of an answer, and you play the other's";
+
+pub const PLAY_USAGE: &str = "\
+ddfarm play [--side declarer|defenders] LAYOUT DECLARER TRUMP ANSWER";
+
+pub const PLAY_EXAMPLE: &str = "\
+Example:
+  ddfarm play \"N:A... K... Q... J...\" N NT answer.txt
+reads an answer from a file as `ddfarm check` does. Where it is accepted, declarer's
+cards and dummy's are played by declarer's certificate, and you play the defenders':
+whatever they do, declarer's side takes the 1 trick of the answer. With
+--side defenders it is the other way round.
+
+Before each card of yours you see the hands, the trick, who has won how many tricks, and
+whose turn it is. Type a line:
+  S3     plays the three of spades, and so do s3 and 3S
+         an empty line plays the only card that may be played
+  undo   takes back your last card
+  hands  shows all that again
+  quit   ends the play
+What can't be done is told in a line, and you are asked again. At the end you are told
+how many tricks each side took, and how many were promised.
+
+What is refused is printed as by `ddfarm check`, and then nothing is played.
+
+Exit status:
+  0  all cards were played, or `quit` was typed
+  1  ANSWER can't be opened or read, the input or the output failed, or memory ran out
+  2  the command line or the layout is refused, or the first line of ANSWER is not a
+     result line
+  3  the input ended before all cards were played
+  4  the answer is refused";
+
+pub const PLAIN_ABOUT: &str = "\
+Prints how many tricks North and South take from here on, with up to 4 cards a hand";
+
+pub const PLAIN_EXAMPLE: &str = "\
+Example:
+  ddfarm plain \"N:AQ... 65... 32... K4...\" S NT
+South leads at no-trump. West holds the king before North's ace and queen, so the
+finesse wins, and NS 2 is printed: two tricks for North and South, none for East
+and West.";
+
 pub const LAYOUT: &str = "\
 The four hands, in quotes: a seat (N, E, S or W), a colon, its hand, and then
 the others clockwise, with a blank between two hands. A hand is its spades,
@@ -111,3 +217,5 @@ pub const LEADER: &str = "The seat that leads to the first trick, as S for South
 pub const DECLARER: &str = "Declarer's seat, as E for East; the seat at the left leads";
 
 pub const TRUMP: &str = "The trump suit, as H for hearts, or NT for no-trump";
+
+pub const ANSWER: &str = "The file with the answer, as `ddfarm solve` writes it";

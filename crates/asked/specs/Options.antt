@@ -1,6 +1,8 @@
 -- The options with a number: how each is named, its range, and the number that stands for a missing one.
 use Rattle.std.specs.Prelude.{ℕ, Bool, true, false, ◌≤◌, List, [], ◌∷◌, codes}
 use Rattle.asked.specs.declared.options.NumberOption.{NumberOption}
+use Rattle.asked.specs.declared.sides.ContractSide.{ContractSide}
+use Rattle.asked.specs.declared.sides.ContractSide.TheVariants.{Declarer, Defenders}
 
 pub record OptionNumbers : Type 0 where
   pub name : List ℕ
@@ -67,3 +69,19 @@ progress_option = codes "progress"
 -- another: whether the input is written as it is, with its tables in it
 abbrev pub whole_option : List ℕ
 whole_option = codes "whole"
+
+-- an option of `table` that has a text: the file in which evidence is kept
+abbrev pub evidence_option : List ℕ
+evidence_option = codes "evidence"
+
+-- an option of `play`: which side plays by its certificate
+abbrev pub side_option : List ℕ
+side_option = codes "side"
+
+abbrev pub side_word : ContractSide → List ℕ
+side_word Declarer = codes "declarer"
+side_word Defenders = codes "defenders"
+
+-- the side where it is missing
+abbrev pub default_side : ContractSide
+default_side = Declarer

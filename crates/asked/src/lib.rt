@@ -3,7 +3,9 @@
 
 pub mod options;
 mod settings;
+mod sides;
 mod subcommands;
 
 pub use settings::{Settings, SettingsFault};
-pub use subcommands::{Subcommand, TableOptions};
+pub use sides::ContractSide;
+pub use subcommands::{PlayOptions, Subcommand, TableOptions};

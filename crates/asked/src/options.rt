@@ -42,6 +42,30 @@ pub struct FlagOption {
     pub help: &'static str,
 }
 
+/// An option with a text.
+#[derive(Clone, Copy)]
+pub struct TextOption {
+    /// What stands after `--`.
+    pub name: &'static str,
+    /// What help calls the text.
+    pub value_name: &'static str,
+    /// What help says of the option.
+    pub help: &'static str,
+}
+
+/// An option with one of several words.
+#[derive(Clone, Copy)]
+pub struct ChoiceOption {
+    /// What stands after `--`.
+    pub name: &'static str,
+    /// What help calls the word.
+    pub value_name: &'static str,
+    /// The word where the option is missing.
+    pub default: &'static str,
+    /// What help says of the option.
+    pub help: &'static str,
+}
+
 /// How many threads look for answers.
 pub const SOLVERS: NumberOption = NumberOption {
     name: "solvers",
@@ -133,4 +157,19 @@ pub const PROGRESS: FlagOption = FlagOption {
 pub const WHOLE: FlagOption = FlagOption {
     name: "whole",
     help: "Writes the input as it is, with its tables in it",
+};
+
+/// Where evidence is kept.
+pub const EVIDENCE: TextOption = TextOption {
+    name: "evidence",
+    value_name: "FILE",
+    help: "Keeps evidence in FILE: what it shows isn't searched again, and what is found is added",
+};
+
+/// Which side plays by its certificate.
+pub const SIDE: ChoiceOption = ChoiceOption {
+    name: "side",
+    value_name: "SIDE",
+    default: "declarer",
+    help: "The side that ddfarm plays for",
 };

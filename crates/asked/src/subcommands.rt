@@ -1,6 +1,6 @@
 //! What is asked of a run.
 
-use crate::Settings;
+use crate::{ContractSide, Settings};
 use cards::{Seat, Trump};
 
 /// What is asked of a run.
@@ -27,7 +27,7 @@ pub enum Subcommand<'a> {
         budget: u64,
     },
     /// The tables of the boards of the input.
-    Table(TableOptions),
+    Table(TableOptions<'a>),
     /// Whether the answer that is the input is right.
     Check {
         /// The layout, in the form of a Deal value.
@@ -37,15 +37,50 @@ pub enum Subcommand<'a> {
         /// The denomination.
         trump: Trump,
     },
+    /// The line of play in which both sides follow the certificates of the answer that is the input.
+    Line {
+        /// The layout, in the form of a Deal value.
+        layout: &'a str,
+        /// Who declares; the seat at declarer's left leads.
+        declarer: Seat,
+        /// The denomination.
+        trump: Trump,
+    },
+    /// A play of the cards against a certificate of an answer.
+    Play(PlayOptions<'a>),
+    /// The tables that evidence shows for the boards of the input.
+    Audit {
+        /// The name of the file with the evidence.
+        file: &'a str,
+        /// Whether the input is written as it is, with its tables in it.
+        whole: bool,
+    },
+}
+
+/// What is asked of a play against a certificate.
+#[derive(Clone, Copy)]
+pub struct PlayOptions<'a> {
+    /// The layout, in the form of a Deal value.
+    pub layout: &'a str,
+    /// Who declares; the seat at declarer's left leads.
+    pub declarer: Seat,
+    /// The denomination.
+    pub trump: Trump,
+    /// The name of the file with the answer.
+    pub answer: &'a str,
+    /// The side that plays by its certificate.
+    pub side: ContractSide,
 }
 
 /// What is asked of tables.
 #[derive(Clone, Copy)]
-pub struct TableOptions {
+pub struct TableOptions<'a> {
     /// How many threads work on them, how often, and how long.
     pub settings: Settings,
     /// Whether the gate is told of the work.
     pub progress: bool,
     /// Whether the input is written as it is, with its tables in it.
     pub whole: bool,
+    /// The name of the file in which evidence is kept, where it is kept.
+    pub evidence: Option<&'a str>,
 }

@@ -13,6 +13,7 @@ use Rattle.subcommands.specs.declared.statuses.Status.{Status}
 use Rattle.subcommands.specs.declared.statuses.Status.TheVariants.{Failed, Refused}
 use Rattle.asked.specs.declared.subcommands.Subcommand.{Subcommand}
 use Rattle.subcommands.specs.Statuses.{status_code, told_line, IsTold}
+use Rattle.subcommands.specs.NamedFiles.{MayOpen}
 use Rattle.subcommands.specs.Runs.{Shows, RunsSubcommand}
 
 -- help or the version is asked for
@@ -58,15 +59,15 @@ pub data EndsWords (sink sink' errors errors' : Device) (kind : ErrorKind) (stat
       → EndsWords sink sink' errors errors' kind status
 
 -- the words ask for a subcommand, which is done, or there is none
-pub data MeetsWords (may_find : MayFind) (may_tell : MayTell) (words : List (List ℕ))
+pub data MeetsWords (may_find : MayFind) (may_tell : MayTell) (may_open : MayOpen) (words : List (List ℕ))
     (source source' sink sink' errors errors' : Device) (status : Status) : Type 0 where
   is_done : (letters : Letters) → AreLetters letters → (asked : Subcommand) → AskFor letters words asked
-      → RunsSubcommand may_find may_tell asked source source' sink sink' errors errors' status
-      → MeetsWords may_find may_tell words source source' sink sink' errors errors' status
+      → RunsSubcommand may_find may_tell may_open asked source source' sink sink' errors errors' status
+      → MeetsWords may_find may_tell may_open words source source' sink sink' errors errors' status
   is_none : (letters : Letters) → AreLetters letters → (kind : ErrorKind) → HasNone letters words kind
       → source' ≡ source
       → EndsWords sink sink' errors errors' kind status
-      → MeetsWords may_find may_tell words source source' sink sink' errors errors' status
+      → MeetsWords may_find may_tell may_open words source source' sink sink' errors errors' status
 
 -- the exit status is the number of the status that the run ends with
 abbrev pub ExitsBy : (Status → Type 0) → ℕ → Type 0

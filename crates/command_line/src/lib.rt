@@ -21,7 +21,7 @@ use std::fmt::Display;
 use std::sync::Wait;
 use std::thread::Threads;
 use streams::Streams;
-use subcommands::{RunFault, Status, run_subcommand, show, tell};
+use subcommands::{NamedFiles, RunFault, Status, run_subcommand, show, tell};
 
 /// What is told of refused words where there is no memory for more.
 const REFUSED: &str = "ddfarm: the command line is refused\n";
@@ -29,7 +29,8 @@ const REFUSED: &str = "ddfarm: the command line is refused\n";
 /// Does what the words ask for, the first of them being the program's name, and answers the exit status.
 ///
 /// What can't be done is told on the error output, with nothing on the output but the beginning that a failed output
-/// has taken; else the error output is as it was. Where the error output fails, nobody is left to be told.
+/// has taken; so is what was passed over of evidence, behind a page that was written. Else the error output is as it
+/// was. Where the error output fails, nobody is left to be told.
 pub fn run_command<
     'a,
     S: AsStr,
@@ -39,7 +40,7 @@ pub fn run_command<
     I: Source,
     O: Sink,
     E: Sink,
-    R: Threads + Wait + Sync,
+    R: Threads + Wait + Sync + NamedFiles,
 >(
     rt: &R,
     alloc: Global,
@@ -48,7 +49,7 @@ pub fn run_command<
     streams: &mut Streams<I, O, E>,
 ) -> u8
     ensures { ExitsBy (MeetsWords (P.may_find means.now.solver.now) (C.may_tell means.now.clock.now)
-        (map S.text words.entry.now)
+        (R.may_open rt.now) (map S.text words.entry.now)
         (I.state streams.old.input) (I.state streams.new.input) (O.state streams.old.output)
         (O.state streams.new.output)
         (E.state streams.old.errors) (E.state streams.new.errors)) result }

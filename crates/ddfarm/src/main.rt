@@ -13,6 +13,9 @@ use std::time::Instant;
 use streams::{ReaderSource, Streams, WriterSink};
 use subcommands::{RunFault, close_output, tell};
 
+/// How many bytes of the output are held back at the most.
+const ROOM: usize = 8192;
+
 /// Whole seconds since the program's start.
 #[derive(Drop)]
 struct Seconds<'a> {
@@ -42,13 +45,28 @@ fn words_of_process(rt: &HostRuntime) -> Result<Vec<String>, RunFault> {
     }
 }
 
+/// How many bytes of the output may be held back: none where `play` asks for cards, since each text has to be there
+/// before a line is read.
+fn room_for(words: &[String]) -> usize {
+    if words.len() > 1 && words[1].as_str() == "play" {
+        0
+    } else {
+        ROOM
+    }
+}
+
 fn main(rt: HostRuntime) -> ExitCode {
     let clock = Seconds {
         rt: &rt,
         start: Instant::now(&rt).ok(),
     };
     let mut errors = WriterSink::new(rt.stderr());
-    let Ok(buffered) = BufWriter::new(rt.alloc(), rt.stdout()) else {
+    let words = match words_of_process(&rt) {
+        Ok(words) => words,
+        Err(fault) => return ExitCode::from(tell(fault, &mut errors).code()),
+    };
+    let room = room_for(words.as_slice());
+    let Ok(buffered) = BufWriter::with_capacity(rt.alloc(), room, rt.stdout()) else {
         return ExitCode::from(tell(RunFault::OutOfMemory, &mut errors).code());
     };
     let progress = Progress::new(&rt, &clock, WriterSink::new(rt.stderr()));
@@ -62,9 +80,6 @@ fn main(rt: HostRuntime) -> ExitCode {
         output: WriterSink::new(buffered),
         errors,
     };
-    let status = match words_of_process(&rt) {
-        Ok(words) => run_command(&rt, rt.alloc(), words.as_slice(), &means, &mut streams),
-        Err(fault) => tell(fault, &mut streams.errors).code(),
-    };
+    let status = run_command(&rt, rt.alloc(), words.as_slice(), &means, &mut streams);
     ExitCode::from(close_output(status, &mut streams.output, &mut streams.errors))
 }

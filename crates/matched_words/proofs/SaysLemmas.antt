@@ -3,15 +3,17 @@ use Rattle.std.proofs.Common.{◌≡◌, ◌∙◌, ℕ, List, Option, Some, Non
 use Rattle.std.specs.Result.{result_ok}
 use Rattle.std.specs.Str.{bytes_eq}
 use Rattle.std.proofs.lemmas.Slice.Eq.{bytes_eq-Decides}
-use Rattle.clap.specs.Words.{Row, Text}
+use Rattle.std.specs.Borrow.{Bor}
+use Rattle.clap.specs.Words.{Row, Text, first_of}
 use Rattle.asked.specs.declared.settings.Settings.{Settings}
 use Rattle.asked.specs.declared.subcommands.Subcommand.{Subcommand}
+use Rattle.asked.specs.declared.subcommands.PlayOptions.{PlayOptions}
 use Rattle.asked.specs.declared.subcommands.TableOptions.{TableOptions}
-use Rattle.asked.specs.declared.subcommands.Subcommand.TheVariants.{Plain, Solve, Table, Check}
+use Rattle.asked.specs.declared.subcommands.Subcommand.TheVariants.{Plain, Solve, Table, Check, Line, Play, Audit}
 use Rattle.asked.specs.declared.settings.SettingsFault.{SettingsFault}
 use Rattle.asked.specs.Settings.{Numbers, Sets, numbers_in}
-use Rattle.asked.specs.Options.{budget_option}
-use Rattle.matched_words.specs.Matches.{IsRead, Says, SaysDeal, SaysMatched, SaysNumber, SaysTable}
+use Rattle.asked.specs.Options.{budget_option, whole_option}
+use Rattle.matched_words.specs.Matches.{IsRead, Says, SaysDeal, SaysFlag, SaysMatched, SaysNumber, SaysPlay, SaysTable}
 use Rattle.matched_words.specs.declared.matched.NamedDeal.{NamedDeal}
 
 pub nothing_read : {T : Type 0} (Said : T → Type 0) (read : Option T) → read ≡ None → ((x : T) → Said x → ⊥) → IsRead Said read
@@ -25,12 +27,16 @@ apart a b differ same =
     let bad : false ≡ true = sym differ ∙ yes in
     cc
 
-pub no_plain : (said : List Row) → ((deal : NamedDeal) → SaysDeal said (codes "LEADER") deal → ⊥)
+pub no_plain : (said : List Row)
+    → ((deal : NamedDeal) → SaysDeal said (codes "LEADER") deal → ⊥)
     → (read : Subcommand) → Says (codes "plain") said read → ⊥
 no_plain said none (Plain layout leader trump) h = none (record { layout = layout; seat = leader; trump = trump }) h.1
 no_plain said none (Solve layout declarer trump budget) h = absurd (apart (codes "plain") (codes "solve") refl h.0)
 no_plain said none (Table options) h = absurd (apart (codes "plain") (codes "table") refl h.0)
 no_plain said none (Check layout declarer trump) h = absurd (apart (codes "plain") (codes "check") refl h.0)
+no_plain said none (Line layout declarer trump) h = absurd (apart (codes "plain") (codes "line") refl h.0)
+no_plain said none (Play options) h = absurd (apart (codes "plain") (codes "play") refl h.0)
+no_plain said none (Audit file whole) h = absurd (apart (codes "plain") (codes "audit") refl h.0)
 
 pub no_solve : (said : List Row)
     → ((deal : NamedDeal) (budget : ℕ) → SaysDeal said (codes "DECLARER") deal → SaysNumber said budget_option budget → ⊥)
@@ -39,20 +45,64 @@ no_solve said none (Plain layout leader trump) h = absurd (apart (codes "solve")
 no_solve said none (Solve layout declarer trump budget) h = none (record { layout = layout; seat = declarer; trump = trump }) budget h.1 h.2
 no_solve said none (Table options) h = absurd (apart (codes "solve") (codes "table") refl h.0)
 no_solve said none (Check layout declarer trump) h = absurd (apart (codes "solve") (codes "check") refl h.0)
+no_solve said none (Line layout declarer trump) h = absurd (apart (codes "solve") (codes "line") refl h.0)
+no_solve said none (Play options) h = absurd (apart (codes "solve") (codes "play") refl h.0)
+no_solve said none (Audit file whole) h = absurd (apart (codes "solve") (codes "audit") refl h.0)
 
 pub no_table : (said : List Row)
-    → ((options : TableOptions) → SaysTable said options → ⊥) → (read : Subcommand) → Says (codes "table") said read → ⊥
+    → ((options : TableOptions) → SaysTable said options → ⊥)
+    → (read : Subcommand) → Says (codes "table") said read → ⊥
 no_table said none (Plain layout leader trump) h = absurd (apart (codes "table") (codes "plain") refl h.0)
 no_table said none (Solve layout declarer trump budget) h = absurd (apart (codes "table") (codes "solve") refl h.0)
 no_table said none (Table options) h = none options h.1
 no_table said none (Check layout declarer trump) h = absurd (apart (codes "table") (codes "check") refl h.0)
+no_table said none (Line layout declarer trump) h = absurd (apart (codes "table") (codes "line") refl h.0)
+no_table said none (Play options) h = absurd (apart (codes "table") (codes "play") refl h.0)
+no_table said none (Audit file whole) h = absurd (apart (codes "table") (codes "audit") refl h.0)
 
-pub no_check : (said : List Row) → ((deal : NamedDeal) → SaysDeal said (codes "DECLARER") deal → ⊥)
+pub no_check : (said : List Row)
+    → ((deal : NamedDeal) → SaysDeal said (codes "DECLARER") deal → ⊥)
     → (read : Subcommand) → Says (codes "check") said read → ⊥
 no_check said none (Plain layout leader trump) h = absurd (apart (codes "check") (codes "plain") refl h.0)
 no_check said none (Solve layout declarer trump budget) h = absurd (apart (codes "check") (codes "solve") refl h.0)
 no_check said none (Table options) h = absurd (apart (codes "check") (codes "table") refl h.0)
 no_check said none (Check layout declarer trump) h = none (record { layout = layout; seat = declarer; trump = trump }) h.1
+no_check said none (Line layout declarer trump) h = absurd (apart (codes "check") (codes "line") refl h.0)
+no_check said none (Play options) h = absurd (apart (codes "check") (codes "play") refl h.0)
+no_check said none (Audit file whole) h = absurd (apart (codes "check") (codes "audit") refl h.0)
+
+pub no_line : (said : List Row)
+    → ((deal : NamedDeal) → SaysDeal said (codes "DECLARER") deal → ⊥)
+    → (read : Subcommand) → Says (codes "line") said read → ⊥
+no_line said none (Plain layout leader trump) h = absurd (apart (codes "line") (codes "plain") refl h.0)
+no_line said none (Solve layout declarer trump budget) h = absurd (apart (codes "line") (codes "solve") refl h.0)
+no_line said none (Table options) h = absurd (apart (codes "line") (codes "table") refl h.0)
+no_line said none (Check layout declarer trump) h = absurd (apart (codes "line") (codes "check") refl h.0)
+no_line said none (Line layout declarer trump) h = none (record { layout = layout; seat = declarer; trump = trump }) h.1
+no_line said none (Play options) h = absurd (apart (codes "line") (codes "play") refl h.0)
+no_line said none (Audit file whole) h = absurd (apart (codes "line") (codes "audit") refl h.0)
+
+pub no_play : (said : List Row)
+    → ((options : PlayOptions) → SaysPlay said options → ⊥)
+    → (read : Subcommand) → Says (codes "play") said read → ⊥
+no_play said none (Plain layout leader trump) h = absurd (apart (codes "play") (codes "plain") refl h.0)
+no_play said none (Solve layout declarer trump budget) h = absurd (apart (codes "play") (codes "solve") refl h.0)
+no_play said none (Table options) h = absurd (apart (codes "play") (codes "table") refl h.0)
+no_play said none (Check layout declarer trump) h = absurd (apart (codes "play") (codes "check") refl h.0)
+no_play said none (Line layout declarer trump) h = absurd (apart (codes "play") (codes "line") refl h.0)
+no_play said none (Play options) h = none options h.1
+no_play said none (Audit file whole) h = absurd (apart (codes "play") (codes "audit") refl h.0)
+
+pub no_audit : (said : List Row)
+    → ((file : Bor Text) (whole : Bool) → first_of (codes "FILE") said ≡ Some file.now → SaysFlag said whole_option whole → ⊥)
+    → (read : Subcommand) → Says (codes "audit") said read → ⊥
+no_audit said none (Plain layout leader trump) h = absurd (apart (codes "audit") (codes "plain") refl h.0)
+no_audit said none (Solve layout declarer trump budget) h = absurd (apart (codes "audit") (codes "solve") refl h.0)
+no_audit said none (Table options) h = absurd (apart (codes "audit") (codes "table") refl h.0)
+no_audit said none (Check layout declarer trump) h = absurd (apart (codes "audit") (codes "check") refl h.0)
+no_audit said none (Line layout declarer trump) h = absurd (apart (codes "audit") (codes "line") refl h.0)
+no_audit said none (Play options) h = absurd (apart (codes "audit") (codes "play") refl h.0)
+no_audit said none (Audit file whole) h = none file whole h.1 h.2
 
 -- ---- the words of the subcommand
 

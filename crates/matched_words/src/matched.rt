@@ -4,16 +4,16 @@ ghost use Rattle.std.specs.Prelude.{◌≡◌, ◌↔◌, Some, codes, option_ma
 ghost use Rattle.clap.specs.Words.{first_of, found_of, rows_of, subcommand_rows_of};
 ghost use Rattle.cards.specs.Seats.{seat_letter};
 ghost use Rattle.cards.specs.Pack.{trump_letters};
-ghost use Rattle.asked.specs.Options.{numbers_of};
+ghost use Rattle.asked.specs.Options.{numbers_of, side_option, side_word};
 ghost use Rattle.matched_words.specs.Matches.{IsRead, flag_letters, Says, SaysDeal, SaysMatched, SaysNumber};
 ghost use Rattle.matched_words.specs.Matches.{SaysSettings};
 
 use asked::options::{self, NumberOption};
-use asked::{Settings, Subcommand, TableOptions};
+use asked::{ContractSide, PlayOptions, Settings, Subcommand, TableOptions};
 use cards::{Seat, Trump};
 use clap::ArgMatches;
 
-/// What the words of `plain`, `solve` and `check` name.
+/// What the words of `plain`, `solve`, `check`, `line` and `play` name.
 #[derive(Clone, Copy)]
 pub struct NamedDeal<'a> {
     /// The value of a PBN Deal tag, as it was typed.
@@ -33,6 +33,9 @@ pub fn matched_subcommand<'a>(matches: &ArgMatches<'a>) -> Option<Subcommand<'a>
         "solve" => solve_subcommand(said),
         "table" => table_subcommand(said),
         "check" => check_subcommand(said),
+        "line" => line_subcommand(said),
+        "play" => play_subcommand(said),
+        "audit" => audit_subcommand(said),
         _ => None,
     }
 }
@@ -67,10 +70,12 @@ fn table_subcommand<'a>(said: &ArgMatches<'a>) -> Option<Subcommand<'a>>
     let settings = settings_of(said)?;
     let progress = flag_of(said, options::PROGRESS.name)?;
     let whole = flag_of(said, options::WHOLE.name)?;
+    let evidence = word_of(said, options::EVIDENCE.name);
     Some(Subcommand::Table(TableOptions {
         settings,
         progress,
         whole,
+        evidence,
     }))
 }
 
@@ -104,6 +109,40 @@ fn check_subcommand<'a>(said: &ArgMatches<'a>) -> Option<Subcommand<'a>>
     })
 }
 
+fn line_subcommand<'a>(said: &ArgMatches<'a>) -> Option<Subcommand<'a>>
+    ensures { IsRead (Says (codes "line") (rows_of (found_of said.now))) result }
+{
+    let deal = deal_of(said, "DECLARER")?;
+    Some(Subcommand::Line {
+        layout: deal.layout,
+        declarer: deal.seat,
+        trump: deal.trump,
+    })
+}
+
+fn play_subcommand<'a>(said: &ArgMatches<'a>) -> Option<Subcommand<'a>>
+    ensures { IsRead (Says (codes "play") (rows_of (found_of said.now))) result }
+{
+    let deal = deal_of(said, "DECLARER")?;
+    let answer = word_of(said, "ANSWER")?;
+    let side = side_of(said)?;
+    Some(Subcommand::Play(PlayOptions {
+        layout: deal.layout,
+        declarer: deal.seat,
+        trump: deal.trump,
+        answer,
+        side,
+    }))
+}
+
+fn audit_subcommand<'a>(said: &ArgMatches<'a>) -> Option<Subcommand<'a>>
+    ensures { IsRead (Says (codes "audit") (rows_of (found_of said.now))) result }
+{
+    let file = word_of(said, "FILE")?;
+    let whole = flag_of(said, options::WHOLE.name)?;
+    Some(Subcommand::Audit { file, whole })
+}
+
 /// The layout, the seat of this name and the denomination.
 fn deal_of<'a>(said: &ArgMatches<'a>, seat: &str) -> Option<NamedDeal<'a>>
     ensures { IsRead (SaysDeal (rows_of (found_of said.now)) seat.now) result }
@@ -132,6 +171,13 @@ fn trump_of(said: &ArgMatches<'_>) -> Option<Trump>
     Trump::of_letters(word_of(said, "TRUMP")?)
 }
 
+fn side_of(said: &ArgMatches<'_>) -> Option<ContractSide>
+    ensures { (side : _) → (result ≡ Some side)
+        ↔ (first_of side_option (rows_of (found_of said.now)) ≡ Some (side_word side)) }
+{
+    ContractSide::of_word(word_of(said, options::SIDE.name)?)
+}
+
 /// Whether an option without a value stands among the words.
 fn flag_of(said: &ArgMatches<'_>, name: &str) -> Option<bool>
     ensures { (flag : _) → (result ≡ Some flag)
@@ -151,7 +197,7 @@ fn flag_of_letters(letters: &str) -> Option<bool>
     }
 }
 
-/// The text of a required word.
+/// The text of a word, or of an option that has one.
 fn word_of<'a>(said: &ArgMatches<'a>, name: &str) -> Option<&'a str>
     ensures { option_map (λ text. text.now) result ≡ first_of name.now (rows_of (found_of said.now)) }
 {

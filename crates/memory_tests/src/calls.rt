@@ -1,5 +1,6 @@
 //! The calls by their names.
 
+use crate::audit_runs::audit;
 use crate::books::{new_book, replayed};
 use crate::clerks::clerk;
 use crate::desks::{closed, desk};
@@ -30,6 +31,7 @@ pub fn call<R: Threads + Wait + Clock + Sync>(
         "search" => search(alloc, spending),
         "desk" => desk(rt, alloc, spending),
         "tables" => tables(rt, alloc, spending),
+        "audit" => audit(rt, alloc, spending),
         "checks" => checks(alloc, spending),
         "writes" => writes(alloc, spending),
         "close" => closed(rt, alloc, spending),

@@ -2,6 +2,7 @@
 //! many to make after it until one is refused. What came of the call is printed.
 #![tactic(auto)]
 
+mod audit_runs;
 mod books;
 mod calls;
 mod claims;

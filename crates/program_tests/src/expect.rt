@@ -10,7 +10,7 @@ use std::sync::Wait;
 use std::test::Fail;
 use std::thread::Threads;
 use streams::Streams;
-use subcommands::{Status, Subcommand, run_subcommand};
+use subcommands::{NamedFiles, Status, Subcommand, run_subcommand};
 use test_support::idle::{LetsPass, StandsStill};
 
 /// Room for all that a run prints.
@@ -39,7 +39,7 @@ pub fn means<'a, S, G>(solver: &'a S, gate: &'a G) -> Means<'a, S, G, StandsStil
 }
 
 /// Does the run over an input and an output with this much room.
-pub fn expect_run<R: Abort + Threads + Wait + Sync, S: Solver + Sync>(
+pub fn expect_run<R: Abort + NamedFiles + Threads + Wait + Sync, S: Solver + Sync>(
     rt: &R,
     alloc: Global,
     run: Subcommand<'_>,

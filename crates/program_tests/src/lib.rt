@@ -14,6 +14,8 @@ mod expect;
 #[cfg(test)]
 mod full_tests;
 #[cfg(test)]
+mod line_tests;
+#[cfg(test)]
 mod plain_tests;
 #[cfg(test)]
 mod progress_tests;

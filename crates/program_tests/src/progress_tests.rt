@@ -16,7 +16,7 @@ use std::sync::atomic::Ordering::SeqCst;
 use std::test::Fail;
 use std::thread::Threads;
 use streams::Streams;
-use subcommands::{Status, Subcommand, run_subcommand};
+use subcommands::{NamedFiles, Status, Subcommand, run_subcommand};
 use test_support::idle::FindsNothing;
 
 /// A board with four hands of one suit each.
@@ -105,7 +105,7 @@ const TOLD: [(bool, usize, Told, Told); 4] = [
 ];
 
 /// What a gate is told while tables are made.
-fn expect_told<R: Abort + Threads + Wait + Sync, S: Solver + Sync>(
+fn expect_told<R: Abort + NamedFiles + Threads + Wait + Sync, S: Solver + Sync>(
     rt: &R,
     alloc: Global,
     run: Subcommand<'_>,

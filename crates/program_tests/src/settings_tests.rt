@@ -14,11 +14,11 @@ use std::sync::atomic::{AtomicBool, AtomicU64};
 use std::test::Fail;
 use std::thread::Threads;
 use streams::Streams;
-use subcommands::{Status, Subcommand, TableOptions, run_subcommand};
+use subcommands::{NamedFiles, Status, Subcommand, TableOptions, run_subcommand};
 use test_support::idle::LetsPass;
 
 /// Makes the tables of a board, and answers how that ends.
-fn status_of<R: Abort + Threads + Wait + Sync, S: Solver + Sync, G: Gate + Sync>(
+fn status_of<R: Abort + NamedFiles + Threads + Wait + Sync, S: Solver + Sync, G: Gate + Sync>(
     rt: &R,
     alloc: Global,
     settings: Settings,
@@ -29,6 +29,7 @@ fn status_of<R: Abort + Threads + Wait + Sync, S: Solver + Sync, G: Gate + Sync>
         settings,
         progress: true,
         whole: false,
+        evidence: None,
     });
     let mut streams = Streams {
         input: Bytes::new(BOARD, 7),

@@ -13,7 +13,7 @@ use std::test::Fail;
 use std::thread::Threads;
 use strategies::plain_value;
 use streams::Streams;
-use subcommands::{Status, Subcommand, read_answer, run_subcommand};
+use subcommands::{NamedFiles, Status, Subcommand, read_answer, run_subcommand};
 use test_support::idle::{FindsNothing, LetsPass};
 
 /// Room for an answer of four cards a hand.
@@ -64,7 +64,7 @@ fn expect_version_two(rt: &impl Abort, answer: &[u8], tricks: u8) -> Result<(), 
 }
 
 /// An answer is found, of version 2, and `check` accepts it with this number.
-fn expect_accepted<R: Abort + Threads + Wait + Sync>(
+fn expect_accepted<R: Abort + NamedFiles + Threads + Wait + Sync>(
     rt: &R,
     alloc: Global,
     layout: &str,

@@ -35,6 +35,7 @@ pub fn tables(progress: bool, batch: usize) -> Result<Subcommand<'static>, Setti
         settings,
         progress,
         whole: false,
+        evidence: None,
     }))
 }
 

@@ -2,3 +2,4 @@ pub mod TellLemmas
 pub mod AnswerLaws
 pub mod CheckLemmas
 pub mod SolveLemmas
+pub mod LineLemmas

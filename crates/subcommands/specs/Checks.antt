@@ -53,24 +53,49 @@ abbrev pub ReadsFor : List ℕ → Seat → Trump → Device → Device → Resu
 ReadsFor value declarer trump old new read =
     (deal : Deal) × SaysLayout value (Ok deal) × ReadsVerdict deal declarer trump old new read
 
--- the line of a verdict was written, or a beginning of it
-abbrev pub PrintsVerdict : Result Shown HandFault → Device → Device → Result Status RunFault → Type 0
-PrintsVerdict verdict sink sink' (Ok status) =
-    (status ≡ verdict_status verdict) × Adds sink sink' (verdict_line verdict)
-PrintsVerdict verdict sink sink' (Err Write) = AddsBeginning sink sink' (verdict_line verdict)
-PrintsVerdict verdict sink sink' (Err _) = ⊥
+-- ---- what is written
+-- which text is written of a verdict
+abbrev pub TextFact : Type 1
+TextFact = Result Shown HandFault → List ℕ → Type 0
 
--- What was answered, what the source has given and what the sink has got. Bytes that spell no layout leave the source
--- as it was. Where the source failed or memory ran out, the bytes that were read are the first of the source. With all
--- refusals but that of the sink nothing was written.
-abbrev pub ChecksAnswer : List ℕ → Seat → Trump → Device → Device → Device → Device → Result Status RunFault → Type 0
-ChecksAnswer value declarer trump source source' sink sink' (Ok status) =
+-- such a text of the verdict was written, or a beginning of it
+abbrev pub Prints : TextFact → Result Shown HandFault → Device → Device → Result Status RunFault → Type 0
+Prints IsText verdict sink sink' (Ok status) =
+    (status ≡ verdict_status verdict) × (text : List ℕ) × IsText verdict text × Adds sink sink' text
+Prints IsText verdict sink sink' (Err Write) = (text : List ℕ) × IsText verdict text × AddsBeginning sink sink' text
+Prints IsText verdict sink sink' (Err _) = ⊥
+
+-- What was answered for the text of an answer, and what the sink has got: a text of the verdict.
+abbrev pub AnswersText : TextFact → List ℕ → Deal → Seat → Trump → Device → Device → Result Status RunFault → Type 0
+AnswersText IsText text deal declarer trump sink sink' (Ok status) =
+    (verdict : Result Shown HandFault) × IsVerdictOf text deal declarer trump verdict
+    × Prints IsText verdict sink sink' (Ok status)
+AnswersText IsText text deal declarer trump sink sink' (Err Write) =
+    (verdict : Result Shown HandFault) × IsVerdictOf text deal declarer trump verdict
+    × Prints IsText verdict sink sink' (Err Write)
+AnswersText IsText text deal declarer trump sink sink' (Err fault) =
+    JudgesText text deal declarer trump (Err fault) × (sink' ≡ sink)
+
+-- The same of what a source gives. Bytes that spell no layout leave the source as it was. Where the source failed or
+-- memory ran out, the bytes that were read are the first of the source. With all refusals but that of the sink nothing
+-- was written.
+abbrev pub AnswersSource : TextFact → List ℕ → Seat → Trump → Device → Device → Device → Device
+    → Result Status RunFault → Type 0
+AnswersSource IsText value declarer trump source source' sink sink' (Ok status) =
     (verdict : Result Shown HandFault) × ReadsFor value declarer trump source source' (Ok verdict)
-    × PrintsVerdict verdict sink sink' (Ok status)
-ChecksAnswer value declarer trump source source' sink sink' (Err Write) =
+    × Prints IsText verdict sink sink' (Ok status)
+AnswersSource IsText value declarer trump source source' sink sink' (Err Write) =
     (verdict : Result Shown HandFault) × ReadsFor value declarer trump source source' (Ok verdict)
-    × PrintsVerdict verdict sink sink' (Err Write)
-ChecksAnswer value declarer trump source source' sink sink' (Err (Layout fault)) =
+    × Prints IsText verdict sink sink' (Err Write)
+AnswersSource IsText value declarer trump source source' sink sink' (Err (Layout fault)) =
     SaysLayout value (Err fault) × (source' ≡ source) × (sink' ≡ sink)
-ChecksAnswer value declarer trump source source' sink sink' (Err fault) =
+AnswersSource IsText value declarer trump source source' sink sink' (Err fault) =
     ReadsFor value declarer trump source source' (Err fault) × (sink' ≡ sink)
+
+-- ---- `check`
+-- the text is the line of the verdict
+abbrev pub IsVerdictLine : TextFact
+IsVerdictLine verdict text = text ≡ verdict_line verdict
+
+abbrev pub ChecksAnswer : List ℕ → Seat → Trump → Device → Device → Device → Device → Result Status RunFault → Type 0
+ChecksAnswer = AnswersSource IsVerdictLine

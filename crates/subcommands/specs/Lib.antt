@@ -1,9 +1,17 @@
 pub mod Statuses
+pub mod NamedFiles
+pub mod Outcomes
 pub mod PlainLine
 pub mod Answers
 pub mod VerdictLines
 pub mod Checks
+pub mod Judging
+pub mod Lines
+pub mod Playing
 pub mod Solves
 pub mod Halts
 pub mod Made
+pub mod Pages
+pub mod Auditing
+pub mod KeptTables
 pub mod Runs

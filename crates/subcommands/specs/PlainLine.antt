@@ -9,7 +9,7 @@ use Rattle.strategies.specs.Values.{IsPlainValue}
 use Rattle.subcommands.specs.declared.faults.RunFault.{RunFault}
 use Rattle.subcommands.specs.declared.faults.RunFault.TheVariants.{OutOfMemory, Read, NoThread, Write, NotText, Layout}
 use Rattle.subcommands.specs.declared.faults.RunFault.TheVariants.{TooLarge}
-use Rattle.subcommands.specs.declared.faults.RunFault.TheVariants.{Pbn, NoResult, NoAnswer}
+use Rattle.subcommands.specs.declared.faults.RunFault.TheVariants.{Pbn, NoResult, NoAnswer, Evidence, AnswerFile, Unkept}
 
 -- the line: `NS `, the digit of the number, LF
 abbrev pub line_of : ℕ → List ℕ
@@ -44,3 +44,6 @@ MeetsPlainLine value leader trump old new (Err NotText) = ⊥
 MeetsPlainLine value leader trump old new (Err (Pbn fault)) = ⊥
 MeetsPlainLine value leader trump old new (Err NoResult) = ⊥
 MeetsPlainLine value leader trump old new (Err NoAnswer) = ⊥
+MeetsPlainLine value leader trump old new (Err (Evidence fault)) = ⊥
+MeetsPlainLine value leader trump old new (Err (AnswerFile fault)) = ⊥
+MeetsPlainLine value leader trump old new (Err (Unkept fault)) = ⊥

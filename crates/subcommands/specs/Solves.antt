@@ -14,7 +14,7 @@ use Rattle.partition_solver.specs.Answers.{MayFind, MayAnswer}
 use Rattle.subcommands.specs.declared.faults.RunFault.{RunFault}
 use Rattle.subcommands.specs.declared.faults.RunFault.TheVariants.{OutOfMemory, Read, NoThread, Write, NotText, Layout}
 use Rattle.subcommands.specs.declared.faults.RunFault.TheVariants.{TooLarge}
-use Rattle.subcommands.specs.declared.faults.RunFault.TheVariants.{Pbn, NoResult, NoAnswer}
+use Rattle.subcommands.specs.declared.faults.RunFault.TheVariants.{Pbn, NoResult, NoAnswer, Evidence, AnswerFile, Unkept}
 use Rattle.subcommands.specs.Answers.{IsAnswer}
 
 -- the first line: `result `, the number, LF
@@ -78,6 +78,9 @@ SolvesLayout may_find value declarer trump budget sink sink' (Err NotText) = ⊥
 SolvesLayout may_find value declarer trump budget sink sink' (Err TooLarge) = ⊥
 SolvesLayout may_find value declarer trump budget sink sink' (Err (Pbn fault)) = ⊥
 SolvesLayout may_find value declarer trump budget sink sink' (Err NoResult) = ⊥
+SolvesLayout may_find value declarer trump budget sink sink' (Err (Evidence fault)) = ⊥
+SolvesLayout may_find value declarer trump budget sink sink' (Err (AnswerFile fault)) = ⊥
+SolvesLayout may_find value declarer trump budget sink sink' (Err (Unkept fault)) = ⊥
 
 -- such a text is cut into the number and the two texts that it was made of
 abbrev pub AnswersAreReadBack : Type 0

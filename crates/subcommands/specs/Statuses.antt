@@ -7,6 +7,10 @@ use Rattle.streams.specs.declared.inputs.InputFault.{InputFault}
 use Rattle.streams.specs.declared.inputs.InputFault.TheVariants as input
 use Rattle.tournaments.specs.declared.faults.MakeFault.{MakeFault}
 use Rattle.tournaments.specs.declared.faults.MakeFault.TheVariants as make
+use Rattle.audits.specs.declared.faults.AuditFault.{AuditFault}
+use Rattle.audits.specs.declared.faults.AuditFault.TheVariants as audit
+use Rattle.evidence_solvers.specs.declared.faults.KeepFault.TheVariants as keep
+use Rattle.subcommands.specs.declared.named_files.FileFault.TheVariants as file
 use Rattle.subcommands.specs.declared.faults.RunFault.{RunFault}
 use Rattle.subcommands.specs.declared.faults.RunFault.TheVariants as fault
 use Rattle.subcommands.specs.declared.statuses.Status.{Status}
@@ -32,6 +36,9 @@ fault_status fault.TooLarge = Refused
 fault_status (fault.Pbn refusal) = Refused
 fault_status fault.NoResult = Refused
 fault_status fault.NoAnswer = Incomplete
+fault_status (fault.Evidence why) = Failed
+fault_status (fault.AnswerFile why) = Failed
+fault_status (fault.Unkept why) = Failed
 
 -- why an input could not be read
 abbrev pub input_fault : InputFault → RunFault
@@ -45,6 +52,11 @@ make_fault make.Read = fault.Read
 make_fault (make.Pbn refusal) = fault.Pbn refusal
 make_fault make.NoThread = fault.NoThread
 make_fault make.Write = fault.Write
+
+-- why no tables were made of evidence
+abbrev pub audit_fault : AuditFault → RunFault
+audit_fault (audit.Page made) = make_fault made
+audit_fault audit.Evidence = fault.Evidence file.Read
 
 -- a place of the input before a text
 abbrev pub after_line : Option ℕ → List ℕ → List ℕ
@@ -63,6 +75,12 @@ said_of fault.TooLarge = codes "plain takes at most 4 cards a hand"
 said_of (fault.Pbn refusal) = after_line (fault_line refusal) (fault_text refusal)
 said_of fault.NoResult = codes "first line is not a result line"
 said_of fault.NoAnswer = codes "no answer"
+said_of (fault.Evidence file.Open) = codes "evidence: cannot open"
+said_of (fault.Evidence file.Read) = codes "evidence: reading failed"
+said_of (fault.AnswerFile file.Open) = codes "answer: cannot open"
+said_of (fault.AnswerFile file.Read) = codes "answer: reading failed"
+said_of (fault.Unkept keep.Write) = codes "evidence: writing failed"
+said_of (fault.Unkept keep.OutOfMemory) = codes "evidence: out of memory"
 
 -- the line that tells it
 abbrev pub told_line : RunFault → List ℕ

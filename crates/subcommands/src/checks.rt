@@ -1,7 +1,8 @@
 //! The check of an answer.
 
 ghost use Rattle.std.specs.Prelude.{◌≡◌};
-ghost use Rattle.subcommands.specs.Checks.{ChecksAnswer, IsTrueVerdict, JudgesText, ReadsVerdict, PrintsVerdict};
+ghost use Rattle.subcommands.specs.Checks.{ChecksAnswer, IsTrueVerdict, IsVerdictLine, JudgesText, Prints};
+ghost use Rattle.subcommands.specs.Checks.{ReadsVerdict};
 ghost use Rattle.subcommands.specs.VerdictLines.{verdict_status};
 
 use crate::answers::read_answer;
@@ -90,8 +91,8 @@ fn is_true(verdict: &Verdict)
 }
 
 /// Writes the line of a verdict, and answers how the run ends with it.
-fn print_verdict<O: Sink>(verdict: Verdict, output: &mut O) -> Result<Status, RunFault>
-    ensures { PrintsVerdict verdict (O.state output.old) (O.state output.new) result }
+pub(crate) fn print_verdict<O: Sink>(verdict: Verdict, output: &mut O) -> Result<Status, RunFault>
+    ensures { Prints IsVerdictLine verdict (O.state output.old) (O.state output.new) result }
 {
     let status = status_of(&verdict);
     match write_verdict(verdict, output) {

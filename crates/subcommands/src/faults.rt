@@ -7,8 +7,11 @@ ghost use Rattle.subcommands.specs.declared.faults.RunFault.TheVariants as fault
 ghost use Rattle.subcommands.specs.Statuses.{fault_status, IsTold, told_line, said_of, after_line};
 ghost use Rattle.pbn_deals.specs.Faults.{fault_line};
 
+use crate::named_files::FileFault;
 use crate::statuses::Status;
+use audits::AuditFault;
 use cards::{DeviceFault, Sink, write_all, write_number};
+use evidence_solvers::KeepFault;
 use pbn_deals::PbnFault;
 use strategies::TooLarge;
 use streams::InputFault;
@@ -37,6 +40,12 @@ pub enum RunFault {
     NoResult,
     /// The solver has found no answer.
     NoAnswer,
+    /// The file of evidence is of no use.
+    Evidence(FileFault),
+    /// The file with an answer is of no use.
+    AnswerFile(FileFault),
+    /// Not all evidence was kept that was to be kept.
+    Unkept(KeepFault),
 }
 
 impl From<InputFault> for RunFault {
@@ -68,6 +77,19 @@ impl From<MakeFault> for RunFault {
     }
 }
 
+impl From<AuditFault> for RunFault {
+    ghost use Rattle.subcommands.specs.Statuses.{audit_fault};
+
+    ghost from_gives = { λ fault answer. answer ≡ audit_fault fault };
+
+    fn from(fault: AuditFault) -> RunFault {
+        match fault {
+            AuditFault::Page(made) => RunFault::from(made),
+            AuditFault::Evidence => RunFault::Evidence(FileFault::Read),
+        }
+    }
+}
+
 impl From<TooLarge> for RunFault {
     ghost from_gives = { λ _ answer. answer ≡ faults.TooLarge };
 
@@ -91,9 +113,13 @@ pub fn tell<E: Sink>(fault: RunFault, errors: &mut E) -> Status
 {
     let _ = write_line(fault, errors);
     match fault {
-        RunFault::OutOfMemory | RunFault::Read | RunFault::NoThread | RunFault::Write => {
-            Status::Failed
-        }
+        RunFault::OutOfMemory
+        | RunFault::Read
+        | RunFault::NoThread
+        | RunFault::Write
+        | RunFault::Evidence(_)
+        | RunFault::AnswerFile(_)
+        | RunFault::Unkept(_) => Status::Failed,
         RunFault::NotText
         | RunFault::Layout(_)
         | RunFault::TooLarge
@@ -127,6 +153,39 @@ fn write_fault<E: Sink>(fault: RunFault, errors: &mut E) -> Result<(), DeviceFau
         RunFault::Pbn(refusal) => write_text_refusal(refusal, errors),
         RunFault::NoResult => write_all(errors, b"first line is not a result line"),
         RunFault::NoAnswer => write_all(errors, b"no answer"),
+        RunFault::Evidence(fault) => write_file_fault(fault, errors),
+        RunFault::AnswerFile(fault) => write_answer_fault(fault, errors),
+        RunFault::Unkept(fault) => write_keep_fault(fault, errors),
+    }
+}
+
+/// Writes why the file of evidence is of no use.
+fn write_file_fault<E: Sink>(fault: FileFault, errors: &mut E) -> Result<(), DeviceFault>
+    ensures { Writes (E.state errors.old) (E.state errors.new) (said_of (faults.Evidence fault)) result }
+{
+    match fault {
+        FileFault::Open => write_all(errors, b"evidence: cannot open"),
+        FileFault::Read => write_all(errors, b"evidence: reading failed"),
+    }
+}
+
+/// Writes why the file with an answer is of no use.
+fn write_answer_fault<E: Sink>(fault: FileFault, errors: &mut E) -> Result<(), DeviceFault>
+    ensures { Writes (E.state errors.old) (E.state errors.new) (said_of (faults.AnswerFile fault)) result }
+{
+    match fault {
+        FileFault::Open => write_all(errors, b"answer: cannot open"),
+        FileFault::Read => write_all(errors, b"answer: reading failed"),
+    }
+}
+
+/// Writes why not all evidence was kept.
+fn write_keep_fault<E: Sink>(fault: KeepFault, errors: &mut E) -> Result<(), DeviceFault>
+    ensures { Writes (E.state errors.old) (E.state errors.new) (said_of (faults.Unkept fault)) result }
+{
+    match fault {
+        KeepFault::OutOfMemory => write_all(errors, b"evidence: out of memory"),
+        KeepFault::Write => write_all(errors, b"evidence: writing failed"),
     }
 }
 

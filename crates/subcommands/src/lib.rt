@@ -4,10 +4,19 @@
 #![tactic(auto)]
 
 mod answers;
+mod auditing;
 mod checks;
+mod damage_lines;
 mod faults;
+mod judging;
+mod kept_tables;
+mod lines;
 mod making;
+mod named_files;
+mod outcomes;
+mod pages;
 mod plain;
+mod playing;
 mod running;
 mod solves;
 mod statuses;
@@ -17,7 +26,9 @@ pub use answers::{read_answer, text_is_one_answer};
 pub use asked::{Subcommand, TableOptions};
 pub use checks::check_answer;
 pub use faults::{RunFault, tell};
+pub use lines::follow_answer;
 pub use making::{make_tables, make_whole};
+pub use named_files::{FileFault, NamedFiles};
 pub use plain::plain_line;
 pub use running::{close_output, run_subcommand, show};
 pub use solves::{answers_are_read_back, solve_layout};

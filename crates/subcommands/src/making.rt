@@ -42,8 +42,8 @@ fn sink_failed(_fault: DeviceFault) -> MakeFault
     MakeFault::Write
 }
 
-/// Reads a PBN text to its end, and has a farm work through its boards, as the settings say. The text and the book of the
-/// run are handed out.
+/// Reads a PBN text to its end, and has a farm work through its boards, as the settings say. The text and the book of
+/// the run are handed out.
 fn make_book<
     I: Source,
     S: Solver + Sync,

@@ -31,7 +31,10 @@ pub fn solve_layout<P: Solver, O: Sink>(
 {
     let layout = read_layout(value).map_err(RunFault::Layout)?;
     let answer = find_answer(alloc, &layout, declarer, trump, budget, solver)?;
-    write_answer(&answer, output).map_err(write_failed)
+    match write_answer(&answer, output) {
+        Ok(()) => Ok(()),
+        Err(fault) => Err(write_failed(fault)),
+    }
 }
 
 /// The solver's answer for this declarer alone, or that there is none: also where it claims over 13 tricks, which no

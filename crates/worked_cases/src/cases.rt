@@ -11,10 +11,11 @@ use partition_solver::Partition;
 use std::alloc::{AllocError, Global};
 use std::sync::Wait;
 use std::thread::Threads;
+use subcommands::NamedFiles;
 use test_support::idle::FindsNothing;
 
 /// Says what the libraries answer now. The first word of a case is its kind.
-pub fn answer_case<R: Threads + Wait + Sync>(
+pub fn answer_case<R: NamedFiles + Threads + Wait + Sync>(
     rt: &R,
     alloc: Global,
     case: &str,
@@ -30,7 +31,8 @@ pub fn answer_case<R: Threads + Wait + Sync>(
         "certificate" => answer_certificate(alloc, case, out),
         "judge" => answer_judge(alloc, case, out),
         "answer" => answer_cut(alloc, case, out),
-        "check" => answer_check(rt, alloc, case, out),
+        "check" => answer_check(rt, alloc, "check", case, out),
+        "line" => answer_check(rt, alloc, "line", case, out),
         "table" => answer_table(rt, alloc, case, out),
         "plain" => answer_plain(rt, alloc, case, out),
         "words" => answer_words(rt, alloc, case, out),

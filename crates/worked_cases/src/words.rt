@@ -8,6 +8,7 @@ use std::alloc::{AllocError, Global};
 use std::sync::Wait;
 use std::thread::Threads;
 use streams::Streams;
+use subcommands::NamedFiles;
 use test_support::idle::{FindsNothing, LetsPass, StandsStill};
 
 /// Room for what a run prints.
@@ -31,7 +32,7 @@ fn memory(
 }
 
 /// Does what words ask for, with a solver that finds nothing.
-fn run_words<R: Threads + Wait + Sync>(
+fn run_words<R: NamedFiles + Threads + Wait + Sync>(
     rt: &R,
     alloc: Global,
     words: &[&str],
@@ -46,7 +47,7 @@ fn run_words<R: Threads + Wait + Sync>(
 }
 
 /// Says what comes of words: the exit status, and what is on both outputs.
-fn say_run<R: Threads + Wait + Sync>(
+fn say_run<R: NamedFiles + Threads + Wait + Sync>(
     rt: &R,
     alloc: Global,
     words: &[&str],
@@ -60,7 +61,7 @@ fn say_run<R: Threads + Wait + Sync>(
 }
 
 /// What `plain` prints of a layout.
-pub fn answer_plain<R: Threads + Wait + Sync>(
+pub fn answer_plain<R: NamedFiles + Threads + Wait + Sync>(
     rt: &R,
     alloc: Global,
     case: &str,
@@ -77,17 +78,18 @@ pub fn answer_plain<R: Threads + Wait + Sync>(
     say_run(rt, alloc, &words, &mut streams, out)
 }
 
-/// What `check` prints of an answer.
-pub fn answer_check<R: Threads + Wait + Sync>(
+/// What `check` or `line` prints of an answer.
+pub fn answer_check<R: NamedFiles + Threads + Wait + Sync>(
     rt: &R,
     alloc: Global,
+    subcommand: &str,
     case: &str,
     out: &mut String,
 ) -> Result<(), AllocError> {
     let text = bytes_of(alloc, field(case, 4))?;
     let words = [
         "ddfarm",
-        "check",
+        subcommand,
         field(case, 1),
         field(case, 2),
         field(case, 3),
@@ -97,7 +99,7 @@ pub fn answer_check<R: Threads + Wait + Sync>(
 }
 
 /// What `table` prints of a PBN text.
-pub fn answer_table<R: Threads + Wait + Sync>(
+pub fn answer_table<R: NamedFiles + Threads + Wait + Sync>(
     rt: &R,
     alloc: Global,
     case: &str,
@@ -128,7 +130,7 @@ fn room_of(field: &str) -> usize {
 
 /// What comes of the words of a case: the exit status, what is on the output and on the error output, and what is left
 /// of an input of at most 64 bytes.
-pub fn answer_words<R: Threads + Wait + Sync>(
+pub fn answer_words<R: NamedFiles + Threads + Wait + Sync>(
     rt: &R,
     alloc: Global,
     case: &str,
@@ -162,7 +164,7 @@ fn say_told(printed: &[u8], told: &[u8], out: &mut String) -> Result<(), AllocEr
 }
 
 /// Whether what comes of the words of a case is what it tells.
-pub fn answer_told<R: Threads + Wait + Sync>(
+pub fn answer_told<R: NamedFiles + Threads + Wait + Sync>(
     rt: &R,
     alloc: Global,
     case: &str,
@@ -199,7 +201,7 @@ fn say_lines(name: &str, printed: &[u8], out: &mut String) -> Result<(), AllocEr
 
 /// What comes of the words of a case, over no input: the exit status, and the lines on the output and on the error
 /// output.
-pub fn answer_lines<R: Threads + Wait + Sync>(
+pub fn answer_lines<R: NamedFiles + Threads + Wait + Sync>(
     rt: &R,
     alloc: Global,
     case: &str,

@@ -15,11 +15,18 @@ returns c =
     let top = ap app_of_fields c.disable_help_subcommand-command.ensures
     ∙ ap (on_top (λ s. record s { disable_help_subcommand = true })) shown in
     let shape = λ (a : App). a.top in
-    let plain = c.in_ok-plain_command.ensures in
-    let solve = c.in_ok-solve_command.ensures in
     let table = c.in_ok-table_command.ensures in
-    let one = c.in_ok-subcommand.ensures.shape plain.1 ∙ ap₂ with_subcommand top (ap shape plain.0) in
-    let two = c.in_ok-subcommand-2.ensures.shape solve.1 ∙ ap₂ with_subcommand one (ap shape solve.0) in
-    let three = c.in_ok-subcommand-3.ensures.shape table.1 ∙ ap₂ with_subcommand two (ap shape table.0) in
-    IfOk-weaker c.subcommand-4.result _ _ (λ made added.
-    added.shape c.in_ok-check_command.ensures.1 ∙ ap₂ with_subcommand three (ap shape c.in_ok-check_command.ensures.0)) c.subcommand-4.ensures
+    let audit = c.in_ok-audit_command.ensures in
+    let solve = c.in_ok-solve_command.ensures in
+    let check = c.in_ok-check_command.ensures in
+    let line = c.in_ok-line_command.ensures in
+    let play = c.in_ok-play_command.ensures in
+    let plain = c.in_ok-plain_command.ensures in
+    let one = c.in_ok-subcommand.ensures.shape table.1 ∙ ap₂ with_subcommand top (ap shape table.0) in
+    let two = c.in_ok-subcommand-2.ensures.shape audit.1 ∙ ap₂ with_subcommand one (ap shape audit.0) in
+    let three = c.in_ok-subcommand-3.ensures.shape solve.1 ∙ ap₂ with_subcommand two (ap shape solve.0) in
+    let four = c.in_ok-subcommand-4.ensures.shape check.1 ∙ ap₂ with_subcommand three (ap shape check.0) in
+    let five = c.in_ok-subcommand-5.ensures.shape line.1 ∙ ap₂ with_subcommand four (ap shape line.0) in
+    let six = c.in_ok-subcommand-6.ensures.shape play.1 ∙ ap₂ with_subcommand five (ap shape play.0) in
+    IfOk-weaker c.subcommand-7.result _ _
+    (λ made added. added.shape plain.1 ∙ ap₂ with_subcommand six (ap shape plain.0)) c.subcommand-7.ensures

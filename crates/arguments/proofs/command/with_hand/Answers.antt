@@ -5,7 +5,7 @@ use Rattle.arguments.proofs.command.with_hand.Goals as goal
 
 pub returns : goal.returns
 returns c =
-    let layout = c.layout_arg.ensures in
+    let layout = c.word_arg.ensures in
     let seat = c.choice_arg.ensures in
     let trump = c.choice_arg-2.ensures in
     IfOk-weaker c.arg-3.result _ _ (λ made added. (

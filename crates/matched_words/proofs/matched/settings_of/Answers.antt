@@ -1,4 +1,4 @@
-use Rattle.std.proofs.Common.{◌≡◌, ◌∙◌, ap, sym, subst}
+use Rattle.std.proofs.Common.{sym, subst}
 use Rattle.asked.specs.Settings.{OfEach}
 use Rattle.clap.specs.Words.{found_of, rows_of}
 use Rattle.matched_words.specs.Matches.{SaysNumber}

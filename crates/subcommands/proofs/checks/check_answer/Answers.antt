@@ -1,6 +1,7 @@
 use Rattle.std.proofs.Common.{rules, Ok}
 use Rattle.pbn_deals.specs.LayoutValue.{SaysLayout}
-use Rattle.subcommands.proofs.CheckLemmas.{ChecksAnswer-printed}
+use Rattle.subcommands.specs.Checks.{IsVerdictLine}
+use Rattle.subcommands.proofs.CheckLemmas.{AnswersSource-printed}
 use Rattle.subcommands.proofs.checks.check_answer.Goals as goal
 
 pub returns-in_err-layout : goal.returns-in_err-layout
@@ -12,4 +13,4 @@ returns-in_err-verdict g c = search rules
 pub returns : goal.returns
 returns g c =
     let spelt : SaysLayout c.args.value.now (Ok c.in_ok-layout.layout) = search rules in
-    ChecksAnswer-printed c.args.value.now _ _ _ _ _ _ _ (c.in_ok-layout.layout, spelt, c.in_ok-verdict.ensures) c.print_verdict.result c.print_verdict.ensures
+    AnswersSource-printed IsVerdictLine c.args.value.now _ _ _ _ _ _ _ (c.in_ok-layout.layout, spelt, c.in_ok-verdict.ensures) c.print_verdict.result c.print_verdict.ensures

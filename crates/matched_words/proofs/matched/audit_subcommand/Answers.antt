@@ -1,0 +1,8 @@
+use Rattle.std.proofs.Common.{rules}
+use Rattle.matched_words.proofs.matched.audit_subcommand.Goals as goal
+
+pub returns-in_err-file : goal.returns-in_err-file
+returns-in_err-file c = search rules
+
+pub returns-in_err-whole : goal.returns-in_err-whole
+returns-in_err-whole c = search rules

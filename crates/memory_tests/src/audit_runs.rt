@@ -1,0 +1,33 @@
+//! An audit whose memory runs out.
+
+use crate::outcomes::{Outcome, Told};
+use crate::spending::Spending;
+use crate::texts::{EVIDENCE, HEAD, ONE_NUMBER, ONE_SUIT_EACH, TABLE};
+use audits::{AuditFault, audit_tables};
+use cards::{Buffer, Bytes};
+use evidence::Sections;
+use std::alloc::{AllocError, Global};
+use std::thread::Threads;
+use tournaments::MakeFault;
+
+/// `audit_tables` on the four hands of one suit each, by evidence for one of their numbers.
+pub fn audit<R: Threads + Sync>(
+    rt: &R,
+    alloc: Global,
+    spending: Spending,
+) -> Result<Told, AllocError> {
+    let mut sink = Buffer::new(alloc, TABLE.len(), TABLE.len())?;
+    let mut source = Bytes::new(ONE_SUIT_EACH, 7);
+    spending.spend(alloc)?;
+    let mut sections = Sections::new(alloc, Bytes::new(EVIDENCE, 100));
+    let made = audit_tables(rt, alloc, &mut source, &mut sections, &mut sink);
+    let left = spending.left(alloc);
+    let outcome = match made {
+        Ok(_) if sink.bytes().strip_prefix(HEAD) == Some(ONE_NUMBER) => Outcome::Answer,
+        Err(AuditFault::Page(MakeFault::OutOfMemory)) if sink.bytes().is_empty() => {
+            Outcome::OutOfMemory
+        }
+        _ => Outcome::Wrong,
+    };
+    Ok(Told::Called(outcome, left))
+}

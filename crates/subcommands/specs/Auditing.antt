@@ -1,0 +1,48 @@
+-- What `audit` does with the name of a file and the input.
+use Rattle.std.specs.Prelude.{◌≡◌, ℕ, Bool, List, [], None, Some, Result, Ok, Err, ◌⊎◌}
+use Rattle.cards.specs.Devices.{Device}
+use Rattle.lease_book.specs.Books.{Ledger}
+use Rattle.tables.specs.declared.sheets.Report.{Report}
+use Rattle.evidence.specs.Wholes.{Whole}
+use Rattle.evidence.specs.declared.damages.Damage.{Damage}
+use Rattle.audits.specs.declared.faults.AuditFault.{AuditFault}
+use Rattle.audits.specs.Audits.{AuditsTables}
+use Rattle.subcommands.specs.declared.faults.RunFault.{RunFault}
+use Rattle.subcommands.specs.declared.faults.RunFault.TheVariants.{Evidence}
+use Rattle.subcommands.specs.declared.named_files.FileFault.TheVariants.{Open}
+use Rattle.subcommands.specs.declared.outcomes.Outcome.{Outcome}
+use Rattle.subcommands.specs.NamedFiles.{MayOpen}
+use Rattle.subcommands.specs.Pages.{page_fact, report_status}
+use Rattle.subcommands.specs.Statuses.{audit_fault}
+
+-- what is left of evidence before anything of it was read
+abbrev pub unread : Device → Whole
+unread file = record { source = file; held = []; before = 0 }
+
+-- The file of this name was opened, and this came of the audit of the input by what the file tells, from its first byte
+-- on.
+pub record AuditsOpened (may_open : MayOpen) (name : List ℕ) (whole : Bool) (source source' sink sink' : Device)
+    (audited : Result (Report × Ledger × Damage) AuditFault)
+    : Type 0 where
+  pub file : Device
+  pub opened : may_open name (Some file)
+  pub none_failed : file.failed ≡ 0
+  pub left : Whole
+  pub audits : AuditsTables (page_fact whole) source source' (unread file) left sink sink' audited
+
+-- the file of this name can't be opened, and nothing was read or written
+pub record OpensNothing (may_open : MayOpen) (name : List ℕ) (source source' sink sink' : Device) : Type 0 where
+  pub unopened : may_open name None
+  pub source_is : source' ≡ source
+  pub sink_is : sink' ≡ sink
+
+-- What was answered, what the input has given and what the output has got: the page is that of the audit, which counts
+-- the damage.
+abbrev pub AuditsFile : MayOpen → List ℕ → Bool → Device → Device → Device → Device → Result Outcome RunFault → Type 0
+AuditsFile may_open name whole source source' sink sink' (Ok outcome) =
+    (report : Report) × (book : Ledger) × (outcome.status ≡ report_status report) × (outcome.kept ≡ Ok tt)
+    × AuditsOpened may_open name whole source source' sink sink' (Ok (report, book, outcome.damage))
+AuditsFile may_open name whole source source' sink sink' (Err fault) =
+    ((fault ≡ Evidence Open) × OpensNothing may_open name source source' sink sink')
+    ⊎ ((audited : AuditFault) × (fault ≡ audit_fault audited)
+    × AuditsOpened may_open name whole source source' sink sink' (Err audited))

@@ -1,0 +1,37 @@
+-- What came of a run that was done, and what is told of it: what was passed over of evidence.
+use Rattle.std.specs.Prelude.{◌≡◌, ◌==◌, ℕ, ◌<◌, List, [], ◌∷◌, ◌++◌, ◌⊎◌, Result, Ok, Err, codes, if◌then◌else◌}
+use Rattle.std.specs.Fmt.{decimal}
+use Rattle.cards.specs.Devices.{Device}
+use Rattle.evidence.specs.declared.damages.Damage.{Damage}
+use Rattle.subcommands.specs.declared.faults.RunFault.{RunFault}
+use Rattle.subcommands.specs.declared.outcomes.Outcome.{Outcome}
+use Rattle.subcommands.specs.declared.statuses.Status.{Status}
+use Rattle.subcommands.specs.Statuses.{IsTold}
+
+-- a run that has passed nothing over, and had nothing to keep
+abbrev pub quiet : Status → Outcome
+quiet status = record { status = status; damage = record { count = 0; first = 0 }; kept = Ok tt }
+
+-- what comes of what such a run answers
+abbrev pub quiet_answer : Result Status RunFault → Result Outcome RunFault
+quiet_answer (Ok status) = Ok (quiet status)
+quiet_answer (Err fault) = Err fault
+
+-- what such a run answers is so
+abbrev pub Quietly : (Result Status RunFault → Type 0) → Result Outcome RunFault → Type 0
+Quietly Fact answer = (ended : Result Status RunFault) × (answer ≡ quiet_answer ended) × Fact ended
+
+-- ---- what is told
+abbrev pub counted_text : ℕ → List ℕ
+counted_text count =
+    if count == 1 then codes "1 section is damaged, at byte "
+    else decimal count ++ codes " sections are damaged, the first at byte "
+
+-- the line: how many pieces were passed over, and where the first begins
+abbrev pub damage_line : Damage → List ℕ
+damage_line damage = codes "ddfarm: evidence: " ++ (counted_text damage.count ++ (decimal damage.first ++ 10 ∷ []))
+
+-- the error output has the line, where any piece was passed over, and else is as it was
+abbrev pub TellsDamage : Damage → Device → Device → Type 0
+TellsDamage damage errors errors' =
+    ((damage.count ≡ 0) × (errors' ≡ errors)) ⊎ ((0 < damage.count) × IsTold errors errors' (damage_line damage))

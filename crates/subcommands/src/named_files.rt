@@ -1,0 +1,69 @@
+//! Files that a run opens by their names.
+
+ghost use Rattle.std.specs.Prelude.{◌≡◌, IfSome, option_map};
+ghost use Rattle.subcommands.specs.NamedFiles.{front_of};
+
+use cards::Source;
+use evidence_solvers::{CannotOpen, Opened, open_evidence};
+use std::fs;
+use std::fs::OpenFile;
+use std::io::{Read, Seek, Write};
+use std::rt::Files;
+use streams::ReaderSource;
+
+/// Where files are opened by their names.
+pub trait NamedFiles {
+    ghost use Rattle.subcommands.specs.NamedFiles.{MayOpen};
+
+    /// A file that was opened to be read.
+    type Opened: Source + Drop;
+
+    /// A file that was opened to be read and to be added to.
+    type Kept: Read + Write + Seek + OpenFile + Drop + Send;
+
+    /// What may come of the opening of a name: what the file tells, or `None` where it can't be opened.
+    ghost may_open: { Self → MayOpen };
+
+    /// Opens the file of this name to be read, from its beginning on. It may be a pipe.
+    fn open_named(&self, name: &str) -> Option<Self::Opened>
+        ensures opens { may_open self.now name.now (option_map Self.Opened.state result) }
+        ensures none_failed { IfSome result (λ file. (Self.Opened.state file).failed ≡ 0) };
+
+    /// Opens the file of this name to be read, from its beginning on, and to be added to; it is made where it isn't
+    /// there. What is no regular file can't be opened so.
+    fn open_kept(&self, name: &str) -> Result<Opened<Self::Kept>, CannotOpen>
+        ensures opens { may_open self.now name.now (front_of Self.Kept.remaining result) };
+}
+
+impl<R: Files> NamedFiles for R
+where
+    R::File: Send,
+{
+    ghost use Rattle.subcommands.specs.NamedFiles.{MayBeAny};
+
+    type Opened = ReaderSource<R::File>;
+
+    type Kept = R::File;
+
+    ghost may_open = { λ _ _ told. MayBeAny R.File.remaining told };
+
+    fn open_named(&self, name: &str) -> Option<ReaderSource<R::File>> {
+        match fs::open(self, name) {
+            Ok(file) => Some(ReaderSource::new(file)),
+            Err(_) => None,
+        }
+    }
+
+    fn open_kept(&self, name: &str) -> Result<Opened<R::File>, CannotOpen> {
+        open_evidence(self, name)
+    }
+}
+
+/// Why a file that was named is of no use.
+#[derive(Clone, Copy, Debug, PartialEq, Eq)]
+pub enum FileFault {
+    /// It can't be opened.
+    Open,
+    /// It can't be read to its end.
+    Read,
+}

@@ -1,0 +1,43 @@
+//! What came of a run that was done.
+
+ghost use Rattle.std.specs.Prelude.{◌≡◌};
+ghost use Rattle.subcommands.specs.Outcomes.{quiet, quiet_answer};
+
+use crate::faults::RunFault;
+use crate::statuses::Status;
+use evidence::Damage;
+use evidence_solvers::KeepFault;
+
+/// What came of a run that was done.
+#[derive(Clone, Copy)]
+pub(crate) struct Outcome {
+    /// How it ends.
+    pub(crate) status: Status,
+    /// What was passed over of its evidence.
+    pub(crate) damage: Damage,
+    /// Whether all evidence was kept that was to be kept.
+    pub(crate) kept: Result<(), KeepFault>,
+}
+
+impl Outcome {
+    /// Of a run that has passed nothing over, and had nothing to keep.
+    pub(crate) fn quiet(status: Status) -> Outcome
+        ensures { result ≡ quiet status }
+    {
+        Outcome {
+            status,
+            damage: Damage { count: 0, first: 0 },
+            kept: Ok(()),
+        }
+    }
+}
+
+/// What came of a run that passes nothing over, and has nothing to keep.
+pub(crate) fn quietly(answer: Result<Status, RunFault>) -> Result<Outcome, RunFault>
+    ensures { result ≡ quiet_answer answer }
+{
+    match answer {
+        Ok(status) => Ok(Outcome::quiet(status)),
+        Err(fault) => Err(fault),
+    }
+}

@@ -1,0 +1,101 @@
+//! The page of tables by many threads, alone or in the input.
+
+ghost use Rattle.std.specs.Prelude.{◌≡◌};
+ghost use Rattle.farm.specs.Runs.{IsRun};
+ghost use Rattle.subcommands.specs.Pages.{WritesTables, page_fact, report_status};
+ghost use Rattle.tournaments.specs.Making.{MakesPage};
+
+use crate::faults::RunFault;
+use crate::making::{make_tables, make_whole};
+use crate::statuses::Status;
+use asked::TableOptions;
+use cards::{Sink, Source};
+use farm::{Clock, Means};
+use lease_book::Book;
+use lease_desk::Gate;
+use partition_solver::Solver;
+use std::alloc::Global;
+use std::sync::Wait;
+use std::thread::Threads;
+use tables::Report;
+use tournaments::MakeFault;
+
+/// Nobody is told of the work.
+#[derive(Drop)]
+struct Unwatched;
+
+impl Gate for Unwatched {
+    fn before_solve(&self, _lease: u64) {}
+
+    fn before_check(&self, _lease: u64) {}
+}
+
+/// Makes the tables of the boards of the input, alone or in the input.
+fn make_page<
+    P: Solver + Sync,
+    G: Gate + Sync,
+    C: Clock + Sync,
+    I: Source,
+    O: Sink,
+    R: Threads + Wait + Sync,
+>(
+    rt: &R,
+    alloc: Global,
+    options: TableOptions<'_>,
+    means: &Means<'_, P, G, C>,
+    input: &mut I,
+    output: &mut O,
+) -> Result<(Report, Book), MakeFault>
+    ensures { MakesPage (IsRun (C.may_tell means.now.clock.now)) (page_fact options.entry.whole)
+        options.entry.settings.term options.entry.settings.tries (I.state input.old) (I.state input.new)
+        (O.state output.old) (O.state output.new) result }
+{
+    if options.whole {
+        make_whole(rt, alloc, input, output, options.settings, means)
+    } else {
+        make_tables(rt, alloc, input, output, options.settings, means)
+    }
+}
+
+/// Writes the tables of the boards of the input. The gate is told of the work only where progress is asked for.
+pub(crate) fn write_page<
+    P: Solver + Sync,
+    G: Gate + Sync,
+    C: Clock + Sync,
+    I: Source,
+    O: Sink,
+    R: Threads + Wait + Sync,
+>(
+    rt: &R,
+    alloc: Global,
+    options: TableOptions<'_>,
+    means: &Means<'_, P, G, C>,
+    input: &mut I,
+    output: &mut O,
+) -> Result<Status, RunFault>
+    ensures { WritesTables (C.may_tell means.now.clock.now) options.entry (I.state input.old) (I.state input.new)
+        (O.state output.old) (O.state output.new) result }
+{
+    if options.progress {
+        let made = make_page(rt, alloc, options, means, input, output)?;
+        return Ok(status_of(made.0));
+    }
+    let unwatched = Means {
+        solver: means.solver,
+        gate: &Unwatched,
+        clock: means.clock,
+    };
+    let made = make_page(rt, alloc, options, &unwatched, input, output)?;
+    Ok(status_of(made.0))
+}
+
+/// Whether a table is incomplete.
+pub(crate) fn status_of(report: Report) -> Status
+    ensures { result ≡ report_status report }
+{
+    if report.complete < report.boards {
+        Status::Incomplete
+    } else {
+        Status::Done
+    }
+}
