@@ -1,14 +1,18 @@
 -- The cards of a suit in sixteen bits, and the four suits in a word.
-use Rattle.std.proofs.Common.{◌≡◌, ℕ, ◌+◌, ◌-◌, ◌*◌, ◌%◌, ◌^◌, ◌<◌, ◌≤◌, min, List, length, Option, None, Some, ◌↔◌, inl, inr, refl, sym, ◌∙◌, ap, subst, arith}
-use Rattle.std.specs.Prelude.{bit_or, slice_get}
-use Rattle.std.specs.Int.{bit_at}
-use Rattle.std.proofs.lemmas.Bool.{cases_lt, cases_eq}
-use Rattle.std.proofs.lemmas.Nat.Bits.{bit_at-zero, bit_at_cat_low, bit_at_cat_high}
+use Rattle.std.proofs.Common.{◌≡◌, ◌≢◌, ℕ, zero, suc, ◌+◌, ◌-◌, ◌*◌, ◌/◌, ◌%◌, ◌^◌, ◌<◌, ◌≤◌, min, Bool, true, false, cond, List, [], ◌∷◌, length, Option, None, Some, ◌↔◌, inl, inr, refl, sym, ◌∙◌, ap, subst, arith}
+use Rattle.std.specs.Prelude.{◌⊎◌, bit_and, bit_or, slice_get}
+use Rattle.std.specs.Int.{bit_at, trailing_zeros, w64}
+use Rattle.std.proofs.lemmas.Bool.{cases_lt, cases_eq, false≢true}
+use Rattle.std.proofs.lemmas.Nat.Bits.{bit_at-lt, bit_at_lowest, bit_at-suc, bit_at-zero, bit_at-trailing_zeros, bit_at_cat_low, bit_at_cat_high}
 use Rattle.cards.specs.declared.suits.Suit.{Suit}
 use Rattle.cards.specs.declared.suits.Suit.TheVariants.{Spades, Hearts, Diamonds, Clubs}
 use Rattle.cards.specs.declared.seats.Seat.{Seat}
+use Rattle.cards.specs.Seats.{is_same_seat}
 use Rattle.cards.specs.Pack.{suit_number}
 use Rattle.patterns.specs.Shapes.{Shape, SuitShape, suit_of, len_of, tops_of, IsPattern}
+use Rattle.patterns.specs.Words.{places_of}
+use Rattle.patterns.proofs.SeatLaws.{is_same_seat_self, same_from_is_same}
+use Rattle.patterns.proofs.Removals.{bit_more, lowest_cleared}
 use Rattle.pattern_step.specs.declared.pat_cards.PatCard.{PatCard}
 use Rattle.pattern_step.specs.declared.pat_cards.PatCard.TheVariants.{Top, Low}
 use Rattle.pattern_step.specs.PatCards.{suit_of_card, HasCard, FollowsSuit, IsLegal}
@@ -17,60 +21,181 @@ use Rattle.checker.specs.CardSets.{place_in_set, SuitSetOf}
 use Rattle.checker.proofs.CardSetLaws.{or_bit, one_bit}
 
 -- ---- one suit
--- the bits of the first so many places that the seat owns, and no others
-abbrev pub HasTopsTo : List Seat → Seat → ℕ → ℕ → Type 0
-HasTopsTo owners seat count set = (place : ℕ) → (bit_at set place ≡ 1) ↔ ((place < count) × (slice_get owners place ≡ Some seat))
+-- the bits of the places that the seat owns, and no others
+abbrev HasTops : List Seat → Seat → ℕ → Type 0
+HasTops owners seat set = (place : ℕ) → (bit_at set place ≡ 1) ↔ (slice_get owners place ≡ Some seat)
 
-pub no_tops : (owners : List Seat) (seat : Seat) → HasTopsTo owners seat 0 0
-no_tops owners seat place = (λ h. absurd (omega (arith, h, bit_at-zero place)), λ h. absurd (omega (arith, h.0)))
+-- Some of the tops have their bits, and the others are left: the one in place i has bit 2 i there.
+pub record HasTopsBut (owners : List Seat) (seat : Seat) (left set : ℕ) : Type 0 where
+  pub even : (place : ℕ) → bit_at left (2 * place + 1) ≡ 0
+  pub tops : (place : ℕ) → ((bit_at set place ≡ 1) ⊎ (bit_at left (2 * place) ≡ 1)) ↔ (slice_get owners place ≡ Some seat)
 
-pub top_kept : (owners : List Seat) (seat : Seat) (count set one : ℕ) → one ≡ 2 ^ count → slice_get owners count ≡ Some seat → HasTopsTo owners seat count set → HasTopsTo owners seat (count + 1) (bit_or set one)
-top_kept owners seat count set one bit_is owns told place = (
-  (λ h. elim ((or_bit set one place).0 h) [
-    | inl before ↦ (let is = (told place).0 before in (omega (arith, is.0), is.1))
-    | inr last ↦ (
-        let at : count ≡ place = (one_bit count place).0 (ap (λ n. bit_at n place) (sym bit_is) ∙ last) in
-        (omega (arith, at), subst (λ n. slice_get owners n ≡ Some seat) at owns)
-        )
-  ]),
-  λ h. elim (cases_eq count place) [
-    | inl same ↦ (or_bit set one place).1 (inr (ap (λ n. bit_at n place) bit_is ∙ (one_bit count place).1 same))
-    | inr apart ↦ (or_bit set one place).1 (inl ((told place).1 (omega (arith, apart, h.0), h.1)))
-  ],
+two_up : (n place : ℕ) → bit_at n (suc (suc place)) ≡ bit_at (n / 4) place
+two_up n place =
+    let quarter : n / 2 / 2 ≡ n / 4 = omega arith in
+    bit_at-suc n (suc place) ∙ (bit_at-suc (n / 2) place ∙ ap (λ m. bit_at m place) quarter)
+
+-- the places of an owner, from the front
+one_owner : (here : Bool) (rest k : ℕ) → bit_at (cond here 1 0 + 4 * rest) (suc (suc k)) ≡ bit_at rest k
+one_owner true rest k = let up : (1 + 4 * rest) / 4 ≡ rest = omega arith in two_up (1 + 4 * rest) k ∙ ap (λ m. bit_at m k) up
+one_owner false rest k = let up : (0 + 4 * rest) / 4 ≡ rest = omega arith in two_up (0 + 4 * rest) k ∙ ap (λ m. bit_at m k) up
+
+no_odd_place : (seat : Seat) (owners : List Seat) (place : ℕ) → bit_at (places_of seat owners) (2 * place + 1) ≡ 0
+no_odd_place seat [] place = bit_at-zero (2 * place + 1)
+no_odd_place seat (owner ∷ owners) zero = first (is_same_seat seat owner)
+  where
+    first : (here : Bool) → bit_at (cond here 1 0 + 4 * places_of seat owners) (2 * 0 + 1) ≡ 0
+    first true = bit_at-suc (1 + 4 * places_of seat owners) 0 ∙ (bit_at_lowest ((1 + 4 * places_of seat owners) / 2) ∙ omega arith)
+    first false = bit_at-suc (0 + 4 * places_of seat owners) 0 ∙ (bit_at_lowest ((0 + 4 * places_of seat owners) / 2) ∙ omega arith)
+no_odd_place seat (owner ∷ owners) (suc place) =
+    let at : 2 * suc place + 1 ≡ suc (suc (2 * place + 1)) = omega arith in
+    ap (bit_at (places_of seat (owner ∷ owners))) at ∙ (one_owner (is_same_seat seat owner) (places_of seat owners) (2 * place + 1) ∙ no_odd_place seat owners place)
+
+even_places : (seat : Seat) (owners : List Seat) (place : ℕ) → (bit_at (places_of seat owners) (2 * place) ≡ 1) ↔ (slice_get owners place ≡ Some seat)
+even_places seat [] place = (λ h. absurd (omega (arith, h, bit_at-zero (2 * place))), λ h. cc)
+even_places seat (owner ∷ owners) zero = first (is_same_seat seat owner) refl
+  where
+    first : (here : Bool) → is_same_seat seat owner ≡ here → (bit_at (cond here 1 0 + 4 * places_of seat owners) (2 * 0) ≡ 1) ↔ (Some owner ≡ Some seat)
+    first true is = (λ h. ap Some (sym (same_from_is_same seat owner is)), λ h. bit_at_lowest (1 + 4 * places_of seat owners) ∙ omega arith)
+    first false is = (
+      λ h. absurd (omega (arith, h, bit_at_lowest (0 + 4 * places_of seat owners))),
+      λ h. absurd (false≢true (sym is ∙ (let same : owner ≡ seat = cc in subst (λ (s : Seat). is_same_seat seat s ≡ true) (sym same) (is_same_seat_self seat)))),
+    )
+even_places seat (owner ∷ owners) (suc place) =
+    let at : 2 * suc place ≡ suc (suc (2 * place)) = omega arith in
+    let here = ap (bit_at (places_of seat (owner ∷ owners))) at ∙ one_owner (is_same_seat seat owner) (places_of seat owners) (2 * place) in
+    let rest = even_places seat owners place in
+    (λ h. rest.0 (sym here ∙ h), λ h. here ∙ rest.1 h)
+
+-- at first all are left
+pub all_left : (owners : List Seat) (seat : Seat) → HasTopsBut owners seat (places_of seat owners) 0
+all_left owners seat = record {
+  even = no_odd_place seat owners;
+  tops = λ place. let told = even_places seat owners place in (
+    (λ h. elim h [
+      | inl none ↦ absurd (omega (arith, none, bit_at-zero place))
+      | inr one ↦ told.0 one
+    ]),
+    λ h. inr (told.1 h),
+  );
+}
+
+-- the lowest bit is taken out
+taken : (n p i : ℕ) → ((j : ℕ) → j < p → bit_at n j ≡ 0) → bit_at n p ≡ 1 → (bit_at (n - 2 ^ p) i ≡ 1) ↔ ((bit_at n i ≡ 1) × (i ≢ p))
+taken n zero zero none one = (
+  λ h. absurd (omega (arith, h, one, bit_at_lowest n, bit_at_lowest (n - 2 ^ 0))),
+  λ h. absurd (h.1 refl),
 )
+taken n zero (suc i) none one =
+    let odd : n % 2 ≡ 1 = sym (bit_at_lowest n) ∙ one in
+    let half : (n - 2 ^ 0) / 2 ≡ n / 2 = omega (arith, odd) in
+    let same : bit_at (n - 2 ^ 0) (suc i) ≡ bit_at n (suc i) = bit_at-suc (n - 2 ^ 0) i ∙ (ap (λ m. bit_at m i) half ∙ sym (bit_at-suc n i)) in
+    (λ h. (sym same ∙ h, λ e. absurd (omega (arith, e))), λ h. same ∙ h.0)
+taken n (suc p) zero none one =
+    let even : n % 2 ≡ 0 = sym (bit_at_lowest n) ∙ none 0 (omega arith) in
+    let more = bit_more p in (
+      λ h. absurd (omega (arith, h, even, more, bit_at_lowest (n - 2 ^ suc p))),
+      λ h. absurd (omega (arith, h.0, even, bit_at_lowest n)),
+    )
+taken n (suc p) (suc i) none one =
+    let more = bit_more p in
+    let half : (n - 2 ^ suc p) / 2 ≡ n / 2 - 2 ^ p = omega (arith, more) in
+    let rest = taken (n / 2) p i (λ j less. sym (bit_at-suc n j) ∙ none (suc j) (omega arith)) (sym (bit_at-suc n p) ∙ one) in
+    let here : bit_at (n - 2 ^ suc p) (suc i) ≡ bit_at (n / 2 - 2 ^ p) i = bit_at-suc (n - 2 ^ suc p) i ∙ ap (λ m. bit_at m i) half in (
+      (λ h. let is = rest.0 (sym here ∙ h) in (bit_at-suc n i ∙ is.0, λ e. is.1 (omega (arith, e)))),
+      λ h. here ∙ rest.1 (sym (bit_at-suc n i) ∙ h.0, λ e. h.1 (ap suc e)),
+    )
 
-pub top_skipped : (owners : List Seat) (seat : Seat) (count set : ℕ) → (slice_get owners count ≡ Some seat → ⊥) → HasTopsTo owners seat count set → HasTopsTo owners seat (count + 1) set
-top_skipped owners seat count set other told place = (
-  (λ h. let is = (told place).0 h in (omega (arith, is.0), is.1)),
-  λ h. elim (cases_eq count place) [
-    | inl same ↦ absurd (other (subst (λ n. slice_get owners n ≡ Some seat) (sym same) h.1))
-    | inr apart ↦ (told place).1 (omega (arith, apart, h.0), h.1)
+-- the lowest that is left: its place, and what is left after it
+pub record LowestLeft (owners : List Seat) (seat : Seat) (left place : ℕ) : Type 0 where
+  pub bit : bit_at left (2 * place) ≡ 1
+  pub owned : slice_get owners place ≡ Some seat
+  pub others : (i : ℕ) → (bit_at (bit_and left (left - 1)) i ≡ 1) ↔ ((bit_at left i ≡ 1) × (i ≢ 2 * place))
+
+pub lowest_left : (owners : List Seat) (seat : Seat) (left set : ℕ) → HasTopsBut owners seat left set → 0 < left → left < 2 ^ 64 → LowestLeft owners seat left (trailing_zeros w64 left / 2)
+lowest_left owners seat left set told some wide =
+    let t = trailing_zeros w64 left in
+    let tz = bit_at-trailing_zeros w64 left some wide in
+    let at : t ≡ 2 * (t / 2) = elim (cases_eq (t % 2) 0) [
+      | inl even ↦ omega (arith, even)
+      | inr odd ↦ (
+          let up : t ≡ 2 * (t / 2) + 1 = omega (arith, odd) in
+          absurd (omega (arith, sym tz.1 ∙ ap (bit_at left) up ∙ told.even (t / 2)))
+          )
+    ] in
+    let bit : bit_at left (2 * (t / 2)) ≡ 1 = ap (bit_at left) (sym at) ∙ tz.1 in
+    record {
+      bit = bit;
+      owned = (told.tops (t / 2)).0 (inr bit);
+      others = λ i. let out = taken left t i tz.2 tz.1 in let cleared = ap (λ n. bit_at n i) (lowest_cleared left some wide) in (
+        (λ h. let is = out.0 (sym cleared ∙ h) in (is.0, λ e. is.1 (e ∙ sym at))),
+        λ h. cleared ∙ out.1 (h.0, λ e. h.1 (e ∙ at)),
+      );
+    }
+
+-- its bit is put in the set
+pub one_put : (owners : List Seat) (seat : Seat) (left set one : ℕ) → HasTopsBut owners seat left set → 0 < left → left < 2 ^ 64 → one ≡ 2 ^ (trailing_zeros w64 left / 2) →
+    HasTopsBut owners seat (bit_and left (left - 1)) (bit_or set one)
+one_put owners seat left set one told some wide bit_is =
+    let p = trailing_zeros w64 left / 2 in
+    let lowest = lowest_left owners seat left set told some wide in
+    record {
+      even = λ place. elim (cases_eq (bit_at (bit_and left (left - 1)) (2 * place + 1)) 1) [
+        | inl set' ↦ absurd (omega (arith, ((lowest.others (2 * place + 1)).0 set').0, told.even place))
+        | inr none ↦ omega (arith, none, bit_at-lt (bit_and left (left - 1)) (2 * place + 1))
+      ];
+      tops = λ place. (
+        (λ h. elim h [
+          | inl put ↦ elim ((or_bit set one place).0 put) [
+            | inl before ↦ (told.tops place).0 (inl before)
+            | inr last ↦ subst (λ n. slice_get owners n ≡ Some seat) ((one_bit p place).0 (ap (λ n. bit_at n place) (sym bit_is) ∙ last)) lowest.owned
+          ]
+          | inr there ↦ (told.tops place).0 (inr ((lowest.others (2 * place)).0 there).0)
+        ]),
+        λ h. elim ((told.tops place).1 h) [
+          | inl before ↦ inl ((or_bit set one place).1 (inl before))
+          | inr there ↦ elim (cases_eq p place) [
+            | inl same ↦ inl ((or_bit set one place).1 (inr (ap (λ n. bit_at n place) bit_is ∙ (one_bit p place).1 same)))
+            | inr apart ↦ inr ((lowest.others (2 * place)).1 (there, λ e. apart (omega (arith, e))))
+          ]
+        ],
+      );
+    }
+
+-- in the end none is left
+all_put : (owners : List Seat) (seat : Seat) (left set : ℕ) → left ≡ 0 → HasTopsBut owners seat left set → HasTops owners seat set
+all_put owners seat left set none told place = (
+  (λ h. (told.tops place).0 (inl h)),
+  λ h. elim ((told.tops place).1 h) [
+    | inl one ↦ one
+    | inr there ↦ absurd (omega (arith, there, ap (λ n. bit_at n (2 * place)) none, bit_at-zero (2 * place)))
   ],
 )
 
 -- all its tops, and the bit of the low cards
-pub suit_told : (held : SuitShape) (seat : Seat) (count set one : ℕ) → length held.owners ≤ count → count ≤ 13 → one ≡ 2 ^ 15 → HasTopsTo held.owners seat count set →
-    tops_of held seat < len_of held seat → SuitSetOf held seat (bit_or set one)
-suit_told held seat count set one all few bit_is told low = record {
-  tops = λ place inside. (
-    (λ h. elim ((or_bit set one place).0 h) [
-      | inl top ↦ ((told place).0 top).1
-      | inr last ↦ absurd (omega (arith, inside, (one_bit 15 place).0 (ap (λ n. bit_at n place) (sym bit_is) ∙ last)))
-    ]),
-    λ h. (or_bit set one place).1 (inl ((told place).1 (omega (arith, slice_get-within held.owners place seat h, all), h))),
-  );
-  low = (λ h. low, λ h. (or_bit set one 15).1 (inr (ap (λ n. bit_at n 15) bit_is ∙ (one_bit 15 15).1 refl)));
-}
+pub suit_told : (held : SuitShape) (seat : Seat) (left set one : ℕ) → left ≡ 0 → HasTopsBut held.owners seat left set → one ≡ 2 ^ 15 → tops_of held seat < len_of held seat →
+    SuitSetOf held seat (bit_or set one)
+suit_told held seat left set one none told bit_is low =
+    let tops = all_put held.owners seat left set none told in
+    record {
+      tops = λ place inside. (
+        (λ h. elim ((or_bit set one place).0 h) [
+          | inl top ↦ (tops place).0 top
+          | inr last ↦ absurd (omega (arith, inside, (one_bit 15 place).0 (ap (λ n. bit_at n place) (sym bit_is) ∙ last)))
+        ]),
+        λ h. (or_bit set one place).1 (inl ((tops place).1 h)),
+      );
+      low = (λ h. low, λ h. (or_bit set one 15).1 (inr (ap (λ n. bit_at n 15) bit_is ∙ (one_bit 15 15).1 refl)));
+    }
 
-pub tops_told : (held : SuitShape) (seat : Seat) (count set : ℕ) → length held.owners ≤ count → count ≤ 13 → HasTopsTo held.owners seat count set →
-    len_of held seat ≤ tops_of held seat → SuitSetOf held seat set
-tops_told held seat count set all few told none = record {
-  tops = λ place inside. (
-    (λ h. ((told place).0 h).1),
-    λ h. (told place).1 (omega (arith, slice_get-within held.owners place seat h, all), h),
-  );
-  low = (λ h. absurd (omega (arith, ((told 15).0 h).0, few)), λ h. absurd (omega (arith, h, none)));
-}
+pub tops_told : (held : SuitShape) (seat : Seat) (left set : ℕ) → left ≡ 0 → HasTopsBut held.owners seat left set → length held.owners ≤ 13 → len_of held seat ≤ tops_of held seat →
+    SuitSetOf held seat set
+tops_told held seat left set empty told few none =
+    let tops = all_put held.owners seat left set empty told in
+    record {
+      tops = λ place inside. tops place;
+      low = (λ h. absurd (omega (arith, slice_get-within held.owners 15 seat ((tops 15).0 h), few)), λ h. absurd (omega (arith, h, none)));
+    }
 
 -- ---- the four suits
 -- the sixteen bits from a place on

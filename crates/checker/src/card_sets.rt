@@ -1,15 +1,15 @@
 //! The turns of the opponents by sets of cards, each in a word.
 //!
-//! A card has a bit: a suit has sixteen, those of spades the lowest, and in it the top in place 0 has the lowest bit, the
-//! others follow, and the low cards have the highest. A seat's legal cards are one word then, the cards of the branches
-//! another, and what a step asks of each card is asked of all at once. A branch is of no legal card where the second word
-//! has a bit that the first lacks. A legal card without a branch is excused, in version 2, where its bit follows that of
-//! another legal top: this one has a branch, or follows one in its turn, and the first of them, which follows none, has
-//! one. Between them each place is the seat's, so they are a run.
+//! A card has a bit: a suit has sixteen, those of spades the lowest, and in it the top in place 0 has the lowest bit,
+//! the others follow, and the low cards have the highest. A seat's legal cards are one word then, the cards of the
+//! branches another, and what a step asks of each card is asked of all at once. A branch is of no legal card where the
+//! second word has a bit that the first lacks. A legal card without a branch is excused, in version 2, where its bit
+//! follows that of another legal top: this one has a branch, or follows one in its turn, and the first of them, which
+//! follows none, has one. Between them each place is the seat's, so they are a run.
 //!
 //! The sets only say yes. Where they don't, the cards are looked at one by one ([`crate::turns`]).
 
-ghost use Rattle.std.specs.Prelude.{◌≡◌, ◌↔◌, ◌^◌, ℕ, IsTrue, Some, slice_get};
+ghost use Rattle.std.specs.Prelude.{◌≡◌, ◌↔◌, ◌^◌, ℕ};
 ghost use Rattle.std.specs.Bool.{OnTrue};
 ghost use Rattle.std.specs.Int.{bit_at};
 ghost use Rattle.pattern_step.specs.declared.pat_cards.PatCard.{PatCard};
@@ -57,22 +57,17 @@ fn branch_set(branches: &Branches<'_>) -> u64
     }
 }
 
-/// Whether the seat is the owner in this place.
-fn owns(held: SuitWord, place: usize, seat: Seat) -> bool
-    ensures { IsTrue result ↔ (slice_get held.owners place ≡ Some seat) }
-{
-    held.owner(place) == Some(seat)
-}
-
 /// The seat's cards of a suit, in its sixteen bits.
 fn suit_set(held: SuitWord, seat: Seat) -> u16
     ensures { SuitSetOf held seat result }
 {
+    // at most 13, so no place has the bit of the low cards
+    let _count = held.owner_count();
+    let mut places = held.places_of(seat);
     let mut set = 0;
-    for place in 0..held.owner_count() {
-        if owns(held, place, seat) {
-            set |= 1 << place;
-        }
+    while places != 0 {
+        set |= 1 << (places.trailing_zeros() / 2);
+        places &= places - 1;
     }
     if held.tops(seat) < held.len(seat) {
         set |= 1 << LOW;

@@ -1,7 +1,9 @@
 //! The end of a trick: who may have won it, and the nodes that go on.
 
-ghost use Rattle.std.specs.Prelude.{◌≡◌, ◌<◌, ◌≤◌, ◌≢◌, ◌↔◌, IsTrue, MatchResult, All, length, [], ◌∷◌};
+ghost use Rattle.std.specs.Prelude.{◌≡◌, ◌<◌, ◌≤◌, ◌≢◌, ◌↔◌, ◌^◌, IsTrue, MatchResult, All, length, [], ◌∷◌};
+ghost use Rattle.std.specs.Int.{bit_at};
 ghost use Rattle.cards.specs.declared.seats.Seat.{Seat};
+ghost use Rattle.cards.specs.Seats.{seat_number};
 ghost use Rattle.patterns.specs.Shapes.{Covers};
 ghost use Rattle.pattern_step.specs.SeatSets.{is_in};
 ghost use Rattle.pattern_step.specs.Tricks.{AreLegalInTurn};
@@ -27,14 +29,18 @@ fn need_after(side: Side, need: u8, winner: Seat) -> u8
     }
 }
 
-/// The seats that are listed.
-fn seats_listed(children: &Children<'_>) -> SeatSet
-    ensures { (seat : Seat) → IsTrue (is_in result seat) ↔ IsListed children.now seat }
+/// The seats that are listed, a bit each, that of North lowest.
+fn seats_listed(children: &Children<'_>) -> u8
+    ensures below { result < 2 ^ 4 }
+    ensures bits { (seat : Seat) → (bit_at result (seat_number seat) ≡ 1) ↔ IsListed children.now seat }
 {
-    match children.split_first() {
-        None => SeatSet::new(),
-        Some((child, rest)) => seats_listed(&rest).with(child.winner),
+    let mut seats = 0;
+    let mut next = children.split_first();
+    while let Some((child, rest)) = next {
+        seats |= 1 << child.winner.number();
+        next = rest.split_first();
     }
+    seats
 }
 
 /// Whether the seat is one of the winners, and something is needed when it has won.
@@ -44,17 +50,16 @@ fn goes_on(side: Side, need: u8, winners: SeatSet, seat: Seat) -> bool
     winners.contains(seat) && need_after(side, need, seat) > 0
 }
 
-/// The winners that have to go on.
-fn seats_going_on(side: Side, need: u8, winners: SeatSet) -> SeatSet
-    ensures { (seat : Seat) → IsTrue (is_in result seat)
+/// The winners that have to go on, a bit each, that of North lowest.
+fn seats_going_on(side: Side, need: u8, winners: SeatSet) -> u8
+    ensures below { result < 2 ^ 4 }
+    ensures bits { (seat : Seat) → (bit_at result (seat_number seat) ≡ 1)
         ↔ (IsTrue (is_in winners seat) × (0 < need_after side need seat)) }
 {
-    SeatSet::of([
-        goes_on(side, need, winners, Seat::North),
-        goes_on(side, need, winners, Seat::East),
-        goes_on(side, need, winners, Seat::South),
-        goes_on(side, need, winners, Seat::West),
-    ])
+    u8::from(goes_on(side, need, winners, Seat::North))
+        + (u8::from(goes_on(side, need, winners, Seat::East)) << 1)
+        + (u8::from(goes_on(side, need, winners, Seat::South)) << 2)
+        + (u8::from(goes_on(side, need, winners, Seat::West)) << 3)
 }
 
 /// Whether the seats listed are those that may win and have to go on.

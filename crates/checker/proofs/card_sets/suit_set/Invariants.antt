@@ -1,6 +1,9 @@
--- The bits of the places so far that the seat owns.
-use Rattle.checker.proofs.SuitSetLaws.{HasTopsTo}
+-- The bits of the seat's tops so far, and those that are left.
+use Rattle.checker.proofs.SuitSetLaws.{HasTopsBut}
 use Rattle.checker.proofs.card_sets.suit_set.Given as goal
 
-abbrev pub invariant-loop-place : goal.invariant-loop-place
-invariant-loop-place l = HasTopsTo l.held.owners l.seat l.place l.set
+abbrev pub invariant-loop-places : goal.invariant-loop-places
+invariant-loop-places l = HasTopsBut l.held.owners l.seat l.places l.set
+
+abbrev pub decreases-loop-places : goal.decreases-loop-places
+decreases-loop-places l = l.places
