@@ -1,8 +1,11 @@
 -- The children of a leaf, at the beginning of a text.
-use Rattle.std.proofs.Common.{◌≡◌, ℕ, ◌+◌, ◌<◌, ◌≤◌, List, [], ◌∷◌, Option, None, Some, sym, ◌∙◌, ap, arith}
-use Rattle.std.specs.Prelude.{MatchOption}
+use Rattle.std.proofs.Common.{◌≡◌, ℕ, ◌+◌, ◌<◌, ◌≤◌, List, [], ◌∷◌, Option, None, Some, Bool, true, false, sym, ◌∙◌, ap, arith}
+use Rattle.std.specs.Prelude.{MatchOption, MatchBool}
 use Rattle.cards.specs.Seats.{seat_number}
 use Rattle.certificate_graph.specs.declared.children.Child.{Child}
+use Rattle.certificate_graph.specs.declared.cursors.Outcome.{Outcome}
+use Rattle.certificate_graph.specs.declared.cursors.Outcome.TheVariants.{Read, Other, NoMemory}
+use Rattle.certificate_graph.specs.Outcomes.{Ends}
 use Rattle.certificate_graph.specs.Texts.{child_text, more_children_text}
 use Rattle.certificate_graph.specs.Readings.{IsShort, BeginsChild, LacksChild, BeginsMore, LacksMore, BeginsChildren, LacksChildren}
 use Rattle.certificate_graph.proofs.OneSpelling.{tails}
@@ -12,6 +15,17 @@ use Rattle.certificate_graph.proofs.OneNode.{one_child, more-stops}
 pub match_map : {A : Type 0} {P P' : Type 0} {Q Q' : A → Type 0} (r : Option A) → (P → P') → ((a : A) → Q a → Q' a) → MatchOption r P Q → MatchOption r P' Q'
 match_map None f g h = f h
 match_map (Some a) f g h = g a h
+
+-- an outcome, told otherwise
+pub ends_map : {Found Lacking Found' Lacking' : Type 0} (outcome : Outcome) → (Found → Found') → (Lacking → Lacking') → Ends outcome Found Lacking → Ends outcome Found' Lacking'
+ends_map Read f g h = f h
+ends_map Other f g h = g h
+ends_map NoMemory f g h = h
+
+-- a test, told otherwise
+pub test_map : {Found Lacking Found' Lacking' : Type 0} (test : Bool) → (Found → Found') → (Lacking → Lacking') → MatchBool test Found Lacking → MatchBool test Found' Lacking'
+test_map true f g h = f h
+test_map false f g h = g h
 
 -- the text begins with no such byte
 abbrev pub LacksByte : ℕ → List ℕ → Type 0

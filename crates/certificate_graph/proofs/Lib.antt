@@ -16,4 +16,5 @@ pub mod SomeForm
 pub mod SomeTree
 pub mod SomeAnswer
 pub mod RenameLemmas
+pub mod NameLemmas
 pub mod ExtractLemmas

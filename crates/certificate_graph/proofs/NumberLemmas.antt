@@ -1,14 +1,16 @@
 -- Digits and the numbers that they write.
-use Rattle.std.proofs.Common.{◌≡◌, ℕ, zero, suc, ◌+◌, ◌*◌, ◌^◌, ◌<◌, ◌≤◌, List, ◌∷◌, ◌++◌, length, take, get_or, sym, ◌∙◌, ap, subst, arith, lit≤, lit<}
+use Rattle.std.proofs.Common.{◌≡◌, ℕ, zero, suc, ◌+◌, ◌-◌, ◌*◌, ◌^◌, ◌<◌, ◌≤◌, List, [], ◌∷◌, ◌++◌, length, take, drop, get_or, sym, ◌∙◌, ap, subst, arith, lit≤, lit<}
 use Rattle.std.specs.Fmt.{decimal}
 use Rattle.std.specs.Char.{digit_value}
+use Rattle.std.specs.Int.{IsInRange}
 use Rattle.std.specs.Str.Parse.{AllDigits, digits_value}
 use Rattle.std.proofs.lemmas.Str.Parse.{IsNumeralModel, numerals_by_value, tells_digits, digits_value_short, digits_value-take-le, digit_at}
+use Rattle.std.proofs.lemmas.List.{length-take-le, take-append-drop}
 use Rattle.std.proofs.lemmas.Str.{digit_value_digit}
 use Rattle.std.proofs.lemmas.Int.Digits.{digits_value_more}
 use Rattle.std.proofs.lemmas.Fmt.{decimal_is_IsNumeral, decimal-digits_value, decimal_digit, first_decimal, length-decimal-le}
 use Rattle.certificate_graph.specs.TextFaults.{IsNumber}
-use Rattle.certificate_graph.specs.Readings.{StopsDigits, IsShort, BeginsNumber}
+use Rattle.certificate_graph.specs.Readings.{StopsDigits, IsShort, BeginsNumber, len_text}
 use Rattle.certificate_graph.proofs.OneSpelling.{one_digits, one_number}
 
 own : IsNumeralModel (AllDigits 10) (digits_value 10)
@@ -51,6 +53,29 @@ number_read text digits rest e stops number few =
       is = e ∙ ap (λ ds. ds ++ rest) (sym (decimal_of_value digits number (omega arith)));
     }
 
+-- a digit more of at most eight at the beginning of a text
+pub record NextDigit (text : List ℕ) (end value : ℕ) : Type 0 where
+  pub short : value < 10 ^ 7
+  pub low : get_or text end 0 - 48 < 10
+  pub more : 10 * value + (get_or text end 0 - 48) ≡ digits_value 10 (take (end + 1) text)
+
+pub next_digit : (text : List ℕ) (end value : ℕ) → end < length text → end ≤ 7 → AllDigits 10 (take end text) → IsInRange 48 57 (get_or text end 0) →
+    value ≡ digits_value 10 (take end text) → NextDigit text end value
+next_digit text end value within few all digit is =
+    let long = length-take-le end text (omega arith) in
+    let short = value_short (take end text) all (omega (arith, long)) in
+    let next = digits_value_more 10 text end within in
+    let same = digit_value_digit (get_or text end 0) digit in
+    record { short = omega (arith, short, is); low = omega (arith, digit); more = omega (arith, next, same, is) }
+
+-- the number of the first digits of a text
+pub number_begun : (text digits rest : List ℕ) (value end : ℕ) → end ≤ 7 → end ≤ length text → digits ≡ take end text → rest ≡ drop end text →
+    value ≡ digits_value 10 (take end text) → StopsDigits (drop end text) → IsNumber digits → BeginsNumber text value rest
+number_begun text digits rest value end few within front back is stops number =
+    let long = length-take-le end text within in
+    let begins = number_read text (take end text) (drop end text) (sym (take-append-drop end text)) stops (subst IsNumber front number) (omega (arith, long)) in
+    subst (λ r. BeginsNumber text value r) (sym back) (subst (λ v. BeginsNumber text v (drop end text)) (sym is) begins)
+
 small : (n : ℕ) → IsShort n → n < 2 ^ 64
 small n h = omega arith
 
@@ -61,6 +86,12 @@ digits_are text digits rest n other e all stops begins =
     let same = one_digits digits (decimal n) rest other all (decimal_is_IsNumeral n fits).0.1 stops begins.stops (sym e ∙ begins.is) in
     let short : length (decimal n) ≤ 7 = length-decimal-le 7 n (lit< tt) begins.short fits in
     (subst IsNumber (sym same.0) (decimal_is_number n fits), rw same.0 short)
+
+-- a digit before a byte
+pub digit_text : (digit byte after : ℕ) (rest more : List ℕ) → IsInRange 48 57 digit → byte ≡ after → rest ≡ more → digit ∷ byte ∷ rest ≡ len_text after (digit - 48) more
+digit_text digit byte after rest more is same tail =
+    let spelled : decimal (digit - 48) ≡ digit ∷ [] = decimal_digit (digit - 48) (omega (arith, is)) ∙ ap (λ n. n ∷ []) (omega (arith, is)) in
+    ap (λ b. digit ∷ b ∷ rest) same ∙ (ap (λ r. digit ∷ after ∷ r) tail ∙ ap (λ ds. ds ++ after ∷ more) (sym spelled))
 
 -- a length before a byte, where a number was read
 pub len_is : (text : List ℕ) (n byte : ℕ) (rest : List ℕ) (len : ℕ) (more : List ℕ) → BeginsNumber text n rest → 10 ≤ digit_value byte → len ≤ 13 → text ≡ decimal len ++ (byte ∷ more) → (n ≡ len) × (rest ≡ byte ∷ more)

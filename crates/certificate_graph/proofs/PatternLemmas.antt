@@ -1,17 +1,24 @@
 -- Suits and patterns at the beginning of a text.
-use Rattle.std.proofs.Common.{◌≡◌, ℕ, ◌-◌, ◌≤◌, List, [], ◌∷◌, length, refl, sym, ◌∙◌, ap, arith, lit≤}
+use Rattle.std.proofs.Common.{◌≡◌, ℕ, ◌+◌, ◌-◌, ◌*◌, ◌^◌, ◌%◌, ◌<◌, ◌≤◌, List, [], ◌∷◌, ◌++◌, length, take, drop, get_or, refl, sym, ◌∙◌, ap, ap₂, subst, append_assoc, length-append, arith, lit≤}
 use Rattle.std.specs.Prelude.{slice_index}
 use Rattle.std.specs.Char.{digit_value}
+use Rattle.std.specs.Int.{IsInRange}
+use Rattle.std.proofs.lemmas.List.{take_all}
 use Rattle.cards.specs.declared.seats.Seat.{Seat}
 use Rattle.cards.specs.declared.seats.Seat.TheVariants.{North, East, South, West}
 use Rattle.cards.specs.declared.suits.Suit.TheVariants.{Spades, Hearts, Diamonds, Clubs}
 use Rattle.cards.specs.Seats.{seat_number}
 use Rattle.patterns.specs.Shapes.{SuitShape, Shape}
+use Rattle.patterns.specs.Words.{IsSuitWord, owner_count, suit_in}
+use Rattle.patterns.proofs.MoreOwners.{lengthened}
+use Rattle.patterns.proofs.SuitWords.{suit_with, length-owners_in_of}
 use Rattle.certificate_graph.specs.Texts.{owners_text, suit_text}
 use Rattle.certificate_graph.specs.Readings.{Always, seat_text, len_text, Lacks, IsLen, Begins, LacksOwners, BeginsTwo, LacksTwo, BeginsLens, LacksLens, BeginsSuit, LacksSuit, BeginsTwoSuits, LacksTwoSuits, BeginsPattern, LacksPattern}
+use Rattle.certificate_graph.specs.Suits.{IsWordOf, HasOwners, HasDigit}
 use Rattle.certificate_graph.proofs.OneSpelling.{one_seat}
 use Rattle.certificate_graph.proofs.OneNode.{one_len, one_suit_form}
 use Rattle.certificate_graph.proofs.LeafLemmas.{LacksByte}
+use Rattle.certificate_graph.proofs.NumberLemmas.{digit_text}
 
 -- ---- owners
 pub owners_by_seat : (room : ℕ) (text : List ℕ) → LacksByte 32 text → Lacks Always seat_text text → LacksOwners room text
@@ -27,6 +34,37 @@ owners_by_more room text owner after blank first lacks [] rest few e = blank res
 owners_by_more room text owner after blank first lacks (other ∷ more) rest few e =
     let same = one_seat owner other after _ (sym first ∙ e) in
     lacks more rest (omega arith) same.1
+
+-- an owner more in a word
+pub record OwnerAdded (word next : ℕ) (owner : Seat) : Type 0 where
+  pub fits : next < 2 ^ 64
+  pub is_word : IsSuitWord next
+  pub lens : (suit_in next).lens ≡ (suit_in word).lens
+  pub owners : (suit_in next).owners ≡ (suit_in word).owners ++ owner ∷ []
+  pub count : owner_count next ≡ owner_count word + 1
+
+pub owner_added : (word count number : ℕ) (owner : Seat) → IsSuitWord word → count ≡ owner_count word → number ≡ seat_number owner → count < 13 →
+    OwnerAdded word (word + 65536 + number * 2 ^ (20 + 2 * count) % 2 ^ 64) owner
+owner_added word count number owner is counted numbered few =
+    let once : 1 * number ≡ number = omega arith in
+    let more = lengthened word 1 count number owner is counted numbered (omega (arith, length-owners_in_of word)) in
+    let next = word + 65536 + number * 2 ^ (20 + 2 * count) % 2 ^ 64 in
+    let same : word + 65536 + 1 * number * 2 ^ (20 + 2 * count) % 2 ^ 64 ≡ next = ap (λ n. word + 65536 + n * 2 ^ (20 + 2 * count) % 2 ^ 64) once in
+    let owners : (suit_in next).owners ≡ (suit_in word).owners ++ owner ∷ [] = subst (λ n. (suit_in n).owners ≡ (suit_in word).owners ++ owner ∷ []) same more.owners in
+    record {
+      fits = subst (λ n. n < 2 ^ 64) same more.sum;
+      is_word = subst IsSuitWord same more.is_word;
+      lens = subst (λ n. (suit_in n).lens ≡ (suit_in word).lens) same more.lens;
+      owners = owners;
+      count = omega (arith, length-owners_in_of word, length-owners_in_of next, ap length owners, length-append (suit_in word).owners (owner ∷ []));
+    }
+
+pub owners_more : (word next final : ℕ) (owner : Seat) (more : List Seat) → OwnerAdded word next owner → HasOwners next more final → HasOwners word (owner ∷ more) final
+owners_more word next final owner more added has = record {
+  is_word = has.is_word;
+  lens_are = has.lens_are ∙ added.lens;
+  owners_are = has.owners_are ∙ (ap (λ l. l ++ more) added.owners ∙ append_assoc (suit_in word).owners (owner ∷ []) more);
+}
 
 -- ---- lengths
 pub two_by_second : (first second : ℕ) (text : List ℕ) (one : ℕ) (after : List ℕ) → 10 ≤ digit_value first → Begins IsLen (len_text first) text one after → Lacks IsLen (len_text second) after → LacksTwo first second text
@@ -63,6 +101,29 @@ lens_read text a b c d after rest x y = record {
   is = x.is ∙ ap (λ t. len_text 46 a (len_text 46 b t)) y.is;
 }
 
+-- four lengths of one digit each
+short_lens : (a b c d e f g h : ℕ) (rest more : List ℕ) → rest ≡ more → IsInRange 48 57 a → b ≡ 46 → IsInRange 48 57 c → d ≡ 46 → IsInRange 48 57 e → f ≡ 46 → IsInRange 48 57 g → h ≡ 47 →
+    BeginsLens (a ∷ b ∷ c ∷ d ∷ e ∷ f ∷ g ∷ h ∷ rest) ((a - 48) ∷ (c - 48) ∷ (e - 48) ∷ (g - 48) ∷ []) more
+short_lens a b c d e f g h rest more same ha hb hc hd he hf hg hh = record {
+  four = refl;
+  low = lens_low (a - 48) (c - 48) (e - 48) (g - 48) (omega (arith, ha)) (omega (arith, hc)) (omega (arith, he)) (omega (arith, hg));
+  is = digit_text a b 46 _ _ ha hb (digit_text c d 46 _ _ hc hd (digit_text e f 46 _ _ he hf (digit_text g h 47 _ _ hg hh same)));
+}
+
+pub lens_by_digits : (text : List ℕ) → 8 ≤ length text → HasDigit text 0 46 → HasDigit text 2 46 → HasDigit text 4 46 → HasDigit text 6 47 →
+    BeginsLens text ((get_or text 0 0 - 48) ∷ (get_or text 2 0 - 48) ∷ (get_or text 4 0 - 48) ∷ (get_or text 6 0 - 48) ∷ []) (take (length text - 8) (drop 8 text))
+lens_by_digits [] long north east south west = absurd (omega arith)
+lens_by_digits (a ∷ []) long north east south west = absurd (omega arith)
+lens_by_digits (a ∷ b ∷ []) long north east south west = absurd (omega arith)
+lens_by_digits (a ∷ b ∷ c ∷ []) long north east south west = absurd (omega arith)
+lens_by_digits (a ∷ b ∷ c ∷ d ∷ []) long north east south west = absurd (omega arith)
+lens_by_digits (a ∷ b ∷ c ∷ d ∷ e ∷ []) long north east south west = absurd (omega arith)
+lens_by_digits (a ∷ b ∷ c ∷ d ∷ e ∷ f ∷ []) long north east south west = absurd (omega arith)
+lens_by_digits (a ∷ b ∷ c ∷ d ∷ e ∷ f ∷ g ∷ []) long north east south west = absurd (omega arith)
+lens_by_digits (a ∷ b ∷ c ∷ d ∷ e ∷ f ∷ g ∷ h ∷ rest) long north east south west =
+    short_lens a b c d e f g h rest _ (sym (take_all _ rest (omega arith)))
+    north.digit north.before east.digit east.before south.digit south.before west.digit west.before
+
 -- ---- suits
 pub suit_by_lens : (text : List ℕ) → LacksLens text → LacksSuit text
 suit_by_lens text lacks suit rest begins = lacks suit.lens _ (record { four = begins.form.four; low = begins.form.lens; is = begins.is })
@@ -80,6 +141,14 @@ suit_read text lens after owners rest first few e = record {
   form = record { four = first.four; lens = first.low; owners = few };
   is = first.is ∙ ap (λ t. len_text 46 (slice_index lens 0) (len_text 46 (slice_index lens 1) (len_text 46 (slice_index lens 2) (len_text 47 (slice_index lens 3) t)))) e;
 }
+
+-- a suit, from the word of its lengths
+pub suit_begun : (text lens after : List ℕ) (word final : ℕ) (owners : List Seat) (rest : List ℕ) → BeginsLens text lens after → IsWordOf word lens [] →
+    length owners ≤ 13 → after ≡ owners_text owners (32 ∷ rest) → HasOwners word owners final → IsSuitWord final × BeginsSuit text (suit_in final) rest
+suit_begun text lens after word final owners rest first of_lens few e has =
+    let same : suit_in final ≡ suit_with lens owners =
+    ap₂ suit_with (has.lens_are ∙ of_lens.lens_are) (has.owners_are ∙ ap (λ l. l ++ owners) of_lens.owners_are) in
+    (has.is_word, subst (λ suit. BeginsSuit text suit rest) (sym same) (suit_read text lens after owners rest first few e))
 
 pub two_suits_by_first : (text : List ℕ) → LacksSuit text → LacksTwoSuits text
 two_suits_by_first text lacks first second rest begins = lacks first _ (record { form = begins.form; is = begins.is })

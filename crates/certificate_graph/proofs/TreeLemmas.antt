@@ -1,6 +1,5 @@
 -- Trees and branches at the beginning of a text.
-use Rattle.std.proofs.Common.{◌≡◌, ℕ, ◌+◌, ◌-◌, ◌<◌, ◌≤◌, List, ◌∷◌, Result, Ok, Err, sym, ◌∙◌, ap, subst, arith}
-use Rattle.std.specs.Prelude.{IfOk}
+use Rattle.std.proofs.Common.{◌≡◌, ℕ, ◌+◌, ◌-◌, ◌<◌, ◌≤◌, List, ◌∷◌, sym, ◌∙◌, ap, subst, arith}
 use Rattle.pattern_step.specs.declared.pat_cards.PatCard.{PatCard}
 use Rattle.certificate_graph.specs.Trees.{TrickTree, Own, Reply, Leaf, Branches, NoBranch, Branch}
 use Rattle.certificate_graph.specs.Graphs.{card_place, IsCard, HaveForm}
@@ -9,10 +8,6 @@ use Rattle.certificate_graph.specs.Readings.{Begins, Lacks, LacksChildren, Begin
 use Rattle.certificate_graph.proofs.OneSpelling.{heads, tails, one_card}
 use Rattle.certificate_graph.proofs.OneNode.{card_first, one_tree}
 use Rattle.certificate_graph.proofs.LeafLemmas.{LacksByte}
-
-pub ok_map : {A E : Type 0} {P P' : A → Type 0} (r : Result A E) → ((a : A) → P a → P' a) → IfOk r P → IfOk r P'
-ok_map (Ok a) f h = f a h
-ok_map (Err e) f h = h
 
 -- ---- what a tree lacks that begins otherwise
 pub no_leaf : (text : List ℕ) → LacksChildren text → LacksLeaf text
@@ -120,6 +115,13 @@ pub lacks_by_place : (room least : ℕ) (text : List ℕ) (card : PatCard) (belo
 lacks_by_place room least text card below after closing first low NoBranch rest begins = closing rest begins.is
 lacks_by_place room least text card below after closing first low (Branch d u us) rest begins =
     let same = first_branch room least text card below after d u us rest first begins in
+    let place : card_place card ≡ card_place d = ap (λ (k : PatCard). card_place k) same.0 in
+    omega (arith, begins.form.1)
+
+pub lacks_by_card : (room least : ℕ) (text : List ℕ) (card : PatCard) (after : List ℕ) → LacksByte 41 text → Begins IsCard card_text text card after → card_place card < least → LacksBranches room least text
+lacks_by_card room least text card after closing first low NoBranch rest begins = closing rest begins.is
+lacks_by_card room least text card after closing first low (Branch d u us) rest begins =
+    let same = one_card card d after _ first.good begins.form.0 (sym first.is ∙ begins.is) in
     let place : card_place card ≡ card_place d = ap (λ (k : PatCard). card_place k) same.0 in
     omega (arith, begins.form.1)
 

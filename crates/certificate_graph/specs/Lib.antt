@@ -13,4 +13,5 @@ pub mod TextFaults
 pub mod FaultWords
 pub mod Laws
 pub mod Readings
+pub mod Outcomes
 pub mod Suits

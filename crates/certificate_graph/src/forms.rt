@@ -1,11 +1,11 @@
 //! Whether a tree is of the form, and which nodes it names.
 
-ghost use Rattle.std.specs.Prelude.{◌≡◌, ◌↔◌, IsTrue, ◌<◌};
-ghost use Rattle.std.specs.List.{AllByRecursion};
+ghost use Rattle.std.specs.Prelude.{◌≡◌, ◌↔◌, IsTrue, All};
 ghost use Rattle.certificate_graph.specs.Graphs.{card_place, IsCard, SeatsRise, HasForm, HaveForm, NamesBelow};
-ghost use Rattle.certificate_graph.specs.Graphs.{NameBelow};
+ghost use Rattle.certificate_graph.specs.RowNames.{NamesLess};
 
 use crate::places::{Branches, Children, Place, PlaceView};
+use crate::rows::Token;
 use pattern_step::PatCard;
 
 /// The cards of a trick: so many stand one below another in a tree at most.
@@ -77,35 +77,31 @@ fn have_form(branches: &Branches<'_>, room: u8, least: u16) -> bool
     }
 }
 
+/// Whether the token names a node below this number, or none.
+fn names_less(token: &Token, count: u32) -> bool
+    ensures { IsTrue result ↔ NamesLess count token.now }
+{
+    match token {
+        Token::Child(child) => child.number < count,
+        _ => true,
+    }
+}
+
+/// Whether the tokens name nodes below this number alone.
+fn all_name_less(row: &[Token], count: u32) -> bool
+    ensures { IsTrue result ↔ All (NamesLess count) row.now }
+{
+    for token in row {
+        if !names_less(token, count) {
+            return false;
+        }
+    }
+    true
+}
+
 /// Whether the leaves name nodes below this number.
-#[cycle(names)]
 pub(crate) fn names_below(place: &Place<'_>, count: u32) -> bool
     ensures { IsTrue result ↔ NamesBelow count place.now }
 {
-    match place.view() {
-        PlaceView::Own(_, below) => names_below(&below, count),
-        PlaceView::Reply(branches) => name_below(&branches, count),
-        PlaceView::Leaf(children) => are_below(&children, count),
-    }
-}
-
-/// Whether the leaves of all branches name nodes below this number.
-#[cycle(names)]
-fn name_below(branches: &Branches<'_>, count: u32) -> bool
-    ensures { IsTrue result ↔ NameBelow count branches.now }
-{
-    match branches.split_first() {
-        None => true,
-        Some((_, below, rest)) => names_below(&below, count) && name_below(&rest, count),
-    }
-}
-
-/// Whether the children are nodes below this number.
-fn are_below(children: &Children<'_>, count: u32) -> bool
-    ensures { IsTrue result ↔ AllByRecursion (λ child. child.number < count) children.now }
-{
-    match children.split_first() {
-        None => true,
-        Some((child, rest)) => child.number < count && are_below(&rest, count),
-    }
+    all_name_less(place.row(), count)
 }

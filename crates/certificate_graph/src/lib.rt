@@ -10,6 +10,7 @@
 mod answers;
 mod checks;
 mod children;
+mod cursors;
 mod extracting;
 mod faults;
 mod forms;

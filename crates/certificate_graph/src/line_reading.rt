@@ -2,11 +2,13 @@
 
 ghost use Rattle.std.specs.Prelude.{◌≡◌, ◌∷◌, ℕ, List, MatchOption, IfOk};
 ghost use Rattle.cards.specs.declared.seats.Seat.{Seat};
+ghost use Rattle.patterns.specs.Words.{AreWords};
 ghost use Rattle.certificate_graph.specs.Graphs.{IsNeed};
 ghost use Rattle.certificate_graph.specs.TextFaults.{BeginsNode, LacksNode};
 ghost use Rattle.certificate_graph.specs.Readings.{BeginsClaim, LacksClaim};
-ghost use Rattle.certificate_graph.specs.Suits.{node_read};
+ghost use Rattle.certificate_graph.specs.Suits.{node_read, words_read};
 
+use crate::cursors::{Cursor, Outcome};
 use crate::forms::TRICK_CARDS;
 use crate::pattern_reading::{Suits, read_suits};
 use crate::rows::Token;
@@ -55,7 +57,7 @@ pub(crate) fn read_line<'a>(
     row: &mut Vec<Token>,
 ) -> Result<Option<(Line, &'a [u8])>, AllocError>
     ensures { IfOk result (λ read. MatchOption read (LacksNode text.now)
-        (λ p. BeginsNode text.now (node_read p.0) p.1.now)) }
+        (λ p. AreWords (words_read p.0.suits) × BeginsNode text.now (node_read p.0) p.1.now)) }
 {
     let Some((lead, need, rest)) = read_claim(text) else {
         return Ok(None);
@@ -64,10 +66,13 @@ pub(crate) fn read_line<'a>(
         return Ok(None);
     };
     row.clear();
-    let Some(rest) = read_tree(rest, TRICK_CARDS, row)? else {
-        return Ok(None);
-    };
-    let Some(rest) = after_byte(rest, b'\n') else {
+    let mut cursor = Cursor { rest };
+    match read_tree(&mut cursor, TRICK_CARDS, row) {
+        Outcome::Read => {}
+        Outcome::Other => return Ok(None),
+        Outcome::NoMemory => return Err(AllocError),
+    }
+    let Some(rest) = after_byte(cursor.rest, b'\n') else {
         return Ok(None);
     };
     let tokens = Vec::from_slice(alloc, row.as_slice())?;

@@ -44,7 +44,7 @@ fn read_node<'a>(
         diamonds,
         clubs,
     } = said.suits;
-    let Ok(pattern) = Pattern::from_parts([spades, hearts, diamonds, clubs]) else {
+    let Ok(pattern) = Pattern::from_words([spades, hearts, diamonds, clubs]) else {
         return Err(TextFault::BadPattern { line });
     };
     if !names_below(&said.tree.root(), count) {

@@ -85,7 +85,7 @@ impl<'a> Place<'a> {
     }
 
     /// The tokens that stand there, to the end of the row.
-    fn row(&self) -> &'a [Token]
+    pub(crate) fn row(&self) -> &'a [Token]
         ensures { result.now ≡ tree_row self.now }
     {
         self.row

@@ -1,6 +1,6 @@
 //! The beginning of a text: one byte, a letter, a card, a number.
 
-ghost use Rattle.std.specs.Prelude.{◌≡◌, ◌∷◌, ◌++◌, [], ℕ, List, ⊤, ◌≤◌, ◌↔◌, IsTrue, MatchOption, length};
+ghost use Rattle.std.specs.Prelude.{◌≡◌, ◌∷◌, ◌++◌, [], ℕ, List, ⊤, ◌≤◌, ◌↔◌, IsTrue, MatchOption, ◌+◌, length, take, drop};
 ghost use Rattle.std.specs.Char.{digit_value};
 ghost use Rattle.std.specs.Str.Parse.{AllDigits, digits_value};
 ghost use Rattle.cards.specs.declared.seats.Seat.{Seat};
@@ -10,9 +10,11 @@ ghost use Rattle.cards.specs.Seats.{seat_letter};
 ghost use Rattle.certificate_graph.specs.Graphs.{IsCard};
 ghost use Rattle.certificate_graph.specs.Texts.{card_text};
 ghost use Rattle.certificate_graph.specs.TextFaults.{IsNumber};
+ghost use Rattle.certificate_graph.specs.Suits.{HasDigit};
 ghost use Rattle.certificate_graph.specs.Readings.{seat_text, len_text, StopsDigits, Always, IsLen, Begins, Lacks};
 ghost use Rattle.certificate_graph.specs.Readings.{BeginsNumber, LacksNumber};
 
+use crate::writing::{seat_byte, suit_byte};
 use cards::{Seat, Suit};
 use pattern_step::PatCard;
 
@@ -32,17 +34,28 @@ pub(crate) fn after_byte(text: &[u8], byte: u8) -> Option<&[u8]>
     }
 }
 
+/// The seat that a letter can be of alone: three bits tell the letters apart.
+fn seat_by_bits(byte: u8) -> Seat
+    ensures { (seat : Seat) → seat_letter seat ≡ byte ∷ [] → seat ≡ result }
+{
+    match byte >> 2 & 7 {
+        3 => Seat::North,
+        1 => Seat::East,
+        4 => Seat::South,
+        _ => Seat::West,
+    }
+}
+
 /// The seat of a letter.
-fn seat_of_letter(byte: u8) -> Option<Seat>
+pub(crate) fn seat_of_letter(byte: u8) -> Option<Seat>
     ensures { MatchOption result ((seat : Seat) → seat_letter seat ≡ byte ∷ [] → ⊥)
         (λ seat. seat_letter seat ≡ byte ∷ []) }
 {
-    match byte {
-        b'N' => Some(Seat::North),
-        b'E' => Some(Seat::East),
-        b'S' => Some(Seat::South),
-        b'W' => Some(Seat::West),
-        _ => None,
+    let seat = seat_by_bits(byte);
+    if seat_byte(seat) == byte {
+        Some(seat)
+    } else {
+        None
     }
 }
 
@@ -57,17 +70,28 @@ pub(crate) fn read_seat(text: &[u8]) -> Option<(Seat, &[u8])>
     Some((seat, rest))
 }
 
+/// The suit that a letter can be of alone: three bits tell the letters apart.
+fn suit_by_bits(byte: u8) -> Suit
+    ensures { (suit : Suit) → suit_letter suit ≡ byte ∷ [] → suit ≡ result }
+{
+    match byte >> 2 & 7 {
+        4 => Suit::Spades,
+        2 => Suit::Hearts,
+        1 => Suit::Diamonds,
+        _ => Suit::Clubs,
+    }
+}
+
 /// The suit of a letter.
 fn suit_of_letter(byte: u8) -> Option<Suit>
     ensures { MatchOption result ((suit : Suit) → suit_letter suit ≡ byte ∷ [] → ⊥)
         (λ suit. suit_letter suit ≡ byte ∷ []) }
 {
-    match byte {
-        b'S' => Some(Suit::Spades),
-        b'H' => Some(Suit::Hearts),
-        b'D' => Some(Suit::Diamonds),
-        b'C' => Some(Suit::Clubs),
-        _ => None,
+    let suit = suit_by_bits(byte);
+    if suit_byte(suit) == byte {
+        Some(suit)
+    } else {
+        None
     }
 }
 
@@ -124,8 +148,10 @@ pub(crate) fn value_of(digits: &[u8]) -> u32
     value
 }
 
-/// A number of at most seven digits, and the text after it.
-pub(crate) fn read_number(text: &[u8]) -> Option<(u32, &[u8])>
+/// A number of whatever digits, of which at most seven are read, and the text after it.
+#[cold]
+#[inline(never)]
+fn read_long_number(text: &[u8]) -> Option<(u32, &[u8])>
     ensures { MatchOption result (LacksNumber text.now) (λ p. BeginsNumber text.now p.0 p.1.now) }
 {
     let (digits, rest) = split_digits(text);
@@ -134,6 +160,42 @@ pub(crate) fn read_number(text: &[u8]) -> Option<(u32, &[u8])>
     } else {
         None
     }
+}
+
+/// The value of the first digits, of eight at most, and how many they are.
+fn first_digits(text: &[u8]) -> (u32, usize)
+    ensures within { result.1 ≤ length text.now }
+    ensures value { result.0 ≡ digits_value 10 (take result.1 text.now) }
+    ensures digits { AllDigits 10 (take result.1 text.now) }
+    ensures stops { result.1 ≤ 7 → StopsDigits (drop result.1 text.now) }
+{
+    let mut value = 0;
+    let mut end = 0;
+    while end <= GREATEST_DIGITS && end < text.len() && text[end].is_ascii_digit() {
+        value = 10 * value + u32::from(text[end] - b'0');
+        end += 1;
+    }
+    (value, end)
+}
+
+/// A number of at most seven digits, and the text after it.
+pub(crate) fn read_number(text: &[u8]) -> Option<(u32, &[u8])>
+    ensures { MatchOption result (LacksNumber text.now) (λ p. BeginsNumber text.now p.0 p.1.now) }
+{
+    let (value, end) = first_digits(text);
+    let (digits, rest) = text.split_at(end);
+    if end <= GREATEST_DIGITS && is_number(digits) {
+        return Some((value, rest));
+    }
+    read_long_number(text)
+}
+
+/// Whether a digit stands in this place, and the byte behind it.
+pub(crate) fn has_digit(text: &[u8], place: usize, byte: u8) -> bool
+    requires { place + 2 ≤ length text.now }
+    ensures { IsTrue result → HasDigit text.now place byte }
+{
+    text[place].is_ascii_digit() && text[place + 1] == byte
 }
 
 /// A length of at most 13 before this byte, and the text after the byte.

@@ -1,108 +1,112 @@
 //! Trees, as they are read. A tree has room for a few cards one below another, so that no text goes deep.
 
-ghost use Rattle.std.specs.Prelude.{◌≡◌, ◌∷◌, ◌++◌, ◌+◌, ◌-◌, ◌<◌, ◌≤◌, length, slice_set, MatchOption, IfOk, OnOk};
+ghost use Rattle.std.specs.Prelude.{◌≡◌, ◌∷◌, ◌++◌, ◌+◌, ◌-◌, ◌<◌, ◌≤◌, length, slice_set, MatchOption};
 ghost use Rattle.certificate_graph.specs.Graphs.{card_place};
-ghost use Rattle.certificate_graph.specs.Readings.{BeginsBranch, LacksBranch, BeginsBranches, LacksBranches};
+ghost use Rattle.certificate_graph.specs.Outcomes.{Ends};
+ghost use Rattle.certificate_graph.specs.Readings.{BeginsBranches, LacksBranches};
 ghost use Rattle.certificate_graph.specs.Readings.{BeginsTree, LacksTree, BeginsLeaf, LacksLeaf, BeginsOwn, LacksOwn};
 ghost use Rattle.certificate_graph.specs.Readings.{BeginsReply, LacksReply};
 ghost use Rattle.certificate_graph.specs.Rows.{tree_row, branches_row};
 ghost use Rattle.certificate_graph.specs.Trees.{TrickTree, Branches};
 ghost use Rattle.certificate_graph.specs.declared.rows.Token.TheVariants as token;
 
+use crate::cursors::{Cursor, Outcome};
 use crate::forms::card_place;
 use crate::leaf_reading::read_children;
 use crate::rows::Token;
 use crate::scanning::{after_byte, read_card};
 use pattern_step::PatCard;
-use std::alloc::AllocError;
 
-/// Puts a tree with room for so many cards one below another at the end of a row, and answers the text after it.
+/// Reads a tree with room for so many cards one below another, and puts it at the end of a row.
 #[cycle(tree)]
-pub(crate) fn read_tree<'a>(
-    text: &'a [u8],
-    room: u8,
-    row: &mut Vec<Token>,
-) -> Result<Option<&'a [u8]>, AllocError>
-    ensures { IfOk result (λ read. MatchOption read (LacksTree room text.now)
-        (λ rest. (tree : TrickTree) × BeginsTree room text.now tree rest.now
-        × (row.new.items ≡ row.old.items ++ tree_row tree))) }
+pub(crate) fn read_tree(cursor: &mut Cursor<'_>, room: u8, row: &mut Vec<Token>) -> Outcome
+    ensures { Ends result
+        ((tree : TrickTree) × BeginsTree room cursor.old.rest.now tree cursor.new.rest.now
+        × (row.new.items ≡ row.old.items ++ tree_row tree))
+        (LacksTree room cursor.old.rest.now) }
 {
+    let text = cursor.rest;
     if let Some(rest) = after_byte(text, b'{') {
-        return read_leaf(rest, row);
+        cursor.rest = rest;
+        return read_leaf(cursor, row);
     }
     if room == 0 {
-        return Ok(None);
+        return Outcome::Other;
     }
     if let Some(rest) = after_byte(text, b'(') {
-        return read_reply(rest, room - 1, row);
+        cursor.rest = rest;
+        return read_reply(cursor, room - 1, row);
     }
-    read_own(text, room - 1, row)
+    read_own(cursor, room - 1, row)
 }
 
 /// A leaf after its opening brace.
-fn read_leaf<'a>(text: &'a [u8], row: &mut Vec<Token>) -> Result<Option<&'a [u8]>, AllocError>
-    ensures { IfOk result (λ read. MatchOption read (LacksLeaf text.now)
-        (λ rest. (tree : TrickTree) × BeginsLeaf text.now tree rest.now
-        × (row.new.items ≡ row.old.items ++ tree_row tree))) }
+fn read_leaf(cursor: &mut Cursor<'_>, row: &mut Vec<Token>) -> Outcome
+    ensures { Ends result
+        ((tree : TrickTree) × BeginsLeaf cursor.old.rest.now tree cursor.new.rest.now
+        × (row.new.items ≡ row.old.items ++ tree_row tree))
+        (LacksLeaf cursor.old.rest.now) }
 {
-    read_children(text, row)
+    read_children(cursor, row)
 }
 
 /// A card of the side with what follows it.
 #[cycle(tree)]
-fn read_own<'a>(
-    text: &'a [u8],
-    room: u8,
-    row: &mut Vec<Token>,
-) -> Result<Option<&'a [u8]>, AllocError>
-    ensures { IfOk result (λ read. MatchOption read (LacksOwn room text.now)
-        (λ rest. (tree : TrickTree) × BeginsOwn room text.now tree rest.now
-        × (row.new.items ≡ row.old.items ++ tree_row tree))) }
+fn read_own(cursor: &mut Cursor<'_>, room: u8, row: &mut Vec<Token>) -> Outcome
+    ensures { Ends result
+        ((tree : TrickTree) × BeginsOwn room cursor.old.rest.now tree cursor.new.rest.now
+        × (row.new.items ≡ row.old.items ++ tree_row tree))
+        (LacksOwn room cursor.old.rest.now) }
 {
-    let Some((card, rest)) = read_card(text) else {
-        return Ok(None);
+    let Some((card, rest)) = read_card(cursor.rest) else {
+        return Outcome::Other;
     };
-    row.push(Token::Own(card))?;
-    read_tree(rest, room, row)
+    let Ok(()) = row.push(Token::Own(card)) else {
+        return Outcome::NoMemory;
+    };
+    cursor.rest = rest;
+    read_tree(cursor, room, row)
 }
 
 /// The opponents' cards after the opening parenthesis, to the closing one.
 #[cycle(tree)]
-fn read_reply<'a>(
-    text: &'a [u8],
-    room: u8,
-    row: &mut Vec<Token>,
-) -> Result<Option<&'a [u8]>, AllocError>
-    ensures { IfOk result (λ read. MatchOption read (LacksReply room text.now)
-        (λ rest. (tree : TrickTree) × BeginsReply room text.now tree rest.now
-        × (row.new.items ≡ row.old.items ++ tree_row tree))) }
+fn read_reply(cursor: &mut Cursor<'_>, room: u8, row: &mut Vec<Token>) -> Outcome
+    ensures { Ends result
+        ((tree : TrickTree) × BeginsReply room cursor.old.rest.now tree cursor.new.rest.now
+        × (row.new.items ≡ row.old.items ++ tree_row tree))
+        (LacksReply room cursor.old.rest.now) }
 {
-    row.push(Token::Reply)?;
-    read_branches(text, room, 0, row)
+    let Ok(()) = row.push(Token::Reply) else {
+        return Outcome::NoMemory;
+    };
+    read_branches(cursor, room, 0, row)
 }
 
 /// Branches whose cards rise from this place on, to the closing parenthesis.
 #[cycle(tree)]
-fn read_branches<'a>(
-    text: &'a [u8],
-    room: u8,
-    least: u16,
-    row: &mut Vec<Token>,
-) -> Result<Option<&'a [u8]>, AllocError>
-    ensures { IfOk result (λ read. MatchOption read (LacksBranches room least text.now)
-        (λ rest. (branches : Branches) × BeginsBranches room least text.now branches rest.now
-        × (row.new.items ≡ row.old.items ++ branches_row branches))) }
+fn read_branches(cursor: &mut Cursor<'_>, room: u8, least: u16, row: &mut Vec<Token>) -> Outcome
+    ensures { Ends result
+        ((branches : Branches) × BeginsBranches room least cursor.old.rest.now branches cursor.new.rest.now
+        × (row.new.items ≡ row.old.items ++ branches_row branches))
+        (LacksBranches room least cursor.old.rest.now) }
 {
+    let text = cursor.rest;
     if let Some(rest) = after_byte(text, b')') {
-        return Ok(Some(rest));
+        cursor.rest = rest;
+        return Outcome::Read;
     }
-    let Some((card, rest)) = read_branch(text, room, row)? else {
-        return Ok(None);
+    let Some((card, rest)) = read_card(text) else {
+        return Outcome::Other;
     };
     let Some(next) = next_place(card, least) else {
-        return Ok(None);
+        return Outcome::Other;
     };
-    read_branches(rest, room, next, row)
+    cursor.rest = rest;
+    match read_branch(cursor, room, card, row) {
+        Outcome::Read => read_branches(cursor, room, next, row),
+        Outcome::Other => Outcome::Other,
+        Outcome::NoMemory => Outcome::NoMemory,
+    }
 }
 
 /// The least place that a card after this one may have, where this one has at least this place itself.
@@ -117,39 +121,35 @@ fn next_place(card: PatCard, least: u16) -> Option<u16>
     Some(place + 1)
 }
 
-/// A card of the opponents with what follows it.
+/// What follows a card of the opponents, with the card before it.
 #[cycle(tree)]
-fn read_branch<'a>(
-    text: &'a [u8],
-    room: u8,
-    row: &mut Vec<Token>,
-) -> Result<Option<(PatCard, &'a [u8])>, AllocError>
-    ensures { IfOk result (λ read. MatchOption read (LacksBranch room text.now)
-        (λ p. (below : TrickTree) × BeginsBranch room text.now p.0 below p.1.now
-        × (row.new.items ≡ row.old.items ++ token.Branch p.0 (length (tree_row below)) ∷ tree_row below))) }
+fn read_branch(cursor: &mut Cursor<'_>, room: u8, card: PatCard, row: &mut Vec<Token>) -> Outcome
+    ensures { Ends result
+        ((below : TrickTree) × BeginsTree room cursor.old.rest.now below cursor.new.rest.now
+        × (row.new.items ≡ row.old.items ++ token.Branch card (length (tree_row below)) ∷ tree_row below))
+        (LacksTree room cursor.old.rest.now) }
 {
-    let Some((card, rest)) = read_card(text) else {
-        return Ok(None);
-    };
     let place = row.len();
-    row.push(Token::Branch(card, 0))?;
-    let Some(rest) = read_tree(rest, room, row)? else {
-        return Ok(None);
+    let Ok(()) = row.push(Token::Branch(card, 0)) else {
+        return Outcome::NoMemory;
     };
-    end_branch(row, place, card)?;
-    Ok(Some((card, rest)))
+    match read_tree(cursor, room, row) {
+        Outcome::Read => end_branch(row, place, card),
+        Outcome::Other => Outcome::Other,
+        Outcome::NoMemory => Outcome::NoMemory,
+    }
 }
 
-/// Says in the token of a branch, which stands in this place, how many tokens it has after it. Fails where they are
-/// over 4,294,967,295, for which there is no memory.
-fn end_branch(row: &mut Vec<Token>, place: usize, card: PatCard) -> Result<(), AllocError>
+/// Says in the token of a branch, which stands in this place, how many tokens it has after it. There is no memory where
+/// they are over 4,294,967,295.
+fn end_branch(row: &mut Vec<Token>, place: usize, card: PatCard) -> Outcome
     requires { place < length row.old.items }
-    ensures { OnOk result (row.new.items ≡ slice_set row.old.items place
-        (token.Branch card (length row.old.items - (place + 1)))) }
+    ensures { Ends result (row.new.items ≡ slice_set row.old.items place
+        (token.Branch card (length row.old.items - (place + 1)))) ⊥ }
 {
     let Ok(count) = u32::try_from(row.len() - (place + 1)) else {
-        return Err(AllocError);
+        return Outcome::NoMemory;
     };
     row[place] = Token::Branch(card, count);
-    Ok(())
+    Outcome::Read
 }

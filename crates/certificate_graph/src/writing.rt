@@ -29,7 +29,7 @@ pub(crate) fn seat_byte(seat: Seat) -> u8
 }
 
 /// The letter of a suit.
-fn suit_byte(suit: Suit) -> u8
+pub(crate) fn suit_byte(suit: Suit) -> u8
     ensures { suit_letter suit ≡ result ∷ [] }
 {
     match suit {

@@ -1,18 +1,10 @@
 use Rattle.std.proofs.Common.{arith}
-use Rattle.certificate_graph.proofs.NumberLemmas.{number_read, digits_are}
+use Rattle.certificate_graph.proofs.NumberLemmas.{number_begun}
 use Rattle.certificate_graph.proofs.scanning.read_number.Goals as goal
-use Rattle.certificate_graph.proofs.scanning.read_number.Goals.{else-is_number-via-then-is_number+else-digits-le-GREATEST_DIGITS, else-is_number-via-else-is_number}
 
-pub returns-then-digits-le-GREATEST_DIGITS : goal.returns-then-digits-le-GREATEST_DIGITS
-returns-then-digits-le-GREATEST_DIGITS c =
-    let parts = c.split_digits.ensures in
-    rw c.value_of.ensures (number_read c.args.text.now _ _ parts.parts parts.stops (c.is_number.ensures.0 c.if-is_number.true) (omega arith))
-
-pub returns-else-is_number : goal.returns-else-is_number
-returns-else-is_number c = λ n rest begins.
-    let parts = c.split_digits.ensures in
-    let are = digits_are c.args.text.now _ _ n rest parts.parts parts.digits parts.stops begins in
-    elim c.else-is_number.branch [
-      | else-is_number-via-then-is_number+else-digits-le-GREATEST_DIGITS w ↦ omega arith
-      | else-is_number-via-else-is_number w ↦ let yes = c.is_number.ensures.1 are.0 in let no = w.if-is_number.false in cc
-    ]
+pub returns-then-is_number : goal.returns-then-is_number
+returns-then-is_number c =
+    let first = c.first_digits-value.ensures in
+    let split = c.split_at.ensures in
+    number_begun c.args.text.now c.split_at.result.0.now c.split_at.result.1.now c.first_digits-value.result.0 c.first_digits-value.result.1
+    (omega arith) first.within split.front split.back first.value (first.stops (omega arith)) (c.is_number.ensures.0 c.if-is_number.true)

@@ -2,115 +2,115 @@ use Rattle.std.proofs.Common.{◌∷◌, ◌++◌, [], length, sym, ◌∙◌, a
 use Rattle.certificate_graph.specs.Trees.{Own, Reply, NoBranch, Branch}
 use Rattle.certificate_graph.specs.Rows.{tree_row, branches_row}
 use Rattle.certificate_graph.specs.declared.rows.Token.TheVariants as token
-use Rattle.certificate_graph.proofs.LeafLemmas.{match_map}
+use Rattle.certificate_graph.proofs.LeafLemmas.{ends_map}
 use Rattle.certificate_graph.proofs.RowLemmas.{branch_ended}
-use Rattle.certificate_graph.proofs.TreeLemmas.{ok_map, no_reply, no_own, no_branch_card, no_branch_tree, branch_begun, leaf_tree, lacks_leaf, no_room, reply_tree, lacks_reply, own_tree, lacks_own, lacks_by_first, lacks_by_place, lacks_by_rest, branches_read}
+use Rattle.certificate_graph.proofs.TreeLemmas.{no_reply, no_own, no_branch_card, no_branch_tree, branch_begun, leaf_tree, lacks_leaf, no_room, reply_tree, lacks_reply, own_tree, lacks_own, lacks_by_first, lacks_by_card, lacks_by_rest, branches_read}
 use Rattle.certificate_graph.proofs.tree_reading.+tree.Goals as goal
 
 pub read_tree-returns-in-Some : goal.read_tree-returns-in-Some
 read_tree-returns-in-Some t c =
-    let text = c.args.text.now in
-    ok_map c.read_leaf.result (λ read. match_map read
+    let text = c.args.cursor.now.rest.now in
+    ends_map c.read_leaf.result
+    (λ begins. (begins.0, leaf_tree c.args.room text _ begins.0 _ c.in-Some.ensures begins.1, begins.2))
     (λ lacks. lacks_leaf c.args.room text _ c.in-Some.ensures lacks)
-    (λ rest begins. (begins.0, leaf_tree c.args.room text _ begins.0 rest.now c.in-Some.ensures begins.1, begins.2)))
     c.read_leaf.ensures
 
 pub read_tree-returns-then-room-eq0 : goal.read_tree-returns-then-room-eq0
-read_tree-returns-then-room-eq0 t c = no_room c.args.room c.args.text.now c.in_default.ensures c.if-room-eq0.true
+read_tree-returns-then-room-eq0 t c = no_room c.args.room c.args.cursor.now.rest.now c.in_default.ensures c.if-room-eq0.true
 
 pub read_tree-returns-in-Some-after_byte : goal.read_tree-returns-in-Some-after_byte
 read_tree-returns-in-Some-after_byte t c =
-    let text = c.args.text.now in
-    ok_map c.read_reply.result (λ read. match_map read
+    let text = c.args.cursor.now.rest.now in
+    ends_map c.read_reply.result
+    (λ begins. (begins.0, reply_tree c.args.room text _ begins.0 _ (omega arith) c.in-Some-after_byte.ensures begins.1, begins.2))
     (λ lacks. lacks_reply c.args.room text _ c.in-Some-after_byte.ensures lacks)
-    (λ rest begins. (begins.0, reply_tree c.args.room text _ begins.0 rest.now (omega arith) c.in-Some-after_byte.ensures begins.1, begins.2)))
     c.read_reply.ensures
 
 pub read_tree-returns : goal.read_tree-returns
 read_tree-returns t c =
-    let text = c.args.text.now in
-    ok_map c.read_own.result (λ read. match_map read
+    let text = c.args.cursor.now.rest.now in
+    ends_map c.read_own.result
+    (λ begins. (begins.0, own_tree c.args.room text begins.0 _ (omega arith) begins.1, begins.2))
     (λ lacks. lacks_own c.args.room text c.in_default.ensures c.in_default-after_byte.ensures lacks)
-    (λ rest begins. (begins.0, own_tree c.args.room text begins.0 rest.now (omega arith) begins.1, begins.2)))
     c.read_own.ensures
-
-pub read_own-returns-in_default : goal.read_own-returns-in_default
-read_own-returns-in_default t c = no_own c.args.room c.args.text.now (no_branch_card c.args.room c.args.text.now c.in_default.ensures)
 
 pub read_own-returns : goal.read_own-returns
 read_own-returns t c =
-    let text = c.args.text.now in
+    let text = c.args.cursor.now.rest.now in
     let card = c.in-Some.card in
     let after = c.in-Some.rest.now in
     let before = c.args.row.now.items in
-    ok_map c.read_tree.result (λ read. match_map read
-    (λ lacks. no_own c.args.room text (no_branch_tree c.args.room text card after c.in-Some.ensures lacks))
-    (λ rest begins. (
+    ends_map c.read_tree.result
+    (λ begins. (
       Own card begins.0,
-      branch_begun c.args.room text card after begins.0 rest.now c.in-Some.ensures begins.1,
-      begins.2 ∙ (ap (λ list. list ++ tree_row begins.0) c.in_ok-push.ensures.items ∙ append_assoc before (token.Own card ∷ []) (tree_row begins.0)),
-    )))
+      branch_begun c.args.room text card after begins.0 _ c.in-Some.ensures begins.1,
+      begins.2 ∙ (ap (λ list. list ++ tree_row begins.0) c.in-Ok.ensures.items ∙ append_assoc before (token.Own card ∷ []) (tree_row begins.0)),
+    ))
+    (λ lacks. no_own c.args.room text (no_branch_tree c.args.room text card after c.in-Some.ensures lacks))
     c.read_tree.ensures
 
 pub read_reply-returns : goal.read_reply-returns
 read_reply-returns t c =
     let before = c.args.row.now.items in
-    ok_map c.read_branches.result (λ read. match_map read
-    (λ lacks. no_reply c.args.room c.args.text.now lacks)
-    (λ rest begins. (
+    ends_map c.read_branches.result
+    (λ begins. (
       Reply begins.0,
       begins.1,
-      begins.2 ∙ (ap (λ list. list ++ branches_row begins.0) c.in_ok-push.ensures.items ∙ append_assoc before (token.Reply ∷ []) (branches_row begins.0)),
-    )))
+      begins.2 ∙ (ap (λ list. list ++ branches_row begins.0) c.in-Ok.ensures.items ∙ append_assoc before (token.Reply ∷ []) (branches_row begins.0)),
+    ))
+    (λ lacks. no_reply c.args.room c.args.cursor.now.rest.now lacks)
     c.read_branches.ensures
 
 pub read_branches-returns-in-Some : goal.read_branches-returns-in-Some
 read_branches-returns-in-Some t c = (NoBranch, record { form = tt; numbers = tt; is = c.in-Some.ensures }, sym (append-nil c.args.row.now.items))
 
-pub read_branches-returns-in_default-2 : goal.read_branches-returns-in_default-2
-read_branches-returns-in_default-2 t c =
-    lacks_by_first c.args.room c.args.least c.args.text.now c.in_default.ensures (rw c.in_default-2.is at c.in_ok-card.ensures)
+pub read_branches-returns-in_default-read_card : goal.read_branches-returns-in_default-read_card
+read_branches-returns-in_default-read_card t c =
+    let text = c.args.cursor.now.rest.now in
+    lacks_by_first c.args.room c.args.least text c.in_default.ensures (no_branch_card c.args.room text c.in_default-read_card.ensures)
 
 pub read_branches-returns-in_default-next_place : goal.read_branches-returns-in_default-next_place
 read_branches-returns-in_default-next_place t c =
-    let first = (rw c.in-Some-2.is at c.in_ok-card.ensures) in
-    lacks_by_place c.args.room c.args.least c.args.text.now c.in-Some-2.card first.0 c.in-Some-2.rest.now c.in_default.ensures
-    first.1 c.in_default-next_place.ensures
+    lacks_by_card c.args.room c.args.least c.args.cursor.now.rest.now c.in-Some-read_card.card _ c.in_default.ensures
+    c.in-Some-read_card.ensures c.in_default-next_place.ensures
 
-pub read_branches-returns : goal.read_branches-returns
-read_branches-returns t c =
+pub read_branches-returns-in-Other : goal.read_branches-returns-in-Other
+read_branches-returns-in-Other t c =
+    let text = c.args.cursor.now.rest.now in
+    lacks_by_first c.args.room c.args.least text c.in_default.ensures
+    (no_branch_tree c.args.room text c.in-Some-read_card.card _ c.in-Some-read_card.ensures c.in-Other.ensures)
+
+pub read_branches-returns-in-Read : goal.read_branches-returns-in-Read
+read_branches-returns-in-Read t c =
     let next = c.in-Some-next_place.ensures in
-    let text = c.args.text.now in
-    let card = c.in-Some-2.card in
-    let after = c.in-Some-2.rest.now in
+    let text = c.args.cursor.now.rest.now in
+    let card = c.in-Some-read_card.card in
     let before = c.args.row.now.items in
-    let first = (rw c.in-Some-2.is at c.in_ok-card.ensures) in
-    let below = first.0 in
-    ok_map c.read_branches.result (λ read. match_map read
-    (λ lacks. lacks_by_rest c.args.room c.args.least text card below after c.in_default.ensures first.1 (rw next.1 at lacks))
-    (λ rest begins. (
+    let tree = c.in-Read.ensures in
+    let below = tree.0 in
+    let first = branch_begun c.args.room text card _ below _ c.in-Some-read_card.ensures tree.1 in
+    ends_map c.read_branches.result
+    (λ begins. (
       Branch card below begins.0,
-      branches_read c.args.room c.args.least text card below after begins.0 rest.now first.1 next.0 (rw next.1 at begins.1),
-      begins.2 ∙ (ap (λ list. list ++ branches_row begins.0) first.2
+      branches_read c.args.room c.args.least text card below _ begins.0 _ first next.0 (rw next.1 at begins.1),
+      begins.2 ∙ (ap (λ list. list ++ branches_row begins.0) tree.2
           ∙ append_assoc before (token.Branch card (length (tree_row below)) ∷ tree_row below) (branches_row begins.0)),
-    )))
+    ))
+    (λ lacks. lacks_by_rest c.args.room c.args.least text card below _ c.in_default.ensures first (rw next.1 at lacks))
     c.read_branches.ensures
 
-pub read_branch-returns-in_default : goal.read_branch-returns-in_default
-read_branch-returns-in_default t c = no_branch_card c.args.room c.args.text.now c.in_default.ensures
-
-pub read_branch-returns-in_default-2 : goal.read_branch-returns-in_default-2
-read_branch-returns-in_default-2 t c =
-    no_branch_tree c.args.room c.args.text.now c.in-Some.card c.in-Some.rest.now c.in-Some.ensures (rw c.in_default-2.is at c.in_ok-rest.ensures)
-
-pub read_branch-returns : goal.read_branch-returns
-read_branch-returns t c =
+pub read_branch-returns-in-Read : goal.read_branch-returns-in-Read
+read_branch-returns-in-Read t c =
     let before = c.args.row.now.items in
-    let card = c.in-Some.card in
-    let tree = (rw c.in-Some-2.is at c.in_ok-rest.ensures) in (
+    let card = c.args.card in
+    let tree = c.in-Read.ensures in
+    ends_map c.end_branch.result
+    (λ ended. (
       tree.0,
-      branch_begun c.args.room c.args.text.now card c.in-Some.rest.now tree.0 c.in-Some-2.rest.now c.in-Some.ensures tree.1,
-      c.in_ok-end_branch.ensures
+      tree.1,
+      ended
           ∙ branch_ended before (tree_row tree.0) _ card c.len-place.result (omega (arith, c.len-place.ensures, c.args.row.now.ok.0))
-          (tree.2 ∙ (ap (λ list. list ++ tree_row tree.0) c.in_ok-push.ensures.items ∙ append_assoc before (token.Branch card 0 ∷ []) (tree_row tree.0))),
-    )
+          (tree.2 ∙ (ap (λ list. list ++ tree_row tree.0) c.in-Ok.ensures.items ∙ append_assoc before (token.Branch card 0 ∷ []) (tree_row tree.0))),
+    ))
+    (λ none. absurd none)
+    c.end_branch.ensures

@@ -1,5 +1,0 @@
-use Rattle.std.proofs.Common.{length}
-use Rattle.certificate_graph.proofs.forms.+are_below.Given as goal
-
-abbrev pub decreases-are_below : goal.decreases-are_below
-decreases-are_below l = length l.children.now
