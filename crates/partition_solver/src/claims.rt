@@ -136,6 +136,7 @@ fn start_of(search: &Search, leader: usize, ours: bool, need: i32) -> Option<Opt
         return None;
     }
     Some(Some(TrickStart {
+        left: left.cards,
         lengths,
         record,
         leader,

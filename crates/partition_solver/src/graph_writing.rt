@@ -1,12 +1,12 @@
 //! The graph of a side, written from its roots on, each node after those that name it first.
 
-use crate::plans::{PLAN_FUEL, Piece, Plan, TreePlace, TrickStart};
+use crate::plans::{Plan, PlannedChild, TrickStart};
 use crate::search::Search;
-use cards::{Seat, Side, Suit, Trump};
+use cards::{Seat, Side, Trump};
 use certificate_graph::{Child, Graph, Node, Token, Tree, Version};
-use pattern_step::PatCard;
+use pattern_store::Record;
 use patterns::Pattern;
-use search_state::pattern_tricks::{LOW, PatternStart, PatternTrick};
+use search_state::pattern_tricks::{PatternStart, word_of};
 use std::alloc::{AllocError, Global};
 use std::sync::Arc;
 
@@ -17,7 +17,6 @@ const MOST_NODES: usize = 1_000_000;
 #[derive(Drop)]
 struct Writing {
     alloc: Global,
-    suits: [Suit; 4],
     plan: Plan,
     todo: Vec<TrickStart>,
     nodes: Vec<Node>,
@@ -37,7 +36,6 @@ pub(crate) fn write_graph(
     };
     let mut writing = Writing {
         alloc: search.alloc,
-        suits: search.deal.suits,
         plan,
         todo: Vec::new(search.alloc),
         nodes: Vec::new(search.alloc),
@@ -112,16 +110,10 @@ impl Writing {
     /// Writes a node. None where it is not shown, no steps are left or memory runs out.
     fn add_node(&mut self, search: &mut Search, start: TrickStart) -> Option<()> {
         let record = search.records.record(start.record);
-        let held = PatternStart::of(&record, start.lengths);
-        let pattern = self.pattern_of(&held)?;
-        let turn = TreePlace {
-            held: &held,
-            trick: PatternTrick::start(&held, start.leader),
-            need: i32::from(record.need),
-            limit: u32::MAX,
-        };
-        self.plan.pieces.truncate(0);
-        self.plan.add_tree(search, PLAN_FUEL, &turn)?;
+        let pattern = self.pattern_of(&record, start.lengths)?;
+        let held = PatternStart::of(&search.deal, &record, start.left, start.lengths);
+        self.plan
+            .show(search, held, start.leader, i32::from(record.need))?;
         let Ok(tokens) = self.tokens() else {
             search.run_out();
             return None;
@@ -141,49 +133,37 @@ impl Writing {
 
     /// The tokens of the tree in work. The nodes that it names are put down.
     fn tokens(&mut self) -> Result<Vec<Token>, AllocError> {
-        let count = self.plan.pieces.len();
-        let mut tokens = Vec::with_capacity(self.alloc, count)?;
-        for place in 0..count {
-            if let Some(piece) = self.plan.pieces.get(place).copied() {
-                tokens.push(self.token(piece)?)?;
+        for number in 0..self.plan.children.len() {
+            if let Some(child) = self.plan.children.get(number).copied() {
+                self.name_child(child)?;
             }
         }
+        let mut tokens = Vec::with_capacity(self.alloc, self.plan.tokens.len())?;
+        tokens.extend_from_slice(self.plan.tokens.as_slice())?;
         Ok(tokens)
     }
 
-    /// A piece as the graph has it.
-    fn token(&mut self, piece: Piece) -> Result<Token, AllocError> {
-        Ok(match piece {
-            Piece::Own(number) => Token::Own(self.card(number)),
-            Piece::Reply => Token::Reply,
-            Piece::Branch(number, count) => Token::Branch(self.card(number), count),
-            Piece::Child(start) => Token::Child(Child {
-                winner: seat_at(start.leader),
-                number: self.put_down(start)?.wrapping_sub(1),
-            }),
-        })
+    /// Puts a child down, and its number into its token.
+    fn name_child(&mut self, child: PlannedChild) -> Result<(), AllocError> {
+        let number = self.put_down(child.start)?.wrapping_sub(1);
+        if let Some(token) = self.plan.tokens.get_mut(child.place) {
+            *token = Token::Child(Child {
+                winner: seat_at(child.start.leader),
+                number,
+            });
+        }
+        Ok(())
     }
 
-    /// The pattern at a trick's start.
-    fn pattern_of(&self, held: &PatternStart) -> Option<Pattern> {
+    /// The pattern of a record of these lengths.
+    fn pattern_of(&self, record: &Record, lengths: u64) -> Option<Pattern> {
         let lanes = self.plan.lanes;
         Pattern::from_words([
-            held.word(lanes[0]),
-            held.word(lanes[1]),
-            held.word(lanes[2]),
-            held.word(lanes[3]),
+            word_of(record, lengths, lanes[0]),
+            word_of(record, lengths, lanes[1]),
+            word_of(record, lengths, lanes[2]),
+            word_of(record, lengths, lanes[3]),
         ])
         .ok()
-    }
-
-    /// A card, which is told by the number of its bit, as the graph names it.
-    fn card(&self, number: u32) -> PatCard {
-        let suit = self.suits[(number >> 4 & 3) as usize];
-        let place = number & 15;
-        if place == LOW {
-            PatCard::Low(suit)
-        } else {
-            PatCard::Top(suit, place as u8)
-        }
     }
 }

@@ -126,10 +126,8 @@ impl Search {
         let all = self.held.all();
         let mut best = None;
         let mut needs = 0;
-        for _ in 0..MOST_CARDS {
-            let Some(run) = runs.next() else {
-                break;
-            };
+        for _ in 0..runs.count() {
+            let run = runs.next();
             let wins = trick.beats(run.highest(), trumps);
             let card = card_at(run.choice(wins));
             if card & outcomes.suit == 0 {

@@ -1,13 +1,17 @@
 //! The leaves of a tree in work: the records that go on after its trick.
 
-use crate::plans::{Piece, Plan, TreePlace, TrickStart};
+use crate::plans::{Plan, PlannedChild, TrickStart};
 use crate::search::Search;
-use search_state::pattern_tricks::Remains;
+use cards::Seat;
+use certificate_graph::{Child, Token};
+use search_state::pattern_tricks::PatternTrick;
 
 /// The records that go on after a trick, by the seat that won it, 0 where none is needed, and what the new nodes cost:
 /// one each, and one for each owner that they name.
 #[derive(Clone, Copy)]
 pub(crate) struct Leaf {
+    /// The cards that are left.
+    left: u64,
     lengths: u64,
     records: [u32; 4],
     cost: u32,
@@ -18,19 +22,20 @@ impl Plan {
     pub(crate) fn best_last(
         &mut self,
         search: &Search,
-        turn: &TreePlace<'_>,
+        trick: &PatternTrick,
+        limit: u32,
     ) -> Option<(u64, Leaf)> {
-        let mut waiting = turn.legal_cards();
-        let mut least = turn.limit;
+        let mut waiting = self.held.legal_cards(trick);
+        let mut least = limit;
         let mut best = None;
         for _ in 0..u64::BITS {
             if waiting == 0 || least == 0 {
                 break;
             }
-            let card = turn.trick.choose(waiting, 0);
+            let card = self.held.choose(trick, waiting, 0);
             waiting &= !card;
-            let after = turn.after(card, search.deal.trumps, least);
-            if let Some(leaf) = self.leaf(search, &after) {
+            let after = trick.after(&self.held, card, search.deal.trumps);
+            if let Some(leaf) = self.leaf(search, &after, least) {
                 least = leaf.cost;
                 best = Some((card, leaf));
             }
@@ -38,73 +43,87 @@ impl Plan {
         best
     }
 
-    /// Adds the pieces of a leaf, and answers its cost. None where memory runs out.
+    /// Adds the tokens of a leaf, and answers its cost. None where memory runs out.
     pub(crate) fn add_leaf(&mut self, search: &mut Search, leaf: &Leaf) -> Option<u32> {
         for leader in 0..4usize {
             if leaf.records[leader] != 0 {
-                let child = TrickStart {
+                let start = TrickStart {
+                    left: leaf.left,
                     lengths: leaf.lengths,
                     record: leaf.records[leader],
                     leader,
                 };
-                self.push(search, Piece::Child(child))?;
+                self.add_child(search, start)?;
             }
         }
         Some(leaf.cost)
     }
 
+    /// Adds a child. None where memory runs out.
+    fn add_child(&mut self, search: &mut Search, start: TrickStart) -> Option<()> {
+        let place = self.tokens.len();
+        if self.children.push(PlannedChild { place, start }).is_err() {
+            search.run_out();
+            return None;
+        }
+        let child = Child {
+            winner: Seat::ALL[start.leader & 3],
+            number: 0,
+        };
+        self.push(search, Token::Child(child))
+    }
+
     /// The children after a trick. None where what is remembered does not show them for less than the limit.
-    pub(crate) fn leaf(&mut self, search: &Search, turn: &TreePlace<'_>) -> Option<Leaf> {
+    pub(crate) fn leaf(
+        &mut self,
+        search: &Search,
+        trick: &PatternTrick,
+        limit: u32,
+    ) -> Option<Leaf> {
         let mut leaf = Leaf {
-            lengths: turn.trick.lengths,
+            left: self.held.cards_left(trick),
+            lengths: trick.lengths,
             records: [0; 4],
             cost: 0,
         };
-        let unsettled = turn.trick.winners & self.unsettled_after(turn.need);
+        let unsettled = trick.winners & self.unsettled;
         if unsettled != 0 {
-            self.add_children(search, turn, unsettled, &mut leaf)?;
+            self.add_children(search, trick, unsettled, &mut leaf)?;
         }
-        if leaf.cost < turn.limit {
-            Some(leaf)
-        } else {
-            None
-        }
+        if leaf.cost < limit { Some(leaf) } else { None }
     }
 
-    /// The seats after whose trick the side still needs some, where it needed so many before: a bit each.
-    fn unsettled_after(&self, need: i32) -> u32 {
-        if need > 1 {
-            15
-        } else if need <= 0 {
-            0
-        } else if self.ours {
-            10
-        } else {
-            5
-        }
-    }
-
-    /// Puts in a child for each of these seats, of which one wins the trick.
+    /// Puts in a child for each of these seats, of which one wins the trick: a record that has a node already, else the
+    /// one that names the fewest owners.
     fn add_children(
         &mut self,
         search: &Search,
-        turn: &TreePlace<'_>,
+        trick: &PatternTrick,
         winners: u32,
         leaf: &mut Leaf,
     ) -> Option<()> {
-        let shape = self.shape(search, leaf.lengths);
-        let first = (winners.trailing_zeros() & 3) as usize;
-        search.records.list(shape, first, self.ours)?;
-        let remains = turn.held.remains(&turn.trick);
-        for seat in 0..4usize {
-            if winners.wrapping_shr(seat as u32) & 1 == 0 {
-                continue;
-            }
+        let shape = self.shape(search, trick.lengths);
+        let mut waiting = winners;
+        let mut seat = (waiting.trailing_zeros() >> 2 & 3) as usize;
+        let mut list = search.records.list(shape, seat, self.ours)?;
+        let remains = self.held.remains(&search.deal, trick);
+        for _ in 0..4 {
             let won = if self.owns(seat) { 1 } else { 0 };
-            let rest = turn.need.wrapping_sub(won);
-            let record = self.child(search, shape, &remains, seat, rest)?;
+            let record = search.records.find_known(
+                list,
+                remains.owners,
+                remains.known,
+                (self.need.wrapping_sub(won) & 15) as u8,
+                |record| self.number(record) != 0,
+            )?;
             leaf.cost = leaf.cost.wrapping_add(self.cost_of(search, record));
-            leaf.records[seat] = record;
+            leaf.records[seat & 3] = record;
+            waiting &= waiting.wrapping_sub(1);
+            if waiting == 0 {
+                break;
+            }
+            seat = (waiting.trailing_zeros() >> 2 & 3) as usize;
+            list = search.records.list(shape, seat, self.ours)?;
         }
         Some(())
     }
@@ -123,24 +142,5 @@ impl Plan {
             return 0;
         }
         u32::from(search.records.record(record).owners_named()) + 1
-    }
-
-    /// A record that goes on after the trick: one that has a node already, else the one that names the fewest owners.
-    fn child(
-        &self,
-        search: &Search,
-        shape: Option<u32>,
-        remains: &Remains,
-        winner: usize,
-        need: i32,
-    ) -> Option<u32> {
-        let list = search.records.list(shape, winner, self.ours)?;
-        search.records.find_known(
-            list,
-            remains.owners,
-            remains.known,
-            (need & 15) as u8,
-            |record| self.number(record) != 0,
-        )
     }
 }

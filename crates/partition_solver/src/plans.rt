@@ -2,34 +2,24 @@
 
 use crate::search::Search;
 use cards::Suit;
+use certificate_graph::Token;
+use pattern_step::PatCard;
 use search_state::pattern_tricks::{PatternStart, PatternTrick};
-use search_state::words::{SUIT, lowest};
+use search_state::words::{SUIT, highest};
 use std::alloc::{AllocError, Global};
 
-/// How deep the calls for a tree lie in one another: three a card (`add_tree`, `add_own` or `add_reply`, and
-/// `add_card`), and one for the leaf.
-pub(crate) const PLAN_FUEL: u32 = 4 * 3 + 1;
+/// How many cards a trick has.
+pub(crate) const TRICK_CARDS: u32 = 4;
 
 /// Where fewer steps than these are left for each block of records, the first card that shows a tree is taken.
 const STEPS_A_BLOCK: u64 = 40;
 
-/// A token of a tree in work. A card is told by the number of its bit.
-#[derive(Clone, Copy)]
-pub(crate) enum Piece {
-    /// A card of the side; what follows it comes next.
-    Own(u32),
-    /// The opponents' cards come next, each with what follows it.
-    Reply,
-    /// One of them, and of how many pieces what follows it is.
-    Branch(u32, u32),
-    /// A node that goes on.
-    Child(TrickStart),
-}
-
-/// The start of a trick, as a node has it: a record with its shape, and the seat that leads. In a child that seat has
-/// won the trick before.
+/// The start of a trick, as a node has it: a record that serves a position, and the seat that leads. In a child that
+/// seat has won the trick before.
 #[derive(Clone, Copy, Default)]
 pub(crate) struct TrickStart {
+    /// The cards in all hands.
+    pub left: u64,
     /// The lengths, as the search has them.
     pub lengths: u64,
     /// The number of the record.
@@ -37,30 +27,38 @@ pub(crate) struct TrickStart {
     pub leader: usize,
 }
 
+/// A child of the tree in work: the place of its token, and where it starts.
+#[derive(Clone, Copy)]
+pub(crate) struct PlannedChild {
+    pub place: usize,
+    pub start: TrickStart,
+}
+
 /// What of a side is proved so far: the tree in work, and the numbers of the nodes.
 #[derive(Drop)]
 pub(crate) struct Plan {
-    pub pieces: Vec<Piece>,
+    /// The children have no numbers yet.
+    pub tokens: Vec<Token>,
+    /// The children in it, in their order.
+    pub children: Vec<PlannedChild>,
     /// By the number of a record that of its node, from 1.
     pub numbers: Vec<u32>,
     /// Whether the side is North's and South's.
     pub ours: bool,
     /// Whether the first card that shows a tree is taken, since steps are short.
     is_thrifty: bool,
+    /// The suits as they lie in a word, from the lowest.
+    suits: [Suit; 4],
     /// Where the suits lie in a word, spades first.
     pub lanes: [usize; 4],
     /// The lengths that were looked up last, and the number of their shape.
     pub shape: (u64, Option<u32>),
-}
-
-/// A place of the tree in work: the node's pattern, the trick so far, and what has to be shown: so many tricks, with
-/// new nodes that cost less than the limit.
-#[derive(Clone, Copy)]
-pub(crate) struct TreePlace<'a> {
-    pub held: &'a PatternStart,
-    pub trick: PatternTrick,
+    /// The pattern of the node in work.
+    pub held: PatternStart,
+    /// How many tricks it has to show.
     pub need: i32,
-    pub limit: u32,
+    /// The seats after whose trick the side still needs some, as `seat_bit` has them.
+    pub unsettled: u32,
 }
 
 /// Where a suit lies in a word.
@@ -76,47 +74,18 @@ fn lane_of(suits: [Suit; 4], suit: Suit) -> usize {
     }
 }
 
-/// The number of a card's bit.
-fn number_of(card: u64) -> u32 {
-    card.trailing_zeros() & 63
-}
-
-impl<'a> TreePlace<'a> {
-    /// The place after a card, where what follows it may cost so much.
-    pub(crate) fn after(&self, card: u64, trumps: u64, limit: u32) -> TreePlace<'a> {
-        TreePlace {
-            held: self.held,
-            trick: self.trick.after(card, trumps),
-            need: self.need,
-            limit,
-        }
-    }
-
-    /// The cards that the seat to play may play, of each run of touching tops the highest.
-    pub(crate) fn legal_cards(&self) -> u64 {
-        self.held.legal_cards(&self.trick)
-    }
-
-    /// The card that showed the node's record, where it is the turn to lead.
-    fn first_card(&self) -> u64 {
-        if self.trick.on_table == 0 {
-            self.held.first_card
-        } else {
-            0
-        }
-    }
-}
-
 impl Plan {
     /// Nothing is proved yet.
     pub(crate) fn new(alloc: Global, search: &Search, ours: bool) -> Result<Plan, AllocError> {
         let suits = search.deal.suits;
         let short = STEPS_A_BLOCK.saturating_mul(search.records.blocks() as u64);
         Ok(Plan {
-            pieces: Vec::new(alloc),
+            tokens: Vec::new(alloc),
+            children: Vec::new(alloc),
             numbers: vec![in alloc; 0; search.records.blocks().saturating_mul(4)]?,
             ours,
             is_thrifty: search.steps < short,
+            suits,
             lanes: [
                 lane_of(suits, Suit::Spades),
                 lane_of(suits, Suit::Hearts),
@@ -124,7 +93,41 @@ impl Plan {
                 lane_of(suits, Suit::Clubs),
             ],
             shape: (u64::MAX, None),
+            held: PatternStart::default(),
+            need: 0,
+            unsettled: 0,
         })
+    }
+
+    /// Adds the tree of a node, which shows so many tricks of this pattern. None where what is remembered does not show
+    /// them, no steps are left or memory runs out.
+    pub(crate) fn show(
+        &mut self,
+        search: &mut Search,
+        held: PatternStart,
+        leader: usize,
+        need: i32,
+    ) -> Option<u32> {
+        self.tokens.truncate(0);
+        self.children.truncate(0);
+        self.unsettled = self.unsettled_after(need);
+        self.held = held;
+        self.need = need;
+        let trick = PatternTrick::start(&held, leader);
+        self.add_tree(search, TRICK_CARDS, &trick, u32::MAX)
+    }
+
+    /// The seats after whose trick the side still needs some, where it needed so many before.
+    fn unsettled_after(&self, need: i32) -> u32 {
+        if need > 1 {
+            0x1111
+        } else if need <= 0 {
+            0
+        } else if self.ours {
+            0x1010
+        } else {
+            0x0101
+        }
     }
 
     /// The number of a record's node, from 1; 0 where it has none.
@@ -137,9 +140,18 @@ impl Plan {
         (seat & 1 == 0) == self.ours
     }
 
-    /// Adds a piece. None where memory runs out.
-    pub(crate) fn push(&mut self, search: &mut Search, piece: Piece) -> Option<()> {
-        if self.pieces.push(piece).is_err() {
+    /// A card as the graph names it.
+    fn named(&self, card: u64) -> PatCard {
+        let suit = self.suits[(card.trailing_zeros() >> 4 & 3) as usize];
+        match self.held.place_of(card) {
+            Some(place) => PatCard::Top(suit, place),
+            None => PatCard::Low(suit),
+        }
+    }
+
+    /// Adds a token. None where memory runs out.
+    pub(crate) fn push(&mut self, search: &mut Search, token: Token) -> Option<()> {
+        if self.tokens.push(token).is_err() {
             search.run_out();
             return None;
         }
@@ -155,146 +167,187 @@ impl Plan {
         Some(())
     }
 
-    /// Adds the tree of what follows, and answers what its new nodes cost. None where what is remembered does not show
-    /// it for less than the limit, no steps are left or memory runs out; what was added is then of no use.
+    /// Adds the tree of what follows, with so many cards to be played, and answers what its new nodes cost. None where
+    /// what is remembered does not show it for less than the limit, no steps are left or memory runs out; what was
+    /// added is then of no use.
     #[cycle(planning)]
-    pub(crate) fn add_tree(
+    fn add_tree(
         &mut self,
         search: &mut Search,
-        fuel: u32,
-        turn: &TreePlace<'_>,
+        cards: u32,
+        trick: &PatternTrick,
+        limit: u32,
     ) -> Option<u32> {
-        if fuel == 0 {
+        if cards == 0 {
             return None;
         }
-        if turn.trick.on_table >= 4 {
-            let leaf = self.leaf(search, turn)?;
-            return self.add_leaf(search, &leaf);
+        if !self.owns(trick.seat()) {
+            return self.add_reply(search, cards - 1, trick, limit);
         }
-        if !self.owns(turn.trick.seat) {
-            return self.add_reply(search, fuel - 1, turn);
+        if cards == 1 {
+            return self.add_last(search, trick, limit);
         }
-        if turn.trick.on_table == 3 {
-            return self.add_last(search, turn);
-        }
-        self.add_own(search, fuel - 1, turn)
+        self.add_own(search, cards - 1, trick, limit)
     }
 
-    /// Adds a card and what follows it.
+    /// Adds the card of the side whose tree's new nodes cost least, before so many others.
     #[cycle(planning)]
-    fn add_card(
+    fn add_own(
         &mut self,
         search: &mut Search,
-        fuel: u32,
-        piece: Piece,
-        after: &TreePlace<'_>,
+        others: u32,
+        trick: &PatternTrick,
+        limit: u32,
     ) -> Option<u32> {
-        if fuel == 0 {
-            return None;
-        }
-        Plan::spend(search)?;
-        self.push(search, piece)?;
-        self.add_tree(search, fuel - 1, after)
-    }
-
-    /// Adds the card of the side whose tree's new nodes cost least.
-    #[cycle(planning)]
-    fn add_own(&mut self, search: &mut Search, fuel: u32, turn: &TreePlace<'_>) -> Option<u32> {
-        if fuel == 0 {
-            return None;
-        }
-        let begin = self.pieces.len();
-        let mut least = turn.limit;
+        let begin = self.size();
+        let mut least = limit;
         let mut found = None;
-        let mut waiting = turn.legal_cards();
-        let first = turn.first_card() & waiting;
+        let mut waiting = self.held.legal_cards(trick);
+        let first = self.first_card(trick);
         for _ in 0..u64::BITS {
             if waiting == 0 || least == 0 || self.is_thrifty && found.is_some() {
                 break;
             }
-            let card = turn.trick.choose(waiting, first);
+            let card = if waiting & first != 0 {
+                waiting & first
+            } else {
+                self.held.choose(trick, waiting, others)
+            };
             waiting &= !card;
-            let from = self.pieces.len();
-            let after = turn.after(card, search.deal.trumps, least);
-            let cost = self.add_card(search, fuel - 1, Piece::Own(number_of(card)), &after);
+            let from = self.size();
+            Plan::spend(search)?;
+            let after = trick.after(&self.held, card, search.deal.trumps);
+            self.push(search, Token::Own(self.named(card)))?;
+            let cost = self.add_tree(search, others, &after, least);
             if let Some(new) = cost {
-                self.drop_pieces(begin, from);
+                self.drop_between(begin, from);
                 least = new;
                 found = cost;
             } else {
-                self.pieces.truncate(from);
+                self.tokens.truncate(from.0);
+                self.children.truncate(from.1);
             }
         }
         found
     }
 
-    /// Drops the pieces from the first place up to the second.
-    fn drop_pieces(&mut self, begin: usize, from: usize) {
-        if begin == from {
+    /// The card that showed the node's record, where it is the turn to lead.
+    fn first_card(&self, trick: &PatternTrick) -> u64 {
+        if trick.led == 0 {
+            self.held.first_card
+        } else {
+            0
+        }
+    }
+
+    /// How many tokens and children there are.
+    fn size(&self) -> (usize, usize) {
+        (self.tokens.len(), self.children.len())
+    }
+
+    /// Drops the tokens and children from the first size up to the second.
+    fn drop_between(&mut self, begin: (usize, usize), from: (usize, usize)) {
+        if begin.0 == from.0 {
             return;
         }
-        let mut to = begin;
-        for place in from..self.pieces.len() {
-            let Some(piece) = self.pieces.get(place).copied() else {
+        let mut to = begin.0;
+        for place in from.0..self.tokens.len() {
+            let Some(token) = self.tokens.get(place).copied() else {
                 break;
             };
-            if let Some(old) = self.pieces.get_mut(to) {
-                *old = piece;
+            if let Some(old) = self.tokens.get_mut(to) {
+                *old = token;
             }
             to = to.wrapping_add(1);
         }
-        self.pieces.truncate(to);
+        self.tokens.truncate(to);
+        self.drop_children(begin.1, from.1, from.0.wrapping_sub(begin.0));
     }
 
-    /// Adds cards of the opponents: of each run the highest, which serves for the others, and the low ones.
-    #[cycle(planning)]
-    fn add_reply(&mut self, search: &mut Search, fuel: u32, turn: &TreePlace<'_>) -> Option<u32> {
-        if fuel == 0 {
-            return None;
+    /// Drops the children from the first place up to the second. The tokens of those after them now stand so much
+    /// before.
+    fn drop_children(&mut self, begin: usize, from: usize, gone: usize) {
+        let mut to = begin;
+        for place in from..self.children.len() {
+            let Some(mut child) = self.children.get(place).copied() else {
+                break;
+            };
+            child.place = child.place.wrapping_sub(gone);
+            if let Some(old) = self.children.get_mut(to) {
+                *old = child;
+            }
+            to = to.wrapping_add(1);
         }
-        self.push(search, Piece::Reply)?;
+        self.children.truncate(to);
+    }
+
+    /// Adds cards of the opponents, each before so many others: of each run the highest, which serves for the others,
+    /// and the low ones.
+    #[cycle(planning)]
+    fn add_reply(
+        &mut self,
+        search: &mut Search,
+        others: u32,
+        trick: &PatternTrick,
+        limit: u32,
+    ) -> Option<u32> {
+        self.push(search, Token::Reply)?;
         let mut sum = 0u32;
-        let mut waiting = turn.legal_cards();
+        let mut waiting = self.held.legal_cards(trick);
         for _ in 0..u64::BITS {
             if waiting == 0 {
                 break;
             }
-            let card = self.first_of(waiting);
+            let card = self.first_of(waiting, trick);
             waiting &= !card;
-            let begin = self.pieces.len();
-            let number = number_of(card);
-            let after = turn.after(card, search.deal.trumps, turn.limit.saturating_sub(sum));
-            let cost = self.add_card(search, fuel - 1, Piece::Branch(number, 0), &after)?;
-            self.end_branch(begin, number);
+            let begin = self.tokens.len();
+            let named = self.named(card);
+            Plan::spend(search)?;
+            let after = trick.after(&self.held, card, search.deal.trumps);
+            self.push(search, Token::Branch(named, 0))?;
+            let rest = limit.saturating_sub(sum);
+            let cost = if others == 0 {
+                let leaf = self.leaf(search, &after, rest)?;
+                self.add_leaf(search, &leaf)?
+            } else {
+                self.add_tree(search, others, &after, rest)?
+            };
+            self.end_branch(begin, named);
             sum = sum.saturating_add(cost);
         }
         Some(sum)
     }
 
-    /// Says in the piece of a branch, which stands in this place, of how many pieces what follows it is.
-    fn end_branch(&mut self, begin: usize, number: u32) {
-        let count = self.pieces.len().wrapping_sub(begin).wrapping_sub(1);
-        if let Some(piece) = self.pieces.get_mut(begin) {
-            *piece = Piece::Branch(number, (count & 0xffff_ffff) as u32);
+    /// Says in the token of a branch, which stands in this place, of how many tokens what follows it is.
+    fn end_branch(&mut self, begin: usize, card: PatCard) {
+        let count = self.tokens.len().wrapping_sub(begin).wrapping_sub(1);
+        if let Some(token) = self.tokens.get_mut(begin) {
+            *token = Token::Branch(card, (count & 0xffff_ffff) as u32);
         }
     }
 
-    /// The first of these cards: spades first, and of a suit the highest first.
-    fn first_of(&self, cards: u64) -> u64 {
+    /// The first of these cards: spades first, and of a suit the highest first. They follow suit, or none does.
+    fn first_of(&self, cards: u64, trick: &PatternTrick) -> u64 {
+        if cards & cards.wrapping_sub(1) == 0 {
+            return cards;
+        }
+        if cards & trick.led != 0 {
+            return highest(cards);
+        }
         for number in 0..4usize {
             let suit = cards & SUIT.wrapping_shl((self.lanes[number] & 3) as u32 * 16);
             if suit != 0 {
-                return lowest(suit);
+                return highest(suit);
             }
         }
         0
     }
 
     /// Adds the last card of a trick, where it is the side's: the one whose new children cost least.
-    fn add_last(&mut self, search: &mut Search, turn: &TreePlace<'_>) -> Option<u32> {
-        let (card, leaf) = self.best_last(search, turn)?;
+    fn add_last(&mut self, search: &mut Search, trick: &PatternTrick, limit: u32) -> Option<u32> {
+        let (card, leaf) = self.best_last(search, trick, limit)?;
         Plan::spend(search)?;
-        self.push(search, Piece::Own(number_of(card)))?;
+        self.push(search, Token::Own(self.named(card)))?;
         self.add_leaf(search, &leaf)
     }
 }

@@ -21,17 +21,28 @@ impl Search {
         }
     }
 
-    /// What is known of the start of a trick that is not settled.
+    /// What is known of the start of a trick that is not settled. The records of the side that wants fewer tricks are
+    /// looked through first: mostly it gets them.
     pub(crate) fn known(&self, tricks: u32, start: &Start) -> Option<Found> {
-        let ours = self.unasked(start, true);
-        let theirs = self.unasked(start, false);
-        if ours.is_none() && theirs.is_none() {
+        if start.want.wrapping_mul(2) <= tricks {
+            self.known_in_order(tricks, start, true)
+        } else {
+            self.known_in_order(tricks, start, false)
+        }
+    }
+
+    /// What is known of it by the records of this side, and else by those of the other.
+    #[inline(always)]
+    fn known_in_order(&self, tricks: u32, start: &Start, ours: bool) -> Option<Found> {
+        let first = self.unasked(start, ours);
+        let second = self.unasked(start, !ours);
+        if first.is_none() && second.is_none() {
             return None;
         }
         let left = self.deal.cards_left(start.left);
-        match self.found_in(ours, &left, start.wanted_by(true, tricks), true) {
+        match self.found_in(first, &left, start.wanted_by(ours, tricks), ours) {
             Some(found) => Some(found),
-            None => self.found_in(theirs, &left, start.wanted_by(false, tricks), false),
+            None => self.found_in(second, &left, start.wanted_by(!ours, tricks), !ours),
         }
     }
 

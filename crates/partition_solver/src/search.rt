@@ -21,7 +21,7 @@ pub(crate) struct Search {
     pub alloc: Global,
     pub deal: DealTables,
     pub records: Records,
-    /// How many cards may still be tried.
+    /// How many cards may still be tried. A trick that has begun is played to its end.
     pub steps: u64,
     /// Whether memory ran out. Then no steps are left, and the search is of no more use.
     pub memory_ran_out: bool,
@@ -62,8 +62,13 @@ impl Search {
         self.steps = 0;
     }
 
-    /// Spends a step. False where none is left.
-    fn spend(&mut self) -> bool {
+    /// Spends a step of a trick that has begun: none where none is left.
+    fn spend(&mut self) {
+        self.steps = self.steps.saturating_sub(1);
+    }
+
+    /// Spends the step of a lead. False where none is left.
+    fn spend_lead(&mut self) -> bool {
         if self.steps == 0 {
             self.stopped = true;
             return false;
@@ -99,7 +104,7 @@ impl Search {
             let Some(tried) = next else {
                 break;
             };
-            if !self.spend() {
+            if !self.spend_lead() {
                 return answer;
             }
             self.held.play(seat, tried.card);
@@ -137,9 +142,7 @@ impl Search {
             let Some(tried) = next else {
                 break;
             };
-            if !self.spend() {
-                return answer;
-            }
+            self.spend();
             let after = trick.after(seat, tried.card, self.deal.trumps);
             self.held.play(seat, tried.card);
             let found = self.third(tricks, start, &after);
@@ -169,9 +172,7 @@ impl Search {
             let Some(tried) = next else {
                 break;
             };
-            if !self.spend() {
-                return answer;
-            }
+            self.spend();
             let after = trick.after(seat, tried.card, self.deal.trumps);
             self.held.play(seat, tried.card);
             let found = self.last(tricks, start, &after);
@@ -233,9 +234,7 @@ impl Search {
             let Some(tried) = next else {
                 break;
             };
-            if !self.spend() {
-                return answer;
-            }
+            self.spend();
             let after = trick.after(seat, tried.card, self.deal.trumps);
             let is_asked = !runs.is_single() && self.adds == adds;
             self.held.play(seat, tried.card);

@@ -36,10 +36,10 @@ pub trait Solver {
 
 /// A partition search. A step of its budget is one card tried, in the search or for a tree of a graph; where the last
 /// hand of a trick has a choice, its card is free if it is only looked up. Each declarer's tricks are searched within
-/// the budget; where that is not enough for all, half of what the others leave of it is searched with too. With the
-/// rest the graphs are written. What it finds is remembered for later calls, unless each seat has a claim: a call that
-/// ran out of steps can be made again, and declarers can be asked for one by one. Threads may call it at once: none
-/// waits.
+/// the budget, but that a trick which was begun is searched to its end; where that is not enough for all, half of what
+/// the others leave of it is searched with too. With the rest the graphs are written. What it finds is remembered for
+/// later calls, unless each seat has a claim: a call that ran out of steps can be made again, and declarers can be
+/// asked for one by one. Threads may call it at once: none waits.
 #[derive(Drop)]
 pub struct Partition {
     memory: Memory,

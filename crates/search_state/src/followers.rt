@@ -3,7 +3,7 @@
 use crate::moves::{HandRuns, Moves, card_at};
 use crate::order::{SuitDiscards, rank_of, whole};
 use crate::positions::{Trick, Turn};
-use crate::words::{MOST_CARDS, highest};
+use crate::words::highest;
 
 /// What a winning card of the last hand weighs more, or where partner's card stands a losing one.
 const CHOICE: i32 = 1000;
@@ -148,10 +148,8 @@ impl Moves {
     #[inline(always)]
     fn add_in_suit(&mut self, mut runs: HandRuns, trick: &Trick, order: InSuit) {
         let best = trick.best_in_suit();
-        for _ in 0..MOST_CARDS {
-            let Some(run) = runs.next() else {
-                break;
-            };
+        for _ in 0..runs.count() {
+            let run = runs.next();
             let wins = run.highest() > best;
             self.add(run, wins, order.weigh(run.choice(wins), wins));
         }
@@ -160,10 +158,8 @@ impl Moves {
     /// Adds runs of the suit led of a last hand.
     #[inline(always)]
     fn add_upwards(&mut self, mut runs: HandRuns, best: u64, stands: bool) {
-        for _ in 0..MOST_CARDS {
-            let Some(run) = runs.next() else {
-                break;
-            };
+        for _ in 0..runs.count() {
+            let run = runs.next();
             let wins = run.highest() > best;
             let choice = if wins == stands { 0 } else { CHOICE };
             self.add(run, wins, choice.wrapping_sub(rank_of(run.choice(wins))));
@@ -176,10 +172,8 @@ impl Moves {
         let trumps = turn.deal.trumps;
         let best = trick.best;
         let mut discards = SuitDiscards::of(turn, runs.first_suit());
-        for _ in 0..MOST_CARDS {
-            let Some(run) = runs.next() else {
-                break;
-            };
+        for _ in 0..runs.count() {
+            let run = runs.next();
             if run.highest() & trumps != 0 {
                 let wins = run.highest() > best;
                 self.add(run, wins, ruffs.weigh(run.choice(wins), wins));

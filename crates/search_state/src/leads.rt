@@ -3,7 +3,6 @@
 use crate::moves::{HandRuns, Moves};
 use crate::order::{NO_BIT, best_two, rank_of, sum_of, whole};
 use crate::positions::Turn;
-use crate::words::MOST_CARDS;
 
 /// The place of the last three weights of leads, those of the highest card, of the second and of lower ones.
 const LAST_CLASSES: u32 = 177;
@@ -143,10 +142,8 @@ impl Moves {
     #[inline(always)]
     pub fn add_leads(&mut self, mut runs: HandRuns, turn: &Turn) {
         let mut suit = SuitLeads::of(turn, runs.first_suit());
-        for _ in 0..MOST_CARDS {
-            let Some(run) = runs.next() else {
-                break;
-            };
+        for _ in 0..runs.count() {
+            let run = runs.next();
             if !suit.are_of(run.top) {
                 suit = SuitLeads::of(turn, run.top & 48);
             }

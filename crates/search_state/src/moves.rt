@@ -129,18 +129,20 @@ impl HandRuns {
         Some(Move { card, bottom, top })
     }
 
-    /// The next run.
+    /// How many runs there are.
+    pub fn count(&self) -> u32 {
+        self.bottoms.count_ones()
+    }
+
+    /// The next run, where one is left.
     #[inline(always)]
-    pub fn next(&mut self) -> Option<Run> {
-        if self.rest == 0 {
-            return None;
-        }
+    pub fn next(&mut self) -> Run {
         let bottom = lowest_bit(self.rest);
         self.rest = without_lowest(self.rest);
-        Some(Run {
+        Run {
             bottom,
             top: highest_bit(self.own & below(lowest(self.rest))),
-        })
+        }
     }
 }
 

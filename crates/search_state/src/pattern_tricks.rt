@@ -1,56 +1,63 @@
-//! A trick played on a remembered pattern. A card of a pattern is a bit, sixteen a suit: that of a top by its place
-//! among the owners of its suit, the highest lowest, and the last one for any low card.
+//! A trick played on a remembered pattern, with the cards of a position that it stands for. In each suit those down to
+//! the lowest whose owner is named are tops; the others are low cards, of which none beats another.
 
-use crate::words::{MOST_CARDS, SUIT, below, highest, lowest, start_of, suit_of};
+use crate::deals::{CardsLeft, DealTables};
+use crate::words::{
+    PACK, SUIT, below, below_lowest, highest, lowest, lowest_of_each, start_of, suit_of,
+};
 use pattern_store::{Owners, Record};
 
-/// The place of a low card.
+/// The place of a low card, where a record names one.
 pub const LOW: u32 = 15;
 
-/// The bits of all low cards.
-const LOWS: u64 = 0x8000_8000_8000_8000;
-
-/// The bit of the first seat in the lengths of each suit.
-const FIRST_SEATS: u64 = 0x0001_0001_0001_0001;
+/// The lowest bit of each suit.
+const LOWEST: u64 = 0x0001_0001_0001_0001;
 
 /// How many owners of a suit stand in the first word of a record.
 const NEAR: u32 = 8;
 
-/// A pattern before a trick is played on it.
-#[derive(Clone, Copy)]
+/// A pattern before a trick is played on it, and a position that it stands for.
+#[derive(Clone, Copy, Default)]
 pub struct PatternStart {
-    /// Of each suit the owners of its tops, two bits each, the highest first.
-    owners: [u32; 4],
-    depths: [u32; 4],
-    /// The cards that each seat may choose from, of each run of its touching tops the highest.
-    cards: [u64; 4],
-    /// What is known of it where no card is gone, completed as what a trick leaves.
-    whole: Remains,
+    /// The cards in all hands.
+    left: u64,
+    /// Those that are tops.
+    tops: u64,
+    /// The cards that each seat may choose from: of each run of its touching tops the highest, and of its low cards of
+    /// each suit the lowest.
+    choices: [u64; 4],
     /// The lengths, as the search has them.
-    pub lengths: u64,
+    lengths: u64,
     /// How many low cards each seat has, like the lengths.
     lows: u64,
-    /// The card that showed it in the search, where the side leads, or no card.
+    /// How many tops there are, four bits a suit.
+    depths: u16,
+    /// All bits of the suits of which some owners stand in the second word of a record.
+    deep_suits: u64,
+    /// The card that showed it in the search, where the side leads, with others that are none to choose; or no card.
     pub first_card: u64,
 }
 
 /// A trick in progress.
 #[derive(Clone, Copy)]
 pub struct PatternTrick {
-    /// The tops that were played.
-    gone: u64,
+    /// The cards that were played.
+    played: u64,
     /// The lengths, as the search has them.
     pub lengths: u64,
+    /// How many low cards each seat has left, like the lengths.
+    lows: u64,
+    /// The bits of the owners of the tops left in the first word of a record, where no suit had more tops than stand
+    /// there.
+    known: u64,
     /// All bits of the suit led, 0 before the lead.
-    led: u64,
-    /// The card that wins so far, or no card.
+    pub led: u64,
+    /// The card that wins so far, or no card. A low card is the lowest bit of its suit.
     best: u64,
-    /// A bit for each seat that may have played it.
+    /// In each suit one card of the seat to play, like the lengths.
+    ones: u64,
+    /// The seats that may have played the card that wins so far, as `seat_bit` has them.
     pub winners: u32,
-    /// How many cards lie on the table.
-    pub on_table: u32,
-    /// The seat to play.
-    pub seat: usize,
 }
 
 /// What a trick leaves: the owners, and the bits of those that are known. Where one seat alone has low cards of a suit
@@ -62,253 +69,267 @@ pub struct Remains {
 }
 
 /// A suit's part of a word.
-fn lane_of(word: u64, lane: usize) -> u32 {
-    (word.wrapping_shr((lane & 3) as u32 * 16) & SUIT) as u32
+fn lane_of(word: u64, lane: usize) -> u64 {
+    word.wrapping_shr((lane & 3) as u32 * 16) & SUIT
 }
 
-/// The word with this part for a suit.
-fn with_lane(word: u64, lane: usize, part: u32) -> u64 {
-    let start = (lane & 3) as u32 * 16;
-    word & !SUIT.wrapping_shl(start) | (u64::from(part) & SUIT).wrapping_shl(start)
+/// The bit of a seat, four apart, as in the lengths.
+pub fn seat_bit(seat: usize) -> u32 {
+    1u32.wrapping_shl((seat & 3) as u32 * 4)
 }
 
-/// The highest place of each run of touching tops of one seat.
-fn tops_of_runs(tops: u64) -> u64 {
-    tops & !tops.wrapping_shl(1)
+/// The highest card of each run of a hand's touching cards: those above which no card is gone up to another of the
+/// hand. The gaps are the cards that nobody has.
+fn tops_of_runs(own: u64, gaps: [u64; 4]) -> u64 {
+    let mut above = own;
+    above |= gaps[0] & above >> 1;
+    above |= gaps[1] & above >> 2;
+    above |= gaps[2] & above >> 4;
+    above |= gaps[3] & above >> 8;
+    own & !(above >> 1)
 }
 
-/// The owners without that in this place.
-fn without(owners: u32, place: u32) -> u32 {
-    let low = 1u32.wrapping_shl(place.wrapping_mul(2)).wrapping_sub(1);
-    owners & low | owners >> 2 & !low
+/// The cards that nobody has, and those that are the lowest of two, four and eight of them in a row.
+fn gaps_in(left: u64) -> [u64; 4] {
+    let one = PACK & !left;
+    let two = one & one >> 1;
+    let four = two & two >> 2;
+    [one, two, four, four & four >> 4]
 }
 
-/// A bit for each suit and seat that has cards by such lengths, the lowest of its four.
-fn holders_of(lengths: u64) -> u64 {
-    (lengths | lengths >> 1 | lengths >> 2 | lengths >> 3) & 0x1111_1111_1111_1111
+/// How many of the cards there are in each suit, in the lowest four bits of its part of the word.
+fn counts_in(cards: u64) -> u64 {
+    let pairs = cards.wrapping_sub(cards >> 1 & 0x5555_5555_5555_5555);
+    let fours = (pairs & 0x3333_3333_3333_3333).wrapping_add(pairs >> 2 & 0x3333_3333_3333_3333);
+    let eights = fours.wrapping_add(fours >> 4) & 0x0f0f_0f0f_0f0f_0f0f;
+    eights.wrapping_add(eights >> 8) & 0x000f_000f_000f_000f
 }
 
-/// How many low cards of a suit there are where one seat alone has some, and their owners; else none.
-fn lone_lows(lows: u32) -> (u32, u32) {
-    let holders = (lows | lows >> 1 | lows >> 2 | lows >> 3) & 0x1111;
-    if holders == 0 || holders & holders.wrapping_sub(1) != 0 {
-        return (0, 0);
+/// How many of the cards there are, four bits a suit.
+fn depths_in(cards: u64) -> u16 {
+    let counts = counts_in(cards);
+    ((counts | counts >> 12 | counts >> 24 | counts >> 36) & 0xffff) as u16
+}
+
+/// The bits of the first of so many owners of each suit that stand in the first word of a record.
+fn near_bits(depths: u16) -> u64 {
+    bits_in(depths, 0) | bits_in(depths, 1) | bits_in(depths, 2) | bits_in(depths, 3)
+}
+
+/// The bits of so many owners of a suit, where it lies in the first word.
+fn bits_in(depths: u16, lane: u32) -> u64 {
+    let depth = u32::from(depths.wrapping_shr(lane.wrapping_mul(4)) & 15);
+    let bits = 1u64.wrapping_shl(depth.wrapping_mul(2)).wrapping_sub(1) & SUIT;
+    bits.wrapping_shl(lane.wrapping_mul(16))
+}
+
+/// The same in the second word.
+fn deep_bits(depths: u16) -> u64 {
+    let mut less = 0u16;
+    for lane in 0..4u32 {
+        let depth = u32::from(depths.wrapping_shr(lane.wrapping_mul(4)) & 15);
+        let deep = depth.saturating_sub(NEAR) as u16;
+        less |= deep.wrapping_shl(lane.wrapping_mul(4));
     }
-    let start = holders.trailing_zeros();
-    let count = lows.wrapping_shr(start) & 15;
-    let all = 1u32.wrapping_shl(count.wrapping_mul(2)).wrapping_sub(1);
-    (count, all & (start >> 2 & 3).wrapping_mul(0x5555_5555))
+    near_bits(less)
 }
 
-impl Remains {
-    /// What a record names. Owners after the eighth of a suit are not known yet.
-    fn of_tops(record: &Record) -> Remains {
-        Remains {
-            owners: Owners {
-                near: record.near,
-                deep: record.deep,
-            },
-            known: Owners {
-                near: record.mask,
-                deep: 0,
-            },
+/// All bits of the suits of which one seat at most has low cards.
+fn whole_suits(lows: u64) -> u64 {
+    let holders = (lows | lows >> 1 | lows >> 2 | lows >> 3) & 0x1111_1111_1111_1111;
+    let others = (holders | LOWEST << 15).wrapping_sub(LOWEST) & holders;
+    let many = (others >> 4 | others >> 8 | others >> 12) & LOWEST;
+    !many.wrapping_shl(16).wrapping_sub(many)
+}
+
+/// All bits of the suits that have more cards than owners stand in the first word of a record.
+fn deep_suits(left: u64) -> u64 {
+    let mut deep = 0u64;
+    for lane in 0..4usize {
+        if lane_of(left, lane).count_ones() > NEAR {
+            deep |= SUIT.wrapping_shl(lane as u32 * 16);
         }
     }
+    deep
+}
 
-    /// Puts in a suit of which so many owners are known, and those of these low cards where one seat alone has some.
-    fn put_completed(&mut self, lane: usize, owners: u32, depth: u32, lows: u32) {
-        let (count, lone) = lone_lows(lows);
-        let all = owners | lone.wrapping_shl(depth.wrapping_mul(2));
-        self.put(lane, all, depth.wrapping_add(count));
-    }
-
-    /// Puts in a suit of which so many owners are known.
-    fn put(&mut self, lane: usize, owners: u32, depth: u32) {
-        let bits = 1u32
-            .wrapping_shl((depth & 15).wrapping_mul(2))
-            .wrapping_sub(1);
-        self.owners.near = with_lane(self.owners.near, lane, owners);
-        self.known.near = with_lane(self.known.near, lane, bits);
-        if u64::from(bits >> 16) | self.known.deep != 0 {
-            self.owners.deep = with_lane(self.owners.deep, lane, owners >> 16);
-            self.known.deep = with_lane(self.known.deep, lane, bits >> 16);
-        }
-    }
+/// A suit of a record of these lengths as the words of a pattern have it: the lengths, how many owners are known, and
+/// who they are.
+pub fn word_of(record: &Record, lengths: u64, lane: usize) -> u64 {
+    let depth = u64::from(record.depths.wrapping_shr((lane & 3) as u32 * 4) & 15);
+    let owners = lane_of(record.near, lane) | lane_of(record.deep, lane) << 16;
+    lane_of(lengths, lane) | depth << 16 | owners << 20
 }
 
 impl PatternStart {
-    /// The pattern of a record of these lengths.
-    pub fn of(record: &Record, lengths: u64) -> PatternStart {
+    /// The pattern of a record, with the cards of a position that it serves, of these lengths.
+    pub fn of(deal: &DealTables, record: &Record, left: u64, lengths: u64) -> PatternStart {
+        let tops = left & !below_lowest(deal.cards_at(left, record.depths));
+        let gaps = gaps_in(left);
         let mut held = PatternStart {
-            owners: [0; 4],
-            depths: [0; 4],
-            cards: [0; 4],
-            whole: Remains::of_tops(record),
+            left,
+            tops,
+            choices: [0; 4],
             lengths,
-            lows: lengths,
-            first_card: if record.first_card < 64 {
-                1u64.wrapping_shl(u32::from(record.first_card))
-            } else {
-                0
-            },
+            lows: 0,
+            depths: record.depths,
+            deep_suits: deep_suits(left),
+            first_card: 0,
         };
-        for lane in 0..4usize {
-            held.put_suit(record, lane);
+        held.first_card = held.cards_named(deal, record.first_card);
+        for seat in 0..4usize {
+            let hand = deal.hands[seat] & left;
+            let low = hand & !tops;
+            held.choices[seat] = tops_of_runs(hand & tops, gaps) | lowest_of_each(low);
+            held.lows |= counts_in(low).wrapping_shl((seat & 3) as u32 * 4);
         }
-        held.put_lows();
         held
     }
 
-    /// Puts in the tops of a suit of a record, and what is known of the suit.
-    fn put_suit(&mut self, record: &Record, lane: usize) {
-        let owners = lane_of(record.near, lane) | lane_of(record.deep, lane).wrapping_shl(16);
-        let depth = u32::from(record.depths.wrapping_shr((lane & 3) as u32 * 4) & 15);
-        self.owners[lane & 3] = owners;
-        self.depths[lane & 3] = depth;
-        for place in 0..depth.min(MOST_CARDS) {
-            let owner = self.owner(lane, place) & 3;
-            self.cards[owner] |= bit_of(lane, place);
-            self.lows = self.lows.wrapping_sub(one_of(lane, owner));
+    /// The card that a record names so, or all low cards of a suit, or no card.
+    fn cards_named(&self, deal: &DealTables, name: u8) -> u64 {
+        if name >= 64 {
+            return 0;
         }
-        let (count, lone) = lone_lows(lane_of(self.lows, lane));
-        if count != 0 || depth > NEAR {
-            let all = owners | lone.wrapping_shl(depth.wrapping_mul(2));
-            self.whole.put(lane, all, depth.wrapping_add(count));
+        let start = u32::from(name) & 48;
+        let place = u16::from(name) & 15;
+        if u32::from(place) == LOW {
+            SUIT.wrapping_shl(start) & !self.tops
+        } else {
+            deal.cards_at(self.left, (place + 1).wrapping_shl(start >> 2))
         }
-    }
-
-    /// Puts in the low cards, once all tops are there, and leaves of each run of these the highest.
-    fn put_lows(&mut self) {
-        let holders = holders_of(self.lows);
-        for seat in 0..4usize {
-            let suits = holders.wrapping_shr((seat & 3) as u32 * 4) & FIRST_SEATS;
-            self.cards[seat] = tops_of_runs(self.cards[seat]) | suits.wrapping_shl(LOW);
-        }
-    }
-
-    /// Who owns the card in this place of a suit.
-    fn owner(&self, lane: usize, place: u32) -> usize {
-        (self.owners[lane & 3].wrapping_shr(place.wrapping_mul(2)) & 3) as usize
-    }
-
-    /// A suit as the words of a pattern have it: the lengths, how many owners are known, and who they are.
-    pub fn word(&self, lane: usize) -> u64 {
-        u64::from(lane_of(self.lengths, lane))
-            | u64::from(self.depths[lane & 3]).wrapping_shl(16)
-            | u64::from(self.owners[lane & 3]).wrapping_shl(20)
     }
 
     /// The cards that the seat to play may play, of each run of its touching tops the highest.
     pub fn legal_cards(&self, trick: &PatternTrick) -> u64 {
-        let cards = self.cards[trick.seat & 3];
+        let cards = self.choices[trick.seat() & 3];
         let follows = cards & trick.led;
         if follows != 0 { follows } else { cards }
     }
 
-    /// What a trick leaves. Suits of which no card was played are as they were.
-    pub fn remains(&self, trick: &PatternTrick) -> Remains {
-        let played = self.lengths.wrapping_sub(trick.lengths);
-        let mut remains = self.whole;
-        for lane in 0..4usize {
-            let of_suit = lane_of(played, lane);
-            if of_suit != 0 {
-                self.put_left(&mut remains, lane, of_suit, lane_of(trick.gone, lane));
-            }
+    /// The place of a top among the cards of its suit, the highest first; none for a low card.
+    pub fn place_of(&self, card: u64) -> Option<u8> {
+        if card & self.tops == 0 {
+            return None;
+        }
+        let above = self.left & suit_of(card) & !below(card) & !card;
+        Some((above.count_ones() & 15) as u8)
+    }
+
+    /// What a trick leaves.
+    #[inline(always)]
+    pub fn remains(&self, deal: &DealTables, trick: &PatternTrick) -> Remains {
+        let left = deal.cards_left(self.cards_left(trick));
+        let whole = whole_suits(trick.lows);
+        let mut remains = Remains {
+            owners: Owners {
+                near: left.near,
+                deep: 0,
+            },
+            known: Owners {
+                near: trick.known | whole,
+                deep: 0,
+            },
+        };
+        if self.depths & 0x8888 != 0 || whole & self.deep_suits != 0 {
+            self.put_deep(&mut remains, &left, trick, whole);
         }
         remains
     }
 
-    /// Puts in what is left of a suit after these seats have played to it, one card each, and these tops are gone.
-    fn put_left(&self, remains: &mut Remains, lane: usize, played: u32, places: u32) {
-        let mut owners = self.owners[lane & 3];
-        let mut lows = lane_of(self.lows, lane).wrapping_sub(played);
-        let mut gone = places;
-        for _ in 0..4 {
-            if gone == 0 {
-                break;
-            }
-            let place = 31u32.wrapping_sub(gone.leading_zeros());
-            let owner = self.owner(lane, place) & 3;
-            lows = lows.wrapping_add(1u32.wrapping_shl(owner as u32 * 4));
-            owners = without(owners, place);
-            gone &= !1u32.wrapping_shl(place);
+    /// Puts in the owners of the second word, where a suit has some.
+    fn put_deep(
+        &self,
+        remains: &mut Remains,
+        left: &CardsLeft<'_>,
+        trick: &PatternTrick,
+        whole: u64,
+    ) {
+        let mut known = whole & self.deep_suits;
+        if self.depths & 0x8888 != 0 {
+            let depths = self
+                .depths
+                .wrapping_sub(depths_in(self.tops & trick.played));
+            remains.known.near = near_bits(depths) | whole;
+            known |= deep_bits(depths);
         }
-        let depth = self.depths[lane & 3].wrapping_sub(places.count_ones());
-        remains.put_completed(lane, owners, depth, lows);
+        if known != 0 {
+            remains.known.deep = known;
+            remains.owners.deep = left.deep();
+        }
     }
-}
 
-/// One card of a suit and a seat, in the words of the lengths.
-fn one_of(lane: usize, seat: usize) -> u64 {
-    1u64.wrapping_shl((lane & 3) as u32 * 16 + (seat & 3) as u32 * 4)
-}
+    /// The cards that a trick leaves.
+    pub fn cards_left(&self, trick: &PatternTrick) -> u64 {
+        self.left & !trick.played
+    }
 
-/// The card in this place of a suit.
-fn bit_of(lane: usize, place: u32) -> u64 {
-    1u64.wrapping_shl((lane & 3) as u32 * 16 + (place & 15))
+    /// Which of the cards is tried next, before so many of other seats.
+    pub fn choose(&self, trick: &PatternTrick, waiting: u64, others: u32) -> u64 {
+        if waiting & waiting.wrapping_sub(1) == 0 {
+            return waiting;
+        }
+        if trick.led == 0 {
+            return highest(waiting & suit_of(waiting));
+        }
+        if others < 2 && trick.winners & seat_bit(trick.seat().wrapping_add(2)) == 0 {
+            let above = !below(trick.best) & !trick.best;
+            let winning = waiting & self.tops & suit_of(trick.best) & above;
+            if winning != 0 {
+                return if others == 1 {
+                    highest(winning)
+                } else {
+                    lowest(winning)
+                };
+            }
+        }
+        lowest(waiting & suit_of(highest(waiting)))
+    }
 }
 
 impl PatternTrick {
     /// The start of a trick on a pattern, with this seat to lead.
     pub fn start(held: &PatternStart, leader: usize) -> PatternTrick {
         PatternTrick {
-            gone: 0,
+            played: 0,
             lengths: held.lengths,
+            lows: held.lows,
+            known: near_bits(held.depths),
             led: 0,
             best: 0,
+            ones: LOWEST.wrapping_shl((leader & 3) as u32 * 4),
             winners: 0,
-            on_table: 0,
-            seat: leader,
         }
     }
 
-    /// The trick after the seat to play has played the card.
-    pub fn after(&self, card: u64, trumps: u64) -> PatternTrick {
-        let mut next = *self;
-        let seat = self.seat & 3;
-        let bit = 1u32.wrapping_shl(seat as u32);
-        let suit = suit_of(card);
-        let wins = if self.best & suit == 0 {
-            self.led == 0 || suit & trumps != 0
-        } else {
-            card < self.best
-        };
-        if wins {
-            next.best = card;
-            next.winners = bit;
-        } else if card == self.best {
-            next.winners |= bit;
-        }
-        if self.led == 0 {
-            next.led = suit;
-        }
-        next.gone |= card & !LOWS;
-        let one = 1u64.wrapping_shl(start_of(card).wrapping_add(seat as u32 * 4));
-        next.lengths = self.lengths.wrapping_sub(one);
-        next.seat = seat + 1 & 3;
-        next.on_table = self.on_table.wrapping_add(1);
-        next
+    /// The seat to play.
+    pub fn seat(&self) -> usize {
+        (self.ones.trailing_zeros() >> 2 & 3) as usize
     }
 
-    /// Which of the cards is tried next: this one, where it is one of them.
-    pub fn choose(&self, waiting: u64, first: u64) -> u64 {
-        if waiting & first != 0 {
-            return first;
+    /// The trick after the seat to play has played the card. Of the suit led and trumps the greatest wins.
+    #[inline(always)]
+    pub fn after(&self, held: &PatternStart, card: u64, trumps: u64) -> PatternTrick {
+        let start = start_of(card);
+        let suit = SUIT.wrapping_shl(start);
+        let bit = (self.ones & SUIT) as u32;
+        let one = self.ones & suit;
+        let is_low = card & held.tops == 0;
+        let value = if is_low { LOWEST & suit } else { card };
+        let led = if self.led == 0 { suit } else { self.led };
+        let worth = value & (led | trumps);
+        let with_it = if worth < self.best { 0 } else { bit };
+        let others = if worth > self.best { 0 } else { self.winners };
+        let known = self.known & !suit | (self.known & suit) >> 2 & suit;
+        PatternTrick {
+            played: self.played | card,
+            lengths: self.lengths.wrapping_sub(one),
+            lows: self.lows.wrapping_sub(if is_low { one } else { 0 }),
+            known: if is_low { self.known } else { known },
+            led,
+            best: worth.max(self.best),
+            ones: self.ones.rotate_left(4),
+            winners: with_it | others,
         }
-        if self.on_table == 0 {
-            return lowest(waiting);
-        }
-        let partner = self.seat.wrapping_add(2) & 3;
-        if self.on_table > 1 && self.winners & 1u32.wrapping_shl(partner as u32) == 0 {
-            let winning = waiting & suit_of(self.best) & below(self.best);
-            if winning != 0 {
-                return if self.on_table == 2 {
-                    lowest(winning)
-                } else {
-                    highest(winning)
-                };
-            }
-        }
-        highest(waiting)
     }
 }
