@@ -28,9 +28,9 @@ const REFUSED: &str = "ddfarm: the command line is refused\n";
 
 /// Does what the words ask for, the first of them being the program's name, and answers the exit status.
 ///
-/// What can't be done is told on the error output, with nothing on the output but the beginning that a failed output
-/// has taken; so is what was passed over of evidence, behind a page that was written. Else the error output is as it
-/// was. Where the error output fails, nobody is left to be told.
+/// What can't be done is told on the error output, with nothing on the output but what `play` has written, and the
+/// beginning that a failed output has taken; so is what was passed over of evidence, or couldn't be kept, behind a page
+/// that was written. Else the error output is as it was. Where the error output fails, nobody is left to be told.
 pub fn run_command<
     'a,
     S: AsStr,

@@ -3,3 +3,4 @@ pub mod AnswerLaws
 pub mod CheckLemmas
 pub mod SolveLemmas
 pub mod LineLemmas
+pub mod RunLemmas

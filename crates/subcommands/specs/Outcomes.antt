@@ -6,6 +6,7 @@ use Rattle.evidence.specs.declared.damages.Damage.{Damage}
 use Rattle.subcommands.specs.declared.faults.RunFault.{RunFault}
 use Rattle.subcommands.specs.declared.outcomes.Outcome.{Outcome}
 use Rattle.subcommands.specs.declared.statuses.Status.{Status}
+use Rattle.subcommands.specs.declared.statuses.Status.TheVariants.{Done}
 use Rattle.subcommands.specs.Statuses.{IsTold}
 
 -- a run that has passed nothing over, and had nothing to keep
@@ -20,6 +21,11 @@ quiet_answer (Err fault) = Err fault
 -- what such a run answers is so
 abbrev pub Quietly : (Result Status RunFault → Type 0) → Result Outcome RunFault → Type 0
 Quietly Fact answer = (ended : Result Status RunFault) × (answer ≡ quiet_answer ended) × Fact ended
+
+-- what a run answers of which no more is said than that all is done is so
+abbrev pub DoneQuietly : (Result Unit RunFault → Type 0) → Result Outcome RunFault → Type 0
+DoneQuietly Fact (Ok outcome) = (outcome ≡ quiet Done) × Fact (Ok tt)
+DoneQuietly Fact (Err fault) = Fact (Err fault)
 
 -- ---- what is told
 abbrev pub counted_text : ℕ → List ℕ

@@ -9,7 +9,8 @@ use Rattle.strategies.specs.Values.{IsPlainValue}
 use Rattle.subcommands.specs.declared.faults.RunFault.{RunFault}
 use Rattle.subcommands.specs.declared.faults.RunFault.TheVariants.{OutOfMemory, Read, NoThread, Write, NotText, Layout}
 use Rattle.subcommands.specs.declared.faults.RunFault.TheVariants.{TooLarge}
-use Rattle.subcommands.specs.declared.faults.RunFault.TheVariants.{Pbn, NoResult, NoAnswer, Evidence, AnswerFile, Unkept}
+use Rattle.subcommands.specs.declared.faults.RunFault.TheVariants.{Pbn, NoResult, NoAnswer}
+use Rattle.subcommands.specs.declared.faults.RunFault.TheVariants.{Evidence, AnswerFile, Unkept}
 
 -- the line: `NS `, the digit of the number, LF
 abbrev pub line_of : ℕ → List ℕ

@@ -1,5 +1,5 @@
 -- What a run does for what was asked, and how it ends.
-use Rattle.std.specs.Prelude.{◌≡◌, Result, Ok, Err, ◌⊎◌, Option, List, ℕ}
+use Rattle.std.specs.Prelude.{◌≡◌, Result, Ok, Err, ◌⊎◌, Option, List, ℕ, ⊤}
 use Rattle.lease_desk.specs.Moments.{MayTell}
 use Rattle.partition_solver.specs.Answers.{MayFind}
 use Rattle.streams.specs.Flushes.{HandsOn}
@@ -14,7 +14,7 @@ use Rattle.asked.specs.declared.subcommands.Subcommand.{Subcommand}
 use Rattle.asked.specs.declared.subcommands.Subcommand.TheVariants.{Plain, Solve, Table, Check, Line, Play, Audit}
 use Rattle.subcommands.specs.Statuses.{fault_status, status_code, told_line, IsTold}
 use Rattle.subcommands.specs.NamedFiles.{MayOpen}
-use Rattle.subcommands.specs.Outcomes.{quiet, Quietly, TellsDamage}
+use Rattle.subcommands.specs.Outcomes.{Quietly, DoneQuietly, TellsDamage}
 use Rattle.subcommands.specs.PlainLine.{MeetsPlainLine}
 use Rattle.subcommands.specs.Checks.{ChecksAnswer}
 use Rattle.subcommands.specs.Solves.{SolvesLayout}
@@ -23,25 +23,48 @@ use Rattle.subcommands.specs.Playing.{PlaysAnswer}
 use Rattle.subcommands.specs.Auditing.{AuditsFile}
 use Rattle.subcommands.specs.KeptTables.{FillsTables}
 
+-- a layout alone is asked about
+abbrev pub IsOfLayout : Subcommand → Type 0
+IsOfLayout (Plain layout leader trump) = ⊤
+IsOfLayout (Solve layout declarer trump budget) = ⊤
+IsOfLayout _ = ⊥
+
+-- what comes of it, by what the solver may find
+abbrev pub EvaluatesLayout : MayFind → Subcommand → Device → Device → Result Outcome RunFault → Type 0
+EvaluatesLayout may_find (Plain layout leader trump) sink sink' answer =
+    DoneQuietly (MeetsPlainLine layout.now leader trump sink sink') answer
+EvaluatesLayout may_find (Solve layout declarer trump budget) sink sink' answer =
+    DoneQuietly (SolvesLayout may_find layout.now declarer trump budget sink sink') answer
+EvaluatesLayout may_find _ sink sink' answer = ⊥
+
+-- an answer is asked about, which is the input
+abbrev pub IsOfAnswer : Subcommand → Type 0
+IsOfAnswer (Check layout declarer trump) = ⊤
+IsOfAnswer (Line layout declarer trump) = ⊤
+IsOfAnswer _ = ⊥
+
+-- what comes of it
+abbrev pub JudgesInput : Subcommand → Device → Device → Device → Device → Result Outcome RunFault → Type 0
+JudgesInput (Check layout declarer trump) source source' sink sink' answer =
+    Quietly (ChecksAnswer layout.now declarer trump source source' sink sink') answer
+JudgesInput (Line layout declarer trump) source source' sink sink' answer =
+    Quietly (FollowsAnswer layout.now declarer trump source source' sink sink') answer
+JudgesInput _ source source' sink sink' answer = ⊥
+
 -- What came of a run, by what the solver may find, the clock may tell and the opening of a file may come to, and what
 -- its devices have given and got. A single layout leaves the input as it was.
 abbrev pub Does : MayFind → MayTell → MayOpen → Subcommand → Device → Device → Device → Device
     → Result Outcome RunFault → Type 0
-Does may_find may_tell may_open (Plain layout leader trump) source source' sink sink' (Ok outcome) =
-    (outcome ≡ quiet Done) × (source' ≡ source) × MeetsPlainLine layout.now leader trump sink sink' (Ok tt)
-Does may_find may_tell may_open (Plain layout leader trump) source source' sink sink' (Err fault) =
-    (source' ≡ source) × MeetsPlainLine layout.now leader trump sink sink' (Err fault)
-Does may_find may_tell may_open (Solve layout declarer trump budget) source source' sink sink' (Ok outcome) =
-    (outcome ≡ quiet Done) × (source' ≡ source)
-    × SolvesLayout may_find layout.now declarer trump budget sink sink' (Ok tt)
-Does may_find may_tell may_open (Solve layout declarer trump budget) source source' sink sink' (Err fault) =
-    (source' ≡ source) × SolvesLayout may_find layout.now declarer trump budget sink sink' (Err fault)
+Does may_find may_tell may_open (Plain layout leader trump) source source' sink sink' answer =
+    (source' ≡ source) × EvaluatesLayout may_find (Plain layout leader trump) sink sink' answer
+Does may_find may_tell may_open (Solve layout declarer trump budget) source source' sink sink' answer =
+    (source' ≡ source) × EvaluatesLayout may_find (Solve layout declarer trump budget) sink sink' answer
 Does may_find may_tell may_open (Table options) source source' sink sink' answer =
     FillsTables may_open may_tell options options.evidence source source' sink sink' answer
 Does may_find may_tell may_open (Check layout declarer trump) source source' sink sink' answer =
-    Quietly (ChecksAnswer layout.now declarer trump source source' sink sink') answer
+    JudgesInput (Check layout declarer trump) source source' sink sink' answer
 Does may_find may_tell may_open (Line layout declarer trump) source source' sink sink' answer =
-    Quietly (FollowsAnswer layout.now declarer trump source source' sink sink') answer
+    JudgesInput (Line layout declarer trump) source source' sink sink' answer
 Does may_find may_tell may_open (Play options) source source' sink sink' answer =
     Quietly (PlaysAnswer may_open options source source' sink sink') answer
 Does may_find may_tell may_open (Audit file whole) source source' sink sink' answer =
@@ -80,13 +103,14 @@ Shows sink sink' errors errors' text Rejected = ⊥
 abbrev pub IsUndone : ℕ → Type 0
 IsUndone code = (code ≡ status_code Failed) ⊎ (code ≡ status_code Refused)
 
--- The end of a run with this exit status. Where it was done, the writer below the output's buffer has got all that was
--- written, or that failed and was told. A run that failed or was refused stays so, and nothing more is done.
+-- The end of a run with this exit status. However it ended, the writer below the output's buffer has got all that was
+-- written, or that failed: then a run that was done has failed, which is told, and one that had failed or was refused
+-- stays so, and nothing more is told.
 pub data Closes (sink sink' : Device) (below : Option (List ℕ)) (errors errors' : Device) (code ended : ℕ)
     : Type 0 where
-  stays : IsUndone code → ended ≡ code → sink' ≡ sink → errors' ≡ errors
-      → Closes sink sink' below errors errors' code ended
-  is_flushed : (IsUndone code → ⊥) → ended ≡ code → HandsOn sink sink' below → errors' ≡ errors
+  is_flushed : ended ≡ code → HandsOn sink sink' below → errors' ≡ errors
       → Closes sink sink' below errors errors' code ended
   fails : (IsUndone code → ⊥) → ended ≡ status_code Failed → Fails sink sink' → IsTold errors errors' (told_line Write)
+      → Closes sink sink' below errors errors' code ended
+  fails_too : IsUndone code → ended ≡ code → Fails sink sink' → errors' ≡ errors
       → Closes sink sink' below errors errors' code ended

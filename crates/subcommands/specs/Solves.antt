@@ -14,7 +14,8 @@ use Rattle.partition_solver.specs.Answers.{MayFind, MayAnswer}
 use Rattle.subcommands.specs.declared.faults.RunFault.{RunFault}
 use Rattle.subcommands.specs.declared.faults.RunFault.TheVariants.{OutOfMemory, Read, NoThread, Write, NotText, Layout}
 use Rattle.subcommands.specs.declared.faults.RunFault.TheVariants.{TooLarge}
-use Rattle.subcommands.specs.declared.faults.RunFault.TheVariants.{Pbn, NoResult, NoAnswer, Evidence, AnswerFile, Unkept}
+use Rattle.subcommands.specs.declared.faults.RunFault.TheVariants.{Pbn, NoResult, NoAnswer}
+use Rattle.subcommands.specs.declared.faults.RunFault.TheVariants.{Evidence, AnswerFile, Unkept}
 use Rattle.subcommands.specs.Answers.{IsAnswer}
 
 -- the first line: `result `, the number, LF

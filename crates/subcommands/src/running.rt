@@ -1,7 +1,8 @@
 //! What a run does for what was asked, and how it ends.
 
 ghost use Rattle.streams.specs.Flushes.{inner_contents};
-ghost use Rattle.subcommands.specs.Runs.{Closes, Does, Ends, RunsSubcommand, Shows};
+ghost use Rattle.subcommands.specs.Runs.{Closes, Ends, EvaluatesLayout, IsOfAnswer, IsOfLayout, JudgesInput};
+ghost use Rattle.subcommands.specs.Runs.{RunsSubcommand, Shows};
 
 use crate::auditing::audit_file;
 use crate::checks::check_answer;
@@ -28,9 +29,9 @@ use streams::{Streams, WriterSink};
 
 /// Does what is asked, and answers how the run ends.
 ///
-/// What can't be done is told on the error output, with nothing on the output but the beginning that a failed output
-/// has taken; so is what was passed over of evidence, behind a page that was written. Else the error output is as it
-/// was. Where the error output fails, nobody is left to be told.
+/// What can't be done is told on the error output, with nothing on the output but what `play` has written, and the
+/// beginning that a failed output has taken; so is what was passed over of evidence, or couldn't be kept, behind a page
+/// that was written. Else the error output is as it was. Where the error output fails, nobody is left to be told.
 pub fn run_subcommand<
     P: Solver + Sync,
     G: Gate + Sync,
@@ -53,7 +54,18 @@ pub fn run_subcommand<
         (E.state streams.old.errors) (E.state streams.new.errors) result }
 {
     let input = &mut streams.input;
-    let answer = try_subcommand(rt, alloc, asked, means, input, &mut streams.output);
+    let output = &mut streams.output;
+    let answer = match asked {
+        Subcommand::Plain { .. } | Subcommand::Solve { .. } => {
+            evaluate_layout(alloc, asked, means.solver, output)
+        }
+        Subcommand::Check { .. } | Subcommand::Line { .. } => {
+            judge_input(alloc, asked, input, output)
+        }
+        Subcommand::Table(options) => write_tables(rt, alloc, options, means, input, output),
+        Subcommand::Play(options) => quietly(play_answer(rt, alloc, options, input, output)),
+        Subcommand::Audit { file, whole } => audit_file(rt, alloc, file, whole, input, output),
+    };
     end(answer, &mut streams.errors)
 }
 
@@ -73,24 +85,15 @@ fn end<E: Sink>(answer: Result<Outcome, RunFault>, errors: &mut E) -> Status
     }
 }
 
-/// Does what is asked, and tells nothing.
-fn try_subcommand<
-    P: Solver + Sync,
-    G: Gate + Sync,
-    C: Clock + Sync,
-    I: Source,
-    O: Sink,
-    R: Threads + Wait + Sync + NamedFiles,
->(
-    rt: &R,
+/// What comes of a layout alone: its plain value, or an answer for it.
+fn evaluate_layout<P: Solver, O: Sink>(
     alloc: Global,
     asked: Subcommand<'_>,
-    means: &Means<'_, P, G, C>,
-    input: &mut I,
+    solver: &P,
     output: &mut O,
 ) -> Result<Outcome, RunFault>
-    ensures { Does (P.may_find means.now.solver.now) (C.may_tell means.now.clock.now) (R.may_open rt.now) asked.entry
-        (I.state input.old) (I.state input.new) (O.state output.old) (O.state output.new) result }
+    requires { IsOfLayout asked }
+    ensures { EvaluatesLayout (P.may_find solver.now) asked.entry (O.state output.old) (O.state output.new) result }
 {
     match asked {
         Subcommand::Plain {
@@ -108,10 +111,25 @@ fn try_subcommand<
             budget,
         } => {
             let value = layout.as_bytes();
-            solve_layout(alloc, value, declarer, trump, budget, means.solver, output)?;
+            solve_layout(alloc, value, declarer, trump, budget, solver, output)?;
             Ok(Outcome::quiet(Status::Done))
         }
-        Subcommand::Table(options) => write_tables(rt, alloc, options, means, input, output),
+        _ => unreachable!(),
+    }
+}
+
+/// What comes of an answer, which is the input: whether it is right, or its line of play.
+fn judge_input<I: Source, O: Sink>(
+    alloc: Global,
+    asked: Subcommand<'_>,
+    input: &mut I,
+    output: &mut O,
+) -> Result<Outcome, RunFault>
+    requires { IsOfAnswer asked }
+    ensures { JudgesInput asked.entry (I.state input.old) (I.state input.new) (O.state output.old) (O.state output.new)
+        result }
+{
+    match asked {
         Subcommand::Check {
             layout,
             declarer,
@@ -128,8 +146,7 @@ fn try_subcommand<
             let value = layout.as_bytes();
             quietly(follow_answer(alloc, value, declarer, trump, input, output))
         }
-        Subcommand::Play(options) => quietly(play_answer(rt, alloc, options, input, output)),
-        Subcommand::Audit { file, whole } => audit_file(rt, alloc, file, whole, input, output),
+        _ => unreachable!(),
     }
 }
 
@@ -145,8 +162,9 @@ pub fn show<O: Sink, E: Sink>(text: &[u8], output: &mut O, errors: &mut E) -> St
     }
 }
 
-/// Flushes the output of a run that was done, and answers the exit status: a flush that failed is told on the error
-/// output.
+/// Flushes the output, however the run ended, and answers the exit status: what was written goes out, also before a
+/// fault, as tables beside which evidence could not be kept. Where the flush fails, a run that was done has failed, and
+/// that is told on the error output; one that had failed or was refused was told of already, and ends as it did.
 pub fn close_output<W: Write + Drop, E: Sink>(
     code: u8,
     output: &mut WriterSink<BufWriter<W>>,
@@ -156,11 +174,9 @@ pub fn close_output<W: Write + Drop, E: Sink>(
         (⟦<WriterSink<BufWriter<W>> as Sink>⟧.state output.new)
         (inner_contents W.contents output.new) (E.state errors.old) (E.state errors.new) code result }
 {
-    if code == Status::Failed.code() || code == Status::Refused.code() {
-        return code;
-    }
     match output.flush() {
         Ok(()) => code,
+        Err(_) if code == Status::Failed.code() || code == Status::Refused.code() => code,
         Err(_) => tell(RunFault::Write, errors).code(),
     }
 }
