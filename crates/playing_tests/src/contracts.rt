@@ -99,7 +99,8 @@ impl Contract<'_> {
         won
     }
 
-    /// Plays on with each card that the opponents may play, where so many cards are left, until there are so many lines.
+    /// Plays on with each card that the opponents may play, where so many cards are left, until there are so many
+    /// lines.
     fn play_on(
         &self,
         rt: &impl Abort,

@@ -20,9 +20,6 @@ const AT_RANDOM: u32 = 10_000;
 /// How many steps the solver has.
 const BUDGET: u64 = 10_000_000;
 
-/// Up to so many cards a hand each strategy is told card by card too.
-const TOLD: usize = 4;
-
 /// What the solver answers.
 fn solved(alloc: Global, layout: &Layout, declarer: Seat, trump: Trump) -> Result<Answer, Fail> {
     let found = Partition::new().solve(alloc, layout, &[declarer], trump, BUDGET)?;
@@ -30,7 +27,7 @@ fn solved(alloc: Global, layout: &Layout, declarer: Seat, trump: Trump) -> Resul
     Ok(bundle.answer_for(alloc, declarer)?.ok_or("no answer")?)
 }
 
-/// Plays by the answer of the solver, and by its strategies told card by card where there is room for that.
+/// Plays by the answer of the solver, and by its strategies told card by card.
 fn expect_ending(
     rt: &impl Abort,
     alloc: Global,
@@ -48,9 +45,6 @@ fn expect_ending(
         defenders: &answer.defenders,
     };
     expect_both(rt, &contract)?;
-    if layout.len() > TOLD {
-        return Ok(());
-    }
     let declarers = told_card_by_card(alloc, &contract.begin(declarer.side())?, trump)?;
     let defenders = told_card_by_card(alloc, &contract.begin(declarer.side().other())?, trump)?;
     let told = Contract {

@@ -65,8 +65,8 @@ fn line_of_the_finesse(rt: HostRuntime) -> Result<(), Fail> {
     )
 }
 
-/// Four hands of one suit each, each suit from the ace down: with hearts as trumps East ruffs what South leads, and goes
-/// on to lead.
+/// Four hands of one suit each, each suit from the ace down: with hearts as trumps East ruffs what South leads, and
+/// goes on to lead.
 const RUFFS: &[u8] = b"1 S: DA CA SA HA E
 2 E: HK DK CK SK E
 3 E: HQ DQ CQ SQ E

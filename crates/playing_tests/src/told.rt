@@ -1,5 +1,5 @@
-//! A side's strategy told card by card, as a certificate of the first version: a node for each trick that can come about,
-//! whose pattern names every card.
+//! A side's strategy told card by card, as a certificate of the first version: a node for each position in which a
+//! trick can begin, whose pattern names every card.
 
 use cards::{Card, Rank, Seat, Suit, Trump};
 use certificate_graph::Graph;
@@ -12,10 +12,15 @@ const PLACES: [&str; 13] = [
     "a", "b", "c", "d", "e", "f", "g", "h", "i", "j", "k", "l", "m",
 ];
 
-/// The lines of the nodes that are told, and of each node, also of one still to be told, the play before its trick.
+/// A position in which a trick begins: which cards were played, a bit each, who leads, and what the side still needs.
+type Begun = (u64, Seat, u8);
+
+/// The lines of the nodes that are told, and of each node, also of one still to be told, its position, and a play that
+/// leads there.
 #[derive(Drop)]
 struct Told<'a> {
     text: String,
+    begun: Vec<Begun>,
     plays: Vec<Playing<'a>>,
 }
 
@@ -23,10 +28,12 @@ struct Told<'a> {
 pub fn told_card_by_card(alloc: Global, start: &Playing<'_>, trump: Trump) -> Result<Graph, Fail> {
     let mut told = Told {
         text: String::new(alloc),
+        begun: Vec::new(alloc),
         plays: Vec::new(alloc),
     };
     if needs(start) > 0 {
-        told.plays.push(start.clone().unwrap())?;
+        let lead = start.turn().ok_or("nothing is left to play")?;
+        number_of(&mut told, start, lead)?;
     }
     for place in 0..u64::MAX {
         let Some(play) = told.plays.get(place as usize) else {
@@ -43,6 +50,27 @@ pub fn told_card_by_card(alloc: Global, start: &Playing<'_>, trump: Trump) -> Re
 /// How many tricks of those that it promised the side still needs.
 fn needs(play: &Playing<'_>) -> u8 {
     play.promised().saturating_sub(play.won())
+}
+
+/// Which cards were played so far, a bit each.
+fn played(play: &Playing<'_>) -> u64 {
+    let mut cards = 0u64;
+    for card in play.history() {
+        cards |= 1u64.wrapping_shl(card.number() as u32);
+    }
+    cards
+}
+
+/// The number of the node of the trick to which this seat leads here: a new one where the position has none yet.
+fn number_of<'a>(told: &mut Told<'a>, play: &Playing<'a>, lead: Seat) -> Result<usize, Fail> {
+    let begun = (played(play), lead, needs(play));
+    if let Some(number) = told.begun.iter().position(|other| *other == begun) {
+        return Ok(number);
+    }
+    let number = told.begun.len();
+    told.begun.push(begun)?;
+    told.plays.push(play.clone().unwrap())?;
+    Ok(number)
 }
 
 /// Tells the node of the trick that begins here.
@@ -136,9 +164,8 @@ fn tell_leaf<'a>(
         told.text.push_str("{}")?;
         return Ok(());
     }
-    let number = told.plays.len();
+    let number = number_of(told, play, winner)?;
     told.text
         .push_str(format!(in alloc; "{{{winner}{number}}}")?.as_str())?;
-    told.plays.push(play.clone().unwrap())?;
     Ok(())
 }

@@ -1,5 +1,5 @@
-//! A finesse, a squeeze, a ruff and a run, each with a certificate written by hand: every line of the opponents, and how
-//! many there are.
+//! A finesse, a squeeze, a ruff and a run, each with a certificate written by hand: every line of the opponents, and
+//! how many there are.
 
 use crate::contracts::{Contract, Outcome};
 use crate::expect::expect_eq;

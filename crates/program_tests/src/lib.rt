@@ -4,11 +4,15 @@
 #![tactic(auto)]
 
 #[cfg(test)]
+mod audit_tests;
+#[cfg(test)]
 mod closing_tests;
 #[cfg(test)]
 mod damage_tests;
 #[cfg(test)]
 mod device_tests;
+#[cfg(test)]
+mod disks;
 #[cfg(test)]
 mod expect;
 #[cfg(test)]
@@ -19,6 +23,8 @@ mod line_tests;
 mod plain_tests;
 #[cfg(test)]
 mod progress_tests;
+#[cfg(test)]
+mod sections;
 #[cfg(test)]
 mod settings_tests;
 #[cfg(test)]

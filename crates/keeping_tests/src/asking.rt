@@ -1,0 +1,47 @@
+//! What is asked, and a solver that counts how often it is.
+
+use cards::{Layout, Seat, Trump};
+use evidence::read_section;
+use partition_solver::{Bundle, Solver};
+use std::alloc::{AllocError, Global};
+use std::sync::atomic::AtomicU64;
+use std::sync::atomic::Ordering::SeqCst;
+
+/// What stands for an answer that is none.
+const NOTHING: u8 = 255;
+
+/// A solver that counts how often it is asked, and answers what the section of a text holds.
+#[derive(Drop)]
+pub struct Counts<'a> {
+    pub asked: AtomicU64,
+    pub text: &'a str,
+}
+
+impl Solver for Counts<'_> {
+    fn solve(
+        &self,
+        alloc: Global,
+        _layout: &Layout,
+        _declarers: &[Seat],
+        _trump: Trump,
+        _budget: u64,
+    ) -> Result<Option<Bundle>, AllocError> {
+        self.asked.fetch_add(1, SeqCst);
+        match read_section(alloc, self.text.as_bytes()) {
+            Ok(Some(section)) => Ok(Some(section.into_bundle())),
+            Ok(None) => Ok(None),
+            Err(_) => Err(AllocError),
+        }
+    }
+}
+
+/// How many tricks are claimed for North in no-trump.
+pub fn tricks_of_north<S: Solver>(alloc: Global, solver: &S, layout: &Layout) -> u8 {
+    let Ok(Some(bundle)) = solver.solve(alloc, layout, &[Seat::North], Trump::Nt, 1) else {
+        return NOTHING;
+    };
+    match bundle.claims.as_slice().first() {
+        Some(claim) => claim.k,
+        None => NOTHING,
+    }
+}

@@ -1,0 +1,169 @@
+//! A disk in memory with one file.
+
+use std::alloc::Allocator;
+use std::fs::{Files, Metadata, OpenFile, OpenOptions};
+use std::io;
+use std::io::{Error, ErrorKind, Read, Seek, SeekFrom, Write};
+use std::sync::{Mutex, Wait};
+
+/// What the disk holds, and what was done to it.
+#[derive(Drop)]
+pub struct Held {
+    pub bytes: Vec<u8>,
+    /// How many bytes there is room for.
+    pub room: usize,
+    pub writes: u64,
+    pub syncs: u64,
+}
+
+/// A disk with one file.
+#[derive(Drop)]
+pub struct Disk<'a, R> {
+    rt: &'a R,
+    pub held: Mutex<Held>,
+}
+
+impl<'a, R: Wait> Disk<'a, R> {
+    /// A disk whose file has these bytes, and which has room for so many.
+    pub fn new(rt: &'a R, bytes: Vec<u8>, room: usize) -> Disk<'a, R> {
+        Disk {
+            rt,
+            held: Mutex::new(Held {
+                bytes,
+                room,
+                writes: 0,
+                syncs: 0,
+            }),
+        }
+    }
+}
+
+/// The file of a disk, open.
+#[derive(Drop)]
+pub struct Open<'a, R> {
+    disk: &'a Disk<'a, R>,
+    at: usize,
+}
+
+impl<R: Wait> Read for Open<'_, R> {
+    fn read(&mut self, buf: &mut [u8]) -> io::Result<usize> {
+        let held = self.disk.held.lock(self.disk.rt);
+        let all = held.bytes.as_slice();
+        let start = self.at.min(all.len());
+        let rest = &all[start..];
+        let count = rest.len().min(buf.len());
+        buf[..count].copy_from_slice(&rest[..count]);
+        self.at = start + count;
+        Ok(count)
+    }
+}
+
+impl<R: Wait> Write for Open<'_, R> {
+    /// Takes as many bytes as there is room for.
+    fn write(&mut self, buf: &[u8]) -> io::Result<usize> {
+        let mut held = self.disk.held.lock(self.disk.rt);
+        held.writes = held.writes.saturating_add(1);
+        let count = held.room.saturating_sub(held.bytes.len()).min(buf.len());
+        if count == 0 && !buf.is_empty() {
+            return Err(Error::from(ErrorKind::StorageFull));
+        }
+        held.bytes.extend_from_slice(&buf[..count])?;
+        Ok(count)
+    }
+
+    fn flush(&mut self) -> io::Result<()> {
+        Ok(())
+    }
+}
+
+impl<R: Wait> Seek for Open<'_, R> {
+    fn seek(&mut self, to: SeekFrom) -> io::Result<u64> {
+        match to {
+            SeekFrom::Start(at) => {
+                self.at = at as usize;
+                Ok(at)
+            }
+            _ => not_done(),
+        }
+    }
+}
+
+impl<R: Wait> OpenFile for Open<'_, R> {
+    fn metadata(&self) -> io::Result<Metadata> {
+        let held = self.disk.held.lock(self.disk.rt);
+        Ok(Metadata::of_file(held.bytes.len() as u64))
+    }
+
+    fn set_len(&self, _size: u64) -> io::Result<()> {
+        not_done()
+    }
+
+    fn sync_all(&self) -> io::Result<()> {
+        not_done()
+    }
+
+    fn sync_data(&self) -> io::Result<()> {
+        let mut held = self.disk.held.lock(self.disk.rt);
+        held.syncs = held.syncs.saturating_add(1);
+        Ok(())
+    }
+}
+
+/// What this system doesn't do.
+fn not_done<T>() -> io::Result<T> {
+    Err(Error::from(ErrorKind::Unsupported))
+}
+
+/// A system whose one file is that of a disk.
+#[derive(Drop)]
+pub struct System<'a, R>(pub &'a Disk<'a, R>);
+
+impl<'a, R: Wait> Files for System<'a, R> {
+    type File = Open<'a, R>;
+
+    type Dir = io::Empty;
+
+    fn open_file(&self, how: &OpenOptions, _path: &str) -> io::Result<Open<'a, R>> {
+        how.check()?;
+        Ok(Open {
+            disk: self.0,
+            at: 0,
+        })
+    }
+
+    fn open_dir(&self, _path: &str) -> io::Result<io::Empty> {
+        not_done()
+    }
+
+    fn metadata(&self, _path: &str) -> io::Result<Metadata> {
+        not_done()
+    }
+
+    fn symlink_metadata(&self, _path: &str) -> io::Result<Metadata> {
+        not_done()
+    }
+
+    fn copy(&self, _from: &str, _to: &str) -> io::Result<u64> {
+        not_done()
+    }
+
+    fn rename(&self, _from: &str, _to: &str) -> io::Result<()> {
+        not_done()
+    }
+
+    fn remove_file(&self, _path: &str) -> io::Result<()> {
+        not_done()
+    }
+
+    fn create_dir(&self, _path: &str) -> io::Result<()> {
+        not_done()
+    }
+
+    fn remove_dir(&self, _path: &str) -> io::Result<()> {
+        not_done()
+    }
+
+    fn remove_dir_all<B: Allocator>(&self, _alloc: B, _path: &str) -> io::Result<()> {
+        not_done()
+    }
+}

@@ -1,0 +1,239 @@
+//! Audits, and tables whose evidence is kept, where the input, the output or the file with the evidence fails.
+
+use crate::disks::{Disk, NAME, System};
+use crate::expect::{End, ROOM, expect_bytes, expect_eq, means};
+use crate::sections::{BOARD, NO_TRUMP, ONE, SPADES, TWO};
+use cards::{Buffer, Bytes, Layout, Seat, Suit, Trump};
+use evidence::read_section;
+use farm::SettingsFault;
+use partition_solver::{Bundle, Solver};
+use std::alloc::{AllocError, Global};
+use std::process::Abort;
+use std::sync::Wait;
+use std::test::Fail;
+use std::thread::Threads;
+use streams::Streams;
+use subcommands::{Status, Subcommand, TableOptions, run_subcommand};
+use test_support::idle::LetsPass;
+use test_support::settings::once;
+use test_support::texts::joined;
+
+/// A solver that finds what is shown of North's spades, and nothing else.
+#[derive(Drop)]
+struct FindsSpades;
+
+impl Solver for FindsSpades {
+    fn solve(
+        &self,
+        alloc: Global,
+        _layout: &Layout,
+        declarers: &[Seat],
+        trump: Trump,
+        _budget: u64,
+    ) -> Result<Option<Bundle>, AllocError> {
+        if declarers != [Seat::North].as_slice() || trump != Trump::Suit(Suit::Spades) {
+            return Ok(None);
+        }
+        match read_section(alloc, SPADES) {
+            Ok(Some(section)) => Ok(Some(section.into_bundle())),
+            _ => Err(AllocError),
+        }
+    }
+}
+
+/// The devices of a run: what the file holds, how many bytes more it has room for and which of its calls fails, which
+/// call of the input fails, and how many bytes the output takes.
+#[derive(Clone, Copy)]
+struct Devices<'a> {
+    file: &'a [u8],
+    file_room: usize,
+    file_fails: u64,
+    input_fails: u64,
+    output_room: usize,
+}
+
+/// Devices of which none fails. The file shows that North takes no trick without trumps.
+const SOUND: Devices<'static> = Devices {
+    file: NO_TRUMP,
+    file_room: SPADES.len(),
+    file_fails: u64::MAX,
+    input_fails: u64::MAX,
+    output_room: ROOM,
+};
+
+/// The audit of a file.
+fn audit(file: &str) -> Subcommand<'_> {
+    Subcommand::Audit { file, whole: false }
+}
+
+/// The tables whose evidence is kept in a file, where each entry is looked for once.
+fn table(file: &str) -> Result<Subcommand<'_>, SettingsFault> {
+    Ok(Subcommand::Table(TableOptions {
+        settings: once(1, 1, 10_000_000, 1)?,
+        progress: false,
+        whole: false,
+        evidence: Some(file),
+    }))
+}
+
+/// How the run ends over these devices, and what the file holds then.
+fn expect_end<R: Abort + Threads + Wait + Sync>(
+    rt: &R,
+    alloc: Global,
+    asked: Subcommand<'_>,
+    devices: Devices<'_>,
+    wanted: End<'_>,
+    kept: &[u8],
+) -> Result<(), Fail> {
+    let disk = Disk::new(alloc, devices.file, devices.file_room, devices.file_fails)?;
+    let system = System { rt, disk: &disk };
+    let mut streams = Streams {
+        input: Bytes::failing_after(BOARD, 1, devices.input_fails),
+        output: Buffer::new(alloc, devices.output_room, 3)?,
+        errors: Buffer::new(alloc, ROOM, 7)?,
+    };
+    let means = means(&FindsSpades, &LetsPass);
+    let status = run_subcommand(&system, alloc, asked, &means, &mut streams);
+    let printed = str::from_utf8(streams.output.bytes())?;
+    let told = str::from_utf8(streams.errors.bytes())?;
+    expect_eq(rt, &(status, printed, told), &wanted);
+    let held = disk.bytes(alloc)?;
+    expect_bytes(rt, held.as_slice(), kept);
+    Ok(())
+}
+
+const READING: &str = "ddfarm: reading failed\n";
+
+const WRITING: &str = "ddfarm: writing failed\n";
+
+const OPENING_FILE: &str = "ddfarm: evidence: cannot open\n";
+
+const READING_FILE: &str = "ddfarm: evidence: reading failed\n";
+
+const WRITING_FILE: &str = "ddfarm: evidence: writing failed\n";
+
+/// A file that isn't there is told before anything of the input, of which the first call would fail, is read.
+#[test]
+fn no_file(rt: HostRuntime) -> Result<(), Fail> {
+    let alloc = rt.alloc();
+    let devices = Devices {
+        input_fails: 0,
+        ..SOUND
+    };
+    let wanted = (Status::Failed, "", OPENING_FILE);
+    for name in ["", "club", "club.dde2", "/club.dde"] {
+        expect_end(&rt, alloc, audit(name), devices, wanted, NO_TRUMP)?;
+        expect_end(&rt, alloc, table(name)?, devices, wanted, NO_TRUMP)?;
+    }
+    Ok(())
+}
+
+/// An input that fails at any call, also at the one that would tell its end: nothing is printed or kept.
+#[test]
+fn torn_inputs(rt: HostRuntime) -> Result<(), Fail> {
+    let alloc = rt.alloc();
+    let wanted = (Status::Failed, "", READING);
+    for input_fails in 0..=BOARD.len() as u64 {
+        let devices = Devices {
+            input_fails,
+            ..SOUND
+        };
+        expect_end(&rt, alloc, audit(NAME), devices, wanted, NO_TRUMP)?;
+        expect_end(&rt, alloc, table(NAME)?, devices, wanted, NO_TRUMP)?;
+    }
+    Ok(())
+}
+
+/// An output that is full after any number of bytes has these, and the file what was found.
+#[test]
+fn full_outputs(rt: HostRuntime) -> Result<(), Fail> {
+    let alloc = rt.alloc();
+    let both = joined(alloc, &[NO_TRUMP, SPADES])?;
+    for output_room in 0..ONE.len() {
+        let devices = Devices {
+            output_room,
+            ..SOUND
+        };
+        let one = ONE.get(..output_room).ok_or("a longer page")?;
+        let two = TWO.get(..output_room).ok_or("a longer page")?;
+        let wanted = (Status::Failed, one, WRITING);
+        expect_end(&rt, alloc, audit(NAME), devices, wanted, NO_TRUMP)?;
+        let wanted = (Status::Failed, two, WRITING);
+        expect_end(&rt, alloc, table(NAME)?, devices, wanted, both.as_slice())?;
+    }
+    Ok(())
+}
+
+/// A file with a line that has no end, and a disk that is full after any number of bytes: the damage is told first, the
+/// tables are printed, and the file has what there was room for.
+#[test]
+fn full_files(rt: HostRuntime) -> Result<(), Fail> {
+    let alloc = rt.alloc();
+    let whole = joined(alloc, &[b"x\n", SPADES])?;
+    let damaged = "ddfarm: evidence: 1 section is damaged, at byte 0\n";
+    let failed = format!(in alloc; "{damaged}{WRITING_FILE}")?;
+    for length in 1..=whole.len() {
+        let kept = whole.as_slice().get(..length).ok_or("a longer text")?;
+        let devices = Devices {
+            file: b"x",
+            file_room: length - 1,
+            ..SOUND
+        };
+        let wanted = if length < whole.len() {
+            (Status::Failed, ONE, failed.as_str())
+        } else {
+            (Status::Incomplete, ONE, damaged)
+        };
+        expect_end(&rt, alloc, table(NAME)?, devices, wanted, kept)?;
+    }
+    Ok(())
+}
+
+/// How many calls go to read the file: one a byte, one that tells the end behind its section, and one more.
+const READS: u64 = NO_TRUMP.len() as u64 + 2;
+
+/// The calls of the file of an audit, and how it ends where one of them fails.
+const OF_AUDIT: [(u64, End<'static>); 3] = [
+    (1, (Status::Failed, "", OPENING_FILE)),
+    (READS, (Status::Failed, "", READING_FILE)),
+    (1, (Status::Incomplete, ONE, "")),
+];
+
+/// Those of tables: the opening, for which the last byte is read; the reading; the search for North's no-trump, for
+/// which the section is read again, and which finds nothing where that fails; the adding of what was found of the
+/// spades; the sync; and none. And whether the section of the spades is kept.
+const OF_TABLE: [(u64, End<'static>, bool); 6] = [
+    (5, (Status::Failed, "", OPENING_FILE), false),
+    (READS, (Status::Failed, "", READING_FILE), false),
+    (READS - 1, (Status::Incomplete, ONE, ""), true),
+    (1, (Status::Failed, TWO, WRITING_FILE), false),
+    (1, (Status::Failed, TWO, WRITING_FILE), true),
+    (1, (Status::Incomplete, TWO, ""), true),
+];
+
+/// A file of which some call fails. Where that is told before the tables are looked for, the input isn't read.
+#[test]
+fn failing_files(rt: HostRuntime) -> Result<(), Fail> {
+    let alloc = rt.alloc();
+    let both = joined(alloc, &[NO_TRUMP, SPADES])?;
+    let mut devices = Devices {
+        file_fails: 0,
+        ..SOUND
+    };
+    for (calls, wanted) in OF_AUDIT {
+        for _ in 0..calls {
+            expect_end(&rt, alloc, audit(NAME), devices, wanted, NO_TRUMP)?;
+            devices.file_fails = devices.file_fails.saturating_add(1);
+        }
+    }
+    devices.file_fails = 0;
+    for (calls, wanted, is_kept) in OF_TABLE {
+        let kept = if is_kept { both.as_slice() } else { NO_TRUMP };
+        devices.input_fails = if wanted.1.is_empty() { 0 } else { u64::MAX };
+        for _ in 0..calls {
+            expect_end(&rt, alloc, table(NAME)?, devices, wanted, kept)?;
+            devices.file_fails = devices.file_fails.saturating_add(1);
+        }
+    }
+    Ok(())
+}
