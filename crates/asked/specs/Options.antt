@@ -1,4 +1,5 @@
--- The options with a number: how each is named, its range, and the number that stands for a missing one.
+-- The options: how each is named; of one with a number its range, and what stands for a missing one; of others what
+-- they say.
 use Rattle.std.specs.Prelude.{ℕ, Bool, true, false, ◌≤◌, List, [], ◌∷◌, codes}
 use Rattle.asked.specs.declared.options.NumberOption.{NumberOption}
 use Rattle.asked.specs.declared.sides.ContractSide.{ContractSide}

@@ -118,11 +118,11 @@ impl Settings {
 /// Which number is out of its range.
 #[derive(Clone, Copy, Debug, PartialEq, Eq)]
 pub enum SettingsFault {
-    /// The solvers.
+    /// How many threads search.
     Solvers,
-    /// The checkers.
+    /// How many threads check.
     Checkers,
-    /// The tries.
+    /// How often an entry is tried.
     Tries,
     /// The budget is 0.
     Budget,

@@ -1,5 +1,6 @@
 -- What is added to the end of a file.
-use Rattle.std.specs.Prelude.{◌≡◌, ℕ, Bool, true, false, not, List, [], ◌∷◌, length, nat_eq, nat_le, ◌-◌, if◌then◌else◌, ⊤}
+use Rattle.std.specs.Prelude.{◌≡◌, ℕ, Bool, true, false, not, List, [], ◌∷◌, length}
+use Rattle.std.specs.Prelude.{nat_eq, nat_le, ◌-◌, if◌then◌else◌, ⊤}
 use Rattle.std.specs.Prelude.{Option, None, Some, Result, Ok, Err}
 use Rattle.std.proofs.Common.{Vec, Global}
 use Rattle.cards.specs.Devices.{Device, WritesPiece}

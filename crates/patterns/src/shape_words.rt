@@ -81,7 +81,7 @@ impl ShapeWords {
         }
     }
 
-    /// The words.
+    /// The words of the suits, spades first.
     pub(crate) fn words(&self) -> &[u64; 4]
         ensures words { result.now ≡ words_of self.now }
         ensures tell { shape_in result.now ≡ self.now }

@@ -1,5 +1,6 @@
 -- The first line of a text, what a line is, and its first piece.
-use Rattle.std.specs.Prelude.{◌≡◌, ◌≢◌, ℕ, ◌==◌, ◌||◌, Bool, true, false, List, [], ◌∷◌, ◌++◌, map, Option, Some, None, All}
+use Rattle.std.specs.Prelude.{◌≡◌, ◌≢◌, ℕ, ◌==◌, ◌||◌, Bool, true, false, List, [], ◌∷◌, ◌++◌, map}
+use Rattle.std.specs.Prelude.{Option, Some, None, All}
 use Rattle.std.specs.List.{flat_map, list_all}
 use Rattle.std.specs.Borrow.{Bor}
 use Rattle.pbn_deals.specs.declared.pieces.Row.{Row as CodeRow}

@@ -40,7 +40,7 @@ impl Reader {
         }
     }
 
-    /// Ends the game.
+    /// Ends the game: what its tags say of a board is added to the boards.
     fn end_game(&mut self, alloc: Global) -> Result<(), PbnFault>
         ensures { EndsGame result self.old self.new }
     {

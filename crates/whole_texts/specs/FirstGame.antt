@@ -33,7 +33,9 @@ pub record HasGameLines (lines : List Line) (game : GameText) : Type 0 where
   pub is_open : Bool
   pub front_lines : AreLines false (rows_of game.front.now) front is_open
   pub back_lines : AreLines is_open (rows_of game.back.now) back false
-  pub left : left_of lines ≡ without_tables false front ++ without_any_count (without_tables (tables_behind false front) back)
+  pub left :
+      left_of lines
+      ≡ without_tables false front ++ without_any_count (without_tables (tables_behind false front) back)
   pub deal : IsDealEnd game.deal_end lines
 
 -- the first of the games of these lines, and the lines behind it
