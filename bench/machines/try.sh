@@ -120,7 +120,7 @@ until_searching() {
 
 # Kills a host and all that it does, as soon as it searches.
 kill_host() {
-    until_searching
+    until pgrep -f "evidence /dev/fd/3" | grep -qxF -f <(family "${daemons[$1]}"); do sleep 0.1; done
     kill -KILL $(family "${daemons[$1]}") 2>/dev/null || true
 }
 
