@@ -15,7 +15,7 @@ use Rattle.pattern_step.specs.declared.pat_cards.PatCard.TheVariants.{Top, Low}
 use Rattle.pattern_step.specs.PatCards.{HasCard, IsLegal}
 use Rattle.pattern_step.proofs.PatCardLaws.{slice_get-within, owners-le-13}
 use Rattle.certificate_graph.specs.declared.versions.Version.TheVariants.{Two}
-use Rattle.certificate_graph.specs.Trees.{TrickTree, Branches, NoBranch, Branch}
+use Rattle.certificate_graph.specs.Trees.{Branches}
 use Rattle.checker.specs.Places.{HasBranchOf}
 use Rattle.checker.specs.Steps.{IsAnswered}
 use Rattle.checker.specs.CardSets.{place_in_set, HasBranchIn}
@@ -96,23 +96,6 @@ same_card shape pattern seat (Low suit) (Top suit' place') has has' same =
 same_card shape pattern seat (Low suit) (Low suit') has has' same =
     let of_suit : suit ≡ suit' = same_from_suit_numbers suit suit' (omega (arith, same)) in
     cc
-
--- ---- branches
-pub no_branch_in : (bit : ℕ) → (bit_at 0 bit ≡ 1) ↔ HasBranchIn NoBranch bit
-no_branch_in bit = (λ h. absurd (omega (arith, h, bit_at-zero bit)), λ (card, is, (below, has)). absurd has)
-
-pub more_branches_in : (branches rest : Branches) (card : PatCard) (tree : TrickTree) (one others : ℕ) → branches ≡ Branch card tree rest → one ≡ 2 ^ place_in_set card →
-    ((bit : ℕ) → (bit_at others bit ≡ 1) ↔ HasBranchIn rest bit) → (bit : ℕ) → (bit_at (bit_or one others) bit ≡ 1) ↔ HasBranchIn branches bit
-more_branches_in branches rest card tree one others is bit_is told bit = subst (λ (b : Branches). (bit_at (bit_or one others) bit ≡ 1) ↔ HasBranchIn b bit) (sym is) (
-  (λ h. elim ((or_bit one others bit).0 h) [
-    | inl first ↦ (card, (one_bit (place_in_set card) bit).0 (ap (λ n. bit_at n bit) (sym bit_is) ∙ first), (tree, inl (refl, refl)))
-    | inr later ↦ (let has = (told bit).0 later in (has.0, has.1, (has.2.0, inr has.2.1)))
-  ]),
-  λ (other, at, (below, has)). elim has [
-    | inl here ↦ (or_bit one others bit).1 (inl (ap (λ n. bit_at n bit) bit_is ∙ (one_bit (place_in_set card) bit).1 (ap place_in_set here.0 ∙ at)))
-    | inr later ↦ (or_bit one others bit).1 (inr ((told bit).1 (other, at, (below, later))))
-  ],
-)
 
 -- ---- answers
 -- what two sets tell: the first has the bits of the legal cards, the second those of the branches

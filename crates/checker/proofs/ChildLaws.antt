@@ -1,7 +1,7 @@
 -- The nodes that go on after a trick, one after another.
-use Rattle.std.proofs.Common.{◌≡◌, ℕ, ◌≤◌, List, [], ◌∷◌, Some, All, Result, Ok, Err, ◌⊎◌, inl, inr, sym, ◌∙◌, ap, subst, arith}
-use Rattle.std.specs.Prelude.{slice_get, MatchResult}
-use Rattle.std.proofs.lemmas.List.Elements.{All-cons, Contains-append_left, Contains-append_right, Contains-append_cases, Contains-push, Contains-push_cases}
+use Rattle.std.proofs.Common.{◌≡◌, ℕ, ◌≤◌, List, [], ◌∷◌, ◌<◌, length, Option, None, Some, All, ◌⊎◌, inl, inr, sym, ◌∙◌, ap, subst, arith}
+use Rattle.std.specs.Prelude.{slice_get, MatchOption}
+use Rattle.std.proofs.lemmas.List.Elements.{All-nil, All-head, All-cons, All-tail, Contains-append_left, Contains-append_right, Contains-append_cases, Contains-push, Contains-push_cases}
 use Rattle.cards.specs.declared.seats.Seat.{Seat}
 use Rattle.patterns.specs.Shapes.{Shape, Covers}
 use Rattle.patterns.proofs.CompletionLaws.{Covers-completed}
@@ -74,15 +74,55 @@ later graph node cards child rest fault (next, there, goes_on) told =
       ),
     )
 
--- what is told of the other children is told of all, where the first is right
-pub more_told : {A : Type 0} (graph : GraphShape) (node : Node) (cards : List PatCard) (child : Child) (rest children : List Child) (answer : Result A StepFault) →
-    children ≡ child ∷ rest → IsRightChild graph node cards child →
-    MatchResult answer (λ _. All (IsRightChild graph node cards) rest) (IsChildrenFault graph node cards rest) →
-    MatchResult answer (λ _. All (IsRightChild graph node cards) children) (IsChildrenFault graph node cards children)
-more_told graph node cards child rest children (Ok done) is right told =
-    subst (All (IsRightChild graph node cards)) (sym is) (All-cons (IsRightChild graph node cards) child rest right told)
-more_told graph node cards child rest children (Err fault) is right told =
-    subst (λ (l : List Child). IsChildrenFault graph node cards l fault) (sym is) (later graph node cards child rest fault right told)
+-- the children that are still to be looked at
+abbrev pub to_come : Option (Child × List Child) → List Child
+to_come None = []
+to_come (Some first) = first.0 ∷ first.1
+
+abbrev pub Begins : List Child → Option (Child × List Child) → Type 0
+Begins children next = MatchOption next (children ≡ []) (λ first. children ≡ first.0 ∷ first.1)
+
+pub all_come : (children : List Child) (next : Option (Child × List Child)) → Begins children next → to_come next ≡ children
+all_come children None begins = sym begins
+all_come children (Some first) begins = sym begins
+
+-- The children before these are right: what is told of these is told of all.
+pub record TellOfAll (graph : GraphShape) (node : Node) (cards : List PatCard) (children left : List Child) : Type 0 where
+  pub right : All (IsRightChild graph node cards) left → All (IsRightChild graph node cards) children
+  pub first : (fault : StepFault) → IsChildrenFault graph node cards left fault → IsChildrenFault graph node cards children fault
+  pub named : All (λ child. child.number < length graph.nodes) left
+
+pub all_tell : (graph : GraphShape) (node : Node) (cards : List PatCard) (children left : List Child) → left ≡ children → All (λ child. child.number < length graph.nodes) children →
+    TellOfAll graph node cards children left
+all_tell graph node cards children left all named = subst (λ (l : List Child). TellOfAll graph node cards children l) (sym all) (record {
+  right = λ right. right;
+  first = λ fault first. first;
+  named = named;
+})
+
+pub rest_tell : (graph : GraphShape) (node : Node) (cards : List PatCard) (children before rest left : List Child) (child : Child) → before ≡ child ∷ rest → left ≡ rest → IsRightChild graph node cards child →
+    TellOfAll graph node cards children before → TellOfAll graph node cards children left
+rest_tell graph node cards children before rest left child is same right tell =
+    let tell' = subst (TellOfAll graph node cards children) is tell in
+    subst (TellOfAll graph node cards children) (sym same) (record {
+      right = λ others. tell'.right (All-cons (IsRightChild graph node cards) child rest right others);
+      first = λ fault told. tell'.first fault (later graph node cards child rest fault right told);
+      named = All-tail (λ child. child.number < length graph.nodes) child rest tell'.named;
+    })
+
+pub first_named : (graph : GraphShape) (node : Node) (cards : List PatCard) (children before rest : List Child) (child : Child) → before ≡ child ∷ rest → TellOfAll graph node cards children before →
+    child.number < length graph.nodes
+first_named graph node cards children before rest child is tell =
+    All-head (λ child. child.number < length graph.nodes) child rest (subst (All (λ child. child.number < length graph.nodes)) is tell.named)
+
+pub fault_tells : (graph : GraphShape) (node : Node) (cards : List PatCard) (children before rest : List Child) (child : Child) (fault : StepFault) → before ≡ child ∷ rest →
+    IsChildrenFault graph node cards (child ∷ []) fault → TellOfAll graph node cards children before → IsChildrenFault graph node cards children fault
+fault_tells graph node cards children before rest child fault is told tell =
+    (subst (TellOfAll graph node cards children) is tell).first fault (here graph node cards child rest fault told)
+
+pub none_tell : (graph : GraphShape) (node : Node) (cards : List PatCard) (children left : List Child) → left ≡ [] → TellOfAll graph node cards children left → All (IsRightChild graph node cards) children
+none_tell graph node cards children left none tell =
+    tell.right (subst (All (IsRightChild graph node cards)) (sym none) (All-nil (IsRightChild graph node cards)))
 
 -- ---- the seats that are listed
 pub listed_first : (child : Child) (rest : List Child) → IsListed (child ∷ rest) child.winner

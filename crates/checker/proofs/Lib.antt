@@ -24,5 +24,6 @@ pub mod StepIsSound
 pub mod ClaimsAreSound
 pub mod ExtractLaws
 pub mod VersionLaws
-pub mod CardSetLaws
+pub mod BranchLaws
+mod CardSetLaws
 pub mod SuitSetLaws

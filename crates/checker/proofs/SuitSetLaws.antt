@@ -2,7 +2,7 @@
 use Rattle.std.proofs.Common.{◌≡◌, ◌≢◌, ℕ, zero, suc, ◌+◌, ◌-◌, ◌*◌, ◌/◌, ◌%◌, ◌^◌, ◌<◌, ◌≤◌, min, Bool, true, false, cond, List, [], ◌∷◌, length, Option, None, Some, ◌↔◌, inl, inr, refl, sym, ◌∙◌, ap, subst, arith}
 use Rattle.std.specs.Prelude.{◌⊎◌, bit_and, bit_or, slice_get}
 use Rattle.std.specs.Int.{bit_at, trailing_zeros, w64}
-use Rattle.std.proofs.lemmas.Bool.{cases_lt, cases_eq, false≢true}
+use Rattle.std.proofs.lemmas.Bool.{cases_lt, cases_eq, eq-eqb, false≢true}
 use Rattle.std.proofs.lemmas.Nat.Bits.{bit_at-lt, bit_at_lowest, bit_at-suc, bit_at-zero, bit_at-trailing_zeros, bit_at_cat_low, bit_at_cat_high}
 use Rattle.cards.specs.declared.suits.Suit.{Suit}
 use Rattle.cards.specs.declared.suits.Suit.TheVariants.{Spades, Hearts, Diamonds, Clubs}
@@ -16,6 +16,7 @@ use Rattle.patterns.proofs.Removals.{bit_more, lowest_cleared}
 use Rattle.pattern_step.specs.declared.pat_cards.PatCard.{PatCard}
 use Rattle.pattern_step.specs.declared.pat_cards.PatCard.TheVariants.{Top, Low}
 use Rattle.pattern_step.specs.PatCards.{suit_of_card, HasCard, FollowsSuit, IsLegal}
+use Rattle.pattern_step.proofs.TrickLaws.{held_suit}
 use Rattle.pattern_step.proofs.PatCardLaws.{slice_get-within, owners-le-13}
 use Rattle.checker.specs.CardSets.{place_in_set, SuitSetOf}
 use Rattle.checker.proofs.CardSetLaws.{or_bit, one_bit}
@@ -196,6 +197,16 @@ tops_told held seat left set empty told few none =
       tops = λ place inside. tops place;
       low = (λ h. absurd (omega (arith, slice_get-within held.owners 15 seat ((tops 15).0 h), few)), λ h. absurd (omega (arith, h, none)));
     }
+
+-- a seat that has no card of a suit
+pub void_told : (shape : Shape) → IsPattern shape → (suit : Suit) (seat : Seat) → len_of (suit_of shape suit) seat ≡ 0 → SuitSetOf (suit_of shape suit) seat 0
+void_told shape pattern suit seat void = record {
+  tops = λ place inside. (
+    (λ h. absurd (omega (arith, h, bit_at-zero place))),
+    λ owned. absurd (omega (arith, void, held_suit shape pattern seat (Top suit place) suit owned (eq-eqb (suit_number suit) (suit_number suit) refl))),
+  );
+  low = (λ h. absurd (omega (arith, h, bit_at-zero 15)), λ some. absurd (omega (arith, void, some)));
+}
 
 -- ---- the four suits
 -- the sixteen bits from a place on

@@ -1,18 +1,17 @@
 -- What the walk tells of a place, from what it tells of the places below.
-use Rattle.std.proofs.Common.{◌≡◌, List, [], ◌∷◌, ◌++◌, length, All, Result, Ok, Err, ℕ, inl, inr, refl, sym, subst}
+use Rattle.std.proofs.Common.{◌≡◌, List, [], ◌∷◌, ◌++◌, length, All, Result, Ok, Err, inr, subst}
 use Rattle.std.specs.Prelude.{MatchResult}
 use Rattle.cards.specs.declared.seats.Side.{Side}
 use Rattle.pattern_step.specs.declared.pat_cards.PatCard.{PatCard}
 use Rattle.certificate_graph.specs.declared.children.Child.{Child}
 use Rattle.certificate_graph.specs.declared.nodes.Node.{Node}
 use Rattle.certificate_graph.specs.declared.versions.Version.{Version}
-use Rattle.certificate_graph.specs.Trees.{TrickTree, Own, Reply, Leaf, Branches, Branch}
-use Rattle.certificate_graph.specs.Graphs.{GraphShape, NamesBelow, NameBelow}
+use Rattle.certificate_graph.specs.Trees.{TrickTree, Own, Reply, Leaf, Branches}
+use Rattle.certificate_graph.specs.Graphs.{GraphShape}
 use Rattle.checker.specs.declared.faults.StepFault.{StepFault}
-use Rattle.checker.specs.Places.{HasBranchOf}
 use Rattle.checker.specs.Steps.{IsOwnTurn, IsOpponentsTurn, MayComeNext, AreAnswers, ListsWinners, IsRightChild, IsRightLeaf, IsRightAfter}
 use Rattle.checker.specs.Faults.{HoldsFrom, HoldAmong, IsFirstFault, IsFirstFaultAmong, IsChildrenFault, IsLeafFault}
-use Rattle.checker.proofs.HoldLaws.{own_holds, reply_holds, leaf_holds, more_hold}
+use Rattle.checker.proofs.HoldLaws.{own_holds, reply_holds, leaf_holds}
 
 -- an answer, where what it tells tells something else
 told_on : {A : Type 0} (answer : Result A StepFault) (P Q : Type 0) (F G : StepFault → Type 0) → (P → Q) → ((fault : StepFault) → F fault → G fault) → MatchResult answer (λ _. P) F → MatchResult answer (λ _. Q) G
@@ -52,15 +51,6 @@ leaf_told graph node cards children place answer here told =
     (told_on answer (IsRightLeaf graph node cards children) (HoldsFrom graph node cards (Leaf children)) (IsLeafFault graph node cards children) (IsFirstFault graph node cards (Leaf children))
     (leaf_holds graph node cards children) (λ fault first. first) told)
 
--- branches, where all is right below the first
-pub more_told : {A : Type 0} (graph : GraphShape) (node : Node) (cards next : List PatCard) (card : PatCard) (tree : TrickTree) (rest branches : Branches) (answer : Result A StepFault) →
-    branches ≡ Branch card tree rest → next ≡ cards ++ card ∷ [] → HoldsFrom graph node next tree → AreTold graph node cards rest answer → AreTold graph node cards branches answer
-more_told graph node cards next card tree rest branches answer is played first told =
-    let first' : HoldsFrom graph node (cards ++ card ∷ []) tree = subst (λ (l : List PatCard). HoldsFrom graph node l tree) played first in
-    subst (λ (b : Branches). AreTold graph node cards b answer) (sym is)
-    (told_on answer (HoldAmong graph node cards rest) (HoldAmong graph node cards (Branch card tree rest)) (IsFirstFaultAmong graph node cards rest) (IsFirstFaultAmong graph node cards (Branch card tree rest))
-    (more_hold graph node cards card tree rest first') (λ fault later. inr (first', later)) told)
-
 -- a leaf, where the seats that it lists are the right ones
 pub children_told : {A : Type 0} (graph : GraphShape) (node : Node) (cards trick : List PatCard) (children : List Child) (answer : Result A StepFault) →
     trick ≡ cards → length cards ≡ 4 → ListsWinners graph node trick children → MatchResult answer (λ _. All (IsRightChild graph node trick) children) (IsChildrenFault graph node trick children) →
@@ -71,10 +61,3 @@ children_told graph node cards trick children answer same four lists told =
     (λ each. record { whole = four; winners = lists'; each = each })
     (λ fault first. inr (λ wrong. wrong four, inr (λ wrong. wrong lists', first)))
     (subst (λ (l : List PatCard). MatchResult answer (λ _. All (IsRightChild graph node l) children) (IsChildrenFault graph node l children)) same told)
-
--- the first of the branches
-pub has_first : (branches rest : Branches) (card : PatCard) (tree : TrickTree) → branches ≡ Branch card tree rest → HasBranchOf branches card
-has_first branches rest card tree is = rw is (tree, inl (refl, refl))
-
-pub first_named : (count : ℕ) (branches rest : Branches) (card : PatCard) (tree : TrickTree) → branches ≡ Branch card tree rest → NameBelow count branches → NamesBelow count tree
-first_named count branches rest card tree is named = let both : NamesBelow count tree × NameBelow count rest = (rw is at named) in both.0

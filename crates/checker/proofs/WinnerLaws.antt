@@ -1,6 +1,6 @@
 -- The seats that may win and have to go on.
-use Rattle.std.proofs.Common.{IsTrue, ◌≡◌, ◌↔◌, ℕ, zero, suc, ◌+◌, ◌*◌, ◌^◌, ◌<◌, Bool, true, false, List, [], ◌∷◌, Option, None, Some, inl, inr, refl, sym, ◌∙◌, ap, subst, arith}
-use Rattle.std.specs.Prelude.{◌⊎◌, MatchOption, bit_or}
+use Rattle.std.proofs.Common.{IsTrue, ◌≡◌, ◌↔◌, ℕ, zero, suc, ◌+◌, ◌*◌, ◌^◌, ◌<◌, Bool, true, false, List, [], ◌∷◌, Option, None, inl, inr, refl, sym, ◌∙◌, ap, subst, arith}
+use Rattle.std.specs.Prelude.{◌⊎◌, bit_or}
 use Rattle.std.specs.Int.{bit_at, from_bool}
 use Rattle.std.proofs.lemmas.Bool.{cases_eq, false≢true}
 use Rattle.std.proofs.lemmas.Nat.{or_lt}
@@ -19,7 +19,7 @@ use Rattle.certificate_graph.specs.declared.nodes.Node.{Node}
 use Rattle.certificate_graph.specs.Graphs.{GraphShape}
 use Rattle.checker.specs.Steps.{need_after, IsListed, ListsWinners}
 use Rattle.checker.proofs.CardSetLaws.{or_bit, one_bit}
-use Rattle.checker.proofs.ChildLaws.{listed_first, listed_later, listed_cases}
+use Rattle.checker.proofs.ChildLaws.{to_come, Begins, all_come, listed_first, listed_later, listed_cases}
 
 -- ---- sets of seats, a bit each
 -- two sets have the same seats
@@ -70,18 +70,6 @@ test_told true bit P is told = ((λ h. told.0 refl), λ p. is)
 test_told false bit P is told = ((λ h. absurd (omega (arith, h, is))), λ p. absurd (false≢true (told.1 p)))
 
 -- ---- the seats listed
--- the children that are still to be looked at
-abbrev pub to_come : Option (Child × List Child) → List Child
-to_come None = []
-to_come (Some first) = first.0 ∷ first.1
-
-abbrev pub Begins : List Child → Option (Child × List Child) → Type 0
-Begins children next = MatchOption next (children ≡ []) (λ first. children ≡ first.0 ∷ first.1)
-
-pub all_come : (children : List Child) (next : Option (Child × List Child)) → Begins children next → to_come next ≡ children
-all_come children None begins = sym begins
-all_come children (Some first) begins = sym begins
-
 -- each seat listed has its bit, or is to come
 pub record HasListed (children : List Child) (next : Option (Child × List Child)) (seats : ℕ) : Type 0 where
   pub below : seats < 2 ^ 4

@@ -12,6 +12,7 @@
 ghost use Rattle.std.specs.Prelude.{◌≡◌, ◌↔◌, ◌^◌, ℕ};
 ghost use Rattle.std.specs.Bool.{OnTrue};
 ghost use Rattle.std.specs.Int.{bit_at};
+ghost use Rattle.patterns.specs.Shapes.{suit_of};
 ghost use Rattle.pattern_step.specs.declared.pat_cards.PatCard.{PatCard};
 ghost use Rattle.pattern_step.specs.PatCards.{HasCard, IsLegal};
 ghost use Rattle.checker.specs.Places.{HasBranchOf};
@@ -51,10 +52,13 @@ fn bit_of(card: PatCard) -> u64
 fn branch_set(branches: &Branches<'_>) -> u64
     ensures { (bit : ℕ) → (bit_at result bit ≡ 1) ↔ HasBranchIn branches.now bit }
 {
-    match branches.split_first() {
-        None => 0,
-        Some((card, _, rest)) => bit_of(card) | branch_set(&rest),
+    let mut set = 0;
+    let mut next = branches.split_first();
+    while let Some((card, _, rest)) = next {
+        set |= bit_of(card);
+        next = rest.split_first();
     }
+    set
 }
 
 /// The seat's cards of a suit, in its sixteen bits.
@@ -75,15 +79,27 @@ fn suit_set(held: SuitWord, seat: Seat) -> u16
     set
 }
 
+/// The seat's cards of a suit of the pattern. Where it has none, no place is looked at.
+fn suit_held(pattern: &Pattern, suit: Suit, seat: Seat) -> u16
+    ensures { SuitSetOf (suit_of pattern.now suit) seat result }
+{
+    pattern.invariant();
+    let held = pattern.suit(suit);
+    if held.len(seat) == 0 {
+        return 0;
+    }
+    suit_set(held, seat)
+}
+
 /// The seat's cards.
 fn held_set(pattern: &Pattern, seat: Seat) -> u64
     ensures { (card : PatCard) → (bit_at result (place_in_set card) ≡ 1) ↔ HasCard pattern.now seat card }
 {
     pattern.invariant();
-    u64::from(suit_set(pattern.suit(Suit::Spades), seat))
-        + (u64::from(suit_set(pattern.suit(Suit::Hearts), seat)) << SUIT_BITS)
-        + (u64::from(suit_set(pattern.suit(Suit::Diamonds), seat)) << (2 * SUIT_BITS))
-        + (u64::from(suit_set(pattern.suit(Suit::Clubs), seat)) << (3 * SUIT_BITS))
+    u64::from(suit_held(pattern, Suit::Spades, seat))
+        + (u64::from(suit_held(pattern, Suit::Hearts, seat)) << SUIT_BITS)
+        + (u64::from(suit_held(pattern, Suit::Diamonds, seat)) << (2 * SUIT_BITS))
+        + (u64::from(suit_held(pattern, Suit::Clubs, seat)) << (3 * SUIT_BITS))
 }
 
 /// The seat's legal cards: those of the suit led, if it has any, else all.

@@ -1,12 +1,13 @@
 //! The end of a trick: who may have won it, and the nodes that go on.
 
-ghost use Rattle.std.specs.Prelude.{◌≡◌, ◌<◌, ◌≤◌, ◌≢◌, ◌↔◌, ◌^◌, IsTrue, MatchResult, All, length, [], ◌∷◌};
+ghost use Rattle.std.specs.Prelude.{◌≡◌, ◌<◌, ◌≤◌, ◌≢◌, ◌↔◌, ◌^◌, IsTrue, MatchResult, All, List, length, [], ◌∷◌};
 ghost use Rattle.std.specs.Int.{bit_at};
 ghost use Rattle.cards.specs.declared.seats.Seat.{Seat};
 ghost use Rattle.cards.specs.Seats.{seat_number};
 ghost use Rattle.patterns.specs.Shapes.{Covers};
 ghost use Rattle.pattern_step.specs.SeatSets.{is_in};
-ghost use Rattle.pattern_step.specs.Tricks.{AreLegalInTurn};
+ghost use Rattle.pattern_step.specs.declared.pat_cards.PatCard.{PatCard};
+ghost use Rattle.pattern_step.specs.Tricks.{AreLegalInTurn, IsLeft};
 ghost use Rattle.checker.specs.Steps.{need_after, IsListed, ListsWinners, rest_read, IsRightChild, IsRightLeaf};
 ghost use Rattle.checker.specs.Steps.{BeginLine};
 ghost use Rattle.checker.specs.Faults.{IsChildrenFault, IsLeafFault};
@@ -84,18 +85,12 @@ fn covers(version: Version, pattern: &Pattern, left: &Rest) -> bool
     }
 }
 
-/// Checks that the node named goes on from what the four cards leave.
-fn check_child(
-    graph: &Graph,
-    node: &Node,
-    trick: &[PatCard; 4],
-    child: Child,
-) -> Result<(), StepFault>
-    requires legal { AreLegalInTurn node.now.pattern node.now.lead trick.now }
+/// Checks that the node named goes on from what four cards leave.
+fn check_child(graph: &Graph, node: &Node, left: &Rest, child: Child) -> Result<(), StepFault>
     requires named { child.number < length graph.now.nodes }
-    ensures { MatchResult result
-        (λ _. IsRightChild graph.now node.now trick.now child)
-        (IsChildrenFault graph.now node.now trick.now (child ∷ [])) }
+    ensures { (trick : List PatCard) → IsLeft node.now.pattern node.now.lead trick left.now → MatchResult result
+        (λ _. IsRightChild graph.now node.now trick child)
+        (IsChildrenFault graph.now node.now trick (child ∷ [])) }
 {
     let next = &graph.nodes()[child.number as usize];
     if next.lead != child.winner {
@@ -104,8 +99,7 @@ fn check_child(
     if next.need < need_after(graph.side(), node.need, child.winner) {
         return Err(StepFault::ChildNeed);
     }
-    let left = rest(&node.pattern, node.lead, trick);
-    if !covers(graph.version(), &next.pattern, &left) {
+    if !covers(graph.version(), &next.pattern, left) {
         return Err(StepFault::ChildPattern);
     }
     Ok(())
@@ -124,13 +118,13 @@ fn check_children(
         (λ _. All (IsRightChild graph.now node.now trick.now) children.now)
         (IsChildrenFault graph.now node.now trick.now children.now) }
 {
-    match children.split_first() {
-        None => Ok(()),
-        Some((child, rest)) => {
-            check_child(graph, node, trick, child)?;
-            check_children(graph, node, trick, &rest)
-        }
+    let left = rest(&node.pattern, node.lead, trick);
+    let mut next = children.split_first();
+    while let Some((child, others)) = next {
+        check_child(graph, node, &left, child)?;
+        next = others.split_first();
     }
+    Ok(())
 }
 
 /// Checks that the trick ends here, and that the children are the right ones.

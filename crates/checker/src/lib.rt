@@ -2,8 +2,8 @@
 //!
 //! A graph is right where the step of each of its nodes holds: one trick on the node's pattern, with the side's choice
 //! at its turns and all that the opponents may play at theirs, and nodes that go on from each end that still needs
-//! tricks. One check of a graph serves all that its nodes claim. Nothing here plays a card of a deal or searches, and only
-//! `judge` takes memory.
+//! tricks. One check of a graph serves all that its nodes claim. Nothing here plays a card of a deal or searches, and
+//! only `judge` takes memory.
 #![tactic(auto)]
 
 mod card_sets;

@@ -22,13 +22,7 @@ fn player_after(node: &Node, played: &Played) -> Seat
     requires { length played.now < 4 }
     ensures { result ≡ player_after node.now played.now }
 {
-    let lead = node.lead;
-    match played.count() {
-        0 => lead,
-        1 => lead.next(),
-        2 => lead.next().next(),
-        _ => lead.next().next().next(),
-    }
+    Seat::ALL[(node.lead.number() + played.count()) % 4]
 }
 
 /// Whether the card is legal after these cards.

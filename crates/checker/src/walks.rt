@@ -56,11 +56,10 @@ fn check_branches(
         (λ _. HoldAmong graph.now node.now played.now branches.now)
         (IsFirstFaultAmong graph.now node.now played.now branches.now) }
 {
-    match branches.split_first() {
-        None => Ok(()),
-        Some((card, below, rest)) => {
-            check_place(graph, node, &played.with(card), &below)?;
-            check_branches(graph, node, played, &rest)
-        }
+    let mut next = branches.split_first();
+    while let Some((card, below, rest)) = next {
+        check_place(graph, node, &played.with(card), &below)?;
+        next = rest.split_first();
     }
+    Ok(())
 }

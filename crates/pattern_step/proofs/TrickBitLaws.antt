@@ -1,5 +1,5 @@
 -- What a trick takes from the suits, in two numbers of sixteen bits a suit.
-use Rattle.std.proofs.Common.{◌≡◌, ◌≢◌, ℕ, ◌+◌, ◌-◌, ◌*◌, ◌/◌, ◌%◌, ◌^◌, ◌<◌, ◌≤◌, Bool, true, false, ◌&&◌, ◌||◌, eqb, cond, List, [], ◌∷◌, length, refl, sym, ◌∙◌, ap, inl, inr, arith}
+use Rattle.std.proofs.Common.{◌≡◌, ◌≢◌, ℕ, ◌+◌, ◌-◌, ◌*◌, ◌/◌, ◌%◌, ◌^◌, ◌<◌, ◌≤◌, min, Bool, true, false, ◌&&◌, ◌||◌, eqb, cond, List, [], ◌∷◌, length, refl, sym, ◌∙◌, ap, inl, inr, arith}
 use Rattle.std.specs.List.{list_any}
 use Rattle.std.specs.Prelude.{bit_and, bit_or, ◌⊎◌, slice_index}
 use Rattle.std.proofs.lemmas.Bool.{eq-eqb, ne_eqb, cases_eq}
@@ -31,19 +31,19 @@ small_suit Hearts = omega arith
 small_suit Diamonds = omega arith
 small_suit Clubs = omega arith
 
--- the bit of a top, of sixteen for each suit
-pub top_bit : (card : PatCard) (of suit : Suit) (n p place : ℕ) → card ≡ Top of p → n ≡ suit_number of → p < 13 → place < 13 →
-    is_among (1 * 2 ^ (16 * n + p) % 2 ^ 64 / 2 ^ (16 * suit_number suit)) place ≡ is_top suit place card
-top_bit card of suit n p place is number small near =
+-- the bit of a top, of sixteen for each suit, where places that no pattern has share the last
+pub top_bit : (card : PatCard) (of suit : Suit) (n p at place : ℕ) → card ≡ Top of p → n ≡ suit_number of → at ≡ min p 15 → place < 13 →
+    is_among (1 * 2 ^ (16 * n + at) % 2 ^ 64 / 2 ^ (16 * suit_number suit)) place ≡ is_top suit place card
+top_bit card of suit n p at place is number at_is near =
     let k = suit_number suit in
-    is_among-shr (1 * 2 ^ (16 * n + p) % 2 ^ 64) (16 * k) place
-    ∙ (is_among-one (16 * n + p) (16 * k + place) (omega (arith, number, small_suit of))
+    is_among-shr (1 * 2 ^ (16 * n + at) % 2 ^ 64) (16 * k) place
+    ∙ (is_among-one (16 * n + at) (16 * k + place) (omega (arith, number, at_is, small_suit of))
     ∙ (same (cases_eq n k) (cases_eq p place) ∙ (ap (λ m. eqb m k && eqb p place) number ∙ ap (is_top suit place) (sym is))))
   where
-    same : (n ≡ suit_number suit) ⊎ (n ≢ suit_number suit) → (p ≡ place) ⊎ (p ≢ place) → eqb (16 * n + p) (16 * suit_number suit + place) ≡ (eqb n (suit_number suit) && eqb p place)
-    same (inl e) (inl f) = rw (eq-eqb (16 * n + p) (16 * suit_number suit + place) (omega (arith, e, f)), eq-eqb n (suit_number suit) e, eq-eqb p place f) refl
-    same (inl e) (inr f) = rw (ne_eqb (16 * n + p) (16 * suit_number suit + place) (λ g. f (omega (arith, e, g))), eq-eqb n (suit_number suit) e, ne_eqb p place f) refl
-    same (inr e) g = rw (ne_eqb (16 * n + p) (16 * suit_number suit + place) (λ h. e (omega (arith, h))), ne_eqb n (suit_number suit) e) refl
+    same : (n ≡ suit_number suit) ⊎ (n ≢ suit_number suit) → (p ≡ place) ⊎ (p ≢ place) → eqb (16 * n + at) (16 * suit_number suit + place) ≡ (eqb n (suit_number suit) && eqb p place)
+    same (inl e) (inl f) = rw (eq-eqb (16 * n + at) (16 * suit_number suit + place) (omega (arith, e, f, at_is, near)), eq-eqb n (suit_number suit) e, eq-eqb p place f) refl
+    same (inl e) (inr f) = rw (ne_eqb (16 * n + at) (16 * suit_number suit + place) (λ g. f (omega (arith, e, g, at_is, near))), eq-eqb n (suit_number suit) e, ne_eqb p place f) refl
+    same (inr e) g = rw (ne_eqb (16 * n + at) (16 * suit_number suit + place) (λ h. e (omega (arith, h, at_is, near))), ne_eqb n (suit_number suit) e) refl
 
 -- the bits of four cards
 pub any_of_four : (a b c d : ℕ) (cards : List PatCard) (suit : Suit) (place : ℕ) → length cards ≡ 4 →

@@ -24,7 +24,8 @@ impl Model for SeatSet {
 
     ghost view = { λ set. record { north = set.north; east = set.east; south = set.south; west = set.west } };
 
-    ghost inverse = { λ seats. record { north = seats.north; east = seats.east; south = seats.south; west = seats.west } };
+    ghost inverse = { λ seats. record
+        { north = seats.north; east = seats.east; south = seats.south; west = seats.west } };
 }
 
 impl SeatSet {

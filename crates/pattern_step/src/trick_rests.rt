@@ -22,6 +22,9 @@ const SUIT_BITS: usize = 16;
 /// The bits of one suit.
 const SUIT: u64 = 0xffff;
 
+/// The greatest place that has a bit, after those of all tops that a pattern has.
+const LAST_PLACE: u8 = 15;
+
 /// What is left of a pattern after four pattern cards that were played clockwise from the leader: each player's
 /// length in the suit played goes down by one, and the tops that were played are taken out of the owners. The cards
 /// must be legal in turn.
@@ -84,8 +87,9 @@ fn place_bit(card: PatCard) -> u64
         ≡ is_top suit place card }
 {
     match card {
-        PatCard::Top(suit, place) if place < 13 => 1
-            << (SUIT_BITS * suit.number() + place as usize),
-        _ => 0,
+        PatCard::Top(suit, place) => {
+            1 << (SUIT_BITS * suit.number() + place.min(LAST_PLACE) as usize)
+        }
+        PatCard::Low(_) => 0,
     }
 }

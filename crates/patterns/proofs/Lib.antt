@@ -5,6 +5,7 @@ pub mod SeatLaws
 pub mod EqualityLaws
 pub mod SuitWords
 pub mod LesserLengths
+pub mod CoverBits
 pub mod PartLaws
 pub mod ShapeWordLaws
 pub mod Removals

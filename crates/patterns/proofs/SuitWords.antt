@@ -1,9 +1,9 @@
 -- A suit and its word tell each other.
 use Rattle.std.proofs.Common.{◌≡◌, ℕ, zero, suc, ◌+◌, ◌-◌, ◌*◌, ◌/◌, ◌%◌, ◌^◌, ◌<◌, ◌≤◌, List, [], ◌∷◌, ◌++◌, length, get_or, take, drop, refl, sym, ◌∙◌, ap, subst, arith, ◌↔◌, Bool, true, false, nat_eq, leb, IsTrue, MatchBool, Some, inl, inr}
-use Rattle.std.proofs.lemmas.Nat.{and_mask, one_shl, pow_pos, shl_whole, shr-shr, shr_split, shr_below, mod-pow-add, mod_below}
+use Rattle.std.proofs.lemmas.Nat.{pow_pos, shl_whole, shr-shr, shr_split, shr_below, mod-pow-add, mod_below}
 use Rattle.std.proofs.lemmas.Bool.{eqb-true, eq-eqb, leb-true, le-leb, false≢true, cases_lt}
 use Rattle.std.proofs.lemmas.Option.{slice_get-get_or}
-use Rattle.std.specs.Prelude.{slice_get, bit_and}
+use Rattle.std.specs.Prelude.{slice_get}
 use Rattle.std.proofs.lemmas.List.{take-append-drop, take_more, length-take-le}
 use Rattle.std.proofs.Math.Nat.{pow-le-pow_right}
 use Rattle.std.proofs.lemmas.List.Prefix.{front_fits}
@@ -250,17 +250,8 @@ put_together suit n e s w k b h hn he hs hw hk hb =
     omega (arith, h.lens North, h.lens East, h.lens South, h.lens West)
 
 -- what comparisons of stored numbers tell
-pub told_equal : {stored stored' one other : ℕ} → stored ≡ one → stored' ≡ other → IsTrue (nat_eq stored stored') ↔ (one ≡ other)
-told_equal is is' = (λ h. sym is ∙ (eqb-true _ _ h ∙ is'), λ e. eq-eqb _ _ (is ∙ (e ∙ sym is')))
-
 pub told_le : {stored stored' one other : ℕ} → stored ≡ one → stored' ≡ other → IsTrue (leb stored stored') ↔ (one ≤ other)
 told_le is is' = (λ h. rw (← is, ← is') (leb-true _ _ h), λ fits. le-leb _ _ (rw (is, is') fits))
-
--- the owners of another word in the places of this one's, as the code computes them
-pub among_owners : (word other k : ℕ) → k ≡ owner_count word → k < 16 → bit_and (other / 2 ^ 20) (1 * 2 ^ (2 * k) % 2 ^ 64 - 1) ≡ other / 2 ^ 20 % 2 ^ (2 * owner_count word)
-among_owners word other k is small =
-    ap (λ m. bit_and (other / 2 ^ 20) (m - 1)) (one_shl (2 * k) 64 (omega arith))
-    ∙ (and_mask (other / 2 ^ 20) (2 * k) ∙ ap (λ n. other / 2 ^ 20 % 2 ^ (2 * n)) is)
 
 -- the owner in a place of a suit that a word tells
 pub owner_told : (word i : ℕ) (suit : SuitShape) → suit_in word ≡ suit → i < length suit.owners → seat_at (word / 2 ^ 20 / 2 ^ (2 * i) % 4) ≡ get_or suit.owners i North

@@ -287,10 +287,10 @@ impl SuitWord {
         ensures { IsTrue result ↔ CoversSuit self.now rest.now }
     {
         let count = nibble(self.word, COUNT);
-        let among = (1 << (2 * count)) - 1;
-        self.word & LENS == rest.word & LENS
+        let owners = (1 << (2 * count)) - 1;
+        // the words are alike in the lengths and in the places of these owners
+        (self.word ^ rest.word) & (LENS | owners << OWNERS) == 0
             && count <= nibble(rest.word, COUNT)
-            && self.word >> OWNERS == rest.word >> OWNERS & among
     }
 
     /// The suit as it is in the layout, with as many owners as there are, up to the depth.

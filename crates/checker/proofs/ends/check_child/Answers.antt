@@ -19,7 +19,7 @@ returns-then-ne c =
     let child = c.args.child in
     let next = c.index-nodes-child.result in
     let there = named c.args.graph.now.nodes c.nodes.result.now child next c.requires.named c.nodes.ensures c.index-nodes-child.is in
-    inl ((next, there, seats_differ next.lead child.winner c.ne.result c.ne.ensures c.if-ne.true), refl)
+    λ trick left. inl ((next, there, seats_differ next.lead child.winner c.ne.result c.ne.ensures c.if-ne.true), refl)
 
 pub returns-then-next-need_after : goal.returns-then-next-need_after
 returns-then-next-need_after c =
@@ -30,23 +30,22 @@ returns-then-next-need_after c =
     let there = named graph.nodes c.nodes.result.now child next c.requires.named c.nodes.ensures c.index-nodes-child.is in
     let leads = seats_agree next.lead child.winner c.ne.result c.ne.ensures c.if-ne.false in
     let needs : c.need_after.result ≡ need_after graph.side node.need child.winner = (rw c.side.ensures at c.need_after.ensures) in
-    inr (right_lead graph child next there leads, inl ((next, there, omega (arith, needs, c.if-next-need_after.true)), refl))
+    λ trick left. inr (right_lead graph child next there leads, inl ((next, there, omega (arith, needs, c.if-next-need_after.true)), refl))
 
 pub returns-then-not-covers : goal.returns-then-not-covers
 returns-then-not-covers c =
     let graph = c.args.graph.now in
     let node = c.args.node.now in
-    let trick = c.args.trick.now in
     let child = c.args.child in
     let next = c.index-nodes-child.result in
     let there = named graph.nodes c.nodes.result.now child next c.requires.named c.nodes.ensures c.index-nodes-child.is in
     let leads = seats_agree next.lead child.winner c.ne.result c.ne.ensures c.if-ne.false in
     let needs : c.need_after.result ≡ need_after graph.side node.need child.winner = (rw c.side.ensures at c.need_after.ensures) in
-    inr (
+    λ trick left. inr (
       right_lead graph child next there leads,
       inr (
         right_need graph node child next there (omega (arith, needs, c.if-next-need_after.false)),
-        inl (wrong_pattern graph node trick child next c.rest-left.result there c.rest-left.ensures (not_told (rw c.version.ensures at c.covers.ensures) c.if-not-covers.true), refl),
+        inl (wrong_pattern graph node trick child next c.args.left.now there left (not_told (rw c.version.ensures at c.covers.ensures) c.if-not-covers.true), refl),
       ),
     )
 
@@ -59,4 +58,4 @@ returns c =
     let there = named graph.nodes c.nodes.result.now child next c.requires.named c.nodes.ensures c.index-nodes-child.is in
     let leads = seats_agree next.lead child.winner c.ne.result c.ne.ensures c.if-ne.false in
     let needs : c.need_after.result ≡ need_after graph.side node.need child.winner = (rw c.side.ensures at c.need_after.ensures) in
-    (next, there, record { lead = leads; need = omega (arith, needs, c.if-next-need_after.false); pattern = (c.rest-left.result, c.rest-left.ensures, (rw c.version.ensures at c.covers.ensures).0 c.if-not-covers.false) })
+    λ trick left. (next, there, record { lead = leads; need = omega (arith, needs, c.if-next-need_after.false); pattern = (c.args.left.now, left, (rw c.version.ensures at c.covers.ensures).0 c.if-not-covers.false) })

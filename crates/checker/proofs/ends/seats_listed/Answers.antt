@@ -1,6 +1,7 @@
 use Rattle.std.proofs.Common.{◌^◌, ◌∙◌, length, ap, arith}
 use Rattle.std.proofs.lemmas.Nat.{one_shl}
-use Rattle.checker.proofs.WinnerLaws.{to_come, all_come, none_listed, one_listed, all_listed}
+use Rattle.checker.proofs.ChildLaws.{to_come, all_come}
+use Rattle.checker.proofs.WinnerLaws.{none_listed, one_listed, all_listed}
 use Rattle.checker.proofs.ends.seats_listed.Goals as goal
 
 pub loop-next-init : goal.loop-next-init

@@ -1,6 +1,7 @@
 -- The bits of the seats so far, and the children that are to come.
 use Rattle.std.proofs.Common.{length}
-use Rattle.checker.proofs.WinnerLaws.{to_come, HasListed}
+use Rattle.checker.proofs.ChildLaws.{to_come}
+use Rattle.checker.proofs.WinnerLaws.{HasListed}
 use Rattle.checker.proofs.ends.seats_listed.Given as goal
 
 abbrev pub invariant-loop-next : goal.invariant-loop-next
