@@ -1,10 +1,10 @@
 -- The children of a leaf, at the beginning of a text.
-use Rattle.std.proofs.Common.{◌≡◌, ℕ, ◌+◌, ◌<◌, ◌≤◌, List, [], ◌∷◌, Option, None, Some, Bool, true, false, sym, ◌∙◌, ap, arith}
+use Rattle.std.proofs.Common.{◌≡◌, ℕ, ◌+◌, ◌<◌, ◌≤◌, List, [], ◌∷◌, Option, None, Some, Bool, true, false, Result, Ok, Err, sym, ◌∙◌, ap, arith}
 use Rattle.std.specs.Prelude.{MatchOption, MatchBool}
 use Rattle.cards.specs.Seats.{seat_number}
 use Rattle.certificate_graph.specs.declared.children.Child.{Child}
-use Rattle.certificate_graph.specs.declared.cursors.Outcome.{Outcome}
-use Rattle.certificate_graph.specs.declared.cursors.Outcome.TheVariants.{Read, Other, NoMemory}
+use Rattle.certificate_graph.specs.declared.cursors.Stop.{Stop}
+use Rattle.certificate_graph.specs.declared.cursors.Stop.TheVariants.{Other, NoMemory}
 use Rattle.certificate_graph.specs.Outcomes.{Ends}
 use Rattle.certificate_graph.specs.Texts.{child_text, more_children_text}
 use Rattle.certificate_graph.specs.Readings.{IsShort, BeginsChild, LacksChild, BeginsMore, LacksMore, BeginsChildren, LacksChildren}
@@ -17,10 +17,15 @@ match_map None f g h = f h
 match_map (Some a) f g h = g a h
 
 -- an outcome, told otherwise
-pub ends_map : {Found Lacking Found' Lacking' : Type 0} (outcome : Outcome) → (Found → Found') → (Lacking → Lacking') → Ends outcome Found Lacking → Ends outcome Found' Lacking'
-ends_map Read f g h = f h
-ends_map Other f g h = g h
-ends_map NoMemory f g h = h
+pub ends_map : {X : Type 0} {Found Found' : X → Type 0} {Lacking Lacking' : Type 0} (outcome : Result X Stop) → ((rest : X) → Found rest → Found' rest) → (Lacking → Lacking') → Ends outcome Found Lacking → Ends outcome Found' Lacking'
+ends_map (Ok rest) f g h = f rest h
+ends_map (Err Other) f g h = g h
+ends_map (Err NoMemory) f g h = h
+
+-- and one of nothing that was read
+pub stops_map : {X : Type 0} {Lacking Lacking' : Type 0} (Found Found' : X → Type 0) (stop : Stop) → (Lacking → Lacking') → Ends (Err stop) Found Lacking → Ends (Err stop) Found' Lacking'
+stops_map Found Found' Other g h = g h
+stops_map Found Found' NoMemory g h = h
 
 -- a test, told otherwise
 pub test_map : {Found Lacking Found' Lacking' : Type 0} (test : Bool) → (Found → Found') → (Lacking → Lacking') → MatchBool test Found Lacking → MatchBool test Found' Lacking'

@@ -1,5 +1,6 @@
 pub mod NodeLemmas
 pub mod WriteLemmas
+pub mod PieceLemmas
 pub mod TextParts
 pub mod OneSpelling
 pub mod NumberLemmas

@@ -5,7 +5,7 @@ ghost use Rattle.certificate_graph.specs.Graphs.{IsNode, AreNodes};
 ghost use Rattle.certificate_graph.specs.GraphFaults.{IsNodeFault, IsGraphFault};
 
 use crate::faults::GraphFault;
-use crate::forms::{TRICK_CARDS, has_form, names_below};
+use crate::forms::{TRICK_CARDS, has_form, tree_fits};
 use crate::nodes::Node;
 
 /// The greatest number of nodes, so that a graph and its text stay within a bounded memory.
@@ -22,14 +22,13 @@ fn check_node(node: &Node, count: u32) -> Result<(), GraphFault>
     if node.need < 1 || node.need > GREATEST_NEED {
         return Err(GraphFault::Need);
     }
-    let root = node.tree.root();
-    if !has_form(&root, TRICK_CARDS) {
+    if tree_fits(node.tree.root(), TRICK_CARDS, count) {
+        return Ok(());
+    }
+    if !has_form(&node.tree.root(), TRICK_CARDS) {
         return Err(GraphFault::TreeForm);
     }
-    if !names_below(&root, count) {
-        return Err(GraphFault::ChildNumber);
-    }
-    Ok(())
+    Err(GraphFault::ChildNumber)
 }
 
 /// Whether these are the nodes of a graph, else the first fault of the first that has one.

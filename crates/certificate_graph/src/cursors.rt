@@ -6,11 +6,9 @@ pub(crate) struct Cursor<'a> {
     pub(crate) rest: &'a [u8],
 }
 
-/// How a reading ended. It goes in a register, where a rest of the text beside it would not.
+/// Why a form was not read. Beside a rest of the text it goes in the same two registers.
 #[derive(Clone, Copy)]
-pub(crate) enum Outcome {
-    /// The form stood there, and the cursor stands behind it.
-    Read,
+pub(crate) enum Stop {
     /// The text begins otherwise.
     Other,
     /// Memory ran out.

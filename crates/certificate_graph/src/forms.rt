@@ -1,7 +1,9 @@
 //! Whether a tree is of the form, and which nodes it names.
 
-ghost use Rattle.std.specs.Prelude.{◌≡◌, ◌↔◌, IsTrue, All};
+ghost use Rattle.std.specs.Prelude.{◌≡◌, ◌↔◌, ◌<◌, IsTrue, All};
+ghost use Rattle.std.specs.List.{AllByRecursion};
 ghost use Rattle.certificate_graph.specs.Graphs.{card_place, IsCard, SeatsRise, HasForm, HaveForm, NamesBelow};
+ghost use Rattle.certificate_graph.specs.Graphs.{NameBelow};
 ghost use Rattle.certificate_graph.specs.RowNames.{NamesLess};
 
 use crate::places::{Branches, Children, Place, PlaceView};
@@ -69,10 +71,58 @@ fn have_form(branches: &Branches<'_>, room: u8, least: u16) -> bool
     match branches.split_first() {
         None => true,
         Some((card, below, rest)) => {
+            let place = card_place(card);
             is_card(card)
-                && least <= card_place(card)
+                && least <= place
                 && has_form(&below, room)
-                && have_form(&rest, room, card_place(card) + 1)
+                && have_form(&rest, room, place + 1)
+        }
+    }
+}
+
+/// Whether the children's seats rise, from this number on, and their numbers are below the count.
+fn children_fit(children: Children<'_>, least: usize, count: u32) -> bool
+    ensures { IsTrue result ↔ (SeatsRise least children.entry ×
+        AllByRecursion (λ child. child.number < count) children.entry) }
+{
+    match children.split_first() {
+        None => true,
+        Some((child, rest)) => {
+            let seat = child.winner.number();
+            least <= seat && child.number < count && children_fit(rest, seat + 1, count)
+        }
+    }
+}
+
+/// Whether the place and all below it are of the form, with room for so many cards one below another, and the leaves
+/// name nodes below the count: both in one pass.
+#[cycle(fit)]
+pub(crate) fn tree_fits(place: Place<'_>, room: u8, count: u32) -> bool
+    ensures { IsTrue result ↔ (HasForm room place.entry × NamesBelow count place.entry) }
+{
+    match place.view() {
+        PlaceView::Own(card, below) => room > 0
+            && is_card(card)
+            && tree_fits(below, room - 1, count),
+        PlaceView::Reply(branches) => room > 0 && branches_fit(branches, room - 1, 0, count),
+        PlaceView::Leaf(children) => children_fit(children, 0, count),
+    }
+}
+
+/// Whether the branches are of the form, their cards rise from this place on, and their leaves name nodes below the
+/// count.
+#[cycle(fit)]
+fn branches_fit(branches: Branches<'_>, room: u8, least: u16, count: u32) -> bool
+    ensures { IsTrue result ↔ (HaveForm room least branches.entry × NameBelow count branches.entry) }
+{
+    match branches.split_first() {
+        None => true,
+        Some((card, below, rest)) => {
+            let place = card_place(card);
+            is_card(card)
+                && least <= place
+                && tree_fits(below, room, count)
+                && branches_fit(rest, room, place + 1, count)
         }
     }
 }

@@ -8,11 +8,12 @@ ghost use Rattle.certificate_graph.specs.Rows.{children_row};
 ghost use Rattle.certificate_graph.specs.declared.children.Child.{Child};
 
 use crate::children::Child;
-use crate::cursors::{Cursor, Outcome};
+use crate::cursors::Stop;
 use crate::rows::Token;
 use crate::scanning::{after_byte, read_number, read_seat};
 
 /// A child, and the text after it.
+#[inline(always)]
 fn read_child(text: &[u8]) -> Option<(Child, &[u8])>
     ensures { MatchOption result (LacksChild text.now) (λ p. BeginsChild text.now p.0 p.1.now) }
 {
@@ -25,55 +26,49 @@ fn read_child(text: &[u8]) -> Option<(Child, &[u8])>
     Some((Child { winner, number }, rest))
 }
 
-/// Puts children that follow another one, whose seats rise from this number on, at the end of a row, and reads the
-/// closing brace.
-fn read_more(cursor: &mut Cursor<'_>, least: usize, row: &mut Vec<Token>) -> Outcome
+/// Puts children that follow another one, whose seats rise from this number on, at the end of a row. Answers the text
+/// after the closing brace.
+fn read_more<'a>(text: &'a [u8], least: usize, row: &mut Vec<Token>) -> Result<&'a [u8], Stop>
     requires { least ≤ 4 }
     ensures { Ends result
-        ((more : List Child) × BeginsMore least cursor.old.rest.now more cursor.new.rest.now
+        (λ rest. (more : List Child) × BeginsMore least text.now more rest.now
         × (row.new.items ≡ row.old.items ++ children_row more))
-        (LacksMore least cursor.old.rest.now) }
+        (LacksMore least text.now) }
 {
-    let text = cursor.rest;
     if let Some(rest) = after_byte(text, b'}') {
-        cursor.rest = rest;
-        return Outcome::Read;
+        return Ok(rest);
     }
     let Some(rest) = after_byte(text, b' ') else {
-        return Outcome::Other;
+        return Err(Stop::Other);
     };
     let Some((child, rest)) = read_child(rest) else {
-        return Outcome::Other;
+        return Err(Stop::Other);
     };
     let seat = child.winner.number();
     if seat < least {
-        return Outcome::Other;
+        return Err(Stop::Other);
     }
     let Ok(()) = row.push(Token::Child(child)) else {
-        return Outcome::NoMemory;
+        return Err(Stop::NoMemory);
     };
-    cursor.rest = rest;
-    read_more(cursor, seat + 1, row)
+    read_more(rest, seat + 1, row)
 }
 
-/// Puts the children of a leaf, whose seats rise, at the end of a row, and reads the closing brace.
-pub(crate) fn read_children(cursor: &mut Cursor<'_>, row: &mut Vec<Token>) -> Outcome
+/// Puts the children of a leaf, whose seats rise, at the end of a row. Answers the text after the closing brace.
+pub(crate) fn read_children<'a>(text: &'a [u8], row: &mut Vec<Token>) -> Result<&'a [u8], Stop>
     ensures { Ends result
-        ((children : List Child) × BeginsChildren cursor.old.rest.now children cursor.new.rest.now
+        (λ rest. (children : List Child) × BeginsChildren text.now children rest.now
         × (row.new.items ≡ row.old.items ++ children_row children))
-        (LacksChildren cursor.old.rest.now) }
+        (LacksChildren text.now) }
 {
-    let text = cursor.rest;
     if let Some(rest) = after_byte(text, b'}') {
-        cursor.rest = rest;
-        return Outcome::Read;
+        return Ok(rest);
     }
     let Some((child, rest)) = read_child(text) else {
-        return Outcome::Other;
+        return Err(Stop::Other);
     };
     let Ok(()) = row.push(Token::Child(child)) else {
-        return Outcome::NoMemory;
+        return Err(Stop::NoMemory);
     };
-    cursor.rest = rest;
-    read_more(cursor, child.winner.number() + 1, row)
+    read_more(rest, child.winner.number() + 1, row)
 }

@@ -28,7 +28,7 @@ fn write_node<S: Sink>(sink: &mut S, node: &Node) -> Result<(), DeviceFault>
     write_claim(sink, node.lead, node.need)?;
     write_pattern(sink, &node.pattern)?;
     write_all(sink, b" ")?;
-    write_tree(sink, &node.tree.root())?;
+    write_tree(sink, node.tree.root())?;
     write_all(sink, b"\n")
 }
 

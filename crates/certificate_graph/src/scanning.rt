@@ -1,6 +1,7 @@
 //! The beginning of a text: one byte, a letter, a card, a number.
 
-ghost use Rattle.std.specs.Prelude.{◌≡◌, ◌∷◌, ◌++◌, [], ℕ, List, ⊤, ◌≤◌, ◌↔◌, IsTrue, MatchOption, ◌+◌, length, take, drop};
+ghost use Rattle.std.specs.Prelude.{◌≡◌, ◌∷◌, ◌++◌, [], ℕ, List, ⊤, ◌≤◌, ◌↔◌, IsTrue, MatchOption, ◌+◌};
+ghost use Rattle.std.specs.Prelude.{length, take, drop};
 ghost use Rattle.std.specs.Char.{digit_value};
 ghost use Rattle.std.specs.Str.Parse.{AllDigits, digits_value};
 ghost use Rattle.cards.specs.declared.seats.Seat.{Seat};
@@ -34,16 +35,23 @@ pub(crate) fn after_byte(text: &[u8], byte: u8) -> Option<&[u8]>
     }
 }
 
-/// The seat that a letter can be of alone: three bits tell the letters apart.
+/// The seats by the three bits that tell their letters apart.
+const SEATS: [Seat; 8] = [
+    Seat::West,
+    Seat::East,
+    Seat::West,
+    Seat::North,
+    Seat::South,
+    Seat::West,
+    Seat::West,
+    Seat::West,
+];
+
+/// The seat that a letter can be of alone.
 fn seat_by_bits(byte: u8) -> Seat
     ensures { (seat : Seat) → seat_letter seat ≡ byte ∷ [] → seat ≡ result }
 {
-    match byte >> 2 & 7 {
-        3 => Seat::North,
-        1 => Seat::East,
-        4 => Seat::South,
-        _ => Seat::West,
-    }
+    SEATS[(byte >> 2 & 7) as usize]
 }
 
 /// The seat of a letter.
@@ -70,16 +78,23 @@ pub(crate) fn read_seat(text: &[u8]) -> Option<(Seat, &[u8])>
     Some((seat, rest))
 }
 
-/// The suit that a letter can be of alone: three bits tell the letters apart.
+/// The suits by the three bits that tell their letters apart.
+const SUITS: [Suit; 8] = [
+    Suit::Clubs,
+    Suit::Diamonds,
+    Suit::Hearts,
+    Suit::Clubs,
+    Suit::Spades,
+    Suit::Clubs,
+    Suit::Clubs,
+    Suit::Clubs,
+];
+
+/// The suit that a letter can be of alone.
 fn suit_by_bits(byte: u8) -> Suit
     ensures { (suit : Suit) → suit_letter suit ≡ byte ∷ [] → suit ≡ result }
 {
-    match byte >> 2 & 7 {
-        4 => Suit::Spades,
-        2 => Suit::Hearts,
-        1 => Suit::Diamonds,
-        _ => Suit::Clubs,
-    }
+    SUITS[(byte >> 2 & 7) as usize]
 }
 
 /// The suit of a letter.

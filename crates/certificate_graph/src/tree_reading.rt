@@ -1,6 +1,6 @@
 //! Trees, as they are read. A tree has room for a few cards one below another, so that no text goes deep.
 
-ghost use Rattle.std.specs.Prelude.{◌≡◌, ◌∷◌, ◌++◌, ◌+◌, ◌-◌, ◌<◌, ◌≤◌, length, slice_set, MatchOption};
+ghost use Rattle.std.specs.Prelude.{◌≡◌, ◌∷◌, ◌++◌, ◌+◌, ◌-◌, ◌<◌, ◌≤◌, length, slice_set, MatchOption, OnOk};
 ghost use Rattle.certificate_graph.specs.Graphs.{card_place};
 ghost use Rattle.certificate_graph.specs.Outcomes.{Ends};
 ghost use Rattle.certificate_graph.specs.Readings.{BeginsBranches, LacksBranches};
@@ -10,102 +10,105 @@ ghost use Rattle.certificate_graph.specs.Rows.{tree_row, branches_row};
 ghost use Rattle.certificate_graph.specs.Trees.{TrickTree, Branches};
 ghost use Rattle.certificate_graph.specs.declared.rows.Token.TheVariants as token;
 
-use crate::cursors::{Cursor, Outcome};
+use crate::cursors::Stop;
 use crate::forms::card_place;
 use crate::leaf_reading::read_children;
 use crate::rows::Token;
 use crate::scanning::{after_byte, read_card};
 use pattern_step::PatCard;
+use std::alloc::AllocError;
 
-/// Reads a tree with room for so many cards one below another, and puts it at the end of a row.
+/// Reads a tree with room for so many cards one below another, and puts it at the end of a row. Answers the text after
+/// it, as each function here does after what it reads.
 #[cycle(tree)]
-pub(crate) fn read_tree(cursor: &mut Cursor<'_>, room: u8, row: &mut Vec<Token>) -> Outcome
+pub(crate) fn read_tree<'a>(
+    text: &'a [u8],
+    room: u8,
+    row: &mut Vec<Token>,
+) -> Result<&'a [u8], Stop>
     ensures { Ends result
-        ((tree : TrickTree) × BeginsTree room cursor.old.rest.now tree cursor.new.rest.now
+        (λ rest. (tree : TrickTree) × BeginsTree room text.now tree rest.now
         × (row.new.items ≡ row.old.items ++ tree_row tree))
-        (LacksTree room cursor.old.rest.now) }
+        (LacksTree room text.now) }
 {
-    let text = cursor.rest;
     if let Some(rest) = after_byte(text, b'{') {
-        cursor.rest = rest;
-        return read_leaf(cursor, row);
+        return read_leaf(rest, row);
     }
     if room == 0 {
-        return Outcome::Other;
+        return Err(Stop::Other);
     }
     if let Some(rest) = after_byte(text, b'(') {
-        cursor.rest = rest;
-        return read_reply(cursor, room - 1, row);
+        return read_reply(rest, room - 1, row);
     }
-    read_own(cursor, room - 1, row)
+    read_own(text, room - 1, row)
 }
 
 /// A leaf after its opening brace.
-fn read_leaf(cursor: &mut Cursor<'_>, row: &mut Vec<Token>) -> Outcome
+fn read_leaf<'a>(text: &'a [u8], row: &mut Vec<Token>) -> Result<&'a [u8], Stop>
     ensures { Ends result
-        ((tree : TrickTree) × BeginsLeaf cursor.old.rest.now tree cursor.new.rest.now
+        (λ rest. (tree : TrickTree) × BeginsLeaf text.now tree rest.now
         × (row.new.items ≡ row.old.items ++ tree_row tree))
-        (LacksLeaf cursor.old.rest.now) }
+        (LacksLeaf text.now) }
 {
-    read_children(cursor, row)
+    read_children(text, row)
 }
 
 /// A card of the side with what follows it.
 #[cycle(tree)]
-fn read_own(cursor: &mut Cursor<'_>, room: u8, row: &mut Vec<Token>) -> Outcome
+fn read_own<'a>(text: &'a [u8], room: u8, row: &mut Vec<Token>) -> Result<&'a [u8], Stop>
     ensures { Ends result
-        ((tree : TrickTree) × BeginsOwn room cursor.old.rest.now tree cursor.new.rest.now
+        (λ rest. (tree : TrickTree) × BeginsOwn room text.now tree rest.now
         × (row.new.items ≡ row.old.items ++ tree_row tree))
-        (LacksOwn room cursor.old.rest.now) }
+        (LacksOwn room text.now) }
 {
-    let Some((card, rest)) = read_card(cursor.rest) else {
-        return Outcome::Other;
+    let Some((card, rest)) = read_card(text) else {
+        return Err(Stop::Other);
     };
     let Ok(()) = row.push(Token::Own(card)) else {
-        return Outcome::NoMemory;
+        return Err(Stop::NoMemory);
     };
-    cursor.rest = rest;
-    read_tree(cursor, room, row)
+    read_tree(rest, room, row)
 }
 
 /// The opponents' cards after the opening parenthesis, to the closing one.
 #[cycle(tree)]
-fn read_reply(cursor: &mut Cursor<'_>, room: u8, row: &mut Vec<Token>) -> Outcome
+fn read_reply<'a>(text: &'a [u8], room: u8, row: &mut Vec<Token>) -> Result<&'a [u8], Stop>
     ensures { Ends result
-        ((tree : TrickTree) × BeginsReply room cursor.old.rest.now tree cursor.new.rest.now
+        (λ rest. (tree : TrickTree) × BeginsReply room text.now tree rest.now
         × (row.new.items ≡ row.old.items ++ tree_row tree))
-        (LacksReply room cursor.old.rest.now) }
+        (LacksReply room text.now) }
 {
     let Ok(()) = row.push(Token::Reply) else {
-        return Outcome::NoMemory;
+        return Err(Stop::NoMemory);
     };
-    read_branches(cursor, room, 0, row)
+    read_branches(text, room, 0, row)
 }
 
 /// Branches whose cards rise from this place on, to the closing parenthesis.
 #[cycle(tree)]
-fn read_branches(cursor: &mut Cursor<'_>, room: u8, least: u16, row: &mut Vec<Token>) -> Outcome
+fn read_branches<'a>(
+    text: &'a [u8],
+    room: u8,
+    least: u16,
+    row: &mut Vec<Token>,
+) -> Result<&'a [u8], Stop>
     ensures { Ends result
-        ((branches : Branches) × BeginsBranches room least cursor.old.rest.now branches cursor.new.rest.now
+        (λ rest. (branches : Branches) × BeginsBranches room least text.now branches rest.now
         × (row.new.items ≡ row.old.items ++ branches_row branches))
-        (LacksBranches room least cursor.old.rest.now) }
+        (LacksBranches room least text.now) }
 {
-    let text = cursor.rest;
     if let Some(rest) = after_byte(text, b')') {
-        cursor.rest = rest;
-        return Outcome::Read;
+        return Ok(rest);
     }
     let Some((card, rest)) = read_card(text) else {
-        return Outcome::Other;
+        return Err(Stop::Other);
     };
     let Some(next) = next_place(card, least) else {
-        return Outcome::Other;
+        return Err(Stop::Other);
     };
-    cursor.rest = rest;
-    match read_branch(cursor, room, card, row) {
-        Outcome::Read => read_branches(cursor, room, next, row),
-        Outcome::Other => Outcome::Other,
-        Outcome::NoMemory => Outcome::NoMemory,
+    match read_branch(rest, room, card, row) {
+        Ok(rest) => read_branches(rest, room, next, row),
+        Err(stop) => Err(stop),
     }
 }
 
@@ -123,33 +126,40 @@ fn next_place(card: PatCard, least: u16) -> Option<u16>
 
 /// What follows a card of the opponents, with the card before it.
 #[cycle(tree)]
-fn read_branch(cursor: &mut Cursor<'_>, room: u8, card: PatCard, row: &mut Vec<Token>) -> Outcome
+fn read_branch<'a>(
+    text: &'a [u8],
+    room: u8,
+    card: PatCard,
+    row: &mut Vec<Token>,
+) -> Result<&'a [u8], Stop>
     ensures { Ends result
-        ((below : TrickTree) × BeginsTree room cursor.old.rest.now below cursor.new.rest.now
+        (λ rest. (below : TrickTree) × BeginsTree room text.now below rest.now
         × (row.new.items ≡ row.old.items ++ token.Branch card (length (tree_row below)) ∷ tree_row below))
-        (LacksTree room cursor.old.rest.now) }
+        (LacksTree room text.now) }
 {
     let place = row.len();
     let Ok(()) = row.push(Token::Branch(card, 0)) else {
-        return Outcome::NoMemory;
+        return Err(Stop::NoMemory);
     };
-    match read_tree(cursor, room, row) {
-        Outcome::Read => end_branch(row, place, card),
-        Outcome::Other => Outcome::Other,
-        Outcome::NoMemory => Outcome::NoMemory,
+    match read_tree(text, room, row) {
+        Ok(rest) => match end_branch(row, place, card) {
+            Ok(()) => Ok(rest),
+            Err(_) => Err(Stop::NoMemory),
+        },
+        Err(stop) => Err(stop),
     }
 }
 
 /// Says in the token of a branch, which stands in this place, how many tokens it has after it. There is no memory where
 /// they are over 4,294,967,295.
-fn end_branch(row: &mut Vec<Token>, place: usize, card: PatCard) -> Outcome
+fn end_branch(row: &mut Vec<Token>, place: usize, card: PatCard) -> Result<(), AllocError>
     requires { place < length row.old.items }
-    ensures { Ends result (row.new.items ≡ slice_set row.old.items place
-        (token.Branch card (length row.old.items - (place + 1)))) ⊥ }
+    ensures { OnOk result (row.new.items ≡ slice_set row.old.items place
+        (token.Branch card (length row.old.items - (place + 1)))) }
 {
     let Ok(count) = u32::try_from(row.len() - (place + 1)) else {
-        return Outcome::NoMemory;
+        return Err(AllocError);
     };
     row[place] = Token::Branch(card, count);
-    Outcome::Read
+    Ok(())
 }

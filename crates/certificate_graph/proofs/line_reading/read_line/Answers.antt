@@ -10,23 +10,24 @@ use Rattle.certificate_graph.proofs.line_reading.read_line.Goals as goal
 pub returns-in_default-read_suits : goal.returns-in_default-read_suits
 returns-in_default-read_suits c = node_by_suits c.args.text.now _ _ _ c.in-Some.ensures c.in_default-read_suits.ensures
 
-pub returns-in-Other : goal.returns-in-Other
-returns-in-Other c =
-    node_by_tree c.args.text.now _ _ _ _ _ c.in-Some.ensures c.in-Some-read_suits.ensures.1 c.in-Other.ensures
+pub returns-in-Err-Other : goal.returns-in-Err-Other
+returns-in-Err-Other c =
+    let lacks = (rw c.in-Err-Other.field-0-is at c.in-Err-Other.ensures) in
+    node_by_tree c.args.text.now _ _ _ _ _ c.in-Some.ensures c.in-Some-read_suits.ensures.1 lacks
 
 pub returns-in_default-after_byte : goal.returns-in_default-after_byte
 returns-in_default-after_byte c =
-    let tree = c.in-Read.ensures in
+    let tree = c.in-Ok.ensures in
     node_by_end c.args.text.now _ _ _ _ _ tree.0 _ c.in-Some.ensures c.in-Some-read_suits.ensures.1 tree.1 c.in_default-after_byte.ensures
 
 pub of_row-requires : goal.of_row-requires
 of_row-requires c =
-    let tree = c.in-Read.ensures in
+    let tree = c.in-Ok.ensures in
     (tree.0, c.in_ok-tokens.ensures.items ∙ (c.as_slice.ensures.value ∙ (tree.2 ∙ ap (λ l. l ++ tree_row tree.0) c.clear.ensures.items)))
 
 pub returns : goal.returns
 returns c =
-    let tree = c.in-Read.ensures in
+    let tree = c.in-Ok.ensures in
     let lead = c.in-Some.lead in
     let need = c.in-Some.need in
     let pattern = shape_read c.in-Some-read_suits.suits in

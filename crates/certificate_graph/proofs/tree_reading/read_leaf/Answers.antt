@@ -6,6 +6,6 @@ use Rattle.certificate_graph.proofs.tree_reading.read_leaf.Goals as goal
 pub returns : goal.returns
 returns c =
     ends_map c.read_children.result
-    (λ begins. (Leaf begins.0, begins.1, begins.2))
-    (λ lacks. no_leaf c.args.cursor.now.rest.now lacks)
+    (λ rest begins. (Leaf begins.0, begins.1, begins.2))
+    (λ lacks. no_leaf c.args.text.now lacks)
     c.read_children.ensures

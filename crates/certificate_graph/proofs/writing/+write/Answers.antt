@@ -1,7 +1,7 @@
 use Rattle.std.proofs.Common.{◌≡◌, [], ◌++◌, refl, sym, ◌∙◌, ap, append_assoc}
 use Rattle.pattern_step.specs.declared.pat_cards.PatCard.{PatCard}
 use Rattle.certificate_graph.specs.Trees.{TrickTree, Branches, Branch}
-use Rattle.certificate_graph.specs.Texts.{card_text, tree_text, branches_text, children_text}
+use Rattle.certificate_graph.specs.Texts.{card_text, tree_text, branches_text}
 use Rattle.certificate_graph.proofs.TextParts.{card-cut, tree-cut}
 use Rattle.cards.proofs.WriteLemmas.{AddsBeginning-then, Writes-then}
 use Rattle.certificate_graph.proofs.WriteLemmas.{writes_same, stops_within}
@@ -20,10 +20,8 @@ write_tree-returns-in_ok-write_all-in-Reply g t c =
     let done = c.write_branches.result in
     writes_same _ _ done (rw (← c.in-Reply.ensures) refl) (Writes-then done _ _ c.in_ok-write_all-in-Reply.ensures c.write_branches.ensures)
 
-pub write_tree-returns-in_ok-write_all-in-Leaf : goal.write_tree-returns-in_ok-write_all-in-Leaf
-write_tree-returns-in_ok-write_all-in-Leaf g t c =
-    let done = c.write_children.result in
-    writes_same _ _ done (rw (← c.in-Leaf.ensures) refl) (Writes-then done _ _ c.in_ok-write_all-in-Leaf.ensures c.write_children.ensures)
+pub write_tree-returns-in-Leaf : goal.write_tree-returns-in-Leaf
+write_tree-returns-in-Leaf g t c = writes_same _ _ c.write_children.result (rw (← c.in-Leaf.ensures) refl) c.write_children.ensures
 
 -- a card, what follows it, and the branches after it
 parts : (card : PatCard) (below : TrickTree) (more : Branches) → card_text card [] ++ (tree_text below [] ++ branches_text more []) ≡ branches_text (Branch card below more) []
@@ -63,11 +61,6 @@ pub write_tree-returns-in_err-write_all-in-Reply : goal.write_tree-returns-in_er
 write_tree-returns-in_err-write_all-in-Reply g t c =
     let end = c.from_residual-in_err-write_all-in-Reply in
     stops_within _ _ end.result _ (branches_text c.in-Reply.branches []) end.ensures.1 (rw (← c.in-Reply.ensures) refl) c.in_err-write_all-in-Reply.ensures
-
-pub write_tree-returns-in_err-write_all-in-Leaf : goal.write_tree-returns-in_err-write_all-in-Leaf
-write_tree-returns-in_err-write_all-in-Leaf g t c =
-    let end = c.from_residual-in_err-write_all-in-Leaf in
-    stops_within _ _ end.result _ (children_text c.in-Leaf.children []) end.ensures.1 (rw (← c.in-Leaf.ensures) refl) c.in_err-write_all-in-Leaf.ensures
 
 pub write_branches-returns-in_err-write_all-in-Some : goal.write_branches-returns-in_err-write_all-in-Some
 write_branches-returns-in_err-write_all-in-Some g t c =

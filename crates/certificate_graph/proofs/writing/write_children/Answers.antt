@@ -1,4 +1,4 @@
-use Rattle.std.proofs.Common.{[], sym}
+use Rattle.std.proofs.Common.{◌∷◌, [], sym, ap}
 use Rattle.certificate_graph.specs.Texts.{more_children_text}
 use Rattle.certificate_graph.proofs.TextParts.{child-cut}
 use Rattle.cards.proofs.WriteLemmas.{Writes-then}
@@ -8,9 +8,9 @@ use Rattle.certificate_graph.proofs.writing.write_children.Goals as goal
 pub returns-in_ok-write_child-in-Some : goal.returns-in_ok-write_child-in-Some
 returns-in_ok-write_child-in-Some g c =
     let child = c.in-Some.child in
-    let more = c.in-Some.more in
+    let more = more_children_text c.in-Some.more [] in
     let done = c.write_more_children.result in
-    writes_same _ _ done (rw c.in-Some.ensures (sym (child-cut child [] (more_children_text more []))))
+    writes_same _ _ done (rw c.in-Some.ensures (sym (ap (λ s. 123 ∷ s) (child-cut child [] more))))
     (Writes-then done _ _ c.in_ok-write_child-in-Some.ensures c.write_more_children.ensures)
 
 pub returns-in_err-write_child-in-Some : goal.returns-in_err-write_child-in-Some
@@ -19,4 +19,4 @@ returns-in_err-write_child-in-Some g c =
     let more = more_children_text c.in-Some.more [] in
     let end = c.from_residual in
     stops_within _ _ end.result _ more end.ensures.1
-    (rw c.in-Some.ensures (sym (child-cut child [] more))) c.in_err-write_child-in-Some.ensures
+    (rw c.in-Some.ensures (sym (ap (λ s. 123 ∷ s) (child-cut child [] more)))) c.in_err-write_child-in-Some.ensures
