@@ -244,7 +244,7 @@ shallow depths none (suc (suc (suc zero))) lt =
     omega (arith, (low_depth (depths / 16 / 16 / 16) 0 (low_depth (depths / 16 / 16) 8 (low_depth (depths / 16) 136 (low_depth depths 2184 none).1).1).1).0)
 shallow depths none (suc (suc (suc (suc suit)))) lt = absurd (omega (arith, lt))
 
-pub marks_none : (depths : ℕ) → ((suit : ℕ) → suit < 4 → depth_of depths suit < 8) → Marks 8 depths 0
+pub marks_none : (depths : ℕ) → ((suit : ℕ) → suit < 4 → depth_of depths suit ≤ 8) → Marks 8 depths 0
 marks_none depths few suit s = record {
   named = λ place lt named. absurd (omega (arith, named, few suit s));
   others = λ place lt other. owner_zero suit place;

@@ -6,7 +6,7 @@ use Rattle.std.proofs.lemmas.Bool.Decides.{nat_tests, Decides-like}
 use Rattle.std.specs.Int.Bits.{bit_and, bit_xor}
 use Rattle.pattern_store.specs.declared.record.Owners.{Owners}
 use Rattle.pattern_store.specs.declared.record.Record.{Record}
-use Rattle.pattern_store.specs.Record.{owner_at, Marks, SameOwners, IsMasked, AgreesNear, AgreesByOwners, AgreesDeep, Differs, IsKnown, owner_of, NamesNoMore, Serves}
+use Rattle.pattern_store.specs.Record.{owner_at, Marks, SameOwners, IsMasked, AgreesNear, AgreesByOwners, AgreesDeep, DiffersDeep, IsKnown, owner_of, NamesNoMore, Serves}
 use Rattle.pattern_store.proofs.OwnerWords.{same_from_mask, mask_from_same, all_from_mask, mask_from_all, none_named, NamesWithin, within_from_masks, masks_from_within}
 
 -- ---- the owner in a place, by the two words
@@ -33,8 +33,8 @@ module _ (r : Record) (mask : ℕ) (marks : Marks 8 r.depths mask) where
   pub agrees_none : (may_tell : ℕ → Type 0) → mask ≡ 0 → AgreesDeep r may_tell
   agrees_none may_tell empty = inl (none_named 8 r.depths mask marks empty)
 
-  pub differs_deep : mask < 2 ^ 64 → (near : ℕ) (may_tell : ℕ → Type 0) (deep : ℕ) → may_tell deep → (bit_and (bit_xor r.deep deep) mask ≡ 0 → ⊥) → Differs r near may_tell
-  differs_deep fits near may_tell deep told some = inr (deep, told, λ same. some (mask_from_same 8 r.depths mask marks fits r.deep deep same))
+  pub differs_deep : mask < 2 ^ 64 → (may_tell : ℕ → Type 0) (deep : ℕ) → may_tell deep → (bit_and (bit_xor r.deep deep) mask ≡ 0 → ⊥) → DiffersDeep r may_tell
+  differs_deep fits may_tell deep told some = (deep, told, λ same. some (mask_from_same 8 r.depths mask marks fits r.deep deep same))
 
   pub known_none : (owners known : Owners) → AgreesNear r owners.near → bit_and r.mask known.near ≡ r.mask → mask ≡ 0 → IsKnown r owners known
   known_none owners known near near_known empty = record {

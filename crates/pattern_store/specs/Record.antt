@@ -65,10 +65,13 @@ AgreesByOwners = (r : Record) (near : ℕ) → IsMasked r → AgreesNear r near 
 abbrev pub AgreesDeep : Record → (ℕ → Type 0) → Type 0
 AgreesDeep r may_tell = NamesNoDeep r.depths ⊎ ((deep : ℕ) × may_tell deep × SameOwners 8 r.depths r.deep deep)
 
+-- one of those is not the owner that may be told
+abbrev pub DiffersDeep : Record → (ℕ → Type 0) → Type 0
+DiffersDeep r may_tell = (deep : ℕ) × may_tell deep × (SameOwners 8 r.depths r.deep deep → ⊥)
+
 -- it names an owner that is another one
 abbrev pub Differs : Record → ℕ → (ℕ → Type 0) → Type 0
-Differs r near may_tell = (AgreesNear r near → ⊥)
-    ⊎ ((deep : ℕ) × may_tell deep × (SameOwners 8 r.depths r.deep deep → ⊥))
+Differs r near may_tell = (AgreesNear r near → ⊥) ⊎ DiffersDeep r may_tell
 
 -- a record names only owners that are known, and those as they are
 pub record IsKnown (r : Record) (owners known : Owners) : Type 0 where

@@ -2,9 +2,9 @@
 
 ghost use Rattle.std.specs.Prelude.{◌≡◌, ◌↔◌, ◌<◌, ◌≤◌, ℕ, IsTrue, IsFalse};
 ghost use Rattle.pattern_store.specs.Blocks.{record_at, IsBlockOf, SetsPlace};
-ghost use Rattle.pattern_store.specs.Record.{AgreesNear, AgreesDeep, Differs, IsKnown};
+ghost use Rattle.pattern_store.specs.Record.{AgreesNear, AgreesDeep, Differs, DiffersDeep, IsKnown};
 
-use crate::record::{FREE, Owners, Record, deep_mask, owners_in};
+use crate::record::{FREE, Owners, Record, deep_mask, is_shallow, owners_in};
 
 /// How many records a block has.
 pub(crate) const PLACES: usize = 4;
@@ -162,6 +162,18 @@ impl Block {
         if (self.near[place] ^ near) & self.masks[place] != 0 {
             return false;
         }
+        is_shallow(self.facts[place].depths) || self.agrees_deep(place, deep)
+    }
+
+    /// Whether these are the owners after the eighth of a suit that the record in a place names. Few records name some,
+    /// so this stands apart from what each look-up does.
+    #[inline(never)]
+    fn agrees_deep<F: Fn() -> u64>(&self, place: usize, deep: &F) -> bool
+        requires is_place { place < 4 }
+        requires asks { F.IsAlwaysCallable deep.now }
+        ensures agrees { IsTrue result → AgreesDeep (record_at self.now place) (F.post deep.now) }
+        ensures differs { IsFalse result → DiffersDeep (record_at self.now place) (F.post deep.now) }
+    {
         let mask = deep_mask(self.facts[place].depths);
         mask == 0 || (self.deep[place] ^ deep()) & mask == 0
     }

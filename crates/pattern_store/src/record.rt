@@ -1,7 +1,7 @@
 //! What is remembered of a position: who owns the highest cards of each suit, and what a side then wins.
 
 ghost use Rattle.std.specs.Prelude.{◌≡◌, ◌↔◌, ◌<◌, ◌^◌, ◌⊎◌, ℕ, IsTrue, bit_and};
-ghost use Rattle.pattern_store.specs.Record.{MarksSuit, Marks, KeepsOwners, DeepKept, IsMasked};
+ghost use Rattle.pattern_store.specs.Record.{MarksSuit, Marks, KeepsOwners, DeepKept, IsMasked, NamesNoDeep};
 ghost use Rattle.pattern_store.specs.Record.{NamesNoMore, Serves, named_in};
 
 /// The first card of a record that names none.
@@ -73,13 +73,20 @@ fn deep_bits(depth: u16) -> u64
 pub(crate) fn deep_mask(depths: u16) -> u64
     ensures { Marks 8 depths result }
 {
-    if depths & 0x8888 == 0 {
+    if is_shallow(depths) {
         return 0;
     }
     deep_bits(depths % 16)
         + deep_bits(depths / 16 % 16) * (1 << 16)
         + deep_bits(depths / 256 % 16) * (1 << 32)
         + deep_bits(depths / 4096) * (1 << 48)
+}
+
+/// Whether depths name fewer than eight owners of each suit, and so none of those after the eighth.
+pub(crate) fn is_shallow(depths: u16) -> bool
+    ensures { IsTrue result → NamesNoDeep depths }
+{
+    depths & 0x8888 == 0
 }
 
 /// How many owners depths name, four bits a suit.

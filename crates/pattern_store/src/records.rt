@@ -32,7 +32,7 @@ impl Model for Records {
 
     ghost Value = { Kept };
 
-    ghost view = { λ s. record { shapes = s.shapes.map.entries; blocks = s.runs.blocks.items; room = s.runs.room } };
+    ghost view = { λ s. record { shapes = s.shapes.rows.items; blocks = s.runs.blocks.items; room = s.runs.room } };
 }
 
 /// The number of a list of its shape.

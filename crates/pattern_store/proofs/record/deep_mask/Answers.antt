@@ -1,6 +1,6 @@
 use Rattle.std.proofs.Common.{subst, arith}
 use Rattle.pattern_store.specs.Record.{MarksSuit}
-use Rattle.pattern_store.proofs.OwnerWords.{marks_word, shallow, marks_none}
+use Rattle.pattern_store.proofs.OwnerWords.{marks_word, marks_none}
 use Rattle.pattern_store.proofs.record.deep_mask.Goals as goal
 
 pub returns : goal.returns
@@ -9,5 +9,5 @@ returns c =
     (subst (λ depth. MarksSuit 8 depth c.deep_bits.result) (omega arith) c.deep_bits.ensures.marks) c.deep_bits-2.ensures.marks c.deep_bits-3.ensures.marks
     (subst (λ depth. MarksSuit 8 depth c.deep_bits-4.result) (omega arith) c.deep_bits-4.ensures.marks)
 
-pub returns-then-depths-eq0 : goal.returns-then-depths-eq0
-returns-then-depths-eq0 c = marks_none c.args.depths (shallow c.args.depths c.if-depths-eq0.true)
+pub returns-then-is_shallow : goal.returns-then-is_shallow
+returns-then-is_shallow c = marks_none c.args.depths (c.is_shallow.ensures c.if-is_shallow.true)

@@ -6,7 +6,7 @@ use Rattle.pattern_store.proofs.records.Records.pass_block.Goals as goal
 
 pub returns : goal.returns
 returns c =
-    let shapes = c.self.inside.shapes.map.entries in
+    let shapes = c.self.inside.shapes.rows.items in
     let blocks = c.self.inside.runs.blocks.items in
     let room = c.self.inside.runs.room in
     let came = c.args.waiting.now.moved in

@@ -1,4 +1,4 @@
-use Rattle.std.proofs.Common.{◌∙◌, subst}
+use Rattle.std.proofs.Common.{subst}
 use Rattle.pattern_store.specs.declared.record.Record.{Record}
 use Rattle.pattern_store.specs.Blocks.{LosesServed}
 use Rattle.pattern_store.proofs.Passing.{loses_then}
