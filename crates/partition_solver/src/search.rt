@@ -98,12 +98,17 @@ impl Search {
         let before = self.held.before(seat);
         let runs = HandRuns::of(before.hand, start.left);
         let mut moves = Moves::of(&runs);
-        let mut next = self.first_lead(tricks, start, runs, &mut moves);
+        let mut first = self.sure_lead(tricks, start, runs);
         let mut answer = Found::unless_one_succeeds(!mover);
         for _ in 0..MOST_CARDS {
+            let next = match first {
+                Some(_) => first,
+                None => self.next_lead(tricks, start, runs, &mut moves),
+            };
             let Some(tried) = next else {
                 break;
             };
+            first = None;
             if !self.spend_lead() {
                 return answer;
             }
@@ -122,7 +127,6 @@ impl Search {
             }
             answer = answer.with_failed(tried, found);
             moves.skip(tried, found.relevant);
-            next = self.next_lead(tricks, start, runs, &mut moves);
         }
         self.remember(start, answer, 0)
     }
@@ -136,12 +140,17 @@ impl Search {
         let runs = HandRuns::of(trick.legal(before.hand), start.left);
         let mut moves = Moves::of(&runs);
         let place = self.hint_place(tricks, start, seat, runs, trick);
-        let mut next = self.first_second(tricks, start, trick, runs, place, &mut moves);
+        let mut first = self.sure_follow(place, runs, trick);
         let mut answer = Found::unless_one_succeeds(!mover);
         for _ in 0..MOST_CARDS {
+            let next = match first {
+                Some(_) => first,
+                None => self.next_second(tricks, start, trick, runs, &mut moves),
+            };
             let Some(tried) = next else {
                 break;
             };
+            first = None;
             self.spend();
             let after = trick.after(seat, tried.card, self.deal.trumps);
             self.held.play(seat, tried.card);
@@ -152,7 +161,6 @@ impl Search {
             }
             answer = answer.with_failed(tried, found);
             moves.skip(tried, found.relevant);
-            next = moves.next();
         }
         answer
     }
@@ -166,12 +174,17 @@ impl Search {
         let runs = HandRuns::of(trick.legal(before.hand), start.left);
         let mut moves = Moves::of(&runs);
         let place = self.hint_place(tricks, start, seat, runs, trick);
-        let mut next = self.first_third(tricks, start, trick, runs, place, &mut moves);
+        let mut first = self.sure_follow(place, runs, trick);
         let mut answer = Found::unless_one_succeeds(!mover);
         for _ in 0..MOST_CARDS {
+            let next = match first {
+                Some(_) => first,
+                None => self.next_third(tricks, start, trick, runs, &mut moves),
+            };
             let Some(tried) = next else {
                 break;
             };
+            first = None;
             self.spend();
             let after = trick.after(seat, tried.card, self.deal.trumps);
             self.held.play(seat, tried.card);
@@ -182,7 +195,6 @@ impl Search {
             }
             answer = answer.with_failed(tried, found);
             moves.skip(tried, found.relevant);
-            next = moves.next();
         }
         answer
     }

@@ -15,21 +15,12 @@ impl Search {
         Turn::of(&self.deal, &self.held, start.left, seat, is_eager)
     }
 
-    /// The first lead: the only one, or one that succeeded before, or that of the greatest weight.
-    pub(crate) fn first_lead(
-        &self,
-        tricks: u32,
-        start: &Start,
-        runs: HandRuns,
-        moves: &mut Moves,
-    ) -> Option<Move> {
+    /// The first lead, where no weights tell it: the only one, or the one that succeeded before at such a place.
+    pub(crate) fn sure_lead(&self, tricks: u32, start: &Start, runs: HandRuns) -> Option<Move> {
         if runs.is_single() {
             return Some(runs.only(true));
         }
-        if let Some(hinted) = runs.of_top(self.hinted_lead(tricks, start)) {
-            return Some(hinted);
-        }
-        self.next_lead(tricks, start, runs, moves)
+        runs.of_top(self.hinted_lead(tricks, start))
     }
 
     /// The lead that succeeded before at such a place, or no card.
@@ -58,10 +49,21 @@ impl Search {
         Some(follow_place(&self.held.hands, start, seat, runs.own, trick))
     }
 
-    /// Has the card tried first that succeeded before in this place.
-    fn hint(&self, place: Option<usize>, moves: &mut Moves) {
-        if let Some(place) = place {
-            moves.hint(self.follows.bit(place));
+    /// The first card of a second or third hand, where no weights tell it: the only one, or the one that succeeded
+    /// before in this place.
+    pub(crate) fn sure_follow(
+        &self,
+        place: Option<usize>,
+        runs: HandRuns,
+        trick: &Trick,
+    ) -> Option<Move> {
+        let trumps = self.deal.trumps;
+        if runs.is_single() {
+            return Some(runs.only(trick.beats(runs.own, trumps)));
+        }
+        match self.follows.bit(place?) {
+            64 => None,
+            bit => runs.of_choice(card_at(bit), trick, trumps),
         }
     }
 
@@ -73,7 +75,7 @@ impl Search {
         found
     }
 
-    /// The next lead. Leads have weights from the second on, or where none succeeded before.
+    /// The next lead, by the weights.
     #[inline(always)]
     pub(crate) fn next_lead(
         &self,
@@ -88,39 +90,35 @@ impl Search {
         moves.next()
     }
 
-    /// The first card of a second hand.
-    pub(crate) fn first_second(
+    /// The next card of a second hand, by the weights.
+    #[inline(always)]
+    pub(crate) fn next_second(
         &self,
         tricks: u32,
         start: &Start,
         trick: &Trick,
         runs: HandRuns,
-        place: Option<usize>,
         moves: &mut Moves,
     ) -> Option<Move> {
-        if runs.is_single() {
-            return Some(runs.only(trick.beats(runs.own, self.deal.trumps)));
+        if moves.are_unsorted() {
+            moves.add_second(runs, &self.turn(tricks, start, 1), trick);
         }
-        self.hint(place, moves);
-        moves.add_second(runs, &self.turn(tricks, start, 1), trick);
         moves.next()
     }
 
-    /// The first card of a third hand.
-    pub(crate) fn first_third(
+    /// The next card of a third hand, by the weights.
+    #[inline(always)]
+    pub(crate) fn next_third(
         &self,
         tricks: u32,
         start: &Start,
         trick: &Trick,
         runs: HandRuns,
-        place: Option<usize>,
         moves: &mut Moves,
     ) -> Option<Move> {
-        if runs.is_single() {
-            return Some(runs.only(trick.beats(runs.own, self.deal.trumps)));
+        if moves.are_unsorted() {
+            moves.add_third(runs, &self.turn(tricks, start, 2), trick);
         }
-        self.hint(place, moves);
-        moves.add_third(runs, &self.turn(tricks, start, 2), trick);
         moves.next()
     }
 

@@ -1,6 +1,6 @@
 //! The tables of one deal: who owns the cards of a suit, and which rank each of them has.
 
-use crate::words::{MOST_CARDS, SUIT};
+use crate::words::{MOST_CARDS, PACK, SUIT};
 use cards::{Layout, Seat, Suit, Trump};
 use std::alloc::{AllocError, Global};
 
@@ -14,6 +14,9 @@ const HIGH_RANK: u32 = 9;
 
 /// How many sets of ranks four suits have.
 const ALL_SETS: usize = 4 * SETS;
+
+/// The number of no rank: its bit is no card's.
+const NO_RANK: u64 = 15;
 
 /// A deal in one denomination.
 #[derive(Drop)]
@@ -198,13 +201,14 @@ impl DealTables {
         self.deep.extend_from_slice(deep.as_slice())
     }
 
-    /// For each set of ranks the ranks themselves, four bits each, the highest first.
+    /// For each set of ranks the ranks themselves, four bits each, the highest first, behind four bits of no rank.
     fn fill_ranks(&mut self) -> Result<(), AllocError> {
-        self.ranks.push(0)?;
+        self.ranks.push(NO_RANK)?;
         for top in 0..MOST_CARDS {
             for others in 0..1usize.wrapping_shl(top) {
-                let ranks = self.ranks.get(others).copied().unwrap_or(0);
-                self.ranks.push(ranks.wrapping_shl(4) | u64::from(top))?;
+                let ranks = self.ranks.get(others).copied().unwrap_or(NO_RANK) ^ NO_RANK;
+                let rank = u64::from(top).wrapping_shl(4);
+                self.ranks.push(ranks.wrapping_shl(4) | rank | NO_RANK)?;
             }
         }
         Ok(())
@@ -226,22 +230,20 @@ impl DealTables {
     }
 
     /// The card of a suit that has this place among the cards left, the highest being the first. The suit is named by
-    /// its start. No card for the place 0.
+    /// its start. A bit that is no card for the place 0: no jump goes by that.
     fn card_in(&self, left: u64, start: u32, place: u16) -> u64 {
-        if place == 0 {
-            return 0;
-        }
         let set = (left.wrapping_shr(start) & 0x1fff) as usize;
-        let ranks = self.ranks.get(set).copied().unwrap_or(0);
-        let rank = ranks.wrapping_shr(u32::from(place.wrapping_sub(1).wrapping_mul(4))) & 15;
+        let ranks = self.ranks.get(set).copied().unwrap_or(NO_RANK);
+        let rank = ranks.wrapping_shr(u32::from(place).wrapping_mul(4)) & 15;
         1u64.wrapping_shl((rank as u32).wrapping_add(start))
     }
 
     /// The lowest card of each suit that these depths name, four bits a suit.
     pub fn cards_at(&self, left: u64, depths: u16) -> u64 {
-        self.card_in(left, 0, depths & 15)
+        let named = self.card_in(left, 0, depths & 15)
             | self.card_in(left, 16, depths >> 4 & 15)
             | self.card_in(left, 32, depths >> 8 & 15)
-            | self.card_in(left, 48, depths >> 12)
+            | self.card_in(left, 48, depths >> 12);
+        named & PACK
     }
 }

@@ -1,5 +1,6 @@
 //! The cards to be tried at a turn, in their order: one of each run of touching cards.
 
+use crate::positions::Trick;
 use crate::words::{
     below, bottoms, highest, highest_bit, lowest, lowest_bit, suit_of, without_lowest,
 };
@@ -14,9 +15,6 @@ const WEIGHED: i32 = 8192;
 const TOP: i32 = 4096;
 
 const HIGHEST: i32 = 64;
-
-/// What is added for the card that is tried first.
-const HINTED: i32 = 1 << 30;
 
 /// A card to be tried, with the lowest and the highest card of its run.
 #[derive(Clone, Copy)]
@@ -56,8 +54,6 @@ pub struct Moves {
     count: usize,
     /// The place of the run that is tried next.
     next: usize,
-    /// The bit of the card that is tried first, or 64.
-    hinted: u32,
 }
 
 /// The card of a bit.
@@ -115,18 +111,29 @@ impl HandRuns {
         }
     }
 
-    /// The run whose highest card is this, if there is one.
-    pub fn of_top(&self, card: u64) -> Option<Move> {
+    /// The run of this card, which is tried, if it is one of these.
+    fn of_card(&self, card: u64) -> Option<Move> {
         if card & self.own == 0 {
             return None;
         }
         let bottom = highest(self.bottoms & (below(card) | card));
         let above = self.bottoms & !below(bottom) & !bottom;
         let top = highest(self.own & below(lowest(above)));
-        if top != card {
-            return None;
-        }
         Some(Move { card, bottom, top })
+    }
+
+    /// The run whose highest card is this, if there is one.
+    pub fn of_top(&self, card: u64) -> Option<Move> {
+        let run = self.of_card(card)?;
+        if run.top == card { Some(run) } else { None }
+    }
+
+    /// The run of which this card is the one to be tried: the highest where it beats what lies, else the lowest.
+    pub fn of_choice(&self, card: u64, trick: &Trick, trumps: u64) -> Option<Move> {
+        let run = self.of_card(card)?;
+        let wins = trick.beats(run.top, trumps);
+        let choice = if wins { run.top } else { run.bottom };
+        if choice == card { Some(run) } else { None }
     }
 
     /// How many runs there are.
@@ -155,13 +162,7 @@ impl Moves {
             runs: [0; ROOM],
             count: 0,
             next: 0,
-            hinted: 64,
         }
-    }
-
-    /// The card of this bit is tried first, where it is the one tried of its run; that of 64 is none.
-    pub fn hint(&mut self, bit: u32) {
-        self.hinted = bit;
     }
 
     /// Whether runs wait that have no weights yet.
@@ -175,8 +176,6 @@ impl Moves {
         let top = if tries_top { TOP } else { 0 };
         let cards = ((run.top & 63) as i32).wrapping_mul(HIGHEST) | (run.bottom & 63) as i32;
         let entry = weight.wrapping_mul(WEIGHED) | top | cards;
-        let is_hinted = run.choice(tries_top) == self.hinted;
-        let entry = entry.wrapping_add(if is_hinted { HINTED } else { 0 });
         let mut place = self.count;
         for before in (0..self.count).rev() {
             let other = self.runs[before & 15];

@@ -10,12 +10,12 @@ use crate::words::{
 };
 use pattern_store::NO_CARD;
 
-/// How deep the lowest relevant card of the suit that starts here lies.
+/// The bit above those of the lowest suit.
+const ABOVE_SUIT: u64 = SUIT + 1;
+
+/// How deep the lowest relevant card of the suit that starts here lies: 0 where there is none, without a jump for that.
 fn depth_of(left: u64, relevant: u64, start: u32) -> u16 {
-    let named = relevant.wrapping_shr(start) & SUIT;
-    if named == 0 {
-        return 0;
-    }
+    let named = relevant.wrapping_shr(start) & SUIT | ABOVE_SUIT;
     let above = (left.wrapping_shr(start) & SUIT).wrapping_shr(named.trailing_zeros());
     (above.count_ones() & 15) as u16
 }
