@@ -1,15 +1,16 @@
 -- The piece that was passed is the first of what was left.
-use Rattle.std.proofs.Common.{◌≡◌, ℕ, ◌+◌, ◌-◌, ◌^◌, ◌<◌, ◌≤◌, List, [], ◌++◌, length, take, drop, Option, None, Some, Bool, true, false, inl, inr, ◌⊎◌, sym, ◌∙◌, ap, subst, arith, append_assoc, Vec, Global, vec_len, eqb}
-use Rattle.std.proofs.lemmas.Bool.{eqb-false}
-use Rattle.std.specs.Prelude.{min}
+use Rattle.std.proofs.Common.{◌≡◌, ℕ, ◌+◌, ◌-◌, ◌^◌, ◌<◌, ◌≤◌, List, [], ◌++◌, length, take, drop, Option, None, Some, Bool, true, false, inl, inr, refl, sym, ◌∙◌, ap, subst, arith, append_assoc, Result, Ok, Err}
+use Rattle.std.specs.Prelude.{min, MatchResult}
 use Rattle.std.proofs.lemmas.List.{length-append, length-take-le, take-append-drop, take_all, drop_all, append-nil}
 use Rattle.memchr.specs.Find.{OccursAt}
 use Rattle.cards.specs.Devices.{Device, TakesWhereTold, NoneIsLeft, StaysWhereTold}
-use Rattle.streams.specs.Inputs.{IsAllOf}
-use Rattle.evidence.specs.Sections.{SectionShape}
-use Rattle.evidence.specs.SectionTexts.{IsTextOf}
-use Rattle.evidence.specs.Readings.{SaysSection}
-use Rattle.evidence.specs.Pieces.{border, greatest_length, IsFirstPiece, IsFirstWhereTold, IsDamaged, IsFound, Passes, IsAtEnd, left_of, reading_of}
+use Rattle.streams.specs.Inputs.{IsAllOf, StopsReading}
+use Rattle.streams.specs.declared.inputs.InputFault.{InputFault}
+use Rattle.streams.specs.declared.inputs.InputFault.TheVariants.{OutOfMemory}
+use Rattle.evidence.specs.declared.parts.Part.{Part}
+use Rattle.evidence.specs.declared.parts.Part.TheVariants.{Found, Damaged, End}
+use Rattle.evidence.specs.Pieces.{border, greatest_length, IsFirstPiece, IsFirstWhereTold, IsDamaged, IsFound, Passes, IsAtEnd, IsNext, StopsSections, left_of, reading_of}
+use Rattle.evidence.specs.Parts.{IsPartOf}
 use Rattle.evidence.specs.Ends.{FindsEnd, IsEndIn, IsPassed}
 use Rattle.evidence.proofs.PieceLemmas.{occurs_in_front, occurs_before}
 
@@ -80,12 +81,25 @@ module _ (old new last : Device) (held held' : List ℕ) (before middle after en
   }
 
   -- a piece that is too long, and one that is whole
-  pub long_piece : (is_long ≡ true) ⊎ ((is_long ≡ false) × (greatest_length < length piece)) → IsDamaged (found.passed ++ piece)
-  long_piece (inl long) = (let many : greatest_length < length found.passed = subst (λ b. IsPassed b found.passed) long found.long in inl (omega (arith, length-append found.passed piece)))
-  long_piece (inr long) = inl (let many = long.1 in omega (arith, length-append found.passed piece))
+  long_piece : is_long ≡ true → IsDamaged (found.passed ++ piece)
+  long_piece long = (let many : greatest_length < length found.passed = subst (λ b. IsPassed b found.passed) long found.long in inl (omega (arith, length-append found.passed piece)))
 
-  pub whole_piece : is_long ≡ false → found.passed ++ piece ≡ piece
+  whole_piece : is_long ≡ false → found.passed ++ piece ≡ piece
   whole_piece short = ap (λ l. l ++ piece) (subst (λ b. IsPassed b found.passed) short found.long)
+
+  -- what comes next
+  part_next : (long : Bool) → is_long ≡ long → 1 ≤ length piece → (part : Part) → IsPartOf long before piece part → IsNext (reading_of old held before) (reading_of last left after) part
+  part_next true e some part is = subst (IsNext (reading_of old held before) (reading_of last left after)) (sym is) (refl, passes IsDamaged some (long_piece e))
+  part_next false e some (Found section) is = passes (λ p. IsFound p section) some (subst (λ p. IsFound p section) (sym (whole_piece e)) is)
+  part_next false e some (Damaged at) is = (is.0, passes IsDamaged some (subst IsDamaged (sym (whole_piece e)) is.1))
+  part_next false e some End is = absurd is
+
+  pub next_is : 1 ≤ end → (result : Result Part InputFault) → MatchResult result (IsPartOf is_long before piece) (λ fault. fault ≡ OutOfMemory)
+      → MatchResult result (IsNext (reading_of old held before) (reading_of last left after)) (StopsSections old last)
+  next_is some (Ok part) is = part_next is_long refl (omega (arith, length-piece)) part is
+  next_is some (Err fault) is =
+      subst (StopsSections old last) (sym is) (inl (subst (λ (d : Device). StopsReading old d OutOfMemory) (sym same)
+      (record { lost = found.taken; first = found.given; counted = found.none_failed })))
 
   pub at_end : length piece ≡ 0 → before < 2 ^ 64 → IsAtEnd (reading_of old held before) (reading_of last left after)
   at_end none fits =
@@ -109,17 +123,3 @@ module _ (old new last : Device) (held held' : List ℕ) (before middle after en
       stays None told' bytes others taken e n all = tt
       stays (Some l) told' bytes others taken e n all =
           ap (left_of others) all.1 ∙ ap Some (append-nil others ∙ (n ∙ (sym e ∙ ap (λ t. bytes ++ t) all.0)))
-
--- what is said of the whole piece
-pub found_piece : (whole piece slice : List ℕ) (section : SectionShape) → whole ≡ piece → slice ≡ piece → length piece ≤ greatest_length → SaysSection slice (Some section) → IsFound whole section
-found_piece whole piece slice section e s few says = (rw e few, subst (λ l. IsTextOf l section) (s ∙ sym e) says)
-
-pub damaged_piece : (whole piece slice : List ℕ) → whole ≡ piece → slice ≡ piece → SaysSection slice None → IsDamaged whole
-damaged_piece whole piece slice e s says = inr (λ section of. says section (subst (λ l. IsTextOf l section) (e ∙ sym s) of))
-
--- a `Vec` that is not empty has a byte
-pub some_bytes : (bytes : Vec ℕ Global) → false ≡ eqb (vec_len bytes) 0 → 1 ≤ length bytes.items
-some_bytes bytes e =
-    let some = eqb-false (vec_len bytes) 0 (sym e) in
-    let long = bytes.ok.0 in
-    omega (arith, some)

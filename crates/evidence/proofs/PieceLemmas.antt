@@ -1,6 +1,6 @@
 -- Where the first piece of a text ends, while the text is read.
 use Rattle.std.proofs.Common.{◌≡◌, ℕ, ◌+◌, ◌-◌, ◌^◌, ◌<◌, ◌≤◌, List, [], ◌++◌, length, take, drop, get_or, Result, Ok, Err, Bool, true, false, inl, inr, ◌⊎◌, refl, sym, ◌∙◌, ap, subst, arith, append_assoc}
-use Rattle.std.proofs.lemmas.List.{length-append, get_or_append_left, get_or-append-add, take-append-drop, length-take-le, length-drop, take_at, append-nil, nil_from_length}
+use Rattle.std.proofs.lemmas.List.{length-append, get_or_append_left, get_or-append-add, take-append-drop, length-take-le, length-drop, append-nil, nil_from_length}
 use Rattle.std.proofs.lemmas.Bool.{cases_lt}
 use Rattle.memchr.specs.Find.{OccursAt, Nowhere, NoneBefore}
 use Rattle.std.specs.Prelude.{min, IsErrAnd, MatchResult}
@@ -109,14 +109,11 @@ none_behind passed held more room none place low o =
 pub length-cut : (held : List ℕ) (s : ℕ) → s + 6 ≡ length held → length (take s held) ≡ s
 length-cut held s e = length-take-le s held (omega arith)
 
-last_six : (held : List ℕ) (s : ℕ) → s + 6 ≡ length held → take 6 (drop s held ++ take s held) ≡ drop s held
-last_six held s e = take_at (drop s held) (take s held) 6 (length-drop s held ∙ (omega arith))
+pub length-shortened : (held : List ℕ) (s : ℕ) (left : List ℕ) → left ≡ drop s held → s + 6 ≡ length held → length left ≡ 6
+length-shortened held s left e h = ap length e ∙ (length-drop s held ∙ (omega arith))
 
-pub length-shortened : (held : List ℕ) (s : ℕ) (left : List ℕ) → left ≡ take 6 (drop s held ++ take s held) → s + 6 ≡ length held → length left ≡ 6
-length-shortened held s left e h = ap length (e ∙ last_six held s h) ∙ (length-drop s held ∙ (omega arith))
-
-pub shortened : (held : List ℕ) (s : ℕ) (left : List ℕ) → left ≡ take 6 (drop s held ++ take s held) → s + 6 ≡ length held → held ≡ take s held ++ left
-shortened held s left e h = sym (take-append-drop s held) ∙ ap (λ l. take s held ++ l) (sym (e ∙ last_six held s h))
+pub shortened : (held : List ℕ) (s : ℕ) (left : List ℕ) → left ≡ drop s held → held ≡ take s held ++ left
+shortened held s left e = sym (take-append-drop s held) ∙ ap (λ l. take s held ++ l) (sym e)
 
 -- ---- what was seen, after bytes were let go and others read
 pub seen_after : (passed held cut left : List ℕ) → held ≡ cut ++ left → passed ++ held ≡ (passed ++ cut) ++ left

@@ -1,5 +1,6 @@
 -- The parts of a whole text: what each of its pieces is.
 use Rattle.std.specs.Prelude.{◌≡◌, ℕ, ◌+◌, ◌-◌, ◌≤◌, List, [], ◌∷◌, ◌++◌, length, slice_index, ◌⊎◌}
+use Rattle.std.specs.Prelude.{Bool, true, false}
 use Rattle.evidence.specs.Sections.{SectionShape, IsSection}
 use Rattle.evidence.specs.SectionTexts.{title, section_text}
 use Rattle.evidence.specs.declared.parts.Part.{Part}
@@ -11,6 +12,11 @@ abbrev pub IsPart : ℕ → List ℕ → Part → Type 0
 IsPart at piece (Found section) = IsFound piece section
 IsPart at piece (Damaged byte) = (byte ≡ at) × IsDamaged piece
 IsPart at piece End = ⊥
+
+-- what a piece is whose first bytes were let go, since it is too long, or of which all are here
+abbrev pub IsPartOf : Bool → ℕ → List ℕ → Part → Type 0
+IsPartOf true at piece part = part ≡ Damaged at
+IsPartOf false at piece part = IsPart at piece part
 
 -- the parts of a text that begins at this byte, one for each piece, in their order
 abbrev pub AreParts : ℕ → List ℕ → List Part → Type 0

@@ -1,6 +1,7 @@
 -- The text of a section (docs/FORMATS.md). Each definition says what one form writes before the rest of the text: a
 -- line feed is 10, a blank 32, `-` 45.
 use Rattle.std.specs.Prelude.{◌≡◌, ℕ, List, [], ◌∷◌, ◌++◌, length, codes, Option, None, Some}
+use Rattle.std.proofs.Common.{Vec, Global}
 use Rattle.std.specs.Fmt.{decimal}
 use Rattle.cards.specs.declared.suits.Trump.{Trump}
 use Rattle.cards.specs.Seats.{seat_letter}
@@ -54,3 +55,8 @@ section_text section = head_text section.deal section.trump section.claims (grap
 -- the text is that of the section
 abbrev pub IsTextOf : List ℕ → SectionShape → Type 0
 IsTextOf text section = IsSection section × (text ≡ section_text section)
+
+-- the text is that of the section, or there is none, since these parts are no section
+abbrev pub IsTextIfAny : SectionShape → Option (Vec ℕ Global) → Type 0
+IsTextIfAny section None = IsSection section → ⊥
+IsTextIfAny section (Some text) = IsTextOf text.items section

@@ -68,6 +68,16 @@ shape_of deal trump bundle = record {
   ew = bundle.ew.value;
 }
 
+-- an answer as a section: its first claim for each declarer, in their order, and its graphs
+abbrev pub kept_of : Deal → Trump → Bundle → SectionShape
+kept_of deal trump bundle = record {
+  deal = deal;
+  trump = trump;
+  claims = claims_in_order bundle.claims.items;
+  ns = bundle.ns.value;
+  ew = bundle.ew.value;
+}
+
 -- the section of them, or the bundle again where they are none
 abbrev pub MakesSection : Deal → Trump → Bundle → Result SectionShape Bundle → Type 0
 MakesSection deal trump bundle (Ok section) = (section ≡ shape_of deal trump bundle) × IsSection section

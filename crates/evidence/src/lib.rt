@@ -26,6 +26,6 @@ pub use laws::{
 };
 pub use parts::Part;
 pub use section_reading::read_section;
-pub use section_writing::{section_bytes, write_section};
+pub use section_writing::{bundle_bytes, section_bytes, write_section};
 pub use sections::Section;
 pub use wholes::Sections;

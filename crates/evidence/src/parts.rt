@@ -1,16 +1,17 @@
 //! The pieces of a whole text, and what each is.
 
-ghost use Rattle.std.specs.Prelude.{◌≡◌, ◌+◌, ◌-◌, ◌^◌, ◌<◌, ◌≤◌, ◌⊎◌, true, false, min, length, take, drop, vec_len};
-ghost use Rattle.std.specs.Prelude.{MatchBool, MatchResult, IfOk, OnOk};
+ghost use Rattle.std.specs.Prelude.{◌≡◌, ◌+◌, ◌-◌, ◌^◌, ◌<◌, ◌≤◌, ◌⊎◌, true, false, min, length, drop, vec_len};
+ghost use Rattle.std.specs.Prelude.{MatchBool, MatchResult};
+ghost use Rattle.streams.specs.declared.inputs.InputFault.TheVariants.{OutOfMemory};
 ghost use Rattle.evidence.specs.Pieces.{greatest_length, reading_of, IsNext, StopsSections};
+ghost use Rattle.evidence.specs.Parts.{IsPartOf};
 ghost use Rattle.evidence.specs.Ends.{ReadsOn, Shortens, FindsEnd};
 
 use crate::section_reading::read_section;
 use crate::sections::Section;
 use cards::Source;
 use memchr::memmem;
-use std::alloc::{AllocError, Global};
-use std::mem;
+use std::alloc::Global;
 use streams::InputFault;
 
 /// How many bytes are asked for at a time.
@@ -46,6 +47,33 @@ fn is_too_long(is_long: bool, piece: &[u8]) -> bool
         ((is_long ≡ false) × (length piece.now ≤ greatest_length)) }
 {
     is_long || piece.len() > MOST_BYTES
+}
+
+/// What a piece is that begins at this byte. Of one that is long the first bytes were let go, and it is damaged. Fails
+/// only where memory runs out.
+fn read_part(alloc: Global, at: u64, is_long: bool, piece: &[u8]) -> Result<Part, InputFault>
+    ensures { MatchResult result
+        (IsPartOf is_long at piece.now)
+        (λ fault. fault ≡ OutOfMemory) }
+{
+    if is_too_long(is_long, piece) {
+        return Ok(Part::Damaged { at });
+    }
+    match read_section(alloc, piece) {
+        Ok(Some(section)) => Ok(Part::Found(section)),
+        Ok(None) => Ok(Part::Damaged { at }),
+        Err(_) => Err(InputFault::OutOfMemory),
+    }
+}
+
+/// Takes the first bytes out.
+fn remove_front(bytes: &mut Vec<u8>, count: usize)
+    requires { count ≤ vec_len bytes.old }
+    ensures { bytes.new.items ≡ drop count bytes.old.items }
+{
+    let left = bytes.len() - count;
+    bytes.copy_within(count.., 0);
+    bytes.truncate(left);
 }
 
 /// The pieces of a text, as they are read from a source.
@@ -99,8 +127,7 @@ impl<S: Source> Pieces<S> {
         if searched <= MOST_BYTES {
             return (searched, is_long);
         }
-        self.held.rotate_left(searched);
-        self.held.truncate(BORDER_FRONT);
+        remove_front(&mut self.held, searched);
         self.before = before.saturating_add(searched as u64);
         (0, true)
     }
@@ -127,21 +154,6 @@ impl<S: Source> Pieces<S> {
         Err(InputFault::Read)
     }
 
-    /// Takes the first bytes out.
-    fn take_front(&mut self, alloc: Global, end: usize) -> Result<Vec<u8>, AllocError>
-        requires { end ≤ vec_len self.old.held }
-        ensures front { IfOk result (λ piece. piece.items ≡ take end self.old.held.items) }
-        ensures rest { OnOk result (self.new.held.items ≡ drop end self.old.held.items) }
-        ensures before { OnOk result (self.new.before ≡ min (self.old.before + end) (2 ^ 64 - 1)) }
-        ensures source { self.new.source ≡ self.old.source }
-    {
-        let rest = Vec::from_slice(alloc, &self.held[end..])?;
-        let mut piece = mem::replace(&mut self.held, rest);
-        piece.truncate(end);
-        self.before = self.before.saturating_add(end as u64);
-        Ok(piece)
-    }
-
     /// What comes next.
     pub(crate) fn next(&mut self, alloc: Global) -> Result<Part, InputFault>
         ensures { MatchResult result
@@ -151,20 +163,12 @@ impl<S: Source> Pieces<S> {
     {
         let at = self.place();
         let (end, is_long) = self.find_end()?;
-        let piece = match self.take_front(alloc, end) {
-            Ok(piece) => piece,
-            Err(_) => return Err(InputFault::OutOfMemory),
-        };
-        if piece.is_empty() {
+        if end == 0 {
             return Ok(Part::End);
         }
-        if is_too_long(is_long, piece.as_slice()) {
-            return Ok(Part::Damaged { at });
-        }
-        match read_section(alloc, piece.as_slice()) {
-            Ok(Some(section)) => Ok(Part::Found(section)),
-            Ok(None) => Ok(Part::Damaged { at }),
-            Err(_) => Err(InputFault::OutOfMemory),
-        }
+        let part = read_part(alloc, at, is_long, &self.held[..end]);
+        remove_front(&mut self.held, end);
+        self.before = self.before.saturating_add(end as u64);
+        part
     }
 }

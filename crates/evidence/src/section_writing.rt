@@ -6,14 +6,16 @@ ghost use Rattle.cards.specs.Devices.{Writes};
 ghost use Rattle.cards.specs.Pack.{trump_letters};
 ghost use Rattle.cards.specs.Seats.{seat_letter};
 ghost use Rattle.certificate_graph.specs.Texts.{trump_text};
+ghost use Rattle.evidence.specs.Sections.{kept_of};
 ghost use Rattle.evidence.specs.SectionTexts.{root_text, claim_line, claim_lines, deal_line, count_line};
-ghost use Rattle.evidence.specs.SectionTexts.{title, head_text, graphs_text, section_text};
+ghost use Rattle.evidence.specs.SectionTexts.{title, head_text, graphs_text, section_text, IsTextIfAny};
 
-use crate::sections::Section;
+use crate::claims::claims_in_order;
+use crate::sections::{Contents, Section};
 use crate::vec_sinks::VecSink;
 use cards::{DeviceFault, Layout, OutOfMemory, Seat, Sink, Trump, write_all, write_number};
 use certificate_graph::Graph;
-use partition_solver::Claim;
+use partition_solver::{Bundle, Claim};
 use std::alloc::Global;
 use tables::write_layout;
 
@@ -128,23 +130,61 @@ fn write_graphs<S: Sink>(sink: &mut S, ns: &Graph, ew: &Graph) -> Result<(), Dev
     ew.write(sink)
 }
 
+/// Writes the text of a section that can be made of this.
+fn write_contents<S: Sink>(sink: &mut S, contents: &Contents<'_>) -> Result<(), DeviceFault>
+    ensures { Writes (S.state sink.old) (S.state sink.new) (section_text contents.now) result }
+{
+    write_head(sink, contents.layout, contents.trump, contents.claims)?;
+    write_graphs(sink, contents.ns, contents.ew)
+}
+
 /// Writes the text of a section. After a fault of the sink a beginning of it has gone out. Takes no memory.
 pub fn write_section<S: Sink>(sink: &mut S, section: &Section) -> Result<(), DeviceFault>
     ensures { Writes (S.state sink.old) (S.state sink.new) (section_text section.now) result }
 {
-    write_head(sink, section.layout(), section.trump(), section.claims())?;
-    write_graphs(sink, section.ns(), section.ew())
+    write_contents(sink, &section.contents())
+}
+
+/// The text of a section that can be made of this. Fails only where memory runs out.
+fn contents_bytes(alloc: Global, contents: &Contents<'_>) -> Result<Vec<u8>, OutOfMemory>
+    ensures { IfOk result (λ bytes. bytes.items ≡ section_text contents.now) }
+{
+    let mut sink = VecSink::new(alloc);
+    match write_contents(&mut sink, contents) {
+        Ok(()) => Ok(sink.into_bytes()),
+        Err(_) => Err(OutOfMemory),
+    }
 }
 
 /// The text of a section. Fails only where memory runs out.
 pub fn section_bytes(alloc: Global, section: &Section) -> Result<Vec<u8>, OutOfMemory>
     ensures { IfOk result (λ bytes. bytes.items ≡ section_text section.now) }
 {
-    let mut sink = VecSink::new(alloc);
-    match write_section(&mut sink, section) {
-        Ok(()) => Ok(sink.into_bytes()),
-        Err(_) => Err(OutOfMemory),
+    contents_bytes(alloc, &section.contents())
+}
+
+/// The text of the section of an answer, whose graphs are only borrowed: of its first claim for each declarer, in the
+/// order North, East, South, West, and its graphs. None where these are no section. Fails only where memory runs out.
+pub fn bundle_bytes(
+    alloc: Global,
+    layout: &Layout,
+    trump: Trump,
+    bundle: &Bundle,
+) -> Result<Option<Vec<u8>>, OutOfMemory>
+    ensures { IfOk result (IsTextIfAny (kept_of layout.now trump bundle.now)) }
+{
+    let claims = claims_in_order(bundle);
+    let contents = Contents {
+        layout,
+        trump,
+        claims: claims.as_slice(),
+        ns: &bundle.ns,
+        ew: &bundle.ew,
+    };
+    if !contents.is_section() {
+        return Ok(None);
     }
+    Ok(Some(contents_bytes(alloc, &contents)?))
 }
 
 /// What stands before the graphs. Fails only where memory runs out.

@@ -1,4 +1,4 @@
-//! A section of evidence.
+//! A section of evidence, and what it is made of.
 
 ghost use Rattle.std.specs.Prelude.{◌≡◌, ◌↔◌, IsTrue};
 ghost use Rattle.cards.specs.declared.seats.Side.TheVariants as side;
@@ -33,12 +33,53 @@ impl Model for Section {
     ghost invariant = { λ section. IsSection (shape_of section.layout section.trump section.bundle) };
 }
 
+/// What a section is made of, borrowed. It may be of no section.
+#[derive(Drop)]
+pub(crate) struct Contents<'a> {
+    pub(crate) layout: &'a Layout,
+    pub(crate) trump: Trump,
+    pub(crate) claims: &'a [Claim],
+    pub(crate) ns: &'a Graph,
+    pub(crate) ew: &'a Graph,
+}
+
+impl<'a> Model for Contents<'a> {
+    ghost use Rattle.std.specs.Coded.{codes};
+    ghost use Rattle.certificate_graph.specs.TreeCodes.{tree_code};
+    ghost use Rattle.evidence.specs.Sections.{SectionShape};
+
+    ghost Value = { SectionShape };
+
+    ghost coded = { Prim.hlevel (codes, tree_code) };
+
+    ghost view = { λ contents. record {
+      deal = contents.layout.now;
+      trump = contents.trump;
+      claims = contents.claims.now;
+      ns = contents.ns.now;
+      ew = contents.ew.now;
+    } };
+}
+
 /// Whether it is a graph of this side, with this trump.
 fn is_graph_of(trump: Trump, side: Side, graph: &Graph) -> bool
     ensures { IsTrue result ↔ IsGraphOf trump side graph.now }
 {
     graph.invariant();
     graph.trump() == trump && graph.side() == side
+}
+
+impl<'a> Contents<'a> {
+    /// Whether a section can be made of it.
+    pub(crate) fn is_section(&self) -> bool
+        ensures { IsTrue result ↔ IsSection self.now }
+    {
+        self.layout.invariant();
+        !self.claims.is_empty()
+            && are_claims(0, self.claims)
+            && is_graph_of(self.trump, Side::NorthSouth, self.ns)
+            && is_graph_of(self.trump, Side::EastWest, self.ew)
+    }
 }
 
 impl Section {
@@ -48,12 +89,14 @@ impl Section {
     pub fn new(layout: Layout, trump: Trump, bundle: Bundle) -> Result<Section, Bundle>
         ensures { MakesSection layout trump bundle result }
     {
-        layout.invariant();
-        let is_section = !bundle.claims.is_empty()
-            && are_claims(0, bundle.claims.as_slice())
-            && is_graph_of(trump, Side::NorthSouth, &bundle.ns)
-            && is_graph_of(trump, Side::EastWest, &bundle.ew);
-        if !is_section {
+        let contents = Contents {
+            layout: &layout,
+            trump,
+            claims: bundle.claims.as_slice(),
+            ns: &bundle.ns,
+            ew: &bundle.ew,
+        };
+        if !contents.is_section() {
             return Err(bundle);
         }
         Ok(Section {
@@ -96,6 +139,19 @@ impl Section {
         ensures { result.now ≡ self.now.ew }
     {
         &self.bundle.ew
+    }
+
+    /// What it is made of.
+    pub(crate) fn contents(&self) -> Contents<'_>
+        ensures { result ≡ self.now }
+    {
+        Contents {
+            layout: self.layout(),
+            trump: self.trump(),
+            claims: self.claims(),
+            ns: self.ns(),
+            ew: self.ew(),
+        }
     }
 
     /// The claims and graphs, by value.

@@ -1,20 +1,24 @@
 //! A section, and texts that are none by one byte.
 
 use crate::texts::{CLAIMS, DEAL, EW, NS, graphs, section, text_of};
-use evidence::{Section, read_section, section_bytes, write_section};
+use cards::{Suit, Trump};
+use evidence::{Section, bundle_bytes, read_section, section_bytes, write_section};
 use std::alloc::Global;
 use std::process::Abort;
 use std::test::Fail;
 
 /// How many claims the section has whose text it is; nothing where it is the text of none. A section is written again
-/// as the same bytes.
+/// as the same bytes, and so are its parts.
 fn claims_in(rt: &impl Abort, alloc: Global, text: &str) -> Result<Option<usize>, Fail> {
     let Some(section) = read_section(alloc, text.as_bytes())? else {
         return Ok(None);
     };
     let bytes = section_bytes(alloc, &section)?;
     assert_eq!(rt; bytes.as_slice(), text.as_bytes());
-    Ok(Some(section.claims().len()))
+    let (layout, trump) = (*section.layout(), section.trump());
+    let bundle = section.into_bundle();
+    assert_eq!(rt; bundle_bytes(alloc, &layout, trump, &bundle)?, Some(bytes));
+    Ok(Some(bundle.claims.len()))
 }
 
 #[test]
@@ -115,6 +119,29 @@ fn parts(rt: HostRuntime) -> Result<(), Fail> {
         return Err(Fail::new("its parts are a section"));
     };
     says(&rt, rt.alloc(), &section)
+}
+
+/// An answer is written with its claims in order, and not at all in another denomination or without a claim.
+#[test]
+fn answers(rt: HostRuntime) -> Result<(), Fail> {
+    let alloc = rt.alloc();
+    let graphs = graphs(alloc)?;
+    let claims = "claims 2\nN 2 0 -\nE 0 - 0\n";
+    let text = text_of(alloc, DEAL, "NT", claims, graphs.as_str())?;
+    let Some(section) = read_section(alloc, text.as_bytes())? else {
+        return Err(Fail::new("it is a section"));
+    };
+    let layout = *section.layout();
+    let mut bundle = section.into_bundle();
+    bundle.claims.as_mut_slice().reverse();
+    let Some(bytes) = bundle_bytes(alloc, &layout, Trump::Nt, &bundle)? else {
+        return Err(Fail::new("its parts are a section"));
+    };
+    assert_eq!(rt; bytes.as_slice(), text.as_bytes());
+    assert!(rt; bundle_bytes(alloc, &layout, Trump::Suit(Suit::Spades), &bundle)?.is_none());
+    bundle.claims.clear();
+    assert!(rt; bundle_bytes(alloc, &layout, Trump::Nt, &bundle)?.is_none());
+    Ok(())
 }
 
 /// East's claim, of no-trump, in graphs of two nodes and of none.

@@ -1,49 +1,22 @@
-use Rattle.std.proofs.Common.{◌<◌, ◌^◌, ap, sym, arith}
-use Rattle.std.proofs.lemmas.Bool.{eqb-true}
-use Rattle.evidence.specs.Pieces.{IsDamaged, IsFound}
-use Rattle.evidence.proofs.PartLemmas.{passes, long_piece, whole_piece, at_end, found_piece, damaged_piece, some_bytes}
+use Rattle.std.proofs.Common.{◌<◌, ◌^◌, take, drop, refl, ap, sym, ◌∙◌, arith, length-take-le}
+use Rattle.evidence.proofs.PartLemmas.{at_end, next_is}
 use Rattle.evidence.proofs.parts.Pieces.next.Goals as goal
 
-pub returns-then-is_empty : goal.returns-then-is_empty
-returns-then-is_empty g c =
-    let front = c.in-Ok.ensures in
-    let long = c.in-Ok.piece.ok.0 in
-    let none = eqb-true _ _ (sym c.if-is_empty.ensures) in
+pub returns-then-end-eq0 : goal.returns-then-end-eq0
+returns-then-end-eq0 g c =
+    let held = c.find_end.new.self.held.items in
+    let end = c.in_ok-end.end in
+    let found = c.in_ok-end.ensures in
+    let counted = found.counted in
+    let none = c.if-end-eq0.true in
     let fits : c.args.self.now.before < 2 ^ 64 = (let is = c.place-at.ensures.is in let f = c.place-at.ensures.fits in omega arith) in
-    at_end _ _ _ _ _ c.args.self.now.before _ _ c.in_ok-end.end c.in_ok-end.is_long _ _ c.in_ok-end.ensures (ap g.S.Source.state front.source) front.front front.rest front.before (omega arith) fits
+    at_end _ _ _ _ held c.args.self.now.before _ _ end c.in_ok-end.is_long (take end held) held found refl refl (sym (ap (λ n. drop n held) none))
+    (omega arith) (length-take-le end held found.within ∙ none) fits
 
-pub returns-then-is_too_long : goal.returns-then-is_too_long
-returns-then-is_too_long g c =
-    let front = c.in-Ok.ensures in
-    let some = some_bytes c.in-Ok.piece c.if-is_empty.ensures in
-    let found = c.in_ok-end.ensures in
-    let same = ap g.S.Source.state front.source in (
-      c.place-at.ensures.is,
-      passes _ _ _ _ _ c.args.self.now.before _ _ c.in_ok-end.end c.in_ok-end.is_long _ _ found same front.front front.rest front.before IsDamaged some
-          (long_piece _ _ _ _ _ c.args.self.now.before _ _ c.in_ok-end.end c.in_ok-end.is_long _ _ found same front.front front.rest front.before
-          (rw c.as_slice.ensures.value at c.if-is_too_long.ensures)),
-    )
-
-pub returns-in-Ok-Some : goal.returns-in-Ok-Some
-returns-in-Ok-Some g c =
-    let front = c.in-Ok.ensures in
-    let some = some_bytes c.in-Ok.piece c.if-is_empty.ensures in
-    let found = c.in_ok-end.ensures in
-    let same = ap g.S.Source.state front.source in
-    let short = rw c.as_slice.ensures.value at c.if-is_too_long.ensures in
-    let whole = whole_piece _ _ _ _ _ c.args.self.now.before _ _ c.in_ok-end.end c.in_ok-end.is_long _ _ found same front.front front.rest front.before short.0 in
-    passes _ _ _ _ _ c.args.self.now.before _ _ c.in_ok-end.end c.in_ok-end.is_long _ _ found same front.front front.rest front.before (λ piece. IsFound piece c.in-Ok-Some.section) some
-    (found_piece _ c.in-Ok.piece.items _ c.in-Ok-Some.section whole c.as_slice-2.ensures.value short.1 (rw c.in-Ok-Some.field-0-is at c.in-Ok-Some.ensures))
-
-pub returns-in-Ok-None : goal.returns-in-Ok-None
-returns-in-Ok-None g c =
-    let front = c.in-Ok.ensures in
-    let some = some_bytes c.in-Ok.piece c.if-is_empty.ensures in
-    let found = c.in_ok-end.ensures in
-    let same = ap g.S.Source.state front.source in
-    let short = rw c.as_slice.ensures.value at c.if-is_too_long.ensures in
-    let whole = whole_piece _ _ _ _ _ c.args.self.now.before _ _ c.in_ok-end.end c.in_ok-end.is_long _ _ found same front.front front.rest front.before short.0 in (
-      c.place-at.ensures.is,
-      passes _ _ _ _ _ c.args.self.now.before _ _ c.in_ok-end.end c.in_ok-end.is_long _ _ found same front.front front.rest front.before IsDamaged some
-          (damaged_piece _ c.in-Ok.piece.items _ whole c.as_slice-2.ensures.value (rw c.in-Ok-None.field-0-is at c.in-Ok-None.ensures)),
-    )
+pub returns : goal.returns
+returns g c =
+    let held = c.find_end.new.self.held.items in
+    let end = c.in_ok-end.end in
+    let is = rw c.place-at.ensures.is at c.read_part-part.ensures in
+    next_is _ _ _ _ held c.args.self.now.before _ _ end c.in_ok-end.is_long _ _ c.in_ok-end.ensures refl (ap (take end) c.deref.ensures.value) c.remove_front.ensures
+    c.saturating_add-self.ensures (let some = c.if-end-eq0.false in omega arith) c.read_part-part.result is

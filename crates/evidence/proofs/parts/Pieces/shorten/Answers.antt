@@ -1,4 +1,4 @@
-use Rattle.std.proofs.Common.{take, refl, ap, inl, inr, arith, ◌∙◌}
+use Rattle.std.proofs.Common.{take, refl, inl, inr, arith}
 use Rattle.evidence.proofs.PieceLemmas.{shortened, length-shortened, length-cut}
 use Rattle.evidence.proofs.parts.Pieces.shorten.Goals as goal
 
@@ -9,11 +9,11 @@ pub returns-clause-bytes : goal.returns-clause-bytes
 returns-clause-bytes g c =
     let held = c.args.self.now.held in
     let searched = c.saturating_sub-searched.result in
-    let left = c.truncate.ensures.items ∙ ap (take 6) c.rotate_left.ensures.items in
+    let left = c.remove_front.ensures in
     let many = held.ok.0 in
     record {
       cut = take searched held.items;
-      parts = shortened held.items searched _ left (omega arith);
+      parts = shortened held.items searched _ left;
       let_go = inl (
         refl,
         omega (arith, length-cut held.items searched (omega arith)),
