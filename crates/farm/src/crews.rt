@@ -5,6 +5,7 @@ use asked::Settings;
 use cards::Layout;
 use lease_desk::Desk;
 use std::alloc::Global;
+use std::sync::Mutex;
 use std::sync::atomic::AtomicBool;
 
 /// What the threads of a run work with.
@@ -17,6 +18,9 @@ pub(crate) struct Crew<'a, S, G, C> {
     pub(crate) means: Means<'a, S, G, C>,
     /// Whether the run has failed, so that no more is to be leased.
     pub(crate) stop: &'a AtomicBool,
+    /// Whoever leases a batch has it, so that the entries of a denomination aren't divided between two solvers. No
+    /// promise rests on it: it only saves searches.
+    pub(crate) leasing: &'a Mutex<()>,
 }
 
 impl<S, G, C> Drop for Crew<'_, S, G, C> {
@@ -28,6 +32,7 @@ impl<S, G, C> Drop for Crew<'_, S, G, C> {
             settings: _,
             means: _,
             stop: _,
+            leasing: _,
         } = self;
     }
 }

@@ -22,9 +22,9 @@ use lease_desk::{Chair, Clock, Closed, Gate};
 use partition_solver::Solver;
 use pbn_deals::Board;
 use std::alloc::Global;
-use std::sync::Wait;
 use std::sync::atomic::AtomicBool;
 use std::sync::atomic::Ordering::SeqCst;
+use std::sync::{Mutex, Wait};
 use std::thread;
 use std::thread::{Scope, Threads};
 
@@ -148,12 +148,13 @@ fn work_all<S: Solver + Sync, G: Gate + Sync, C: Clock + Sync, R: Threads + Wait
 /// Opens a desk over the boards, has as many solvers and checkers work as the settings say, and as many clerks as
 /// checkers, each in a thread of its own, and hands out the book when all have ended.
 ///
-/// A solver leases a batch of entries, each at the clock's moment. For those of a board and denomination it tells the
-/// gate of each lease, has the solver look for what shows their results, once, and puts it for the checkers, or gives
-/// the leases up for which nothing is claimed. Where no entry is open it has the leases freed that have run out, and
-/// ends where there is none. A checker tells the gate of the leases, checks both graphs, and puts each claim for the
-/// clerks. A clerk hands in one claim after another, of which the desk tells the gate. What memory is refused to on the
-/// way is dropped, and its leases stay. The book is handed out only where a solver was told that no entry is open.
+/// A solver leases a batch of entries, while no other does, each at the clock's moment. For those of a board and
+/// denomination it tells the gate of each lease, has the solver look for what shows their results, once, and puts it
+/// for the checkers, or gives the leases up for which nothing is claimed. Where no entry is open it has the leases
+/// freed that have run out, and ends where there is none. A checker tells the gate of the leases, checks both graphs,
+/// and puts each claim for the clerks. A clerk hands in one claim after another, of which the desk tells the gate. What
+/// memory is refused to on the way is dropped, and its leases stay. The book is handed out only where a solver was told
+/// that no entry is open.
 pub fn run_farm<S: Solver + Sync, G: Gate + Sync, C: Clock + Sync, R: Threads + Wait + Sync>(
     rt: &R,
     alloc: Global,
@@ -170,7 +171,7 @@ pub fn run_farm<S: Solver + Sync, G: Gate + Sync, C: Clock + Sync, R: Threads + 
     means.gate.before_work(boards.as_slice(), firsts.as_slice());
     drop(firsts);
     let (desk, chairs) = open_desk(rt, alloc, boards, settings)?;
-    let stop = AtomicBool::new(false);
+    let (stop, leasing) = (AtomicBool::new(false), Mutex::new(()));
     let crew = Crew {
         alloc,
         desk: &desk,
@@ -178,6 +179,7 @@ pub fn run_farm<S: Solver + Sync, G: Gate + Sync, C: Clock + Sync, R: Threads + 
         settings,
         means: *means,
         stop: &stop,
+        leasing: &leasing,
     };
     let chairs = work_all(rt, &crew, chairs)?;
     drop(crew);

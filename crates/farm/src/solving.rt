@@ -132,11 +132,13 @@ pub(crate) fn solve_all<S: Solver, G: Gate, C: Clock, R: Wait>(
     ensures idle { OnOk result (EndsIdle (receipts_in post.new.chair)) }
 {
     for _turn in rt.forever() {
+        let leasing = crew.leasing.lock(rt);
         if crew.stop.load(SeqCst) {
             return Err(Halt::NoThread);
         }
         if let Some(first) = next_task(rt, crew, &mut post.chair)? {
             let batch = lease_batch(rt, crew, &mut post.chair, first)?;
+            drop(leasing);
             work_on_all(rt, crew, post, batch)?;
         } else if !frees_a_lease(rt, crew, &mut post.chair)? {
             return Ok(());

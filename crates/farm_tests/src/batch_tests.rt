@@ -1,5 +1,6 @@
 //! What a solver leases at a time, and how it is grouped.
 
+use crate::dividing::{CountsCalls, LetsOthersOn};
 use crate::expect::expect_eq;
 use crate::gates::{TellsAll, Told};
 use crate::remembers::{Call, Remembers, declarers_of, trumps_of};
@@ -239,6 +240,35 @@ fn late_answers_are_published(rt: HostRuntime) -> Result<(), Fail> {
             &(tally.published, tally.gave_up, tally.bad),
             &(40, 0, 0),
         );
+    }
+    Ok(())
+}
+
+/// Four deals of one card each.
+const ROUND: [&[u8]; 4] = [
+    ACE,
+    TURNED,
+    b"N:Q... J... A... K...",
+    b"N:K... Q... J... A...",
+];
+
+/// Solvers that lease at once. The declarers of a denomination are asked for together, so that what was kept of them
+/// serves the next run.
+#[test]
+fn denominations_are_not_divided(rt: HostRuntime) -> Result<(), Fail> {
+    let alloc = rt.alloc();
+    for solvers in [2, 4] {
+        let settings = once(solvers, 1, BUDGET, 20)?;
+        let boards = boards_of(alloc, &ROUND)?;
+        let solver = CountsCalls::new();
+        let means = Means {
+            solver: &solver,
+            gate: &LetsPass,
+            clock: &LetsOthersOn { rt: &rt },
+        };
+        let book = run_farm(&rt, alloc, boards, settings, &means)?;
+        expect_eq(&rt, &tally_of(&book).gave_up, &80);
+        expect_eq(&rt, &solver.counts(), &(20, 0));
     }
     Ok(())
 }

@@ -7,6 +7,8 @@ mod batch_tests;
 #[cfg(test)]
 mod digits;
 #[cfg(test)]
+mod dividing;
+#[cfg(test)]
 mod expect;
 #[cfg(test)]
 mod flaw_tests;
