@@ -2,12 +2,13 @@
 
 use crate::audited::{Shown, audit};
 use crate::expect::expect_eq;
-use crate::texts::{RUFFS, RUNS};
+use crate::texts::RUNS;
 use evidence::Damage;
 use std::alloc::{AllocError, Global};
 use std::process::Abort;
 use std::test::Fail;
 use std::thread::Threads;
+use test_support::four_suits::RUFFS;
 use test_support::texts::joined;
 
 /// How many bytes a section has, and its title.

@@ -2,9 +2,10 @@
 
 use crate::audited::{Shown, audit};
 use crate::expect::expect_eq;
-use crate::texts::{RUFFS, RUNS};
+use crate::texts::RUNS;
 use evidence::Damage;
 use std::test::Fail;
+use test_support::four_suits::RUFFS;
 
 /// North's claim of all tricks.
 const CLAIM: &str = "claims 1\nN 13 0 -\n";

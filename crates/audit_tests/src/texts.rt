@@ -1,41 +1,11 @@
-//! Two boards, and a section of evidence for each, worked out by hand: who has all cards of a suit takes all tricks
-//! where it is trumps, or is led without trumps.
+//! Two boards, of which `test_support` has a section of evidence for the first, and one for the second, worked out by
+//! hand: who has all cards of a suit takes all tricks where it is trumps, or is led without trumps.
 
 /// Four hands of one suit each: North has the spades and East the hearts, and on the second board the other way round.
 pub const BOARDS: &str =
     "[Deal \"N:AKQJT98765432... .AKQJT98765432.. ..AKQJT98765432. ...AKQJT98765432\"]
 
 [Deal \"N:.AKQJT98765432.. AKQJT98765432... ..AKQJT98765432. ...AKQJT98765432\"]
-";
-
-/// With spades as trumps North takes all tricks of the first board: East's heart is ruffed, and then spades are led.
-pub const RUFFS: &str = "DDE 1
-deal N:AKQJT98765432... .AKQJT98765432.. ..AKQJT98765432. ...AKQJT98765432
-trump S
-claims 1
-N 13 0 -
-DDC 1
-trump S
-side NS
-nodes 13
-E 13 13.0.0.0/ 0.13.0.0/ 0.0.13.0/ 0.0.0.13/ (HxDx(CxSx{N1}))
-N 12 12.0.0.0/ 0.12.0.0/ 0.0.12.0/ 0.0.0.12/ Sx(HxDx(Cx{N2}))
-N 11 11.0.0.0/ 0.11.0.0/ 0.0.11.0/ 0.0.0.11/ Sx(HxDx(Cx{N3}))
-N 10 10.0.0.0/ 0.10.0.0/ 0.0.10.0/ 0.0.0.10/ Sx(HxDx(Cx{N4}))
-N 9 9.0.0.0/ 0.9.0.0/ 0.0.9.0/ 0.0.0.9/ Sx(HxDx(Cx{N5}))
-N 8 8.0.0.0/ 0.8.0.0/ 0.0.8.0/ 0.0.0.8/ Sx(HxDx(Cx{N6}))
-N 7 7.0.0.0/ 0.7.0.0/ 0.0.7.0/ 0.0.0.7/ Sx(HxDx(Cx{N7}))
-N 6 6.0.0.0/ 0.6.0.0/ 0.0.6.0/ 0.0.0.6/ Sx(HxDx(Cx{N8}))
-N 5 5.0.0.0/ 0.5.0.0/ 0.0.5.0/ 0.0.0.5/ Sx(HxDx(Cx{N9}))
-N 4 4.0.0.0/ 0.4.0.0/ 0.0.4.0/ 0.0.0.4/ Sx(HxDx(Cx{N10}))
-N 3 3.0.0.0/ 0.3.0.0/ 0.0.3.0/ 0.0.0.3/ Sx(HxDx(Cx{N11}))
-N 2 2.0.0.0/ 0.2.0.0/ 0.0.2.0/ 0.0.0.2/ Sx(HxDx(Cx{N12}))
-N 1 1.0.0.0/ 0.1.0.0/ 0.0.1.0/ 0.0.0.1/ Sx(HxDx(Cx{}))
-
-DDC 1
-trump S
-side EW
-nodes 0
 ";
 
 /// Without trumps North takes no trick of the second board: East leads spades.

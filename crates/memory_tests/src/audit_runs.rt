@@ -2,12 +2,13 @@
 
 use crate::outcomes::{Outcome, Told};
 use crate::spending::Spending;
-use crate::texts::{EVIDENCE, HEAD, ONE_NUMBER, ONE_SUIT_EACH, TABLE};
+use crate::texts::{HEAD, ONE_NUMBER};
 use audits::{AuditFault, audit_tables};
 use cards::{Buffer, Bytes};
 use evidence::Sections;
 use std::alloc::{AllocError, Global};
 use std::thread::Threads;
+use test_support::four_suits::{BOARD, RUFFS, TABLE};
 use tournaments::MakeFault;
 
 /// `audit_tables` on the four hands of one suit each, by evidence for one of their numbers.
@@ -17,9 +18,9 @@ pub fn audit<R: Threads + Sync>(
     spending: Spending,
 ) -> Result<Told, AllocError> {
     let mut sink = Buffer::new(alloc, TABLE.len(), TABLE.len())?;
-    let mut source = Bytes::new(ONE_SUIT_EACH, 7);
+    let mut source = Bytes::new(BOARD.as_bytes(), 7);
     spending.spend(alloc)?;
-    let mut sections = Sections::new(alloc, Bytes::new(EVIDENCE, 100));
+    let mut sections = Sections::new(alloc, Bytes::new(RUFFS.as_bytes(), 100));
     let made = audit_tables(rt, alloc, &mut source, &mut sections, &mut sink);
     let left = spending.left(alloc);
     let outcome = match made {

@@ -2,11 +2,12 @@
 
 use crate::outcomes::{Outcome, Told};
 use crate::spending::Spending;
-use crate::texts::{ACE, NORTH_HIGH, NOTHING};
 use cards::{Seat, Suit, Trump};
 use lease_book::{Book, BookFault, Entry, GraphText, Reply, Request, replay};
 use pbn_deals::{Board, BoardName, read_layout};
 use std::alloc::{AllocError, Global};
+use test_support::deals::ACE;
+use test_support::graphs::{ACE_WINS, NOTHING};
 
 /// North declares no-trump on the board: the first entry.
 pub const NT: Entry = Entry {
@@ -49,7 +50,7 @@ pub fn board(alloc: Global) -> Result<Vec<Board>, AllocError> {
     let mut boards = Vec::new(alloc);
     boards.push(Board {
         name: BoardName::new(Vec::new(alloc)),
-        deal: read_layout(NORTH_HIGH).ok(),
+        deal: read_layout(ACE.as_bytes()).ok(),
     })?;
     Ok(boards)
 }
@@ -60,8 +61,8 @@ fn hand_in(alloc: Global, lease: u64) -> Result<Request, AllocError> {
         lease,
         entry: NT,
         k: 1,
-        declarer: GraphText::new(Vec::from_slice(alloc, ACE)?),
-        defenders: GraphText::new(Vec::from_slice(alloc, NOTHING)?),
+        declarer: GraphText::new(Vec::from_slice(alloc, ACE_WINS.as_bytes())?),
+        defenders: GraphText::new(Vec::from_slice(alloc, NOTHING.as_bytes())?),
     })
 }
 

@@ -1,26 +1,22 @@
-//! Graphs that show the tricks of an entry, and claims by them.
+//! Graphs that show the tricks of an entry, and a claim by them.
 
-use crate::texts::{ACE, NOTHING};
 use certificate_graph::Graph;
-use checker::{CheckedGraph, Claimed, Rooted};
+use checker::Claimed;
 use std::alloc::{AllocError, Global};
-use std::sync::Arc;
+use test_support::claimed::claimed_of;
+use test_support::graphs::{ACE_WINS, NOTHING};
 
-/// A graph, checked, with a root.
-fn rooted(alloc: Global, graph: Graph, root: Option<u32>) -> Result<Rooted, AllocError> {
-    let graph = Arc::new(alloc, CheckedGraph::of(Arc::new(alloc, graph)?))?;
-    Ok(Rooted { graph, root })
+/// The graphs of declarer's side and of the defenders for the trick of North's ace.
+pub fn ace_graphs(alloc: Global) -> Result<(Graph, Graph), AllocError> {
+    let declarer = Graph::read(alloc, ACE_WINS.as_bytes());
+    match (declarer, Graph::read(alloc, NOTHING.as_bytes())) {
+        (Ok(declarer), Ok(defenders)) => Ok((declarer, defenders)),
+        _ => Err(AllocError),
+    }
 }
 
-/// That North's side takes the trick, by the texts for it.
+/// That North's side takes the trick, by these graphs.
 pub fn ace_claim(alloc: Global) -> Result<Claimed, AllocError> {
-    let (Ok(declarer), Ok(defenders)) = (Graph::read(alloc, ACE), Graph::read(alloc, NOTHING))
-    else {
-        return Err(AllocError);
-    };
-    Ok(Claimed {
-        k: 1,
-        declarer: rooted(alloc, declarer, Some(0))?,
-        defenders: rooted(alloc, defenders, None)?,
-    })
+    let (declarer, defenders) = ace_graphs(alloc)?;
+    claimed_of(alloc, 1, declarer, defenders)
 }

@@ -2,11 +2,12 @@
 
 use crate::outcomes::{Outcome, Told};
 use crate::spending::Spending;
-use crate::texts::{CR_LF, FINESSE, FOUR_SUITS, FROM_SECOND};
+use crate::texts::{CR_LF, FINESSE, FROM_SECOND};
 use cards::{Buffer, Layout};
 use certificate_graph::{Graph, OutOfMemory, TextFault};
 use pbn_deals::{Board, PbnFault, read_boards, read_layout};
 use std::alloc::{AllocError, Global};
+use test_support::deals::FOUR_SUITS;
 
 /// Whether these are the boards of the text.
 fn are_boards(boards: &[Board], deal: Option<Layout>) -> bool {
@@ -20,7 +21,7 @@ fn are_boards(boards: &[Board], deal: Option<Layout>) -> bool {
 
 /// `read_boards`.
 pub fn boards(alloc: Global, spending: Spending) -> Result<Told, AllocError> {
-    let deal = read_layout(FOUR_SUITS).ok();
+    let deal = read_layout(FOUR_SUITS.as_bytes()).ok();
     spending.spend(alloc)?;
     let read = read_boards(alloc, CR_LF);
     let left = spending.left(alloc);

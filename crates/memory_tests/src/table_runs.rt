@@ -2,7 +2,7 @@
 
 use crate::outcomes::{Outcome, Told};
 use crate::spending::Spending;
-use crate::texts::{HEAD, ONE_SUIT_EACH, TABLE};
+use crate::texts::HEAD;
 use cards::{Buffer, Bytes, Seat, Side, Suit, Trump};
 use farm::Means;
 use lease_book::{Book, Entry};
@@ -12,6 +12,7 @@ use std::sync::Wait;
 use std::thread::Threads;
 use subcommands::make_tables;
 use tables::Report;
+use test_support::four_suits::{BOARD, TABLE};
 use test_support::idle::{LetsPass, StandsStill};
 use test_support::settings::one_of_each;
 use tournaments::MakeFault;
@@ -67,7 +68,7 @@ fn written(
         return Ok(Outcome::Wrong);
     }
     if known == 20 {
-        let outcome = if bytes == TABLE {
+        let outcome = if bytes == TABLE.as_bytes() {
             Outcome::Answer
         } else {
             Outcome::Wrong
@@ -100,7 +101,7 @@ pub fn tables<R: Threads + Wait + Sync>(
     spending: Spending,
 ) -> Result<Told, AllocError> {
     let mut sink = Buffer::new(alloc, TABLE.len(), TABLE.len())?;
-    let mut source = Bytes::new(ONE_SUIT_EACH, 7);
+    let mut source = Bytes::new(BOARD.as_bytes(), 7);
     let Ok(settings) = one_of_each(3, BUDGET) else {
         return Ok(Told::Called(Outcome::Wrong, None));
     };

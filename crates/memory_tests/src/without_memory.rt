@@ -1,10 +1,10 @@
 //! Calls that take no memory.
 
 use crate::books::board;
-use crate::claims::ace_claim;
+use crate::claims::{ace_claim, ace_graphs};
 use crate::outcomes::{Outcome, Told};
 use crate::spending::Spending;
-use crate::texts::{ACE, FINESSE, HEAD_OF_ACE, NORTH_HIGH, NOTHING};
+use crate::texts::{FINESSE, HEAD_OF_ACE};
 use cards::{Buffer, Layout, Seat, Trump};
 use certificate_graph::Graph;
 use checker::{CheckedGraph, Claimed, check_claim, check_entry, check_graph};
@@ -13,6 +13,7 @@ use pbn_deals::read_layout;
 use std::alloc::{AllocError, Global};
 use std::sync::Arc;
 use tables::write_tables;
+use test_support::deals::ACE;
 
 /// The trick of North's ace, and what shows it.
 #[derive(Drop)]
@@ -25,13 +26,10 @@ struct Shown {
 
 /// Reads what the calls are made on.
 fn read_shown(alloc: Global) -> Result<Option<Shown>, AllocError> {
-    let Ok(layout) = read_layout(NORTH_HIGH) else {
+    let Ok(layout) = read_layout(ACE.as_bytes()) else {
         return Ok(None);
     };
-    let (Ok(declarer), Ok(defenders)) = (Graph::read(alloc, ACE), Graph::read(alloc, NOTHING))
-    else {
-        return Err(AllocError);
-    };
+    let (declarer, defenders) = ace_graphs(alloc)?;
     let claimed = ace_claim(alloc)?;
     Ok(Some(Shown {
         layout,

@@ -3,6 +3,8 @@
 
 pub mod claimed;
 pub mod deals;
+pub mod four_suits;
+pub mod graphs;
 pub mod idle;
 pub mod settings;
 pub mod texts;
