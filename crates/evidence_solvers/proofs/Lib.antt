@@ -1,2 +1,4 @@
 pub mod ListLaws
+pub mod CourseLaws
 pub mod CatalogLaws
+pub mod TakeLaws

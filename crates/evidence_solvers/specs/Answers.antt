@@ -5,8 +5,8 @@ use Rattle.cards.specs.declared.suits.Trump.{Trump}
 use Rattle.cards.specs.Deal.{Deal}
 use Rattle.partition_solver.specs.declared.bundles.Bundle.{Bundle}
 use Rattle.partition_solver.specs.Answers.{MayFind}
-use Rattle.evidence.specs.Sections.{shape_of}
-use Rattle.evidence.specs.SectionTexts.{IsTextOf}
+use Rattle.evidence.specs.Sections.{SectionShape, shape_of}
+use Rattle.evidence.specs.SectionTexts.{section_text, IsTextOf}
 use Rattle.evidence_solvers.specs.declared.serving.Question.{Question}
 use Rattle.evidence_solvers.specs.Serving.{are_claimed_in}
 
@@ -19,6 +19,10 @@ pub record IsBundleIn (text : List ℕ) (deal : Deal) (declarers : List Seat) (t
 -- that, for what is asked for
 abbrev pub IsEvidenceIn : List ℕ → Question → Bundle → Type 0
 IsEvidenceIn text asked bundle = IsBundleIn text asked.layout.now asked.declarers.now asked.trump bundle
+
+-- the text of this section is
+abbrev pub IsEvidenceOf : SectionShape → Question → Bundle → Type 0
+IsEvidenceOf section asked bundle = IsEvidenceIn (section_text section) asked bundle
 
 -- some text is
 abbrev pub IsEvidenceFor : Deal → List Seat → Trump → Bundle → Type 0

@@ -1,5 +1,5 @@
 -- The sections of a file, of which each claim is answered once.
-use Rattle.std.specs.Prelude.{◌≡◌, true, List, ◌∷◌, ◌++◌, Option, None, Some, All}
+use Rattle.std.specs.Prelude.{◌≡◌, Bool, true, false, List, [], ◌∷◌, ◌++◌, Option, None, Some, Result, Ok, Err, All, ⊤}
 use Rattle.evidence_solvers.specs.declared.serving.Question.{Question}
 use Rattle.evidence_solvers.specs.declared.catalogs.Listed.{Listed}
 use Rattle.evidence_solvers.specs.declared.spans.Span.{Span}
@@ -41,3 +41,26 @@ pub record TakesFirst (asked : Question) (old new : List Listed) (span : Span) :
 abbrev pub TakesOne : Question → List Listed → List Listed → Option Span → Type 0
 TakesOne asked old new None = NoneServe asked old × (new ≡ old)
 TakesOne asked old new (Some span) = TakesFirst asked old new span
+
+-- A section was added behind the others. Where it serves, that is answered, and its claims are answered now; where
+-- memory ran out, all is as it was.
+abbrev pub AddsOne : {E : Type 0} → Question → Listed → List Listed → List Listed → Result Bool E → Type 0
+AddsOne asked listed old new (Ok true) =
+    Serves asked listed × ((answered : Listed) × IsAnsweredOnce listed answered asked.declarers.now
+    × (new ≡ old ++ answered ∷ []))
+AddsOne asked listed old new (Ok false) = (Serves asked listed → ⊥) × (new ≡ old ++ listed ∷ [])
+AddsOne asked listed old new (Err fault) = new ≡ old
+
+-- the claims of a section were answered for these declarers, the last ones first
+abbrev pub IsAnsweredFor : Listed → Listed → List (List Seat) → Type 0
+IsAnsweredFor old new [] = new ≡ old
+IsAnsweredFor old new (declarers ∷ before) =
+    (between : Listed) × IsAnsweredFor old between before × IsAnsweredOnce between new declarers
+
+-- the sections were listed so once, and some of their claims are answered since
+abbrev pub AreAnswered : List Listed → List Listed → Type 0
+AreAnswered [] [] = ⊤
+AreAnswered [] (now ∷ others) = ⊥
+AreAnswered (once ∷ more) [] = ⊥
+AreAnswered (once ∷ more) (now ∷ others) =
+    ((asked : List (List Seat)) × IsAnsweredFor once now asked) × AreAnswered more others

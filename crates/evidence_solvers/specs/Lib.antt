@@ -2,6 +2,8 @@ pub mod Serving
 pub mod Spans
 pub mod Catalogs
 pub mod Listings
+pub mod Courses
+pub mod Taking
 pub mod Shelves
 pub mod Answers
 pub mod Kept

@@ -1,24 +1,12 @@
--- What is read of a shelf.
-use Rattle.std.specs.Prelude.{ℕ, List, Option, None, Some, ⊤}
-use Rattle.std.proofs.Common.{Vec, Global}
-use Rattle.evidence_solvers.specs.declared.serving.Question.{Question}
-use Rattle.evidence_solvers.specs.declared.spans.Span.{Span}
-use Rattle.evidence_solvers.specs.declared.shelves.Shelf.{Shelf}
-use Rattle.evidence_solvers.specs.Catalogs.{TakesOne}
-use Rattle.evidence_solvers.specs.Spans.{IsReadAt}
+-- What a shelf has read of the file that its type names.
+use Rattle.std.specs.Prelude.{ℕ, List, Option}
+use Rattle.evidence_solvers.specs.declared.catalogs.Listed.{Listed}
+use Rattle.evidence_solvers.specs.Catalogs.{AreAnswered}
+use Rattle.evidence_solvers.specs.Courses.{Course, HasRead}
 
--- the bytes that were read, where there was a span
-abbrev pub AreReadAt : {F : Type 0} → (F → Option ℕ) → (F → Option (List ℕ)) → F → F → Option Span
-    → Option (Vec ℕ Global) → Type 0
-AreReadAt place remaining old new span None = ⊤
-AreReadAt place remaining old new None (Some bytes) = ⊥
-AreReadAt place remaining old new (Some span) (Some bytes) = IsReadAt place remaining old new span bytes.items
-
--- The first section that serves was taken, if there is one, and these bytes are read where it stood; there may be none
--- where it can't be read.
-pub record ReadsOne {F : Type 0} (place : F → Option ℕ) (remaining : F → Option (List ℕ)) (asked : Question)
-    (old new : Shelf F) (bytes : Option (Vec ℕ Global))
-    : Type 0 where
-  pub span : Option Span
-  pub takes : TakesOne asked old.catalog.sections.items new.catalog.sections.items span
-  pub read : AreReadAt place remaining old.file new.file span bytes
+-- What the file tells was read so far, from its first byte on, and its sections were listed so; some of their claims
+-- are answered since.
+pub record IsReadSoFar (told : Option (List ℕ)) (front : Course) (sections : List Listed) : Type 0 where
+  pub listed : List Listed
+  pub read : HasRead 0 told front listed
+  pub answered : AreAnswered listed sections

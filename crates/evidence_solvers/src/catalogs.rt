@@ -2,12 +2,13 @@
 
 ghost use Rattle.std.specs.Prelude.{◌≡◌, ◌↔◌, IsTrue, filter};
 ghost use Rattle.evidence_solvers.specs.Serving.{left_after};
-ghost use Rattle.evidence_solvers.specs.Catalogs.{Serves, IsAnsweredOnce, TakesOne};
+ghost use Rattle.evidence_solvers.specs.Catalogs.{Serves, IsAnsweredOnce, TakesOne, AddsOne};
 
 use crate::serving::{Question, are_among, is_among, is_same_deal};
 use crate::spans::Span;
 use arrayvec::ArrayVec;
 use cards::{Layout, Seat, Trump};
+use std::alloc::AllocError;
 
 /// A section of a file, as far as it is kept in mind.
 #[derive(Drop)]
@@ -54,7 +55,7 @@ impl Listed {
     }
 }
 
-/// The sections of a file in their order.
+/// The sections of a file that were read, in their order.
 #[derive(Drop)]
 pub(crate) struct Catalog {
     pub(crate) sections: Vec<Listed>,
@@ -71,5 +72,19 @@ impl Catalog {
             }
         }
         None
+    }
+
+    /// Adds a section behind the others, and answers whether it serves what is asked for: then its claims are answered
+    /// now.
+    pub(crate) fn add(&mut self, listed: Listed, asked: &Question<'_>) -> Result<bool, AllocError>
+        ensures { AddsOne asked.now listed self.old.sections.items self.new.sections.items result }
+    {
+        let mut listed = listed;
+        let serves = listed.serves(asked);
+        if serves {
+            listed.answer(asked.declarers);
+        }
+        self.sections.push(listed)?;
+        Ok(serves)
     }
 }

@@ -7,13 +7,15 @@ use crate::faults::CannotOpen;
 use crate::tails::Tail;
 use std::fs::{Files, OpenFile, OpenOptions};
 use std::io;
-use std::io::{Read, Seek, SeekFrom};
+use std::io::{Read, Seek, SeekFrom, Take};
 
-/// A file of evidence, opened twice.
+/// A file of evidence, opened three times.
 #[derive(Drop)]
 pub struct Opened<F> {
-    /// To be read, from its beginning.
-    pub front: F,
+    /// To be read from its beginning, as far as it went when it was opened: what is added later isn't read.
+    pub front: Take<F>,
+    /// To be read again, anywhere.
+    pub again: F,
     /// To be added to.
     pub tail: Tail<F>,
 }
@@ -45,14 +47,20 @@ pub fn open_evidence<R: Files>(files: &R, path: &str) -> Result<Opened<R::File>,
     if !metadata.is_file() {
         return Err(CannotOpen);
     }
-    let Ok(ends_line) = ends_line(&mut end, metadata.len()) else {
+    let length = metadata.len();
+    let Ok(ends_line) = ends_line(&mut end, length) else {
         return Err(CannotOpen);
     };
     let Ok(front) = OpenOptions::new().read(true).open(files, path) else {
         return Err(CannotOpen);
     };
+    let Ok(again) = OpenOptions::new().read(true).open(files, path) else {
+        return Err(CannotOpen);
+    };
+    let written = u64::from(!ends_line);
     Ok(Opened {
-        front,
+        front: front.take(length.saturating_add(written)),
+        again,
         tail: Tail::new(end, ends_line),
     })
 }

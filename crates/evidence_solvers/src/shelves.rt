@@ -1,54 +1,78 @@
 //! A file of evidence, as it is read.
 
-ghost use Rattle.std.specs.Prelude.{IfOk, IfSome};
-ghost use Rattle.evidence_solvers.specs.Listings.{ListsAll};
-ghost use Rattle.evidence_solvers.specs.Shelves.{ReadsOne};
+ghost use Rattle.std.specs.Prelude.{◌≡◌};
+ghost use Rattle.std.specs.Io.Take.{take_remaining};
+ghost use Rattle.evidence_solvers.specs.Courses.{TellsFile};
 
 use crate::catalogs::Catalog;
-use crate::listing::list_all;
+use crate::fronts::Front;
 use crate::serving::Question;
-use crate::spans::read_span;
-use evidence::{Damage, Sections};
+use crate::taking::{Taken, take_next};
+use crate::told::Told;
+use evidence::Damage;
 use std::alloc::Global;
-use std::io::{Read, Seek};
+use std::io::{Read, Seek, Take};
+use std::marker::{Model, PhantomData};
 use streams::{InputFault, ReaderSource};
 
-/// A file of evidence, and which sections stood where when it was read.
+/// A file of evidence, which is read once, from front to back and no further than is needed, and which sections of it
+/// stand where, as far as it was read. One of these is read again where it is asked for.
 #[derive(Drop)]
-pub struct Shelf<F> {
-    file: F,
+pub struct Shelf<F: Read, T: Told> {
+    front: Front<ReaderSource<Take<F>>>,
+    again: F,
     catalog: Catalog,
+    of: PhantomData<T>,
 }
 
-/// Reads a file to its end, from where it stands, and lists its sections.
-fn list_file<F: Read>(alloc: Global, file: &mut F) -> Result<(Catalog, Damage), InputFault>
-    ensures { IfOk result (λ listed. ListsAll 0 (F.remaining file.old) listed.0.sections.items listed.1) }
-{
-    let mut sections = Sections::new(alloc, ReaderSource::new(file));
-    list_all(alloc, &mut sections)
+impl<F: Read, T: Told> Model for Shelf<F, T> {
+    ghost use Rattle.evidence_solvers.specs.Shelves.{IsReadSoFar};
+
+    ghost Value = { Unit {0} };
+
+    ghost view = { λ _. tt };
+
+    ghost invariant = { λ shelf. IsReadSoFar T.told shelf.front shelf.catalog.sections.items };
 }
 
-impl<F: Read + Seek + Drop> Shelf<F> {
-    /// Reads a file that was just opened once, from front to back, and keeps in mind which sections stand where. What
-    /// is no section is passed over, and told.
-    pub fn read(alloc: Global, file: F) -> Result<(Shelf<F>, Damage), InputFault>
-        ensures { IfOk result (λ read. ListsAll 0 (F.remaining file) read.0.catalog.sections.items read.1) }
+impl<F: Read, T: Told> Shelf<F, T> {
+    /// A file that was just opened twice: once to be read from front to back, as far as it goes, and once to be read
+    /// again. Nothing is read yet.
+    pub fn new(alloc: Global, front: Take<F>, again: F) -> Shelf<F, T>
+        requires { take_remaining F.remaining front ≡ T.told }
     {
-        let mut file = file;
-        match list_file(alloc, &mut file) {
-            Ok((catalog, damage)) => Ok((Shelf { file, catalog }, damage)),
-            Err(fault) => Err(fault),
+        Shelf {
+            front: Front::new(alloc, ReaderSource::new(front)),
+            again,
+            catalog: Catalog {
+                sections: Vec::new(alloc),
+            },
+            of: PhantomData,
         }
     }
 }
 
-impl<F: Read + Seek> Shelf<F> {
-    /// What stands now where the first section stood that serves what is asked for. The claims of that one are answered
-    /// by it, also where it can't be read. None where no section serves, and where it can't be read.
-    pub(crate) fn take(&mut self, alloc: Global, asked: &Question<'_>) -> Option<Vec<u8>>
-        ensures { ReadsOne F.stream_position F.remaining asked.now self.old self.new result }
+impl<F: Read + Seek, T: Told> Shelf<F, T> {
+    /// The first section that serves what is asked for. The claims of that one are answered by it, also where it can't
+    /// be read again. None where no section serves, and where it can't be read.
+    pub(crate) fn take(&mut self, alloc: Global, asked: &Question<'_>) -> Option<Taken> {
+        take_next(
+            alloc,
+            &mut self.front,
+            &mut self.again,
+            &mut self.catalog,
+            asked,
+        )
+    }
+}
+
+impl<F: Read + Drop, T: Told> Shelf<F, T> {
+    /// Reads what is left of the file, and tells what was passed over of it: of the whole file, or of what was read of
+    /// it before reading failed or memory ran out.
+    pub(crate) fn close(self, alloc: Global) -> (Damage, Result<(), InputFault>)
+        ensures { TellsFile T.told result.0 result.1 }
     {
-        let span = self.catalog.take(asked)?;
-        read_span(alloc, &mut self.file, span)
+        let Shelf { front, .. } = self;
+        front.finish(alloc)
     }
 }

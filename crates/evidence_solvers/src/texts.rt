@@ -1,10 +1,11 @@
 //! What is written of an answer.
 
 ghost use Rattle.std.specs.Prelude.{IfOk};
-ghost use Rattle.evidence_solvers.specs.Kept.{kept_of, IsKeptText};
+ghost use Rattle.evidence.specs.Sections.{kept_of};
+ghost use Rattle.evidence_solvers.specs.Kept.{IsKeptText};
 
 use cards::{Layout, OutOfMemory, Trump};
-use evidence::{Section, claims_in_order, section_bytes};
+use evidence::bundle_bytes;
 use partition_solver::Bundle;
 use std::alloc::Global;
 
@@ -21,17 +22,9 @@ pub(crate) fn kept_text(
 ) -> Result<Option<Vec<u8>>, OutOfMemory>
     ensures { IfOk result (IsKeptText (kept_of layout.now trump bundle.now)) }
 {
-    let Ok(ns) = bundle.ns.clone() else {
-        return Err(OutOfMemory);
-    };
-    let Ok(ew) = bundle.ew.clone() else {
-        return Err(OutOfMemory);
-    };
-    let claims = claims_in_order(bundle);
-    let Ok(section) = Section::new(*layout, trump, Bundle { ns, ew, claims }) else {
+    let Some(text) = bundle_bytes(alloc, layout, trump, bundle)? else {
         return Ok(None);
     };
-    let text = section_bytes(alloc, &section)?;
     if text.len() > MOST_BYTES {
         return Ok(None);
     }

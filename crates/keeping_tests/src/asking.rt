@@ -2,6 +2,7 @@
 
 use cards::{Layout, Seat, Trump};
 use evidence::read_section;
+use lease_desk::Clock;
 use partition_solver::{Bundle, Solver};
 use std::alloc::{AllocError, Global};
 use std::sync::atomic::AtomicU64;
@@ -32,6 +33,29 @@ impl Solver for Counts<'_> {
             Ok(None) => Ok(None),
             Err(_) => Err(AllocError),
         }
+    }
+}
+
+/// A clock that goes on by so many seconds whenever it is looked at.
+#[derive(Drop)]
+pub struct Steps {
+    now: AtomicU64,
+    step: u64,
+}
+
+impl Steps {
+    /// A clock that goes on by so many seconds, from 0 on.
+    pub fn new(step: u64) -> Steps {
+        Steps {
+            now: AtomicU64::new(0),
+            step,
+        }
+    }
+}
+
+impl Clock for Steps {
+    fn now(&self) -> u64 {
+        self.now.fetch_add(self.step, SeqCst)
     }
 }
 

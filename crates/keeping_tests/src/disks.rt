@@ -12,6 +12,8 @@ pub struct Held {
     pub bytes: Vec<u8>,
     /// How many bytes there is room for.
     pub room: usize,
+    /// How many bytes were read.
+    pub given: u64,
     pub writes: u64,
     pub syncs: u64,
 }
@@ -31,6 +33,7 @@ impl<'a, R: Wait> Disk<'a, R> {
             held: Mutex::new(Held {
                 bytes,
                 room,
+                given: 0,
                 writes: 0,
                 syncs: 0,
             }),
@@ -47,13 +50,14 @@ pub struct Open<'a, R> {
 
 impl<R: Wait> Read for Open<'_, R> {
     fn read(&mut self, buf: &mut [u8]) -> io::Result<usize> {
-        let held = self.disk.held.lock(self.disk.rt);
+        let mut held = self.disk.held.lock(self.disk.rt);
         let all = held.bytes.as_slice();
         let start = self.at.min(all.len());
         let rest = &all[start..];
         let count = rest.len().min(buf.len());
         buf[..count].copy_from_slice(&rest[..count]);
         self.at = start + count;
+        held.given = held.given.saturating_add(count as u64);
         Ok(count)
     }
 }

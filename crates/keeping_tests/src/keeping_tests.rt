@@ -1,29 +1,15 @@
 //! What is added to a file, when it is synced, and what is answered meanwhile.
 
-use crate::asking::{Counts, tricks_of_north};
+use crate::asking::{Counts, Steps, tricks_of_north};
 use crate::disks::{Disk, System};
 use crate::texts::{layout, section};
 use evidence_solvers::{KeepFault, Keeping, Opened, open_evidence};
-use lease_desk::Clock;
 use std::alloc::Global;
 use std::process::Abort;
 use std::sync::Wait;
 use std::sync::atomic::AtomicU64;
 use std::sync::atomic::Ordering::SeqCst;
 use std::test::Fail;
-
-/// A clock that goes on by so many seconds whenever it is looked at.
-#[derive(Drop)]
-struct Steps {
-    now: AtomicU64,
-    step: u64,
-}
-
-impl Clock for Steps {
-    fn now(&self) -> u64 {
-        self.now.fetch_add(self.step, SeqCst)
-    }
-}
 
 /// Has five answers kept on a disk with so much room, between which so many seconds go by. Each is handed on as it is;
 /// the disk takes the beginning of their sections for which it has room, by so many writes. Answers how many syncs
@@ -43,10 +29,7 @@ fn keep_five<R: Wait + Abort>(
         asked: AtomicU64::new(0),
         text: text.as_str(),
     };
-    let clock = Steps {
-        now: AtomicU64::new(0),
-        step,
-    };
+    let clock = Steps::new(step);
     let keeping = Keeping::new(rt, &clock, &inner, tail);
     for _turn in 0..5u8 {
         assert_eq!(rt; tricks_of_north(alloc, &keeping, &layout), 9);

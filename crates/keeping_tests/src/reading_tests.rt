@@ -1,12 +1,14 @@
-//! What is answered from a file, and what is asked of the inner solver.
+//! What is answered from a file, what is asked of the inner solver, and how much of the file is read.
 
-use crate::asking::{Counts, tricks_of_north};
+use crate::asking::{Counts, Steps, tricks_of_north};
 use crate::disks::{Disk, Open, System};
 use crate::texts::{layout, section};
 use cards::Layout;
-use evidence_solvers::{Opened, Reading, Shelf, open_evidence};
+use evidence::Damage;
+use evidence_solvers::{Keeping, Opened, Reading, Shelf, open_evidence};
 use partition_solver::Solver;
 use std::alloc::Global;
+use std::marker::Brand;
 use std::sync::Wait;
 use std::sync::atomic::AtomicU64;
 use std::sync::atomic::Ordering::SeqCst;
@@ -23,11 +25,13 @@ fn sections_of<'a, R: Wait>(rt: &'a R, alloc: Global, count: u8) -> Result<Disk<
     Ok(Disk::new(rt, text, usize::MAX))
 }
 
-/// What the file has.
-fn shelf_of<'a, R: Wait>(alloc: Global, disk: &'a Disk<'a, R>) -> Result<Shelf<Open<'a, R>>, Fail> {
-    let Opened { front, .. } = open_evidence(&System(disk), "kept.dde")?;
-    let (shelf, _damage) = Shelf::read(alloc, front)?;
-    Ok(shelf)
+/// A shelf over the file of a disk.
+type DiskShelf<'a, R> = Shelf<Open<'a, R>, Brand>;
+
+/// The file, of which nothing is read yet.
+fn shelf_of<'a, R: Wait>(alloc: Global, disk: &'a Disk<'a, R>) -> Result<DiskShelf<'a, R>, Fail> {
+    let Opened { front, again, .. } = open_evidence(&System(disk), "kept.dde")?;
+    Ok(Shelf::new(alloc, front, again))
 }
 
 /// Each section answers once, in their order. Who asks again, since a claim was false, is answered by the next one, and
@@ -101,5 +105,89 @@ fn two_threads(rt: HostRuntime) -> Result<(), Fail> {
         assert_eq!(rt; said.as_slice(), wanted.as_slice());
         assert_eq!(rt; inner.asked.load(SeqCst), 4);
     }
+    Ok(())
+}
+
+/// Pieces that are damaged, before, between and behind two sections.
+fn damaged_file<'a, R: Wait>(rt: &'a R, alloc: Global) -> Result<Disk<'a, R>, Fail> {
+    let text = section(alloc, 0)?;
+    let whole = format!(in alloc; "x\n{text}DDE 1\n{text}DDE 1\ny")?;
+    Ok(Disk::new(rt, Vec::from_slice(alloc, whole.as_bytes())?, usize::MAX))
+}
+
+/// However much of a file was read for what was asked, at the end the damage of all of it is told.
+#[test]
+fn damage(rt: HostRuntime) -> Result<(), Fail> {
+    let alloc = rt.alloc();
+    let layout = layout(alloc)?;
+    let text = section(alloc, 13)?;
+    for asked in 0..=3u64 {
+        let disk = damaged_file(&rt, alloc)?;
+        let inner = Counts {
+            asked: AtomicU64::new(0),
+            text: text.as_str(),
+        };
+        let reading = Reading::new(&rt, &inner, shelf_of(alloc, &disk)?);
+        for turn in 0..asked {
+            let wanted = if turn < 2 { 0 } else { 13 };
+            assert_eq!(rt; tricks_of_north(alloc, &reading, &layout), wanted);
+        }
+        let told = reading.close(alloc);
+        assert_eq!(rt; told, (Damage { count: 3, first: 0 }, Ok(())));
+    }
+    Ok(())
+}
+
+/// A file is read no further than is needed for what is asked, by pieces of 16 KiB, and to its end only when that is
+/// asked for.
+#[test]
+fn no_further(rt: HostRuntime) -> Result<(), Fail> {
+    let alloc = rt.alloc();
+    let layout = layout(alloc)?;
+    let text = section(alloc, 13)?;
+    let mut whole = Vec::new(alloc);
+    for _section in 0..500u16 {
+        whole.extend_from_slice(text.as_bytes())?;
+    }
+    let length = whole.len() as u64;
+    let disk = Disk::new(&rt, whole, usize::MAX);
+    let inner = Counts {
+        asked: AtomicU64::new(0),
+        text: text.as_str(),
+    };
+    let reading = Reading::new(&rt, &inner, shelf_of(alloc, &disk)?);
+    for _turn in 0..3u8 {
+        assert_eq!(rt; tricks_of_north(alloc, &reading, &layout), 13);
+    }
+    let given = disk.held.lock(&rt).given;
+    assert!(rt; given <= 16_385, "{given} bytes were read");
+    let told = reading.close(alloc);
+    assert_eq!(rt; told, (Damage { count: 0, first: 0 }, Ok(())));
+    assert_eq!(rt; disk.held.lock(&rt).given, length + 1);
+    assert_eq!(rt; inner.asked.load(SeqCst), 0);
+    Ok(())
+}
+
+/// What is added while a file is read isn't read.
+#[test]
+fn added_sections(rt: HostRuntime) -> Result<(), Fail> {
+    let alloc = rt.alloc();
+    let layout = layout(alloc)?;
+    let text = section(alloc, 13)?;
+    let disk = sections_of(&rt, alloc, 2)?;
+    let Opened { front, again, tail } = open_evidence(&System(&disk), "kept.dde")?;
+    let inner = Counts {
+        asked: AtomicU64::new(0),
+        text: text.as_str(),
+    };
+    let clock = Steps::new(1);
+    let keeping = Keeping::new(&rt, &clock, &inner, tail);
+    let shelf: DiskShelf<'_, HostRuntime> = Shelf::new(alloc, front, again);
+    let reading = Reading::new(&rt, &keeping, shelf);
+    assert_eq!(rt;
+        six_answers(alloc, &reading, &layout),
+        [0, 1, 13, 13, 13, 13]
+    );
+    assert_eq!(rt; inner.asked.load(SeqCst), 4);
     Ok(())
 }

@@ -2,7 +2,7 @@
 
 use crate::disks::{Disk, NAME, System};
 use crate::expect::{End, ROOM, expect_bytes, expect_eq, means};
-use crate::sections::{BOARD, NO_TRUMP, ONE, SPADES, TWO};
+use crate::sections::{NO_TRUMP, ONE, TWO};
 use cards::{Buffer, Bytes, Layout, Seat, Suit, Trump};
 use evidence::read_section;
 use farm::SettingsFault;
@@ -14,6 +14,7 @@ use std::test::Fail;
 use std::thread::Threads;
 use streams::Streams;
 use subcommands::{Status, Subcommand, TableOptions, run_subcommand};
+use test_support::four_suits::{BOARD, RUFFS};
 use test_support::idle::LetsPass;
 use test_support::settings::once;
 use test_support::texts::joined;
@@ -34,7 +35,7 @@ impl Solver for FindsSpades {
         if declarers != [Seat::North].as_slice() || trump != Trump::Suit(Suit::Spades) {
             return Ok(None);
         }
-        match read_section(alloc, SPADES) {
+        match read_section(alloc, RUFFS.as_bytes()) {
             Ok(Some(section)) => Ok(Some(section.into_bundle())),
             _ => Err(AllocError),
         }
@@ -55,7 +56,7 @@ struct Devices<'a> {
 /// Devices of which none fails. The file shows that North takes no trick without trumps.
 const SOUND: Devices<'static> = Devices {
     file: NO_TRUMP,
-    file_room: SPADES.len(),
+    file_room: RUFFS.len(),
     file_fails: u64::MAX,
     input_fails: u64::MAX,
     output_room: ROOM,
@@ -88,7 +89,7 @@ fn expect_end<R: Abort + Threads + Wait + Sync>(
     let disk = Disk::new(alloc, devices.file, devices.file_room, devices.file_fails)?;
     let system = System { rt, disk: &disk };
     let mut streams = Streams {
-        input: Bytes::failing_after(BOARD, 1, devices.input_fails),
+        input: Bytes::failing_after(BOARD.as_bytes(), 1, devices.input_fails),
         output: Buffer::new(alloc, devices.output_room, 3)?,
         errors: Buffer::new(alloc, ROOM, 7)?,
     };
@@ -148,7 +149,7 @@ fn torn_inputs(rt: HostRuntime) -> Result<(), Fail> {
 #[test]
 fn full_outputs(rt: HostRuntime) -> Result<(), Fail> {
     let alloc = rt.alloc();
-    let both = joined(alloc, &[NO_TRUMP, SPADES])?;
+    let both = joined(alloc, &[NO_TRUMP, RUFFS.as_bytes()])?;
     for output_room in 0..ONE.len() {
         let devices = Devices {
             output_room,
@@ -169,7 +170,7 @@ fn full_outputs(rt: HostRuntime) -> Result<(), Fail> {
 #[test]
 fn full_files(rt: HostRuntime) -> Result<(), Fail> {
     let alloc = rt.alloc();
-    let whole = joined(alloc, &[b"x\n", SPADES])?;
+    let whole = joined(alloc, &[b"x\n", RUFFS.as_bytes()])?;
     let damaged = "ddfarm: evidence: 1 section is damaged, at byte 0\n";
     let failed = format!(in alloc; "{damaged}{WRITING_FILE}")?;
     for length in 1..=whole.len() {
@@ -189,7 +190,7 @@ fn full_files(rt: HostRuntime) -> Result<(), Fail> {
     Ok(())
 }
 
-/// How many calls go to read the file: one a byte, one that tells the end behind its section, and one more.
+/// How many calls go to read the file to its end: one a byte, one that tells the end behind its section, and one more.
 const READS: u64 = NO_TRUMP.len() as u64 + 2;
 
 /// The calls of the file of an audit, and how it ends where one of them fails.
@@ -199,23 +200,23 @@ const OF_AUDIT: [(u64, End<'static>); 3] = [
     (1, (Status::Incomplete, ONE, "")),
 ];
 
-/// Those of tables: the opening, for which the last byte is read; the reading; the search for North's no-trump, for
-/// which the section is read again, and which finds nothing where that fails; the adding of what was found of the
-/// spades; the sync; and none. And whether the section of the spades is kept.
-const OF_TABLE: [(u64, End<'static>, bool); 6] = [
-    (5, (Status::Failed, "", OPENING_FILE), false),
-    (READS, (Status::Failed, "", READING_FILE), false),
-    (READS - 1, (Status::Incomplete, ONE, ""), true),
+/// Those of tables: the opening, for which the last byte is read; the reading of the section for North's no-trump, to
+/// where the file ended when it was opened (where that fails, a search finds nothing); the adding of what was found of
+/// the spades; the sync; and none. And whether the section of the spades is kept.
+const OF_TABLE: [(u64, End<'static>, bool); 5] = [
+    (6, (Status::Failed, "", OPENING_FILE), false),
+    (READS - 2, (Status::Failed, ONE, READING_FILE), true),
     (1, (Status::Failed, TWO, WRITING_FILE), false),
     (1, (Status::Failed, TWO, WRITING_FILE), true),
     (1, (Status::Incomplete, TWO, ""), true),
 ];
 
-/// A file of which some call fails. Where that is told before the tables are looked for, the input isn't read.
+/// A file of which some call fails. Where it can't be opened, the input isn't read; where it can't be read on, that is
+/// told behind the tables.
 #[test]
 fn failing_files(rt: HostRuntime) -> Result<(), Fail> {
     let alloc = rt.alloc();
-    let both = joined(alloc, &[NO_TRUMP, SPADES])?;
+    let both = joined(alloc, &[NO_TRUMP, RUFFS.as_bytes()])?;
     let mut devices = Devices {
         file_fails: 0,
         ..SOUND

@@ -11,42 +11,10 @@ use std::test::Fail;
 use std::thread::Threads;
 use subcommands::make_tables;
 use tables::Report;
+use test_support::four_suits::{BOARD, TABLE};
 use test_support::idle::{LetsPass, StandsStill};
 use test_support::settings::one_of_each;
 use tournaments::MakeFault;
-
-/// The board of four hands of one suit each.
-const BOARD: &[u8] = b"[Board \"1\"]
-[Deal \"N:AKQJT98765432... .AKQJT98765432.. ..AKQJT98765432. ...AKQJT98765432\"]
-";
-
-/// Its tables: who has the trumps takes all the tricks, and without trumps who leads.
-const TABLES: &[u8] = b"% PBN 2.1
-[Board \"1\"]
-[Deal \"N:AKQJT98765432... .AKQJT98765432.. ..AKQJT98765432. ...AKQJT98765432\"]
-[OptimumResultTable \"Declarer;Denomination\\2R;Result\\2R\"]
-N NT  0
-N  S 13
-N  H  0
-N  D 13
-N  C  0
-S NT  0
-S  S 13
-S  H  0
-S  D 13
-S  C  0
-E NT  0
-E  S  0
-E  H 13
-E  D  0
-E  C 13
-W NT  0
-W  S  0
-W  H 13
-W  D  0
-W  C 13
-
-";
 
 /// How many steps the solver has for an entry.
 const BUDGET: u64 = 10_000_000;
@@ -78,7 +46,7 @@ fn expect_made<R: Abort + Threads + Wait + Sync>(
 fn torn_sources(rt: HostRuntime) -> Result<(), Fail> {
     let alloc = rt.alloc();
     for calls in 0..=BOARD.len() as u64 {
-        let mut source = Bytes::failing_after(BOARD, 1, calls);
+        let mut source = Bytes::failing_after(BOARD.as_bytes(), 1, calls);
         let mut sink = Buffer::new(alloc, 400, 1)?;
         expect_made(
             &rt,
@@ -100,15 +68,16 @@ fn full_sinks(rt: HostRuntime) -> Result<(), Fail> {
         boards: 1,
         complete: 1,
     };
-    for room in 0..=TABLES.len() {
-        let mut source = Bytes::new(BOARD, 1);
+    let table = TABLE.as_bytes();
+    for room in 0..=table.len() {
+        let mut source = Bytes::new(BOARD.as_bytes(), 1);
         let mut sink = Buffer::new(alloc, room, 1)?;
-        let wanted = if room < TABLES.len() {
+        let wanted = if room < table.len() {
             Err(MakeFault::Write)
         } else {
             Ok(complete)
         };
-        expect_made(&rt, alloc, &mut source, &mut sink, wanted, &TABLES[..room])?;
+        expect_made(&rt, alloc, &mut source, &mut sink, wanted, &table[..room])?;
     }
     Ok(())
 }

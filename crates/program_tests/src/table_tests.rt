@@ -13,6 +13,7 @@ use std::sync::Arc;
 use std::test::Fail;
 use subcommands::{Status, Subcommand, TableOptions};
 use tables::Report;
+use test_support::graphs::{ACE_WINS, NOTHING};
 use test_support::idle::{FindsNothing, StandsStill};
 use tournaments::{MakeFault, make_single};
 
@@ -110,21 +111,6 @@ fn reports(rt: HostRuntime) -> Result<(), Fail> {
     Ok(())
 }
 
-/// North's ace wins the only trick.
-const ACE_WINS: &[u8] = b"DDC 1
-trump NT
-side NS
-nodes 1
-E 1 1.1.1.1/N 0.0.0.0/ 0.0.0.0/ 0.0.0.0/ (SxSx(SxSa{}))
-";
-
-/// East and West need nothing.
-const NOTHING: &[u8] = b"DDC 1
-trump NT
-side EW
-nodes 0
-";
-
 /// The graph of a text.
 fn graph_of(alloc: Global, text: &[u8]) -> Result<Arc<Graph>, AllocError> {
     match Graph::read(alloc, text) {
@@ -156,8 +142,8 @@ impl Solver for OneProof {
             });
         }
         Ok(Some(Bundle {
-            ns: graph_of(alloc, ACE_WINS)?,
-            ew: graph_of(alloc, NOTHING)?,
+            ns: graph_of(alloc, ACE_WINS.as_bytes())?,
+            ew: graph_of(alloc, NOTHING.as_bytes())?,
             claims,
         }))
     }

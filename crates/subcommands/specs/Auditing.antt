@@ -40,7 +40,8 @@ pub record OpensNothing (may_open : MayOpen) (name : List ℕ) (source source' s
 -- the damage.
 abbrev pub AuditsFile : MayOpen → List ℕ → Bool → Device → Device → Device → Device → Result Outcome RunFault → Type 0
 AuditsFile may_open name whole source source' sink sink' (Ok outcome) =
-    (report : Report) × (book : Ledger) × (outcome.status ≡ report_status report) × (outcome.kept ≡ Ok tt)
+    (report : Report) × (book : Ledger) × (outcome.status ≡ report_status report) × (outcome.read ≡ Ok tt)
+    × (outcome.kept ≡ Ok tt)
     × AuditsOpened may_open name whole source source' sink sink' (Ok (report, book, outcome.damage))
 AuditsFile may_open name whole source source' sink sink' (Err fault) =
     ((fault ≡ Evidence Open) × OpensNothing may_open name source source' sink sink')

@@ -1,9 +1,15 @@
 -- What came of a run that was done, and what is told of it: what was passed over of evidence.
-use Rattle.std.specs.Prelude.{◌≡◌, ◌==◌, ℕ, ◌<◌, List, [], ◌∷◌, ◌++◌, ◌⊎◌, Result, Ok, Err, codes, if◌then◌else◌}
+use Rattle.std.specs.Prelude.{◌≡◌, ◌==◌, ℕ, ◌<◌, List, [], ◌∷◌, ◌++◌, ◌⊎◌, Result, Ok, Err, codes}
+use Rattle.std.specs.Prelude.{if◌then◌else◌}
 use Rattle.std.specs.Fmt.{decimal}
 use Rattle.cards.specs.Devices.{Device}
+use Rattle.streams.specs.declared.inputs.InputFault.{InputFault}
+use Rattle.streams.specs.declared.inputs.InputFault.TheVariants as input
 use Rattle.evidence.specs.declared.damages.Damage.{Damage}
+use Rattle.evidence_solvers.specs.declared.faults.KeepFault.TheVariants as keep
 use Rattle.subcommands.specs.declared.faults.RunFault.{RunFault}
+use Rattle.subcommands.specs.declared.faults.RunFault.TheVariants.{Evidence, Unkept}
+use Rattle.subcommands.specs.declared.named_files.FileFault.TheVariants as file
 use Rattle.subcommands.specs.declared.outcomes.Outcome.{Outcome}
 use Rattle.subcommands.specs.declared.statuses.Status.{Status}
 use Rattle.subcommands.specs.declared.statuses.Status.TheVariants.{Done}
@@ -11,7 +17,7 @@ use Rattle.subcommands.specs.Statuses.{IsTold}
 
 -- a run that has passed nothing over, and had nothing to keep
 abbrev pub quiet : Status → Outcome
-quiet status = record { status = status; damage = record { count = 0; first = 0 }; kept = Ok tt }
+quiet status = record { status = status; damage = record { count = 0; first = 0 }; read = Ok tt; kept = Ok tt }
 
 -- what comes of what such a run answers
 abbrev pub quiet_answer : Result Status RunFault → Result Outcome RunFault
@@ -41,3 +47,8 @@ damage_line damage = codes "ddfarm: evidence: " ++ (counted_text damage.count ++
 abbrev pub TellsDamage : Damage → Device → Device → Type 0
 TellsDamage damage errors errors' =
     ((damage.count ≡ 0) × (errors' ≡ errors)) ⊎ ((0 < damage.count) × IsTold errors errors' (damage_line damage))
+
+-- why a file of evidence was not read to its end
+abbrev pub shelf_fault : InputFault → RunFault
+shelf_fault input.OutOfMemory = Unkept keep.OutOfMemory
+shelf_fault input.Read = Evidence file.Read

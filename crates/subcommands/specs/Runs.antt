@@ -4,6 +4,7 @@ use Rattle.lease_desk.specs.Moments.{MayTell}
 use Rattle.partition_solver.specs.Answers.{MayFind}
 use Rattle.streams.specs.Flushes.{HandsOn}
 use Rattle.cards.specs.Devices.{Device, Fails, Adds, AddsBeginning}
+use Rattle.streams.specs.declared.inputs.InputFault.{InputFault}
 use Rattle.evidence_solvers.specs.declared.faults.KeepFault.{KeepFault}
 use Rattle.subcommands.specs.declared.faults.RunFault.{RunFault}
 use Rattle.subcommands.specs.declared.faults.RunFault.TheVariants.{Write, Unkept}
@@ -14,7 +15,7 @@ use Rattle.asked.specs.declared.subcommands.Subcommand.{Subcommand}
 use Rattle.asked.specs.declared.subcommands.Subcommand.TheVariants.{Plain, Solve, Table, Check, Line, Play, Audit}
 use Rattle.subcommands.specs.Statuses.{fault_status, status_code, told_line, IsTold}
 use Rattle.subcommands.specs.NamedFiles.{MayOpen}
-use Rattle.subcommands.specs.Outcomes.{Quietly, DoneQuietly, TellsDamage}
+use Rattle.subcommands.specs.Outcomes.{Quietly, DoneQuietly, TellsDamage, shelf_fault}
 use Rattle.subcommands.specs.PlainLine.{MeetsPlainLine}
 use Rattle.subcommands.specs.Checks.{ChecksAnswer}
 use Rattle.subcommands.specs.Solves.{SolvesLayout}
@@ -76,12 +77,18 @@ EndsKept (Ok done) reached errors errors' status = (status ≡ reached) × (erro
 EndsKept (Err fault) reached errors errors' status =
     (status ≡ Failed) × IsTold errors errors' (told_line (Unkept fault))
 
+-- that, where all was read that was to be read, or that not all was is told
+abbrev pub EndsRead : Result Unit InputFault → Result Unit KeepFault → Status → Device → Device → Status → Type 0
+EndsRead (Ok done) kept reached errors errors' status = EndsKept kept reached errors errors' status
+EndsRead (Err fault) kept reached errors errors' status =
+    (status ≡ Failed) × IsTold errors errors' (told_line (shelf_fault fault))
+
 -- How the run ends: a fault is told on the error output, what was passed over of evidence, and that not all of it was
--- kept. Nothing else touches it.
+-- read or kept. Nothing else touches it.
 abbrev pub Ends : Result Outcome RunFault → Device → Device → Status → Type 0
 Ends (Ok outcome) errors errors' status =
     (between : Device) × TellsDamage outcome.damage errors between
-    × EndsKept outcome.kept outcome.status between errors' status
+    × EndsRead outcome.read outcome.kept outcome.status between errors' status
 Ends (Err fault) errors errors' status = (status ≡ fault_status fault) × IsTold errors errors' (told_line fault)
 
 -- a whole run

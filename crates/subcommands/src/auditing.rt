@@ -41,6 +41,7 @@ pub(crate) fn audit_file<R: Threads + Sync + NamedFiles, I: Source, O: Sink>(
         Ok((report, _, damage)) => Ok(Outcome {
             status: status_of(report),
             damage,
+            read: Ok(()),
             kept: Ok(()),
         }),
         Err(fault) => Err(RunFault::from(fault)),

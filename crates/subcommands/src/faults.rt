@@ -44,7 +44,7 @@ pub enum RunFault {
     Evidence(FileFault),
     /// The file with an answer is of no use.
     AnswerFile(FileFault),
-    /// Not all evidence was kept that was to be kept.
+    /// Not all evidence was kept that was to be kept, or memory ran out while it was read.
     Unkept(KeepFault),
 }
 

@@ -30,7 +30,7 @@ pub trait NamedFiles {
         ensures none_failed { IfSome result (λ file. (Self.Opened.state file).failed ≡ 0) };
 
     /// Opens the file of this name to be read, from its beginning on, and to be added to; it is made where it isn't
-    /// there. What is no regular file can't be opened so.
+    /// there. What is no regular file can't be opened so. It tells as much as it holds then.
     fn open_kept(&self, name: &str) -> Result<Opened<Self::Kept>, CannotOpen>
         ensures opens { may_open self.now name.now (front_of Self.Kept.remaining result) };
 }

@@ -7,14 +7,17 @@ use crate::faults::RunFault;
 use crate::statuses::Status;
 use evidence::Damage;
 use evidence_solvers::KeepFault;
+use streams::InputFault;
 
 /// What came of a run that was done.
 #[derive(Clone, Copy)]
 pub(crate) struct Outcome {
     /// How it ends.
     pub(crate) status: Status,
-    /// What was passed over of its evidence.
+    /// What was passed over of its evidence, as far as that was read.
     pub(crate) damage: Damage,
+    /// Whether its evidence was read to the end.
+    pub(crate) read: Result<(), InputFault>,
     /// Whether all evidence was kept that was to be kept.
     pub(crate) kept: Result<(), KeepFault>,
 }
@@ -27,6 +30,7 @@ impl Outcome {
         Outcome {
             status,
             damage: Damage { count: 0, first: 0 },
+            read: Ok(()),
             kept: Ok(()),
         }
     }

@@ -1,7 +1,11 @@
 //! What a run does for what was asked, and how it ends.
 
+ghost use Rattle.std.specs.Prelude.{◌≡◌};
 ghost use Rattle.streams.specs.Flushes.{inner_contents};
-ghost use Rattle.subcommands.specs.Runs.{Closes, Ends, EvaluatesLayout, IsOfAnswer, IsOfLayout, JudgesInput};
+ghost use Rattle.subcommands.specs.declared.statuses.Status.TheVariants.{Failed};
+ghost use Rattle.subcommands.specs.Outcomes.{shelf_fault};
+ghost use Rattle.subcommands.specs.Statuses.{IsTold, told_line};
+ghost use Rattle.subcommands.specs.Runs.{Closes, Ends, EndsRead, EvaluatesLayout, IsOfAnswer, IsOfLayout, JudgesInput};
 ghost use Rattle.subcommands.specs.Runs.{RunsSubcommand, Shows};
 
 use crate::auditing::audit_file;
@@ -10,7 +14,7 @@ use crate::damage_lines::tell_damage;
 use crate::faults::{RunFault, tell};
 use crate::kept_tables::write_tables;
 use crate::lines::follow_answer;
-use crate::named_files::NamedFiles;
+use crate::named_files::{FileFault, NamedFiles};
 use crate::outcomes::{Outcome, quietly};
 use crate::plain::plain_line;
 use crate::playing::play_answer;
@@ -18,6 +22,7 @@ use crate::solves::solve_layout;
 use crate::statuses::Status;
 use asked::Subcommand;
 use cards::{Sink, Source, write_all};
+use evidence_solvers::KeepFault;
 use farm::{Clock, Means};
 use lease_desk::Gate;
 use partition_solver::Solver;
@@ -25,13 +30,14 @@ use std::alloc::Global;
 use std::io::{BufWriter, Write};
 use std::sync::Wait;
 use std::thread::Threads;
-use streams::{Streams, WriterSink};
+use streams::{InputFault, Streams, WriterSink};
 
 /// Does what is asked, and answers how the run ends.
 ///
 /// What can't be done is told on the error output, with nothing on the output but what `play` has written, and the
-/// beginning that a failed output has taken; so is what was passed over of evidence, or couldn't be kept, behind a page
-/// that was written. Else the error output is as it was. Where the error output fails, nobody is left to be told.
+/// beginning that a failed output has taken; so is what was passed over of evidence, or couldn't be read or kept,
+/// behind a page that was written. Else the error output is as it was. Where the error output fails, nobody is left to
+/// be told.
 pub fn run_subcommand<
     P: Solver + Sync,
     G: Gate + Sync,
@@ -76,12 +82,34 @@ fn end<E: Sink>(answer: Result<Outcome, RunFault>, errors: &mut E) -> Status
     match answer {
         Ok(outcome) => {
             tell_damage(outcome.damage, errors);
-            match outcome.kept {
-                Ok(()) => outcome.status,
-                Err(fault) => tell(RunFault::Unkept(fault), errors),
-            }
+            end_done(outcome, errors)
         }
         Err(fault) => tell(fault, errors),
+    }
+}
+
+/// Tells what hindered that all evidence was read or kept, the reading before the keeping, and answers how the run
+/// ends.
+fn end_done<E: Sink>(outcome: Outcome, errors: &mut E) -> Status
+    ensures { EndsRead outcome.read outcome.kept outcome.status (E.state errors.old) (E.state errors.new) result }
+{
+    match outcome.read {
+        Ok(()) => match outcome.kept {
+            Ok(()) => outcome.status,
+            Err(fault) => tell(RunFault::Unkept(fault), errors),
+        },
+        Err(fault) => tell_unread(fault, errors),
+    }
+}
+
+/// Tells why evidence was not read to its end, and answers that the run has failed.
+fn tell_unread<E: Sink>(fault: InputFault, errors: &mut E) -> Status
+    ensures status { result ≡ Failed }
+    ensures line { IsTold (E.state errors.old) (E.state errors.new) (told_line (shelf_fault fault)) }
+{
+    match fault {
+        InputFault::OutOfMemory => tell(RunFault::Unkept(KeepFault::OutOfMemory), errors),
+        InputFault::Read => tell(RunFault::Evidence(FileFault::Read), errors),
     }
 }
 

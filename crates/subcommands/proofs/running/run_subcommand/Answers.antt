@@ -6,12 +6,12 @@ pub returns : goal.returns
 returns g c = elim c.match-asked.branch [
   | in-Plain w ↦ rw w.streams-is (record {
     answer = w.evaluate_layout-answer.result;
-    does = layout-does _ _ _ _ _ _ _ c.args.asked w.evaluate_layout-answer.ensures;
+    does = layout-does _ _ (g.R.NamedFiles.may_open c.args.rt.now) (g.I.Source.state c.args.streams.now.input) _ _ _ c.args.asked w.evaluate_layout-answer.ensures;
     ends = rw w.streams-is at (rw w.answer-is at c.end.ensures);
   })
   | in-Check w ↦ rw w.streams-is (record {
     answer = w.judge_input-answer.result;
-    does = input-does _ _ _ _ _ _ _ _ c.args.asked w.judge_input-answer.ensures;
+    does = input-does _ _ (g.R.NamedFiles.may_open c.args.rt.now) _ _ _ _ _ c.args.asked w.judge_input-answer.ensures;
     ends = rw w.streams-is at (rw w.answer-is at c.end.ensures);
   })
   | in-Table w ↦ rw w.streams-is (rw w.in-Table.is (record {
