@@ -47,11 +47,11 @@ def printed_tables(text):
     return tables
 
 
-def ours(folder, solvers, tables):
+def ours(folder, solvers, tables, checkers=2, program=PROGRAM):
     """Seconds by the wall and of all processors, and megabytes, of a run of the program."""
     start = time.monotonic()
     with (folder / "boards.pbn").open() as source, (folder / "tables.pbn").open("w") as sink:
-        words = [str(PROGRAM), "table", "--solvers", str(solvers), "--checkers", "2"]
+        words = [str(program), "table", "--solvers", str(solvers), "--checkers", str(checkers)]
         process = subprocess.Popen(words, stdin=source, stdout=sink)
         _, status, usage = os.wait4(process.pid, 0)
     process.returncode = os.waitstatus_to_exitcode(status)
