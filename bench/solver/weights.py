@@ -3,8 +3,8 @@
 of a seed.
 
 Usage: bench/solver/weights.py [BOARDS [SEED [FILE]]], by default 20 boards of seed 1 and the weights of the crate. FILE
-has 704 whole numbers: those of `MODEST` and then those of `EAGER`, in the order in which `weights.rt` of `search_state`
-has them. Whatever the weights, the numbers of tricks are the same; what changes is how many cards are tried. The four
+has 1,408 whole numbers: those of `ONE`, `MODEST`, `EAGER` and `ALL`, in the order in which `weights.rt` of
+`search_state` has them. Whatever the weights, the numbers of tricks are the same; what changes is how many cards are tried. The four
 declarers of a denomination share what is remembered, and the writing of graphs is not counted. It copies the crates
 into a folder of its own, and proves and builds `partition_solver` there as a program, with weights.rt.txt for its main
 file. Boards that measure should not be boards that a set was tuned on.
@@ -21,7 +21,7 @@ from pathlib import Path
 ROOT = Path(__file__).resolve().parent.parent.parent
 HERE = Path(__file__).resolve().parent
 CRATES = ("cards", "patterns", "pattern_step", "certificate_graph", "pattern_store", "search_state", "partition_solver")
-COUNT = 704
+COUNT = 1408
 
 
 def random_hands(dice):

@@ -1,12 +1,16 @@
 //! Cards that succeeded before where the cards near them were the same: they are tried first.
 
 use crate::starts::Start;
+use search_state::moves::card_at;
 use search_state::positions::Trick;
 use search_state::words::MIXER;
 use std::alloc::{AllocError, Global};
 
 /// There are 2 to this power of places.
-const BITS: u32 = 18;
+const BITS: u32 = 17;
+
+/// How many more bits of a key are kept with its card, so that most other keys of the same place are told apart.
+const TAG_BITS: u32 = 2;
 
 /// How many of them a row has.
 const ROW: usize = 64;
@@ -14,8 +18,11 @@ const ROW: usize = 64;
 /// How many rows are made at a time: one place after another would take longer than a small search.
 const ROWS_AT_ONCE: usize = 64;
 
+/// The number of a bit that is no card's.
+const NO_BIT: u8 = 15;
+
 /// Rows in which nothing is remembered.
-const EMPTY: [[u8; ROW]; ROWS_AT_ONCE] = [[0; ROW]; ROWS_AT_ONCE];
+const EMPTY: [[u8; ROW]; ROWS_AT_ONCE] = [[NO_BIT; ROW]; ROWS_AT_ONCE];
 
 /// With so many tricks left, or fewer, nothing is remembered.
 pub(crate) const FEW_TRICKS: u32 = 3;
@@ -29,7 +36,7 @@ const PARTNER: u64 = 0x9FB2_1C65_1E98_DF25;
 
 const BEST: u64 = 0x1234_5678_9ABC_DEF1;
 
-/// By place the bit of the card that succeeded last and one, or 0.
+/// By place the bit of the card that succeeded last, and above it the tag of its key.
 #[derive(Drop)]
 pub(crate) struct Hints {
     rows: Vec<[u8; ROW]>,
@@ -46,34 +53,46 @@ impl Hints {
         Ok(Hints { rows })
     }
 
-    /// The bit of the card that succeeded last in a place; 64 where there is none.
-    pub(crate) fn bit(&self, place: usize) -> u32 {
-        let Some(row) = self.rows.get(place / ROW) else {
-            return 64;
+    /// The card that succeeded last where the key was this; no card of a hand where none is known.
+    pub(crate) fn card(&self, key: usize) -> u64 {
+        let Some(row) = self.rows.get(row_of(key)) else {
+            return 0;
         };
-        match row[place % ROW] {
-            0 => 64,
-            hint => u32::from(hint) - 1,
+        let hint = row[key % ROW] ^ tag_of(key);
+        if hint < 64 {
+            card_at(u32::from(hint))
+        } else {
+            0
         }
     }
 
     /// Remembers that this card succeeded.
-    pub(crate) fn keep(&mut self, place: usize, card: u64) {
-        if let Some(row) = self.rows.get_mut(place / ROW) {
-            row[place % ROW] = (card.trailing_zeros() & 63) as u8 + 1;
+    pub(crate) fn keep(&mut self, key: usize, card: u64) {
+        if let Some(row) = self.rows.get_mut(row_of(key)) {
+            row[key % ROW] = (card.trailing_zeros() & 63) as u8 | tag_of(key);
         }
     }
 }
 
-/// The place of a key.
-fn place_of(key: u64) -> usize {
-    (key.wrapping_mul(MIXER) >> 64 - BITS) as usize
+/// The row of a key.
+fn row_of(key: usize) -> usize {
+    key % (1 << BITS) / ROW
 }
 
-/// The place of a lead: by the leader, what is wanted, and the leader's and partner's cards.
-pub(crate) fn lead_place(hands: &[u64; 4], start: &Start) -> usize {
+/// The tag of a key, above the bits of a card's number.
+fn tag_of(key: usize) -> u8 {
+    ((key >> BITS & 3) as u8) << 6
+}
+
+/// A key of few bits.
+fn mixed(key: u64) -> usize {
+    (key.wrapping_mul(MIXER) >> 64 - BITS - TAG_BITS) as usize
+}
+
+/// The key of a lead: by the leader, what is wanted, and the leader's and partner's cards.
+pub(crate) fn lead_key(hands: &[u64; 4], start: &Start) -> usize {
     let leader = start.leader & 3;
-    place_of(
+    mixed(
         (leader as u64).wrapping_shl(61)
             ^ u64::from(start.want).wrapping_shl(57)
             ^ hands[leader].wrapping_mul(OWN)
@@ -81,10 +100,10 @@ pub(crate) fn lead_place(hands: &[u64; 4], start: &Start) -> usize {
     )
 }
 
-/// The place of a card of the second or third hand: by the seat, the best card on the table and whose it is, and the
+/// The key of a card of the second or third hand: by the seat, the best card on the table and whose it is, and the
 /// cards that it may play; where it follows suit by the cards of that suit in the next hand and partner's, and else by
 /// what is wanted.
-pub(crate) fn follow_place(
+pub(crate) fn follow_key(
     hands: &[u64; 4],
     start: &Start,
     seat: usize,
@@ -96,9 +115,9 @@ pub(crate) fn follow_place(
         ^ u64::from(trick.winner).wrapping_shl(50)
         ^ own.wrapping_mul(OWN);
     if own & trick.led == 0 {
-        return place_of(key ^ u64::from(start.want).wrapping_shl(57));
+        return mixed(key ^ u64::from(start.want).wrapping_shl(57));
     }
     let next = hands[seat.wrapping_add(1) & 3] & trick.led;
     let partner = hands[seat.wrapping_add(2) & 3] & trick.led;
-    place_of(key ^ next.wrapping_mul(NEXT) ^ partner.wrapping_mul(PARTNER))
+    mixed(key ^ next.wrapping_mul(NEXT) ^ partner.wrapping_mul(PARTNER))
 }

@@ -1,7 +1,7 @@
 //! What is known before the last hand plays.
 
 use crate::search::Search;
-use crate::starts::{Found, Start, is_ours};
+use crate::starts::{Found, Start, side_of};
 use pattern_store::List;
 use search_state::moves::{HandRuns, card_at};
 use search_state::positions::{Trick, one_of};
@@ -55,16 +55,16 @@ impl Search {
         &self,
         rest: u32,
         start: &Start,
-        ours: bool,
+        side: u32,
         winner: usize,
         shape: Option<u32>,
     ) -> Outcome {
         let next = start.next(winner, 0, shape);
-        let need = next.wanted_by(ours, rest);
+        let need = next.wanted_by(side, rest);
         let list = if need == 0 {
             None
         } else {
-            self.list(&next, ours)
+            self.list(&next, side)
         };
         Outcome { need, list }
     }
@@ -79,13 +79,13 @@ impl Search {
         shape: Option<u32>,
     ) -> Outcomes {
         let seat = start.leader.wrapping_add(3) & 3;
-        let ours = is_ours(seat);
+        let side = side_of(seat);
         let lengths = self.held.lengths.wrapping_sub(one_of(suit, seat));
         let shape = self.shape_near(shape, lengths);
         Outcomes {
             suit,
-            won: self.outcome(rest, start, ours, seat, shape),
-            lost: self.outcome(rest, start, ours, trick.winner as usize, shape),
+            won: self.outcome(rest, start, side, seat, shape),
+            lost: self.outcome(rest, start, side, trick.winner as usize, shape),
         }
     }
 
@@ -138,7 +138,7 @@ impl Search {
                 after.list,
                 all & !card,
                 after.need,
-                is_ours(seat),
+                side_of(seat),
             ) {
                 let relevant = relevant_after(&trick.after(seat, card, trumps), found.relevant);
                 if best.is_none() || needs_fewer(start.left, relevant, needs) {

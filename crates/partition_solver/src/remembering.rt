@@ -1,23 +1,23 @@
 //! What a search knows of the start of a trick, and what it remembers of it.
 
 use crate::search::Search;
-use crate::starts::{Found, Start};
+use crate::starts::{Found, OURS, Start, other_side};
 use pattern_store::{List, Record};
 use search_state::deals::CardsLeft;
 use search_state::relevant_cards::{depths_of, named_card, without_lone};
 
 impl Search {
     /// What is remembered of the start of a trick for a side, if anything is.
-    pub(crate) fn list(&self, start: &Start, ours: bool) -> Option<List> {
-        self.records.list(start.shape, start.leader, ours)
+    pub(crate) fn list(&self, start: &Start, side: u32) -> Option<List> {
+        self.records.list(start.shape, start.leader, side == OURS)
     }
 
     /// The same, unless the side's records were looked through in vain.
-    fn unasked(&self, start: &Start, ours: bool) -> Option<List> {
-        if start.asked == Some(ours) {
+    fn unasked(&self, start: &Start, side: u32) -> Option<List> {
+        if start.asked == Some(side) {
             None
         } else {
-            self.list(start, ours)
+            self.list(start, side)
         }
     }
 
@@ -25,24 +25,25 @@ impl Search {
     /// looked through first: mostly it gets them.
     pub(crate) fn known(&self, tricks: u32, start: &Start) -> Option<Found> {
         if start.want.wrapping_mul(2) <= tricks {
-            self.known_in_order(tricks, start, true)
+            self.known_in_order(tricks, start, OURS)
         } else {
-            self.known_in_order(tricks, start, false)
+            self.known_in_order(tricks, start, other_side(OURS))
         }
     }
 
     /// What is known of it by the records of this side, and else by those of the other.
     #[inline(always)]
-    fn known_in_order(&self, tricks: u32, start: &Start, ours: bool) -> Option<Found> {
-        let first = self.unasked(start, ours);
-        let second = self.unasked(start, !ours);
+    fn known_in_order(&self, tricks: u32, start: &Start, side: u32) -> Option<Found> {
+        let other = other_side(side);
+        let first = self.unasked(start, side);
+        let second = self.unasked(start, other);
         if first.is_none() && second.is_none() {
             return None;
         }
         let left = self.deal.cards_left(start.left);
-        match self.found_in(first, &left, start.wanted_by(ours, tricks), ours) {
+        match self.found_in(first, &left, start.wanted_by(side, tricks), side) {
             Some(found) => Some(found),
-            None => self.found_in(second, &left, start.wanted_by(!ours, tricks), !ours),
+            None => self.found_in(second, &left, start.wanted_by(other, tricks), other),
         }
     }
 
@@ -60,14 +61,14 @@ impl Search {
         list: Option<List>,
         left: u64,
         need: u32,
-        ours: bool,
+        side: u32,
     ) -> Option<Found> {
         if need == 0 {
-            Some(Found::nothing_needed(ours))
+            Some(Found::nothing_needed(side))
         } else if list.is_none() {
             None
         } else {
-            self.found_in(list, &self.deal.cards_left(left), need, ours)
+            self.found_in(list, &self.deal.cards_left(left), need, side)
         }
     }
 
@@ -77,7 +78,7 @@ impl Search {
         list: Option<List>,
         left: &CardsLeft,
         need: u32,
-        ours: bool,
+        side: u32,
     ) -> Option<Found> {
         let need = (need & 15) as u8;
         let number = self.records.find(list?, left.near, || left.deep(), need)?;
@@ -85,7 +86,7 @@ impl Search {
         Some(Found {
             relevant: self.deal.cards_at(left.cards, record.depths),
             bound: u32::from(record.need),
-            ours,
+            side,
         })
     }
 
@@ -100,9 +101,13 @@ impl Search {
         let record = Record::new(left.near, || left.deep(), depths, need, named);
         let lengths = self.held.lengths;
         self.adds = self.adds.wrapping_add(1);
-        let added = self
-            .records
-            .add(start.shape, lengths, start.leader, found.ours, record);
+        let added = self.records.add(
+            start.shape,
+            lengths,
+            start.leader,
+            found.side == OURS,
+            record,
+        );
         if added.is_err() {
             self.run_out();
         }

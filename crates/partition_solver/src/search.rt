@@ -1,8 +1,8 @@
 //! The search: whether North and South can win so many of the tricks left. Each hand's turn is a function; what is held
 //! is changed before a call, and put back after it.
 
-use crate::hints::{FEW_TRICKS, Hints, lead_place};
-use crate::starts::{Found, Start, is_ours, trick_for};
+use crate::hints::{FEW_TRICKS, Hints, lead_key};
+use crate::starts::{Found, Start, other_side, side_of, trick_for};
 use cards::{Layout, Trump};
 use pattern_store::Records;
 use search_state::deals::DealTables;
@@ -94,12 +94,12 @@ impl Search {
     #[cycle(searching)]
     fn lead(&mut self, tricks: u32, start: &Start) -> Found {
         let seat = start.leader;
-        let mover = is_ours(seat);
+        let mover = side_of(seat);
         let before = self.held.before(seat);
         let runs = HandRuns::of(before.hand, start.left);
         let mut moves = Moves::of(&runs);
         let mut first = self.sure_lead(tricks, start, runs);
-        let mut answer = Found::unless_one_succeeds(!mover);
+        let mut answer = Found::unless_one_succeeds(other_side(mover));
         for _ in 0..MOST_CARDS {
             let next = match first {
                 Some(_) => first,
@@ -118,10 +118,10 @@ impl Search {
             if self.stopped {
                 return answer;
             }
-            if found.ours == mover {
+            if found.side == mover {
                 if tricks > FEW_TRICKS {
                     self.leads
-                        .keep(lead_place(&self.held.hands, start), tried.card);
+                        .keep(lead_key(&self.held.hands, start), tried.card);
                 }
                 return self.remember(start, found, tried.card);
             }
@@ -135,13 +135,13 @@ impl Search {
     #[cycle(searching)]
     fn second(&mut self, tricks: u32, start: &Start, trick: &Trick) -> Found {
         let seat = start.leader.wrapping_add(1) & 3;
-        let mover = is_ours(seat);
+        let mover = side_of(seat);
         let before = self.held.before(seat);
         let runs = HandRuns::of(trick.legal(before.hand), start.left);
         let mut moves = Moves::of(&runs);
-        let place = self.hint_place(tricks, start, seat, runs, trick);
-        let mut first = self.sure_follow(place, runs, trick);
-        let mut answer = Found::unless_one_succeeds(!mover);
+        let key = self.hint_key(tricks, start, seat, runs, trick);
+        let mut first = self.sure_follow(key, runs, trick);
+        let mut answer = Found::unless_one_succeeds(other_side(mover));
         for _ in 0..MOST_CARDS {
             let next = match first {
                 Some(_) => first,
@@ -156,8 +156,8 @@ impl Search {
             self.held.play(seat, tried.card);
             let found = self.third(tricks, start, &after);
             self.held.put_back(seat, before);
-            if self.stopped || found.ours == mover {
-                return self.succeeded(place, tried.card, found);
+            if self.stopped || found.side == mover {
+                return self.succeeded(key, tried.card, found);
             }
             answer = answer.with_failed(tried, found);
             moves.skip(tried, found.relevant);
@@ -169,13 +169,13 @@ impl Search {
     #[cycle(searching)]
     fn third(&mut self, tricks: u32, start: &Start, trick: &Trick) -> Found {
         let seat = start.leader.wrapping_add(2) & 3;
-        let mover = is_ours(seat);
+        let mover = side_of(seat);
         let before = self.held.before(seat);
         let runs = HandRuns::of(trick.legal(before.hand), start.left);
         let mut moves = Moves::of(&runs);
-        let place = self.hint_place(tricks, start, seat, runs, trick);
-        let mut first = self.sure_follow(place, runs, trick);
-        let mut answer = Found::unless_one_succeeds(!mover);
+        let key = self.hint_key(tricks, start, seat, runs, trick);
+        let mut first = self.sure_follow(key, runs, trick);
+        let mut answer = Found::unless_one_succeeds(other_side(mover));
         for _ in 0..MOST_CARDS {
             let next = match first {
                 Some(_) => first,
@@ -190,8 +190,8 @@ impl Search {
             self.held.play(seat, tried.card);
             let found = self.last(tricks, start, &after);
             self.held.put_back(seat, before);
-            if self.stopped || found.ours == mover {
-                return self.succeeded(place, tried.card, found);
+            if self.stopped || found.side == mover {
+                return self.succeeded(key, tried.card, found);
             }
             answer = answer.with_failed(tried, found);
             moves.skip(tried, found.relevant);
@@ -204,7 +204,7 @@ impl Search {
     fn last(&mut self, tricks: u32, start: &Start, trick: &Trick) -> Found {
         let seat = start.leader.wrapping_add(3) & 3;
         if tricks == 0 {
-            return Found::unless_one_succeeds(!is_ours(seat));
+            return Found::unless_one_succeeds(other_side(side_of(seat)));
         }
         let rest = tricks - 1;
         let before = self.held.before(seat);
@@ -236,12 +236,12 @@ impl Search {
         shape: Option<u32>,
     ) -> Found {
         let seat = start.leader.wrapping_add(3) & 3;
-        let mover = is_ours(seat);
+        let mover = side_of(seat);
         let before = self.held.before(seat);
         let mut moves = Moves::of(&runs);
         let mut next = self.first_last(rest.wrapping_add(1), start, trick, runs, &mut moves);
         let adds = self.adds;
-        let mut answer = Found::unless_one_succeeds(!mover);
+        let mut answer = Found::unless_one_succeeds(other_side(mover));
         for _ in 0..MOST_CARDS {
             let Some(tried) = next else {
                 break;
@@ -252,7 +252,7 @@ impl Search {
             self.held.play(seat, tried.card);
             let found = self.rest(rest, start, &after, shape, is_asked);
             self.held.put_back(seat, before);
-            if self.stopped || found.ours == mover {
+            if self.stopped || found.side == mover {
                 return found;
             }
             answer = answer.with_failed(tried, found);
@@ -276,7 +276,7 @@ impl Search {
         let shape = self.shape_near(shape, self.held.lengths);
         let mut next = start.next(trick.winner as usize, self.held.all(), shape);
         if is_asked {
-            next.asked = Some(!is_ours(start.leader));
+            next.asked = Some(other_side(side_of(start.leader)));
         }
         let found = self.search(rest, &next);
         if self.stopped {
@@ -297,7 +297,7 @@ impl Search {
         found: Found,
     ) -> Found {
         let mut whole = found;
-        whole.bound = found.bound.wrapping_add(trick_for(next.leader, found.ours));
+        whole.bound = found.bound.wrapping_add(trick_for(next.leader, found.side));
         let relevant = relevant_after(trick, found.relevant);
         if relevant == found.relevant {
             return whole;
@@ -321,9 +321,9 @@ impl Search {
         found: Found,
     ) -> Option<Found> {
         let low = below(trick.best) | trick.best;
-        let partners = if is_ours(next.leader) { 5 } else { 10 };
+        let partners = if next.leader & 1 == 0 { 5 } else { 10 };
         if found.relevant & trick.deciding & low != 0
-            || is_ours(next.leader) == found.ours && trick.contenders & !partners != 0
+            || side_of(next.leader) == found.side && trick.contenders & !partners != 0
         {
             return None;
         }
@@ -338,10 +338,10 @@ impl Search {
             } else {
                 self.search(rest, &then)
             };
-            if self.stopped || other.ours != found.ours {
+            if self.stopped || other.side != found.side {
                 return None;
             }
-            let bound = other.bound.wrapping_add(trick_for(seat, found.ours));
+            let bound = other.bound.wrapping_add(trick_for(seat, found.side));
             answer.bound = answer.bound.min(bound);
             answer.relevant |= other.relevant;
         }

@@ -13,9 +13,13 @@ pub(crate) struct Found {
     pub relevant: u64,
     /// How many of the tricks left the side can win, at least.
     pub bound: u32,
-    /// The side that gets what it wants: whether it is North's and South's.
-    pub ours: bool,
+    /// The side that gets what it wants. Its number takes as much room as a bound: no bytes lie between the fields,
+    /// which would be copied too, one by one.
+    pub side: u32,
 }
+
+/// North's and South's side, by its number. That of the other side is 1.
+pub(crate) const OURS: u32 = 0;
 
 /// The start of a trick. What the seats hold then stands in the search.
 #[derive(Clone, Copy)]
@@ -29,35 +33,40 @@ pub(crate) struct Start {
     /// How many of the tricks left North and South want.
     pub want: u32,
     /// The side whose records were looked through in vain, if any.
-    pub asked: Option<bool>,
+    pub asked: Option<u32>,
 }
 
-/// Whether the seat is of North's and South's side.
-pub(crate) fn is_ours(seat: usize) -> bool {
-    seat & 1 == 0
+/// The number of a seat's side.
+pub(crate) fn side_of(seat: usize) -> u32 {
+    (seat & 1) as u32
+}
+
+/// The number of the other side.
+pub(crate) fn other_side(side: u32) -> u32 {
+    side ^ 1
 }
 
 /// A trick that the seat wins, where it counts for the side.
-pub(crate) fn trick_for(seat: usize, ours: bool) -> u32 {
-    if is_ours(seat) == ours { 1 } else { 0 }
+pub(crate) fn trick_for(seat: usize, side: u32) -> u32 {
+    if side_of(seat) == side { 1 } else { 0 }
 }
 
 impl Found {
     /// The answer where a side wants nothing.
-    pub(crate) fn nothing_needed(ours: bool) -> Found {
+    pub(crate) fn nothing_needed(side: u32) -> Found {
         Found {
             relevant: 0,
             bound: 0,
-            ours,
+            side,
         }
     }
 
     /// The answer of a turn, for the other side, before a card has failed.
-    pub(crate) fn unless_one_succeeds(ours: bool) -> Found {
+    pub(crate) fn unless_one_succeeds(side: u32) -> Found {
         Found {
             relevant: 0,
             bound: NO_BOUND,
-            ours,
+            side,
         }
     }
 
@@ -66,15 +75,15 @@ impl Found {
         Found {
             relevant: self.relevant | whole_runs(tried, found.relevant),
             bound: self.bound.min(found.bound),
-            ours: self.ours,
+            side: self.side,
         }
     }
 }
 
 impl Start {
     /// How many of so many tricks left a side wants to get its way.
-    pub(crate) fn wanted_by(&self, ours: bool, tricks: u32) -> u32 {
-        if ours {
+    pub(crate) fn wanted_by(&self, side: u32, tricks: u32) -> u32 {
+        if side == OURS {
             self.want
         } else {
             tricks.wrapping_add(1).wrapping_sub(self.want)
@@ -84,9 +93,9 @@ impl Start {
     /// What is known of so many tricks left where a side wants none of them.
     pub(crate) fn settled(&self, tricks: u32) -> Option<Found> {
         if self.want == 0 {
-            Some(Found::nothing_needed(true))
+            Some(Found::nothing_needed(OURS))
         } else if self.want > tricks {
-            Some(Found::nothing_needed(false))
+            Some(Found::nothing_needed(other_side(OURS)))
         } else {
             None
         }
@@ -98,19 +107,19 @@ impl Start {
             left,
             shape,
             leader: winner & 3,
-            want: self.want.wrapping_sub(trick_for(winner, true)),
+            want: self.want.wrapping_sub(trick_for(winner, OURS)),
             asked: None,
         }
     }
 
     /// The same start, where another seat has won the trick before.
     pub(crate) fn led_by(&self, seat: usize) -> Start {
-        let before = self.want.wrapping_add(trick_for(self.leader, true));
+        let before = self.want.wrapping_add(trick_for(self.leader, OURS));
         Start {
             left: self.left,
             shape: self.shape,
             leader: seat & 3,
-            want: before.wrapping_sub(trick_for(seat, true)),
+            want: before.wrapping_sub(trick_for(seat, OURS)),
             asked: None,
         }
     }

@@ -1,18 +1,20 @@
 //! Which card of a turn is tried first.
 
-use crate::hints::{FEW_TRICKS, follow_place, lead_place};
+use crate::hints::{FEW_TRICKS, follow_key, lead_key};
 use crate::search::Search;
-use crate::starts::{Found, Start, is_ours};
-use search_state::moves::{HandRuns, Move, Moves, card_at};
-use search_state::positions::{Trick, Turn};
+use crate::starts::{Found, Start, side_of};
+use search_state::moves::{HandRuns, Move, Moves};
+use search_state::positions::{Trick, Turn, Wants};
 
 impl Search {
     /// The turn of the hand so many places to the left of the leader.
     fn turn(&self, tricks: u32, start: &Start, places: usize) -> Turn<'_> {
         let seat = start.leader.wrapping_add(places) & 3;
-        let wanted = start.wanted_by(is_ours(seat), tricks);
-        let is_eager = wanted.wrapping_mul(2) > tricks;
-        Turn::of(&self.deal, &self.held, start.left, seat, is_eager)
+        let wants = Wants {
+            wanted: start.wanted_by(side_of(seat), tricks),
+            tricks,
+        };
+        Turn::of(&self.deal, &self.held, start.left, seat, wants)
     }
 
     /// The first lead, where no weights tell it: the only one, or the one that succeeded before at such a place.
@@ -28,14 +30,11 @@ impl Search {
         if tricks <= FEW_TRICKS {
             return 0;
         }
-        match self.leads.bit(lead_place(&self.held.hands, start)) {
-            64 => 0,
-            bit => card_at(bit),
-        }
+        self.leads.card(lead_key(&self.held.hands, start))
     }
 
-    /// The place of a card of the second or third hand, where it has a choice and many tricks are left.
-    pub(crate) fn hint_place(
+    /// The key of a card of the second or third hand, where it has a choice and many tricks are left.
+    pub(crate) fn hint_key(
         &self,
         tricks: u32,
         start: &Start,
@@ -46,14 +45,14 @@ impl Search {
         if tricks <= FEW_TRICKS || runs.is_single() {
             return None;
         }
-        Some(follow_place(&self.held.hands, start, seat, runs.own, trick))
+        Some(follow_key(&self.held.hands, start, seat, runs.own, trick))
     }
 
     /// The first card of a second or third hand, where no weights tell it: the only one, or the one that succeeded
-    /// before in this place.
+    /// before where the key was this.
     pub(crate) fn sure_follow(
         &self,
-        place: Option<usize>,
+        key: Option<usize>,
         runs: HandRuns,
         trick: &Trick,
     ) -> Option<Move> {
@@ -61,16 +60,13 @@ impl Search {
         if runs.is_single() {
             return Some(runs.only(trick.beats(runs.own, trumps)));
         }
-        match self.follows.bit(place?) {
-            64 => None,
-            bit => runs.of_choice(card_at(bit), trick, trumps),
-        }
+        runs.of_choice(self.follows.card(key?), trick, trumps)
     }
 
-    /// What was found of a card that succeeded, which is remembered for its place.
-    pub(crate) fn succeeded(&mut self, place: Option<usize>, card: u64, found: Found) -> Found {
-        if let Some(place) = place {
-            self.follows.keep(place, card);
+    /// What was found of a card that succeeded, which is remembered under its key.
+    pub(crate) fn succeeded(&mut self, key: Option<usize>, card: u64, found: Found) -> Found {
+        if let Some(key) = key {
+            self.follows.keep(key, card);
         }
         found
     }

@@ -1,7 +1,7 @@
 //! How many tricks a side can win: a first guess, and questions up and down from there.
 
 use crate::search::Search;
-use crate::starts::Start;
+use crate::starts::{OURS, Start};
 use search_state::deals::CardsLeft;
 use search_state::positions::Holdings;
 use search_state::words::MOST_CARDS;
@@ -63,7 +63,7 @@ impl Search {
             if self.stopped {
                 return None;
             }
-            if found.ours {
+            if found.side == OURS {
                 least = least.max(found.bound);
                 want = least.wrapping_add(1);
             } else {

@@ -1,7 +1,7 @@
 //! A position of the search: the cards held, and the trick in progress. Seats are numbers from North's 0.
 
 use crate::deals::DealTables;
-use crate::weights::{EAGER, MODEST, Weights};
+use crate::weights::{ALL, EAGER, MODEST, ONE, Weights};
 use crate::words::{start_of, suit_of};
 
 /// The cards that the seats hold. A search plays them one by one, and puts them back.
@@ -33,6 +33,13 @@ pub struct Trick {
     pub winner: u32,
     /// A bit for each seat that played to its suit.
     pub contenders: u32,
+}
+
+/// What the side to play wants of the tricks that are left.
+#[derive(Clone, Copy)]
+pub struct Wants {
+    pub wanted: u32,
+    pub tricks: u32,
 }
 
 /// A seat's turn, before it plays.
@@ -159,22 +166,36 @@ impl Trick {
     }
 }
 
+impl Wants {
+    /// The weights of the cards of a side that wants so much.
+    fn weights(self) -> &'static Weights {
+        if self.wanted == self.tricks {
+            &ALL
+        } else if self.wanted == 1 {
+            &ONE
+        } else if self.wanted.wrapping_mul(2) > self.tricks {
+            &EAGER
+        } else {
+            &MODEST
+        }
+    }
+}
+
 impl<'a> Turn<'a> {
-    /// A seat's turn, where these cards were left at the trick's start, and its side wants more than half of the tricks
-    /// or not.
+    /// A seat's turn, where these cards were left at the trick's start, and its side wants so much.
     pub fn of(
         deal: &'a DealTables,
         held: &'a Holdings,
         left: u64,
         seat: usize,
-        is_eager: bool,
+        wants: Wants,
     ) -> Turn<'a> {
         Turn {
             deal,
             held,
             left,
             seat: seat & 3,
-            weights: if is_eager { &EAGER } else { &MODEST },
+            weights: wants.weights(),
         }
     }
 
