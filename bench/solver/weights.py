@@ -4,10 +4,10 @@ of a seed.
 
 Usage: bench/solver/weights.py [BOARDS [SEED [FILE]]], by default 20 boards of seed 1 and the weights of the crate. FILE
 has 1,408 whole numbers: those of `ONE`, `MODEST`, `EAGER` and `ALL`, in the order in which `weights.rt` of
-`search_state` has them. Whatever the weights, the numbers of tricks are the same; what changes is how many cards are tried. The four
-declarers of a denomination share what is remembered, and the writing of graphs is not counted. It copies the crates
-into a folder of its own, and proves and builds `partition_solver` there as a program, with weights.rt.txt for its main
-file. Boards that measure should not be boards that a set was tuned on.
+`search_state` has them. Whatever the weights, the numbers of tricks are the same; what changes is how many cards are
+tried. The four declarers of a denomination share what is remembered, and the writing of graphs is not counted. It
+copies the crates into a folder of its own, and proves and builds `partition_solver` there as a program, with
+weights.rt.txt for its main file. Boards that measure should not be boards that a set was tuned on.
 """
 
 import random

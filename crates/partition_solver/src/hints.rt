@@ -12,7 +12,7 @@ const BITS: u32 = 17;
 /// How many more bits of a key are kept with its card, so that most other keys of the same place are told apart.
 const TAG_BITS: u32 = 2;
 
-/// How many of them a row has.
+/// How many places a row has.
 const ROW: usize = 64;
 
 /// How many rows are made at a time: one place after another would take longer than a small search.

@@ -1,8 +1,9 @@
 //! The weights of the order in which cards are tried: four sets of 352 numbers.
 //!
 //! At turns of 1,200 random deals, in no benchmark here, each card was tried, in a random order. From older numbers on
-//! gradients led to those with which the card that comes first is expected to take the fewest steps, or fewer where it
-//! fails, by the root of their number. `bench/solver/weights.py` measures the sets on deals of a seed.
+//! gradients led to those with which the first card is expected to cost least: the root of the steps that it takes, and
+//! where it fails, that of the cheapest card which succeeds beside it. `bench/solver/weights.py` measures the sets on
+//! deals of a seed.
 
 /// One set. What a number is multiplied with stands in `order`.
 pub(crate) struct Weights {
