@@ -3,6 +3,7 @@
 //! depths.
 
 use crate::expect::{expect, expect_eq};
+use cards::Side::{EastWest, NorthSouth};
 use pattern_store::{NO_CARD, Owners, Record, Records};
 use std::test::Fail;
 
@@ -55,13 +56,13 @@ fn told_and_found(rt: HostRuntime) -> Result<(), Fail> {
     for suit in 0..4 {
         let mut records = Records::new(rt.alloc())?;
         expect(&rt, records.shape(ONE_EACH).is_none());
-        records.add(None, ONE_EACH, 1, true, naming(suit, 4, 2))?;
+        records.add(None, ONE_EACH, 1, NorthSouth, naming(suit, 4, 2))?;
         let shape = records.shape(ONE_EACH);
         expect(&rt, records.shape(ONE_EACH + 1).is_none());
-        expect(&rt, records.list(shape, 1, false).is_none());
-        expect(&rt, records.list(shape, 2, true).is_none());
-        expect(&rt, records.list(None, 1, true).is_none());
-        let Some(list) = records.list(shape, 1, true) else {
+        expect(&rt, records.list(shape, 1, EastWest).is_none());
+        expect(&rt, records.list(shape, 2, NorthSouth).is_none());
+        expect(&rt, records.list(None, 1, NorthSouth).is_none());
+        let Some(list) = records.list(shape, 1, NorthSouth) else {
             return Err(Fail::new("the list is there"));
         };
         for (owners, need, is_found) in [
@@ -103,8 +104,8 @@ fn each_suit_to_its_depth(rt: HostRuntime) -> Result<(), Fail> {
         let mut records = Records::new(rt.alloc())?;
         let record = Record::new(NEAR, || DEEP, depths, 1, 0);
         expect_eq(&rt, &record.owners_named(), &named);
-        records.add(None, ONE_EACH, 0, true, record)?;
-        let Some(list) = records.list(records.shape(ONE_EACH), 0, true) else {
+        records.add(None, ONE_EACH, 0, NorthSouth, record)?;
+        let Some(list) = records.list(records.shape(ONE_EACH), 0, NorthSouth) else {
             return Err(Fail::new("the list is there"));
         };
         for suit in 0..4 {
@@ -128,9 +129,9 @@ fn the_ninth_owner_alone(rt: HostRuntime) -> Result<(), Fail> {
         for (ninth, card) in [(0, 20), (1, 21)] {
             let deep = in_suit(suit, ninth);
             let record = Record::new(NEAR, || deep, depths_in(suit, 9), 1, card);
-            records.add(None, ONE_EACH, 2, true, record)?;
+            records.add(None, ONE_EACH, 2, NorthSouth, record)?;
         }
-        let Some(list) = records.list(records.shape(ONE_EACH), 2, true) else {
+        let Some(list) = records.list(records.shape(ONE_EACH), 2, NorthSouth) else {
             return Err(Fail::new("the list is there"));
         };
         for (ninth, card) in [(0, 20), (1, 21), (2, NO_CARD), (3, NO_CARD)] {
@@ -185,9 +186,9 @@ fn dropped_where_another_serves(rt: HostRuntime) -> Result<(), Fail> {
     ] {
         let mut records = Records::new(rt.alloc())?;
         let old = Record::new(NEAR, || DEEP, first, 2, 0);
-        records.add(None, ONE_EACH, 0, true, old)?;
+        records.add(None, ONE_EACH, 0, NorthSouth, old)?;
         let new = Record::new(near, || deep, depths, need, 0);
-        records.add(None, ONE_EACH, 0, true, new)?;
+        records.add(None, ONE_EACH, 0, NorthSouth, new)?;
         expect_eq(&rt, &kept(&records), &count);
     }
     Ok(())
@@ -198,9 +199,9 @@ fn the_most_general_first(rt: HostRuntime) -> Result<(), Fail> {
     for suit in 0..4 {
         let mut records = Records::new(rt.alloc())?;
         for (depth, need) in [(4, 3), (3, 1), (2, 2), (9, 4), (10, 5)] {
-            records.add(None, ONE_EACH, 0, false, naming(suit, depth, need))?;
+            records.add(None, ONE_EACH, 0, EastWest, naming(suit, depth, need))?;
         }
-        let Some(list) = records.list(records.shape(ONE_EACH), 0, false) else {
+        let Some(list) = records.list(records.shape(ONE_EACH), 0, EastWest) else {
             return Err(Fail::new("the list is there"));
         };
         // That of three owners says less than that of two, so one block has room for the others. The ninth owner has to
@@ -244,9 +245,9 @@ fn by_what_is_known(rt: HostRuntime) -> Result<(), Fail> {
     for suit in 0..4 {
         let mut records = Records::new(rt.alloc())?;
         for (depth, need) in [(1, 1), (2, 2), (4, 3), (9, 4)] {
-            records.add(None, ONE_EACH, 3, true, naming(suit, depth, need))?;
+            records.add(None, ONE_EACH, 3, NorthSouth, naming(suit, depth, need))?;
         }
-        let Some(list) = records.list(records.shape(ONE_EACH), 3, true) else {
+        let Some(list) = records.list(records.shape(ONE_EACH), 3, NorthSouth) else {
             return Err(Fail::new("the list is there"));
         };
         let owners = Owners {
@@ -276,7 +277,7 @@ fn of_owners(suit: usize, owners: u64) -> Record {
 
 /// How many of so many records that name different owners are found in the list of a leader. Each leader has a suit.
 fn found_of(records: &Records, leader: usize, count: u64) -> u64 {
-    let Some(list) = records.list(records.shape(ONE_EACH), leader, true) else {
+    let Some(list) = records.list(records.shape(ONE_EACH), leader, NorthSouth) else {
         return 0;
     };
     let mut found = 0u64;
@@ -306,7 +307,13 @@ fn a_list_grows_and_leaves_room(rt: HostRuntime) -> Result<(), Fail> {
         (3, 1, 9),
     ] {
         for owners in found_of(&records, leader, count)..count {
-            records.add(None, ONE_EACH, leader, true, of_owners(leader, owners))?;
+            records.add(
+                None,
+                ONE_EACH,
+                leader,
+                NorthSouth,
+                of_owners(leader, owners),
+            )?;
         }
         expect_eq(&rt, &found_of(&records, leader, count), &count);
         expect_eq(
@@ -326,12 +333,12 @@ fn no_more_than_there_is_room_for(rt: HostRuntime) -> Result<(), Fail> {
     records.set_room(3);
     expect(&rt, !records.is_full());
     for owners in 0..5 {
-        records.add(None, ONE_EACH, 0, true, of_owners(0, owners))?;
+        records.add(None, ONE_EACH, 0, NorthSouth, of_owners(0, owners))?;
     }
     // A run of two blocks has no room beside that of one.
     expect_eq(&rt, &records.blocks(), &2);
     expect_eq(&rt, &found_of(&records, 0, 5), &4);
-    records.add(None, ONE_EACH, 1, true, of_owners(0, 0))?;
+    records.add(None, ONE_EACH, 1, NorthSouth, of_owners(0, 0))?;
     expect_eq(&rt, &records.blocks(), &3);
     // The shape counts too.
     expect_eq(&rt, &records.size(), &4);

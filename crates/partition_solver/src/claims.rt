@@ -5,7 +5,7 @@ use crate::graph_writing::write_graph;
 use crate::plans::TrickStart;
 use crate::search::Search;
 use arrayvec::ArrayVec;
-use cards::{Seat, Trump};
+use cards::{Seat, Side, Trump};
 use search_state::positions::Holdings;
 
 /// Where play starts for the declarers of a denomination, each once. A root's number is its place: a graph begins with
@@ -46,8 +46,8 @@ pub(crate) fn bundle_of(
     }
     search.steps = left.saturating_add(search.steps);
     Some(Bundle {
-        ns: write_graph(search, trump, true, found.ours.as_slice())?,
-        ew: write_graph(search, trump, false, found.theirs.as_slice())?,
+        ns: write_graph(search, trump, Side::NorthSouth, found.ours.as_slice())?,
+        ew: write_graph(search, trump, Side::EastWest, found.theirs.as_slice())?,
         claims: found.claims,
     })
 }
@@ -107,8 +107,8 @@ impl Claims {
         let ours = search.value(leader, guess)?;
         self.last[side] = Some(ours);
         let theirs = tricks.wrapping_sub(ours);
-        let our_start = start_of(search, leader, true, ours)?;
-        let their_start = start_of(search, leader, false, theirs)?;
+        let our_start = start_of(search, leader, Side::NorthSouth, ours)?;
+        let their_start = start_of(search, leader, Side::EastWest, theirs)?;
         let our_root = our_start.map(|start| root_in(&mut self.ours, start));
         let their_root = their_start.map(|start| root_in(&mut self.theirs, start));
         let claim = match declarer {
@@ -121,13 +121,13 @@ impl Claims {
 
 /// Where play starts for a side that wins just so many tricks with this seat to lead, or nothing where those are none.
 /// None where it is not remembered.
-fn start_of(search: &Search, leader: usize, ours: bool, need: i32) -> Option<Option<TrickStart>> {
+fn start_of(search: &Search, leader: usize, side: Side, need: i32) -> Option<Option<TrickStart>> {
     if need <= 0 {
         return Some(None);
     }
     let lengths = Holdings::of(search.deal.hands).lengths;
     let shape = search.records.shape(lengths);
-    let list = search.records.list(shape, leader, ours)?;
+    let list = search.records.list(shape, leader, side)?;
     let left = search.all_cards();
     let record = search
         .records

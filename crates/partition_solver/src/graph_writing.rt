@@ -1,12 +1,13 @@
 //! The graph of a side, written from its roots on, each node after those that name it first.
 
+use crate::pattern_tricks::{PatternStart, word_of};
 use crate::plans::{Plan, PlannedChild, TrickStart};
 use crate::search::Search;
 use cards::{Seat, Side, Trump};
 use certificate_graph::{Child, Graph, Node, Token, Tree, Version};
 use pattern_store::Record;
 use patterns::Pattern;
-use search_state::pattern_tricks::{PatternStart, word_of};
+use search_state::words::Lengths;
 use std::alloc::{AllocError, Global};
 use std::sync::Arc;
 
@@ -27,10 +28,10 @@ struct Writing {
 pub(crate) fn write_graph(
     search: &mut Search,
     trump: Trump,
-    ours: bool,
+    side: Side,
     roots: &[TrickStart],
 ) -> Option<Arc<Graph>> {
-    let Ok(plan) = Plan::new(search.alloc, search, ours) else {
+    let Ok(plan) = Plan::new(search.alloc, search, side) else {
         search.run_out();
         return None;
     };
@@ -43,7 +44,7 @@ pub(crate) fn write_graph(
     if !writing.add_all(search, roots) {
         return None;
     }
-    let graph = writing.into_graph(trump, ours)?;
+    let graph = writing.into_graph(trump, side)?;
     let shared = Arc::new(search.alloc, graph);
     if shared.is_err() {
         search.run_out();
@@ -58,12 +59,7 @@ fn seat_at(number: usize) -> Seat {
 
 impl Writing {
     /// The graph that is written.
-    fn into_graph(self, trump: Trump, ours: bool) -> Option<Graph> {
-        let side = if ours {
-            Side::NorthSouth
-        } else {
-            Side::EastWest
-        };
+    fn into_graph(self, trump: Trump, side: Side) -> Option<Graph> {
         let Writing { nodes, .. } = self;
         Graph::new(Version::Two, trump, side, nodes).ok()
     }
@@ -156,7 +152,7 @@ impl Writing {
     }
 
     /// The pattern of a record of these lengths.
-    fn pattern_of(&self, record: &Record, lengths: u64) -> Option<Pattern> {
+    fn pattern_of(&self, record: &Record, lengths: Lengths) -> Option<Pattern> {
         let lanes = self.plan.lanes;
         Pattern::from_words([
             word_of(record, lengths, lanes[0]),

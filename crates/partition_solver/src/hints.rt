@@ -2,8 +2,8 @@
 
 use crate::starts::Start;
 use search_state::moves::card_at;
-use search_state::positions::Trick;
-use search_state::words::MIXER;
+use search_state::positions::{Trick, seat_to_left};
+use search_state::words::{CardSet, MIXER};
 use std::alloc::{AllocError, Global};
 
 /// There are 2 to this power of places.
@@ -54,7 +54,7 @@ impl Hints {
     }
 
     /// The card that succeeded last where the key was this; no card of a hand where none is known.
-    pub(crate) fn card(&self, key: usize) -> u64 {
+    pub(crate) fn card(&self, key: usize) -> CardSet {
         let Some(row) = self.rows.get(row_of(key)) else {
             return 0;
         };
@@ -67,7 +67,7 @@ impl Hints {
     }
 
     /// Remembers that this card succeeded.
-    pub(crate) fn keep(&mut self, key: usize, card: u64) {
+    pub(crate) fn keep(&mut self, key: usize, card: CardSet) {
         if let Some(row) = self.rows.get_mut(row_of(key)) {
             row[key % ROW] = (card.trailing_zeros() & 63) as u8 | tag_of(key);
         }
@@ -90,7 +90,7 @@ fn mixed(key: u64) -> usize {
 }
 
 /// The key of a lead: by the leader, what is wanted, and the leader's and partner's cards.
-pub(crate) fn lead_key(hands: &[u64; 4], start: &Start) -> usize {
+pub(crate) fn lead_key(hands: &[CardSet; 4], start: &Start) -> usize {
     let leader = start.leader & 3;
     mixed(
         (leader as u64).wrapping_shl(61)
@@ -104,10 +104,10 @@ pub(crate) fn lead_key(hands: &[u64; 4], start: &Start) -> usize {
 /// cards that it may play; where it follows suit by the cards of that suit in the next hand and partner's, and else by
 /// what is wanted.
 pub(crate) fn follow_key(
-    hands: &[u64; 4],
+    hands: &[CardSet; 4],
     start: &Start,
     seat: usize,
-    own: u64,
+    own: CardSet,
     trick: &Trick,
 ) -> usize {
     let key = (seat as u64).wrapping_shl(61)
@@ -117,7 +117,7 @@ pub(crate) fn follow_key(
     if own & trick.led == 0 {
         return mixed(key ^ u64::from(start.want).wrapping_shl(57));
     }
-    let next = hands[seat.wrapping_add(1) & 3] & trick.led;
-    let partner = hands[seat.wrapping_add(2) & 3] & trick.led;
+    let next = hands[seat_to_left(seat, 1)] & trick.led;
+    let partner = hands[seat_to_left(seat, 2)] & trick.led;
     mixed(key ^ next.wrapping_mul(NEXT) ^ partner.wrapping_mul(PARTNER))
 }

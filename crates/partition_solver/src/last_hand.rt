@@ -4,9 +4,9 @@ use crate::search::Search;
 use crate::starts::{Found, Start, side_of};
 use pattern_store::List;
 use search_state::moves::{HandRuns, card_at};
-use search_state::positions::{Trick, one_of};
+use search_state::positions::{Trick, one_of, seat_to_left};
 use search_state::relevant_cards::{needs_fewer, relevant_after};
-use search_state::words::{MOST_CARDS, suit_of};
+use search_state::words::{CardSet, Lengths, MOST_CARDS, suit_of};
 
 /// What is remembered of the rest for the side of the last hand, after a card of it.
 #[derive(Clone, Copy)]
@@ -20,7 +20,7 @@ struct Outcome {
 /// What is remembered of the rest after a card of this suit: where it wins the trick, and where it does not.
 #[derive(Clone, Copy)]
 struct Outcomes {
-    suit: u64,
+    suit: CardSet,
     won: Outcome,
     lost: Outcome,
 }
@@ -34,7 +34,7 @@ impl Outcome {
 
 impl Search {
     /// The number of this shape, if it has one: this number where there is one.
-    pub(crate) fn shape_near(&self, shape: Option<u32>, lengths: u64) -> Option<u32> {
+    pub(crate) fn shape_near(&self, shape: Option<u32>, lengths: Lengths) -> Option<u32> {
         match shape {
             Some(_) => shape,
             None => self.records.shape(lengths),
@@ -42,7 +42,7 @@ impl Search {
     }
 
     /// The number of the shape of what is left after a last hand that follows suit. It is the same for each card.
-    pub(crate) fn shape_in_suit(&self, own: u64, trick: &Trick, seat: usize) -> Option<u32> {
+    pub(crate) fn shape_in_suit(&self, own: CardSet, trick: &Trick, seat: usize) -> Option<u32> {
         if own & trick.led == 0 {
             return None;
         }
@@ -75,10 +75,10 @@ impl Search {
         rest: u32,
         start: &Start,
         trick: &Trick,
-        suit: u64,
+        suit: CardSet,
         shape: Option<u32>,
     ) -> Outcomes {
-        let seat = start.leader.wrapping_add(3) & 3;
+        let seat = seat_to_left(start.leader, 3);
         let side = side_of(seat);
         let lengths = self.held.lengths.wrapping_sub(one_of(suit, seat));
         let shape = self.shape_near(shape, lengths);
@@ -97,7 +97,7 @@ impl Search {
         trick: &Trick,
         runs: HandRuns,
         shape: Option<u32>,
-    ) -> Option<(u64, Found)> {
+    ) -> Option<(CardSet, Found)> {
         let follows = runs.own & trick.led != 0;
         let suit = if follows {
             trick.led
@@ -120,9 +120,9 @@ impl Search {
         trick: &Trick,
         mut runs: HandRuns,
         mut outcomes: Outcomes,
-    ) -> Option<(u64, Found)> {
+    ) -> Option<(CardSet, Found)> {
         let trumps = self.deal.trumps;
-        let seat = start.leader.wrapping_add(3) & 3;
+        let seat = seat_to_left(start.leader, 3);
         let all = self.held.all();
         let mut best = None;
         let mut needs = 0;

@@ -1,18 +1,19 @@
 //! The leaves of a tree in work: the records that go on after its trick.
 
+use crate::pattern_tricks::PatternTrick;
 use crate::plans::{Plan, PlannedChild, TrickStart};
 use crate::search::Search;
 use cards::Seat;
 use certificate_graph::{Child, Token};
-use search_state::pattern_tricks::PatternTrick;
+use search_state::words::{CardSet, Lengths};
 
 /// The records that go on after a trick, by the seat that won it, 0 where none is needed, and what the new nodes cost:
 /// one each, and one for each owner that they name.
 #[derive(Clone, Copy)]
 pub(crate) struct Leaf {
     /// The cards that are left.
-    left: u64,
-    lengths: u64,
+    left: CardSet,
+    lengths: Lengths,
     records: [u32; 4],
     cost: u32,
 }
@@ -24,7 +25,7 @@ impl Plan {
         search: &Search,
         trick: &PatternTrick,
         limit: u32,
-    ) -> Option<(u64, Leaf)> {
+    ) -> Option<(CardSet, Leaf)> {
         let mut waiting = self.held.legal_cards(trick);
         let mut least = limit;
         let mut best = None;
@@ -105,7 +106,7 @@ impl Plan {
         let shape = self.shape(search, trick.lengths);
         let mut waiting = winners;
         let mut seat = (waiting.trailing_zeros() >> 2 & 3) as usize;
-        let mut list = search.records.list(shape, seat, self.ours)?;
+        let mut list = search.records.list(shape, seat, self.side)?;
         let remains = self.held.remains(&search.deal, trick);
         for _ in 0..4 {
             let won = if self.owns(seat) { 1 } else { 0 };
@@ -123,13 +124,13 @@ impl Plan {
                 break;
             }
             seat = (waiting.trailing_zeros() >> 2 & 3) as usize;
-            list = search.records.list(shape, seat, self.ours)?;
+            list = search.records.list(shape, seat, self.side)?;
         }
         Some(())
     }
 
     /// The number of the shape with these lengths, if it has one. Leaves of a trick are mostly of one shape.
-    fn shape(&mut self, search: &Search, lengths: u64) -> Option<u32> {
+    fn shape(&mut self, search: &Search, lengths: Lengths) -> Option<u32> {
         if self.shape.0 != lengths {
             self.shape = (lengths, search.records.shape(lengths));
         }

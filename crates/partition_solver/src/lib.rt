@@ -13,6 +13,7 @@ mod hints;
 mod last_hand;
 mod leaves;
 mod memory;
+mod pattern_tricks;
 mod plans;
 mod remembering;
 mod search;

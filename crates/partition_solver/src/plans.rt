@@ -1,11 +1,12 @@
 //! The tree of a node: one trick on a remembered pattern, worked out anew from what the search remembers.
 
+use crate::pattern_tricks::{PatternStart, PatternTrick};
 use crate::search::Search;
-use cards::Suit;
+use crate::starts::{side_at, side_of};
+use cards::{Side, Suit};
 use certificate_graph::Token;
 use pattern_step::PatCard;
-use search_state::pattern_tricks::{PatternStart, PatternTrick};
-use search_state::words::{SUIT, highest};
+use search_state::words::{CardSet, Lengths, SUIT, highest};
 use std::alloc::{AllocError, Global};
 
 /// How many cards a trick has.
@@ -19,9 +20,9 @@ const STEPS_A_BLOCK: u64 = 40;
 #[derive(Clone, Copy, Default)]
 pub(crate) struct TrickStart {
     /// The cards in all hands.
-    pub left: u64,
+    pub left: CardSet,
     /// The lengths, as the search has them.
-    pub lengths: u64,
+    pub lengths: Lengths,
     /// The number of the record.
     pub record: u32,
     pub leader: usize,
@@ -43,8 +44,8 @@ pub(crate) struct Plan {
     pub children: Vec<PlannedChild>,
     /// By the number of a record that of its node, from 1.
     pub numbers: Vec<u32>,
-    /// Whether the side is North's and South's.
-    pub ours: bool,
+    /// The side for which it is.
+    pub side: Side,
     /// Whether the first card that shows a tree is taken, since steps are short.
     is_thrifty: bool,
     /// The suits as they lie in a word, from the lowest.
@@ -52,7 +53,7 @@ pub(crate) struct Plan {
     /// Where the suits lie in a word, spades first.
     pub lanes: [usize; 4],
     /// The lengths that were looked up last, and the number of their shape.
-    pub shape: (u64, Option<u32>),
+    pub shape: (Lengths, Option<u32>),
     /// The pattern of the node in work.
     pub held: PatternStart,
     /// How many tricks it has to show.
@@ -76,14 +77,14 @@ fn lane_of(suits: [Suit; 4], suit: Suit) -> usize {
 
 impl Plan {
     /// Nothing is proved yet.
-    pub(crate) fn new(alloc: Global, search: &Search, ours: bool) -> Result<Plan, AllocError> {
+    pub(crate) fn new(alloc: Global, search: &Search, side: Side) -> Result<Plan, AllocError> {
         let suits = search.deal.suits;
         let short = STEPS_A_BLOCK.saturating_mul(search.records.blocks() as u64);
         Ok(Plan {
             tokens: Vec::new(alloc),
             children: Vec::new(alloc),
             numbers: vec![in alloc; 0; search.records.blocks().saturating_mul(4)]?,
-            ours,
+            side,
             is_thrifty: search.steps < short,
             suits,
             lanes: [
@@ -123,10 +124,11 @@ impl Plan {
             0x1111
         } else if need <= 0 {
             0
-        } else if self.ours {
-            0x1010
         } else {
-            0x0101
+            match self.side {
+                Side::NorthSouth => 0x1010,
+                Side::EastWest => 0x0101,
+            }
         }
     }
 
@@ -137,11 +139,11 @@ impl Plan {
 
     /// Whether the seat is of the plan's side.
     pub(crate) fn owns(&self, seat: usize) -> bool {
-        (seat & 1 == 0) == self.ours
+        side_at(side_of(seat)) == self.side
     }
 
     /// A card as the graph names it.
-    fn named(&self, card: u64) -> PatCard {
+    fn named(&self, card: CardSet) -> PatCard {
         let suit = self.suits[(card.trailing_zeros() >> 4 & 3) as usize];
         match self.held.place_of(card) {
             Some(place) => PatCard::Top(suit, place),
@@ -232,7 +234,7 @@ impl Plan {
     }
 
     /// The card that showed the node's record, where it is the turn to lead.
-    fn first_card(&self, trick: &PatternTrick) -> u64 {
+    fn first_card(&self, trick: &PatternTrick) -> CardSet {
         if trick.led == 0 {
             self.held.first_card
         } else {
@@ -327,7 +329,7 @@ impl Plan {
     }
 
     /// The first of these cards: spades first, and of a suit the highest first. They follow suit, or none does.
-    fn first_of(&self, cards: u64, trick: &PatternTrick) -> u64 {
+    fn first_of(&self, cards: CardSet, trick: &PatternTrick) -> CardSet {
         if cards & cards.wrapping_sub(1) == 0 {
             return cards;
         }

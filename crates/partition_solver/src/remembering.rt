@@ -1,15 +1,16 @@
 //! What a search knows of the start of a trick, and what it remembers of it.
 
 use crate::search::Search;
-use crate::starts::{Found, OURS, Start, other_side};
+use crate::starts::{Found, Start, other_side, side_at};
 use pattern_store::{List, Record};
 use search_state::deals::CardsLeft;
 use search_state::relevant_cards::{depths_of, named_card, without_lone};
+use search_state::words::CardSet;
 
 impl Search {
     /// What is remembered of the start of a trick for a side, if anything is.
     pub(crate) fn list(&self, start: &Start, side: u32) -> Option<List> {
-        self.records.list(start.shape, start.leader, side == OURS)
+        self.records.list(start.shape, start.leader, side_at(side))
     }
 
     /// The same, unless the side's records were looked through in vain.
@@ -24,16 +25,7 @@ impl Search {
     /// What is known of the start of a trick that is not settled. The records of the side that wants fewer tricks are
     /// looked through first: mostly it gets them.
     pub(crate) fn known(&self, tricks: u32, start: &Start) -> Option<Found> {
-        if start.want.wrapping_mul(2) <= tricks {
-            self.known_in_order(tricks, start, OURS)
-        } else {
-            self.known_in_order(tricks, start, other_side(OURS))
-        }
-    }
-
-    /// What is known of it by the records of this side, and else by those of the other.
-    #[inline(always)]
-    fn known_in_order(&self, tricks: u32, start: &Start, side: u32) -> Option<Found> {
+        let side = start.wants_fewer(tricks);
         let other = other_side(side);
         let first = self.unasked(start, side);
         let second = self.unasked(start, other);
@@ -59,7 +51,7 @@ impl Search {
     pub(crate) fn known_from(
         &self,
         list: Option<List>,
-        left: u64,
+        left: CardSet,
         need: u32,
         side: u32,
     ) -> Option<Found> {
@@ -92,7 +84,7 @@ impl Search {
 
     /// Remembers what was found at the start of a trick, and of the card that showed it, if any, the name. Answers it
     /// with the cards that have to be named for it.
-    pub(crate) fn remember(&mut self, start: &Start, found: Found, card: u64) -> Found {
+    pub(crate) fn remember(&mut self, start: &Start, found: Found, card: CardSet) -> Found {
         let relevant = without_lone(&self.held.hands, start.left, found.relevant);
         let depths = depths_of(start.left, relevant);
         let named = named_card(start.left, depths, card);
@@ -105,7 +97,7 @@ impl Search {
             start.shape,
             lengths,
             start.leader,
-            found.side == OURS,
+            side_at(found.side),
             record,
         );
         if added.is_err() {

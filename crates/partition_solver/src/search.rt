@@ -7,7 +7,7 @@ use cards::{Layout, Trump};
 use pattern_store::Records;
 use search_state::deals::DealTables;
 use search_state::moves::{HandRuns, Moves};
-use search_state::positions::{Holdings, Trick};
+use search_state::positions::{Holdings, Trick, seat_to_left};
 use search_state::relevant_cards::{needs_fewer, relevant_after};
 use search_state::words::{MOST_CARDS, below};
 use std::alloc::{AllocError, Global};
@@ -134,7 +134,7 @@ impl Search {
     /// The second hand's turn.
     #[cycle(searching)]
     fn second(&mut self, tricks: u32, start: &Start, trick: &Trick) -> Found {
-        let seat = start.leader.wrapping_add(1) & 3;
+        let seat = seat_to_left(start.leader, 1);
         let mover = side_of(seat);
         let before = self.held.before(seat);
         let runs = HandRuns::of(trick.legal(before.hand), start.left);
@@ -168,7 +168,7 @@ impl Search {
     /// The third hand's turn.
     #[cycle(searching)]
     fn third(&mut self, tricks: u32, start: &Start, trick: &Trick) -> Found {
-        let seat = start.leader.wrapping_add(2) & 3;
+        let seat = seat_to_left(start.leader, 2);
         let mover = side_of(seat);
         let before = self.held.before(seat);
         let runs = HandRuns::of(trick.legal(before.hand), start.left);
@@ -202,7 +202,7 @@ impl Search {
     /// The last hand's turn: a card that is known to succeed, else all are tried.
     #[cycle(searching)]
     fn last(&mut self, tricks: u32, start: &Start, trick: &Trick) -> Found {
-        let seat = start.leader.wrapping_add(3) & 3;
+        let seat = seat_to_left(start.leader, 3);
         if tricks == 0 {
             return Found::unless_one_succeeds(other_side(side_of(seat)));
         }
@@ -235,7 +235,7 @@ impl Search {
         runs: HandRuns,
         shape: Option<u32>,
     ) -> Found {
-        let seat = start.leader.wrapping_add(3) & 3;
+        let seat = seat_to_left(start.leader, 3);
         let mover = side_of(seat);
         let before = self.held.before(seat);
         let mut moves = Moves::of(&runs);

@@ -1,7 +1,9 @@
 //! The start of a trick, and what a search answers.
 
+use cards::Side;
 use search_state::moves::Move;
 use search_state::relevant_cards::whole_runs;
+use search_state::words::CardSet;
 
 /// More tricks than a hand has.
 const NO_BOUND: u32 = 14;
@@ -10,7 +12,7 @@ const NO_BOUND: u32 = 14;
 #[derive(Clone, Copy)]
 pub(crate) struct Found {
     /// The cards whose rank that needed.
-    pub relevant: u64,
+    pub relevant: CardSet,
     /// How many of the tricks left the side can win, at least.
     pub bound: u32,
     /// The side that gets what it wants. Its number takes as much room as a bound: no bytes lie between the fields,
@@ -25,7 +27,7 @@ pub(crate) const OURS: u32 = 0;
 #[derive(Clone, Copy)]
 pub(crate) struct Start {
     /// The cards in all hands.
-    pub left: u64,
+    pub left: CardSet,
     /// The number of the shape, if it had one when it was looked up.
     pub shape: Option<u32>,
     /// The seat that leads.
@@ -39,6 +41,15 @@ pub(crate) struct Start {
 /// The number of a seat's side.
 pub(crate) fn side_of(seat: usize) -> u32 {
     (seat & 1) as u32
+}
+
+/// The side with this number.
+pub(crate) fn side_at(side: u32) -> Side {
+    if side == OURS {
+        Side::NorthSouth
+    } else {
+        Side::EastWest
+    }
 }
 
 /// The number of the other side.
@@ -90,6 +101,15 @@ impl Start {
         }
     }
 
+    /// The side that wants fewer of so many tricks, or just half of them.
+    pub(crate) fn wants_fewer(&self, tricks: u32) -> u32 {
+        if self.want.wrapping_mul(2) <= tricks {
+            OURS
+        } else {
+            other_side(OURS)
+        }
+    }
+
     /// What is known of so many tricks left where a side wants none of them.
     pub(crate) fn settled(&self, tricks: u32) -> Option<Found> {
         if self.want == 0 {
@@ -102,7 +122,7 @@ impl Start {
     }
 
     /// The start of the next trick, where this seat has won this one.
-    pub(crate) fn next(&self, winner: usize, left: u64, shape: Option<u32>) -> Start {
+    pub(crate) fn next(&self, winner: usize, left: CardSet, shape: Option<u32>) -> Start {
         Start {
             left,
             shape,

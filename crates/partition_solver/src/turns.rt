@@ -4,12 +4,13 @@ use crate::hints::{FEW_TRICKS, follow_key, lead_key};
 use crate::search::Search;
 use crate::starts::{Found, Start, side_of};
 use search_state::moves::{HandRuns, Move, Moves};
-use search_state::positions::{Trick, Turn, Wants};
+use search_state::positions::{Trick, Turn, Wants, seat_to_left};
+use search_state::words::CardSet;
 
 impl Search {
     /// The turn of the hand so many places to the left of the leader.
     fn turn(&self, tricks: u32, start: &Start, places: usize) -> Turn<'_> {
-        let seat = start.leader.wrapping_add(places) & 3;
+        let seat = seat_to_left(start.leader, places);
         let wants = Wants {
             wanted: start.wanted_by(side_of(seat), tricks),
             tricks,
@@ -26,7 +27,7 @@ impl Search {
     }
 
     /// The lead that succeeded before at such a place, or no card.
-    fn hinted_lead(&self, tricks: u32, start: &Start) -> u64 {
+    fn hinted_lead(&self, tricks: u32, start: &Start) -> CardSet {
         if tricks <= FEW_TRICKS {
             return 0;
         }
@@ -64,7 +65,7 @@ impl Search {
     }
 
     /// What was found of a card that succeeded, which is remembered under its key.
-    pub(crate) fn succeeded(&mut self, key: Option<usize>, card: u64, found: Found) -> Found {
+    pub(crate) fn succeeded(&mut self, key: Option<usize>, card: CardSet, found: Found) -> Found {
         if let Some(key) = key {
             self.follows.keep(key, card);
         }

@@ -4,15 +4,15 @@ use crate::search::Search;
 use crate::starts::{OURS, Start};
 use search_state::deals::CardsLeft;
 use search_state::positions::Holdings;
-use search_state::words::MOST_CARDS;
+use search_state::words::{CardSet, MOST_CARDS};
 
 /// How many cards a set has.
-fn count_of(cards: u64) -> i32 {
+fn count_of(cards: CardSet) -> i32 {
     cards.count_ones() as i32
 }
 
 /// Four for an ace, three for a king, two for a queen, one for a jack.
-fn points_of(cards: u64) -> i32 {
+fn points_of(cards: CardSet) -> i32 {
     let aces = count_of(cards & 0x1000_1000_1000_1000);
     let kings = count_of(cards & 0x1800_1800_1800_1800);
     let queens = count_of(cards & 0x1c00_1c00_1c00_1c00);

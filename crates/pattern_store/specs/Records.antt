@@ -1,7 +1,9 @@
 -- The records that are kept, by list, and what a look-up and an add say of them.
-use Rattle.std.specs.Prelude.{◌≡◌, ℕ, ◌+◌, ◌*◌, ◌/◌, ◌%◌, ◌<◌, ◌≤◌, ◌⊎◌, Bool, if◌then◌else◌, Some, slice_get, length}
+use Rattle.std.specs.Prelude.{◌≡◌, ℕ, ◌+◌, ◌*◌, ◌/◌, ◌%◌, ◌<◌, ◌≤◌, ◌⊎◌, Some, slice_get, length}
 use Rattle.std.specs.Prelude as std
 use Rattle.std.specs.Option.{option_map_or}
+use Rattle.cards.specs.Seats.{side_number}
+use Rattle.cards.specs.declared.seats.Side.{Side}
 use Rattle.pattern_store.specs.declared.record.Record.{Record}
 use Rattle.pattern_store.specs.declared.blocks.List.{List}
 use Rattle.pattern_store.specs.declared.blocks.Block.{Block}
@@ -15,8 +17,8 @@ pub record Kept : Type 0 where
   pub room : ℕ
 
 -- the number of a list of its shape: that of the seat that leads and of the side that wins, North's and South's first
-abbrev pub list_number : ℕ → Bool → ℕ
-list_number leader ours = leader % 4 * 2 + (if ours then 0 else 1)
+abbrev pub list_number : ℕ → Side → ℕ
+list_number leader side = leader % 4 * 2 + side_number side
 
 -- a list has no blocks
 abbrev pub IsEmpty : Kept → List → Type 0

@@ -14,6 +14,7 @@ use crate::runs::Runs;
 use crate::shapes::{MOST_SHAPES, Shapes};
 use crate::spans::Span;
 use crate::waiting::Waiting;
+use cards::Side;
 use std::alloc::{AllocError, Global};
 use std::marker::Model;
 
@@ -36,10 +37,14 @@ impl Model for Records {
 }
 
 /// The number of a list of its shape.
-fn number_in_shape(leader: usize, ours: bool) -> u32
-    ensures { result ≡ list_number leader ours }
+fn number_in_shape(leader: usize, side: Side) -> u32
+    ensures { result ≡ list_number leader side }
 {
-    (leader % 4) as u32 * 2 + if ours { 0 } else { 1 }
+    let place = match side {
+        Side::NorthSouth => 0,
+        Side::EastWest => 1,
+    };
+    (leader % 4) as u32 * 2 + place
 }
 
 /// The number of the record in a place of a block.
@@ -114,16 +119,15 @@ impl Records {
         self.shapes.number(lengths)
     }
 
-    /// The list of a shape, a seat that leads and a side that wins, North's and South's where it is ours. None where
-    /// it is empty.
-    pub fn list(&self, shape: Option<u32>, leader: usize, ours: bool) -> Option<List>
-        ensures some { IfSome result (λ list. (shape ≡ Some list.shape) × (list.number ≡ list_number leader ours)) }
+    /// The list of a shape, a seat that leads and a side that wins. None where it is empty.
+    pub fn list(&self, shape: Option<u32>, leader: usize, side: Side) -> Option<List>
+        ensures some { IfSome result (λ list. (shape ≡ Some list.shape) × (list.number ≡ list_number leader side)) }
         ensures none { IfNone result ((number : ℕ) → shape ≡ Some number
-            → IsEmpty self.now (record { shape = number; number = list_number leader ours })) }
+            → IsEmpty self.now (record { shape = number; number = list_number leader side })) }
     {
         let list = List {
             shape: shape?,
-            number: number_in_shape(leader, ours),
+            number: number_in_shape(leader, side),
         };
         if self.shapes.span(list).is_empty() {
             return None;
@@ -213,17 +217,17 @@ impl Records {
         shape: Option<u32>,
         lengths: u64,
         leader: usize,
-        ours: bool,
+        side: Side,
         told: Record,
     ) -> Result<(), AllocError>
-        ensures { Adds self.old self.new lengths (list_number leader ours) told }
+        ensures { Adds self.old self.new lengths (list_number leader side) told }
     {
         let Some(shape) = self.make(shape, lengths)? else {
             return Ok(());
         };
         let list = List {
             shape,
-            number: number_in_shape(leader, ours),
+            number: number_in_shape(leader, side),
         };
         let span = self.shapes.span(list);
         let mut waiting = Waiting::of(told);

@@ -1,6 +1,6 @@
 //! The tables of one deal: who owns the cards of a suit, and which rank each of them has.
 
-use crate::words::{MOST_CARDS, PACK, SUIT};
+use crate::words::{CardSet, MOST_CARDS, PACK, SUIT};
 use cards::{Layout, Seat, Suit, Trump};
 use std::alloc::{AllocError, Global};
 
@@ -22,9 +22,9 @@ const NO_RANK: u64 = 15;
 #[derive(Drop)]
 pub struct DealTables {
     /// The four hands.
-    pub hands: [u64; 4],
+    pub hands: [CardSet; 4],
     /// All bits of the trump suit.
-    pub trumps: u64,
+    pub trumps: CardSet,
     /// The suits as they lie in a word, from the lowest.
     pub suits: [Suit; 4],
     /// By suit and set of ranks the owners of the first eight.
@@ -39,7 +39,7 @@ pub struct DealTables {
 #[derive(Clone, Copy)]
 pub struct CardsLeft<'a> {
     deal: &'a DealTables,
-    pub cards: u64,
+    pub cards: CardSet,
     pub near: u64,
 }
 
@@ -56,7 +56,7 @@ fn suits_of(trump: Trump) -> [Suit; 4] {
 }
 
 /// A hand of the layout as a word.
-fn hand_of(layout: &Layout, seat: Seat, suits: [Suit; 4]) -> u64 {
+fn hand_of(layout: &Layout, seat: Seat, suits: [Suit; 4]) -> CardSet {
     u64::from(layout.holding(seat, suits[0]))
         | u64::from(layout.holding(seat, suits[1])).wrapping_shl(16)
         | u64::from(layout.holding(seat, suits[2])).wrapping_shl(32)
@@ -64,7 +64,7 @@ fn hand_of(layout: &Layout, seat: Seat, suits: [Suit; 4]) -> u64 {
 }
 
 /// The four hands of the layout as words.
-fn hands_of(layout: &Layout, suits: [Suit; 4]) -> [u64; 4] {
+fn hands_of(layout: &Layout, suits: [Suit; 4]) -> [CardSet; 4] {
     [
         hand_of(layout, Seat::North, suits),
         hand_of(layout, Seat::East, suits),
@@ -74,7 +74,7 @@ fn hands_of(layout: &Layout, suits: [Suit; 4]) -> [u64; 4] {
 }
 
 /// All bits of the trump suit, which lies highest.
-fn trumps_of(trump: Trump) -> u64 {
+fn trumps_of(trump: Trump) -> CardSet {
     match trump {
         Trump::Nt => 0,
         Trump::Suit(_) => SUIT.wrapping_shl(48),
@@ -82,7 +82,7 @@ fn trumps_of(trump: Trump) -> u64 {
 }
 
 /// Who of the four holds the card.
-fn holder(hands: [u64; 4], card: u64) -> u32 {
+fn holder(hands: [CardSet; 4], card: CardSet) -> u32 {
     if hands[1] & card != 0 {
         1
     } else if hands[2] & card != 0 {
@@ -95,7 +95,7 @@ fn holder(hands: [u64; 4], card: u64) -> u32 {
 }
 
 /// The owners of these cards by a table of four suits.
-fn owners_by(table: &[u16], left: u64) -> u64 {
+fn owners_by(table: &[u16], left: CardSet) -> u64 {
     if table.len() < ALL_SETS {
         return 0;
     }
@@ -110,7 +110,7 @@ fn owners_by(table: &[u16], left: u64) -> u64 {
 }
 
 /// Who owns the card of this rank in a suit, by the suit's number in the word.
-fn owner_of(hands: [u64; 4], lane: u32, rank: u32) -> u32 {
+fn owner_of(hands: [CardSet; 4], lane: u32, rank: u32) -> u32 {
     holder(
         hands,
         1u64.wrapping_shl(rank.wrapping_add(lane.wrapping_mul(16))),
@@ -118,7 +118,7 @@ fn owner_of(hands: [u64; 4], lane: u32, rank: u32) -> u32 {
 }
 
 /// For each set of the lowest ranks of a suit the owners, the highest first. The others of a set are a set before it.
-fn low_owners(hands: [u64; 4], lane: u32) -> [u32; LOW_SETS] {
+fn low_owners(hands: [CardSet; 4], lane: u32) -> [u32; LOW_SETS] {
     let mut low = [0u32; LOW_SETS];
     for rank in 0..HIGH_RANK {
         let owner = owner_of(hands, lane, rank);
@@ -132,7 +132,7 @@ fn low_owners(hands: [u64; 4], lane: u32) -> [u32; LOW_SETS] {
 }
 
 /// The owners of a set of the four highest ranks of a suit, the highest first, and how many bits they take.
-fn high_owners(hands: [u64; 4], lane: u32, set: u32) -> (u32, u32) {
+fn high_owners(hands: [CardSet; 4], lane: u32, set: u32) -> (u32, u32) {
     let (mut owners, mut bits) = (0u32, 0u32);
     for rank in HIGH_RANK..MOST_CARDS {
         if set.wrapping_shr(rank.wrapping_sub(HIGH_RANK)) & 1 != 0 {
@@ -221,7 +221,7 @@ impl DealTables {
     }
 
     /// These cards with their owners.
-    pub fn cards_left(&self, cards: u64) -> CardsLeft<'_> {
+    pub fn cards_left(&self, cards: CardSet) -> CardsLeft<'_> {
         CardsLeft {
             deal: self,
             cards,
@@ -231,7 +231,7 @@ impl DealTables {
 
     /// The card of a suit that has this place among the cards left, the highest being the first. The suit is named by
     /// its start. A bit that is no card for the place 0: no jump goes by that.
-    fn card_in(&self, left: u64, start: u32, place: u16) -> u64 {
+    fn card_in(&self, left: CardSet, start: u32, place: u16) -> CardSet {
         let set = (left.wrapping_shr(start) & 0x1fff) as usize;
         let ranks = self.ranks.get(set).copied().unwrap_or(NO_RANK);
         let rank = ranks.wrapping_shr(u32::from(place).wrapping_mul(4)) & 15;
@@ -239,7 +239,7 @@ impl DealTables {
     }
 
     /// The lowest card of each suit that these depths name, four bits a suit.
-    pub fn cards_at(&self, left: u64, depths: u16) -> u64 {
+    pub fn cards_at(&self, left: CardSet, depths: u16) -> CardSet {
         let named = self.card_in(left, 0, depths & 15)
             | self.card_in(left, 16, depths >> 4 & 15)
             | self.card_in(left, 32, depths >> 8 & 15)

@@ -3,7 +3,7 @@
 use crate::moves::{HandRuns, Moves, card_at};
 use crate::order::{SuitDiscards, rank_of, whole};
 use crate::positions::{Trick, Turn};
-use crate::words::highest;
+use crate::words::{CardSet, highest};
 
 /// What a winning card of the last hand weighs more, or where partner's card stands a losing one.
 const CHOICE: i32 = 1000;
@@ -19,7 +19,7 @@ struct InSuit {
     /// The number of the first pair for such a turn: two bits more tell of the card.
     first: usize,
     /// The next hand's best.
-    next: u64,
+    next: CardSet,
 }
 
 /// How ruffs are weighed.
@@ -29,7 +29,7 @@ struct Ruffs {
     /// Whether partner's card stands.
     stands: bool,
     /// The trump with which the next hand can overruff.
-    next: u64,
+    next: CardSet,
 }
 
 /// 1 where it holds.
@@ -69,7 +69,7 @@ impl InSuit {
     }
 
     /// The bit that tells whether the next hand, whose best this is, can ruff.
-    fn ruffed(turn: &Turn, next: u64) -> usize {
+    fn ruffed(turn: &Turn, next: CardSet) -> usize {
         one_if(next == 0 && turn.hand(1) & turn.deal.trumps != 0) << 4
     }
 
@@ -157,7 +157,7 @@ impl Moves {
 
     /// Adds runs of the suit led of a last hand.
     #[inline(always)]
-    fn add_upwards(&mut self, mut runs: HandRuns, best: u64, stands: bool) {
+    fn add_upwards(&mut self, mut runs: HandRuns, best: CardSet, stands: bool) {
         for _ in 0..runs.count() {
             let run = runs.next();
             let wins = run.highest() > best;

@@ -3,6 +3,7 @@
 use crate::moves::{HandRuns, Moves};
 use crate::order::{NO_BIT, best_two, rank_of, sum_of, whole};
 use crate::positions::Turn;
+use crate::words::CardSet;
 
 /// The place of the last three weights of leads, those of the highest card, of the second and of lower ones.
 const LAST_CLASSES: u32 = 177;
@@ -79,7 +80,7 @@ fn first_owners(turn: &Turn, start: u32, has_second: bool) -> (u32, u32) {
 }
 
 /// The group of a suit in the tables of leads.
-fn group_of(trumps: u64, start: u32) -> u32 {
+fn group_of(trumps: CardSet, start: u32) -> u32 {
     if trumps == 0 {
         0
     } else if start == 48 {

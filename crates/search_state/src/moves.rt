@@ -2,7 +2,7 @@
 
 use crate::positions::Trick;
 use crate::words::{
-    below, bottoms, highest, highest_bit, lowest, lowest_bit, suit_of, without_lowest,
+    CardSet, below, bottoms, highest, highest_bit, lowest, lowest_bit, suit_of, without_lowest,
 };
 
 /// How many runs there is room for: more than a hand has.
@@ -19,20 +19,20 @@ const HIGHEST: i32 = 64;
 /// A card to be tried, with the lowest and the highest card of its run.
 #[derive(Clone, Copy)]
 pub struct Move {
-    pub card: u64,
-    pub bottom: u64,
-    pub top: u64,
+    pub card: CardSet,
+    pub bottom: CardSet,
+    pub top: CardSet,
 }
 
 /// The runs of a hand's cards, from the lowest.
 #[derive(Clone, Copy)]
 pub struct HandRuns {
     /// The cards.
-    pub own: u64,
+    pub own: CardSet,
     /// The lowest card of each run.
-    pub bottoms: u64,
+    pub bottoms: CardSet,
     /// Those of the runs that are still to come.
-    rest: u64,
+    rest: CardSet,
 }
 
 /// A run, by the numbers of the bits of its lowest and its highest card.
@@ -45,9 +45,9 @@ pub struct Run {
 /// The runs that are still to be tried.
 #[derive(Clone, Copy)]
 pub struct Moves {
-    own: u64,
+    own: CardSet,
     /// The cards that have failed, and those that would fail alike. A run is skipped where its highest is one.
-    dead: u64,
+    dead: CardSet,
     /// The runs by falling weight: the weight, whether the highest card is tried, and the bits of the highest and the
     /// lowest.
     runs: [i32; ROOM],
@@ -57,20 +57,20 @@ pub struct Moves {
 }
 
 /// The card of a bit.
-pub fn card_at(bit: u32) -> u64 {
+pub fn card_at(bit: u32) -> CardSet {
     1u64.wrapping_shl(bit)
 }
 
 impl Move {
     /// All bits from the lowest card of the run up to the highest.
-    fn cards(&self) -> u64 {
+    fn cards(&self) -> CardSet {
         self.top.wrapping_shl(1).wrapping_sub(self.bottom)
     }
 }
 
 impl Run {
     /// The highest card.
-    pub fn highest(&self) -> u64 {
+    pub fn highest(&self) -> CardSet {
         card_at(self.top)
     }
 
@@ -82,7 +82,7 @@ impl Run {
 
 impl HandRuns {
     /// The runs of these cards, where those in all hands are these.
-    pub fn of(own: u64, left: u64) -> HandRuns {
+    pub fn of(own: CardSet, left: CardSet) -> HandRuns {
         let all = bottoms(own, left);
         HandRuns {
             own,
@@ -112,7 +112,7 @@ impl HandRuns {
     }
 
     /// The run of this card, which is tried, if it is one of these.
-    fn of_card(&self, card: u64) -> Option<Move> {
+    fn of_card(&self, card: CardSet) -> Option<Move> {
         if card & self.own == 0 {
             return None;
         }
@@ -123,13 +123,13 @@ impl HandRuns {
     }
 
     /// The run whose highest card is this, if there is one.
-    pub fn of_top(&self, card: u64) -> Option<Move> {
+    pub fn of_top(&self, card: CardSet) -> Option<Move> {
         let run = self.of_card(card)?;
         if run.top == card { Some(run) } else { None }
     }
 
     /// The run of which this card is the one to be tried: the highest where it beats what lies, else the lowest.
-    pub fn of_choice(&self, card: u64, trick: &Trick, trumps: u64) -> Option<Move> {
+    pub fn of_choice(&self, card: CardSet, trick: &Trick, trumps: CardSet) -> Option<Move> {
         let run = self.of_card(card)?;
         let wins = trick.beats(run.top, trumps);
         let choice = if wins { run.top } else { run.bottom };
@@ -207,7 +207,7 @@ impl Moves {
 
     /// After a card failed for reasons that need these cards: cards of its suit that lie below them would fail alike,
     /// if its whole run does.
-    pub fn skip(&mut self, tried: Move, relevant: u64) {
+    pub fn skip(&mut self, tried: Move, relevant: CardSet) {
         let suit = suit_of(tried.bottom);
         let alike = below(lowest(relevant & suit));
         if tried.top <= alike {

@@ -1,7 +1,7 @@
 //! What the weights of all turns share (`leads`, `followers`): the tables, and the weights of discards.
 
 use crate::positions::Turn;
-use crate::words::{highest, highest_bit, lowest_bit};
+use crate::words::{CardSet, highest, highest_bit, lowest_bit};
 
 /// How often a weight counts beside the factors of a length or a rank.
 const SCALE: i32 = 8;
@@ -34,7 +34,7 @@ pub(crate) fn rank_of(bit: u32) -> i32 {
 }
 
 /// The bits of the highest card left of the suit that starts here and of the second, `NO_BIT` where there is none.
-pub(crate) fn best_two(left: u64, start: u32) -> (u32, u32) {
+pub(crate) fn best_two(left: CardSet, start: u32) -> (u32, u32) {
     let suit = left & 0x1fffu64.wrapping_shl(start);
     let best = highest(suit);
     let second = suit & !best;

@@ -1,34 +1,36 @@
 //! A position of the search: the cards held, and the trick in progress. Seats are numbers from North's 0.
 
+ghost use Rattle.std.specs.Prelude.{◌<◌};
+
 use crate::deals::DealTables;
 use crate::weights::{ALL, EAGER, MODEST, ONE, Weights};
-use crate::words::{start_of, suit_of};
+use crate::words::{CardSet, Lengths, start_of, suit_of};
 
 /// The cards that the seats hold. A search plays them one by one, and puts them back.
 #[derive(Clone, Copy)]
 pub struct Holdings {
     /// The cards of each seat.
-    pub hands: [u64; 4],
+    pub hands: [CardSet; 4],
     /// How many cards each seat holds in each suit, four bits each, by suit and seat.
-    pub lengths: u64,
+    pub lengths: Lengths,
 }
 
 /// What a seat held before it played, with the lengths of all.
 #[derive(Clone, Copy)]
 pub struct Before {
-    pub hand: u64,
-    pub lengths: u64,
+    pub hand: CardSet,
+    pub lengths: Lengths,
 }
 
 /// The cards of a trick so far, after the lead.
 #[derive(Clone, Copy)]
 pub struct Trick {
     /// All bits of the suit led.
-    pub led: u64,
+    pub led: CardSet,
     /// All bits of the suit of the card that wins so far.
-    pub deciding: u64,
+    pub deciding: CardSet,
     /// The card that wins so far.
-    pub best: u64,
+    pub best: CardSet,
     /// The seat that holds it.
     pub winner: u32,
     /// A bit for each seat that played to its suit.
@@ -48,19 +50,26 @@ pub struct Turn<'a> {
     pub deal: &'a DealTables,
     pub held: &'a Holdings,
     /// The cards in all hands at the trick's start.
-    pub left: u64,
+    pub left: CardSet,
     /// The seat to play.
     pub seat: usize,
     pub(crate) weights: &'static Weights,
 }
 
+/// The seat so many places to the left of this one.
+pub fn seat_to_left(seat: usize, places: usize) -> usize
+    ensures { result < 4 }
+{
+    seat.wrapping_add(places) & 3
+}
+
 /// One card of a suit and a seat, in the word of the lengths.
-pub fn one_of(card: u64, seat: usize) -> u64 {
+pub fn one_of(card: CardSet, seat: usize) -> Lengths {
     1u64.wrapping_shl(start_of(card).wrapping_add((seat & 3) as u32 * 4))
 }
 
 /// The lengths of four hands.
-fn lengths_of(hands: [u64; 4]) -> u64 {
+fn lengths_of(hands: [CardSet; 4]) -> Lengths {
     let mut lengths = 0u64;
     for suit in 0..4u32 {
         for seat in 0..4u32 {
@@ -74,7 +83,7 @@ fn lengths_of(hands: [u64; 4]) -> u64 {
 
 impl Holdings {
     /// These hands.
-    pub fn of(hands: [u64; 4]) -> Holdings {
+    pub fn of(hands: [CardSet; 4]) -> Holdings {
         Holdings {
             hands,
             lengths: lengths_of(hands),
@@ -82,7 +91,7 @@ impl Holdings {
     }
 
     /// The cards in all hands.
-    pub fn all(&self) -> u64 {
+    pub fn all(&self) -> CardSet {
         self.hands[0] | self.hands[1] | self.hands[2] | self.hands[3]
     }
 
@@ -95,7 +104,7 @@ impl Holdings {
     }
 
     /// The seat plays a card.
-    pub fn play(&mut self, seat: usize, card: u64) {
+    pub fn play(&mut self, seat: usize, card: CardSet) {
         self.hands[seat & 3] &= !card;
         self.lengths = self.lengths.wrapping_sub(one_of(card, seat));
     }
@@ -109,7 +118,7 @@ impl Holdings {
 
 impl Trick {
     /// A trick to which the seat has led the card.
-    pub fn led(seat: usize, card: u64) -> Trick {
+    pub fn led(seat: usize, card: CardSet) -> Trick {
         let suit = suit_of(card);
         Trick {
             led: suit,
@@ -121,12 +130,12 @@ impl Trick {
     }
 
     /// Whether the card wins against those on the table.
-    pub fn beats(&self, card: u64, trumps: u64) -> bool {
+    pub fn beats(&self, card: CardSet, trumps: CardSet) -> bool {
         card & (self.deciding | trumps) > self.best
     }
 
     /// What a card of the suit led has to beat: no card does where a ruff stands.
-    pub(crate) fn best_in_suit(&self) -> u64 {
+    pub(crate) fn best_in_suit(&self) -> CardSet {
         if self.deciding == self.led {
             self.best
         } else {
@@ -135,7 +144,7 @@ impl Trick {
     }
 
     /// The trick after the seat has played the card.
-    pub fn after(&self, seat: usize, card: u64, trumps: u64) -> Trick {
+    pub fn after(&self, seat: usize, card: CardSet, trumps: CardSet) -> Trick {
         let mut next = *self;
         let seat = (seat & 3) as u32;
         let bit = 1u32.wrapping_shl(seat);
@@ -155,7 +164,7 @@ impl Trick {
     }
 
     /// The cards of a hand that may be played.
-    pub fn legal(&self, hand: u64) -> u64 {
+    pub fn legal(&self, hand: CardSet) -> CardSet {
         let follows = hand & self.led;
         if follows != 0 { follows } else { hand }
     }
@@ -186,7 +195,7 @@ impl<'a> Turn<'a> {
     pub fn of(
         deal: &'a DealTables,
         held: &'a Holdings,
-        left: u64,
+        left: CardSet,
         seat: usize,
         wants: Wants,
     ) -> Turn<'a> {
@@ -200,8 +209,8 @@ impl<'a> Turn<'a> {
     }
 
     /// The hand of the seat so many places to the left of the one to play.
-    pub(crate) fn hand(&self, places: usize) -> u64 {
-        self.held.hands[self.seat.wrapping_add(places) & 3]
+    pub(crate) fn hand(&self, places: usize) -> CardSet {
+        self.held.hands[seat_to_left(self.seat, places)]
     }
 
     /// How many cards of the suit that starts here the seats have, from the one to play on, four bits each.

@@ -1,11 +1,17 @@
 //! Sets of cards as words: sixteen bits a suit, the deuce lowest. The trump suit, where there is one, lies highest.
 
+/// A set of cards, by these bits. A card is the set of it alone.
+pub type CardSet = u64;
+
+/// How many cards each seat holds in each suit, four bits each, by suit and seat.
+pub type Lengths = u64;
+
 /// All cards of the pack.
-pub(crate) const PACK: u64 = 0x1fff_1fff_1fff_1fff;
+pub const PACK: CardSet = 0x1fff_1fff_1fff_1fff;
 /// The deuces.
-const DEUCES: u64 = 0x0001_0001_0001_0001;
+const DEUCES: CardSet = 0x0001_0001_0001_0001;
 /// The bits of the lowest suit.
-pub const SUIT: u64 = 0xffff;
+pub const SUIT: CardSet = 0xffff;
 /// The bit above the ace of the lowest suit.
 const ABOVE: u64 = 0x2000;
 /// How many cards a hand has at most: so many tricks there are, and so many cards a seat can choose from.
@@ -14,67 +20,67 @@ pub const MOST_CARDS: u32 = 13;
 pub const MIXER: u64 = 0x9e37_79b9_7f4a_7c15;
 
 /// The lowest card of a set.
-pub fn lowest(cards: u64) -> u64 {
+pub fn lowest(cards: CardSet) -> CardSet {
     cards & 0u64.wrapping_sub(cards)
 }
 
 /// The set without its lowest card.
-pub(crate) fn without_lowest(cards: u64) -> u64 {
+pub(crate) fn without_lowest(cards: CardSet) -> CardSet {
     cards & cards.wrapping_sub(1)
 }
 
 /// The number of the lowest card's bit.
-pub(crate) fn lowest_bit(cards: u64) -> u32 {
+pub(crate) fn lowest_bit(cards: CardSet) -> u32 {
     cards.trailing_zeros() & 63
 }
 
 /// The number of the highest card's bit, 0 where there is none.
-pub(crate) fn highest_bit(cards: u64) -> u32 {
+pub(crate) fn highest_bit(cards: CardSet) -> u32 {
     63u32.wrapping_sub((cards | 1).leading_zeros()) & 63
 }
 
 /// The highest card of a set.
-pub fn highest(cards: u64) -> u64 {
+pub fn highest(cards: CardSet) -> CardSet {
     cards & 1u64.wrapping_shl(highest_bit(cards))
 }
 
 /// Where the suit of the card begins: 0, 16, 32 or 48.
-pub(crate) fn start_of(card: u64) -> u32 {
+pub fn start_of(card: CardSet) -> u32 {
     card.trailing_zeros() & 48
 }
 
 /// All bits of the suit of the card.
-pub fn suit_of(card: u64) -> u64 {
+pub fn suit_of(card: CardSet) -> CardSet {
     SUIT.wrapping_shl(start_of(card))
 }
 
 /// The cards below this one, in its suit and the suits below.
-pub fn below(card: u64) -> u64 {
+pub fn below(card: CardSet) -> CardSet {
     card.wrapping_sub(1)
 }
 
 /// All cards of each suit in which the set has one.
-pub(crate) fn suits_of_cards(cards: u64) -> u64 {
+pub(crate) fn suits_of_cards(cards: CardSet) -> CardSet {
     let found = cards.wrapping_add(PACK) & DEUCES.wrapping_mul(ABOVE);
     found.wrapping_sub(found >> 13)
 }
 
 /// The cards of each suit below the lowest of the set, and all cards of a suit in which it has none.
-pub(crate) fn below_lowest(cards: u64) -> u64 {
+pub fn below_lowest(cards: CardSet) -> CardSet {
     (cards | DEUCES.wrapping_mul(ABOVE)).wrapping_sub(DEUCES) & !cards & PACK
 }
 
 /// Of each suit the ranks of the set from the lowest rank on up to the first that the set lacks.
-pub(crate) fn lowest_run(cards: u64) -> u64 {
+pub(crate) fn lowest_run(cards: CardSet) -> CardSet {
     cards & !cards.wrapping_add(DEUCES)
 }
 
 /// The lowest card of the set in each suit.
-pub(crate) fn lowest_of_each(cards: u64) -> u64 {
+pub fn lowest_of_each(cards: CardSet) -> CardSet {
     cards & (!cards & PACK).wrapping_add(DEUCES)
 }
 
 /// The lowest card of each run of touching cards of a hand: those between which no card is left with others.
-pub(crate) fn bottoms(own: u64, left: u64) -> u64 {
+pub(crate) fn bottoms(own: CardSet, left: CardSet) -> CardSet {
     own & !own.wrapping_shl(1).wrapping_add(PACK & !left)
 }

@@ -1,14 +1,14 @@
 //! A trick played on a remembered pattern, with the cards of a position that it stands for. In each suit those down to
 //! the lowest whose owner is named are tops; the others are low cards, of which none beats another.
 
-use crate::deals::{CardsLeft, DealTables};
-use crate::words::{
-    PACK, SUIT, below, below_lowest, highest, lowest, lowest_of_each, start_of, suit_of,
-};
 use pattern_store::{Owners, Record};
-
-/// The place of a low card, where a record names one.
-pub const LOW: u32 = 15;
+use search_state::deals::{CardsLeft, DealTables};
+use search_state::positions::seat_to_left;
+use search_state::relevant_cards::LOW;
+use search_state::words::{
+    CardSet, Lengths, PACK, SUIT, below, below_lowest, highest, lowest, lowest_of_each, start_of,
+    suit_of,
+};
 
 /// The lowest bit of each suit.
 const LOWEST: u64 = 0x0001_0001_0001_0001;
@@ -18,44 +18,44 @@ const NEAR: u32 = 8;
 
 /// A pattern before a trick is played on it, and a position that it stands for.
 #[derive(Clone, Copy, Default)]
-pub struct PatternStart {
+pub(crate) struct PatternStart {
     /// The cards in all hands.
-    left: u64,
+    left: CardSet,
     /// Those that are tops.
-    tops: u64,
+    tops: CardSet,
     /// The cards that each seat may choose from: of each run of its touching tops the highest, and of its low cards of
     /// each suit the lowest.
-    choices: [u64; 4],
+    choices: [CardSet; 4],
     /// The lengths, as the search has them.
-    lengths: u64,
+    lengths: Lengths,
     /// How many low cards each seat has, like the lengths.
-    lows: u64,
+    lows: Lengths,
     /// How many tops there are, four bits a suit.
     depths: u16,
     /// All bits of the suits of which some owners stand in the second word of a record.
     deep_suits: u64,
     /// The card that showed it in the search, where the side leads, with others that are none to choose; or no card.
-    pub first_card: u64,
+    pub first_card: CardSet,
 }
 
 /// A trick in progress.
 #[derive(Clone, Copy)]
-pub struct PatternTrick {
+pub(crate) struct PatternTrick {
     /// The cards that were played.
-    played: u64,
+    played: CardSet,
     /// The lengths, as the search has them.
-    pub lengths: u64,
+    pub lengths: Lengths,
     /// How many low cards each seat has left, like the lengths.
-    lows: u64,
+    lows: Lengths,
     /// The bits of the owners of the tops left in the first word of a record, where no suit had more tops than stand
     /// there.
     known: u64,
     /// All bits of the suit led, 0 before the lead.
-    pub led: u64,
+    pub led: CardSet,
     /// The card that wins so far, or no card. A low card is the lowest bit of its suit.
-    best: u64,
+    best: CardSet,
     /// In each suit one card of the seat to play, like the lengths.
-    ones: u64,
+    ones: Lengths,
     /// The seats that may have played the card that wins so far, as `seat_bit` has them.
     pub winners: u32,
 }
@@ -63,7 +63,7 @@ pub struct PatternTrick {
 /// What a trick leaves: the owners, and the bits of those that are known. Where one seat alone has low cards of a suit
 /// it is known to own them.
 #[derive(Clone, Copy)]
-pub struct Remains {
+pub(crate) struct Remains {
     pub owners: Owners,
     pub known: Owners,
 }
@@ -74,13 +74,13 @@ fn lane_of(word: u64, lane: usize) -> u64 {
 }
 
 /// The bit of a seat, four apart, as in the lengths.
-pub fn seat_bit(seat: usize) -> u32 {
+pub(crate) fn seat_bit(seat: usize) -> u32 {
     1u32.wrapping_shl((seat & 3) as u32 * 4)
 }
 
 /// The highest card of each run of a hand's touching cards: those above which no card is gone up to another of the
 /// hand. The gaps are the cards that nobody has.
-fn tops_of_runs(own: u64, gaps: [u64; 4]) -> u64 {
+fn tops_of_runs(own: CardSet, gaps: [CardSet; 4]) -> CardSet {
     let mut above = own;
     above |= gaps[0] & above >> 1;
     above |= gaps[1] & above >> 2;
@@ -90,7 +90,7 @@ fn tops_of_runs(own: u64, gaps: [u64; 4]) -> u64 {
 }
 
 /// The cards that nobody has, and those that are the lowest of two, four and eight of them in a row.
-fn gaps_in(left: u64) -> [u64; 4] {
+fn gaps_in(left: CardSet) -> [CardSet; 4] {
     let one = PACK & !left;
     let two = one & one >> 1;
     let four = two & two >> 2;
@@ -98,7 +98,7 @@ fn gaps_in(left: u64) -> [u64; 4] {
 }
 
 /// How many of the cards there are in each suit, in the lowest four bits of its part of the word.
-fn counts_in(cards: u64) -> u64 {
+fn counts_in(cards: CardSet) -> u64 {
     let pairs = cards.wrapping_sub(cards >> 1 & 0x5555_5555_5555_5555);
     let fours = (pairs & 0x3333_3333_3333_3333).wrapping_add(pairs >> 2 & 0x3333_3333_3333_3333);
     let eights = fours.wrapping_add(fours >> 4) & 0x0f0f_0f0f_0f0f_0f0f;
@@ -106,7 +106,7 @@ fn counts_in(cards: u64) -> u64 {
 }
 
 /// How many of the cards there are, four bits a suit.
-fn depths_in(cards: u64) -> u16 {
+fn depths_in(cards: CardSet) -> u16 {
     let counts = counts_in(cards);
     ((counts | counts >> 12 | counts >> 24 | counts >> 36) & 0xffff) as u16
 }
@@ -135,7 +135,7 @@ fn deep_bits(depths: u16) -> u64 {
 }
 
 /// All bits of the suits of which one seat at most has low cards.
-fn whole_suits(lows: u64) -> u64 {
+fn whole_suits(lows: Lengths) -> u64 {
     let holders = (lows | lows >> 1 | lows >> 2 | lows >> 3) & 0x1111_1111_1111_1111;
     let others = (holders | LOWEST << 15).wrapping_sub(LOWEST) & holders;
     let many = (others >> 4 | others >> 8 | others >> 12) & LOWEST;
@@ -143,7 +143,7 @@ fn whole_suits(lows: u64) -> u64 {
 }
 
 /// All bits of the suits that have more cards than owners stand in the first word of a record.
-fn deep_suits(left: u64) -> u64 {
+fn deep_suits(left: CardSet) -> u64 {
     let mut deep = 0u64;
     for lane in 0..4usize {
         if lane_of(left, lane).count_ones() > NEAR {
@@ -155,7 +155,7 @@ fn deep_suits(left: u64) -> u64 {
 
 /// A suit of a record of these lengths as the words of a pattern have it: the lengths, how many owners are known, and
 /// who they are.
-pub fn word_of(record: &Record, lengths: u64, lane: usize) -> u64 {
+pub(crate) fn word_of(record: &Record, lengths: Lengths, lane: usize) -> u64 {
     let depth = u64::from(record.depths.wrapping_shr((lane & 3) as u32 * 4) & 15);
     let owners = lane_of(record.near, lane) | lane_of(record.deep, lane) << 16;
     lane_of(lengths, lane) | depth << 16 | owners << 20
@@ -163,7 +163,12 @@ pub fn word_of(record: &Record, lengths: u64, lane: usize) -> u64 {
 
 impl PatternStart {
     /// The pattern of a record, with the cards of a position that it serves, of these lengths.
-    pub fn of(deal: &DealTables, record: &Record, left: u64, lengths: u64) -> PatternStart {
+    pub(crate) fn of(
+        deal: &DealTables,
+        record: &Record,
+        left: CardSet,
+        lengths: Lengths,
+    ) -> PatternStart {
         let tops = left & !below_lowest(deal.cards_at(left, record.depths));
         let gaps = gaps_in(left);
         let mut held = PatternStart {
@@ -187,7 +192,7 @@ impl PatternStart {
     }
 
     /// The card that a record names so, or all low cards of a suit, or no card.
-    fn cards_named(&self, deal: &DealTables, name: u8) -> u64 {
+    fn cards_named(&self, deal: &DealTables, name: u8) -> CardSet {
         if name >= 64 {
             return 0;
         }
@@ -201,14 +206,14 @@ impl PatternStart {
     }
 
     /// The cards that the seat to play may play, of each run of its touching tops the highest.
-    pub fn legal_cards(&self, trick: &PatternTrick) -> u64 {
+    pub(crate) fn legal_cards(&self, trick: &PatternTrick) -> CardSet {
         let cards = self.choices[trick.seat() & 3];
         let follows = cards & trick.led;
         if follows != 0 { follows } else { cards }
     }
 
     /// The place of a top among the cards of its suit, the highest first; none for a low card.
-    pub fn place_of(&self, card: u64) -> Option<u8> {
+    pub(crate) fn place_of(&self, card: CardSet) -> Option<u8> {
         if card & self.tops == 0 {
             return None;
         }
@@ -218,7 +223,7 @@ impl PatternStart {
 
     /// What a trick leaves.
     #[inline(always)]
-    pub fn remains(&self, deal: &DealTables, trick: &PatternTrick) -> Remains {
+    pub(crate) fn remains(&self, deal: &DealTables, trick: &PatternTrick) -> Remains {
         let left = deal.cards_left(self.cards_left(trick));
         let whole = whole_suits(trick.lows);
         let mut remains = Remains {
@@ -260,19 +265,19 @@ impl PatternStart {
     }
 
     /// The cards that a trick leaves.
-    pub fn cards_left(&self, trick: &PatternTrick) -> u64 {
+    pub(crate) fn cards_left(&self, trick: &PatternTrick) -> CardSet {
         self.left & !trick.played
     }
 
     /// Which of the cards is tried next, before so many of other seats.
-    pub fn choose(&self, trick: &PatternTrick, waiting: u64, others: u32) -> u64 {
+    pub(crate) fn choose(&self, trick: &PatternTrick, waiting: CardSet, others: u32) -> CardSet {
         if waiting & waiting.wrapping_sub(1) == 0 {
             return waiting;
         }
         if trick.led == 0 {
             return highest(waiting & suit_of(waiting));
         }
-        if others < 2 && trick.winners & seat_bit(trick.seat().wrapping_add(2)) == 0 {
+        if others < 2 && trick.winners & seat_bit(seat_to_left(trick.seat(), 2)) == 0 {
             let above = !below(trick.best) & !trick.best;
             let winning = waiting & self.tops & suit_of(trick.best) & above;
             if winning != 0 {
@@ -289,7 +294,7 @@ impl PatternStart {
 
 impl PatternTrick {
     /// The start of a trick on a pattern, with this seat to lead.
-    pub fn start(held: &PatternStart, leader: usize) -> PatternTrick {
+    pub(crate) fn start(held: &PatternStart, leader: usize) -> PatternTrick {
         PatternTrick {
             played: 0,
             lengths: held.lengths,
@@ -303,13 +308,18 @@ impl PatternTrick {
     }
 
     /// The seat to play.
-    pub fn seat(&self) -> usize {
+    pub(crate) fn seat(&self) -> usize {
         (self.ones.trailing_zeros() >> 2 & 3) as usize
     }
 
     /// The trick after the seat to play has played the card. Of the suit led and trumps the greatest wins.
     #[inline(always)]
-    pub fn after(&self, held: &PatternStart, card: u64, trumps: u64) -> PatternTrick {
+    pub(crate) fn after(
+        &self,
+        held: &PatternStart,
+        card: CardSet,
+        trumps: CardSet,
+    ) -> PatternTrick {
         let start = start_of(card);
         let suit = SUIT.wrapping_shl(start);
         let bit = (self.ones & SUIT) as u32;
