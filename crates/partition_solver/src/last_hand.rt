@@ -70,6 +70,7 @@ impl Search {
     }
 
     /// What is remembered after a card of this suit. The number is that of the shape, if it is known.
+    #[inline(always)]
     fn outcomes(
         &self,
         rest: u32,

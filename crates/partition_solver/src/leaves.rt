@@ -75,6 +75,7 @@ impl Plan {
     }
 
     /// The children after a trick. None where what is remembered does not show them for less than the limit.
+    #[inline(always)]
     pub(crate) fn leaf(
         &mut self,
         search: &Search,

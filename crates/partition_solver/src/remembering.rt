@@ -24,6 +24,7 @@ impl Search {
 
     /// What is known of the start of a trick that is not settled. The records of the side that wants fewer tricks are
     /// looked through first: mostly it gets them.
+    #[inline(always)]
     pub(crate) fn known(&self, tricks: u32, start: &Start) -> Option<Found> {
         let side = start.wants_fewer(tricks);
         let other = other_side(side);

@@ -288,6 +288,7 @@ impl Search {
     /// What was found of a trick that has ended: the winner's rank matters where others played to its suit, unless what
     /// is left goes the same way whoever of them wins.
     #[cycle(searching)]
+    #[inline(always)]
     fn ended(
         &mut self,
         rest: u32,
@@ -312,6 +313,7 @@ impl Search {
     /// The same answer whoever of those who played to the winner's suit wins, where that is known, or searched since
     /// few tricks are left, and names fewer owners.
     #[cycle(searching)]
+    #[inline(always)]
     fn whoever(
         &mut self,
         rest: u32,

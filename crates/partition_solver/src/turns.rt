@@ -51,6 +51,7 @@ impl Search {
 
     /// The first card of a second or third hand, where no weights tell it: the only one, or the one that succeeded
     /// before where the key was this.
+    #[inline(always)]
     pub(crate) fn sure_follow(
         &self,
         key: Option<usize>,
