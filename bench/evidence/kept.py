@@ -40,10 +40,13 @@ def measured(folder, words, pipe=()):
 
 
 def compressed(path):
-    """The bytes of the file after `zstd -19`, if that is there."""
+    """The bytes of the file after `zstd -19`, if that is there. They are not read: what this process has held counts as
+    memory of the runs that it starts after."""
     if not shutil.which("zstd"):
         return None
-    return len(subprocess.run(["zstd", "-19", "-c", "-q", str(path)], check=True, capture_output=True).stdout)
+    small = path.with_suffix(".zst")
+    subprocess.run(["zstd", "-19", "-q", "-o", str(small), str(path)], check=True)
+    return small.stat().st_size
 
 
 def compare(folder, kept):
