@@ -19,3 +19,5 @@ pub mod PlaceLaws
 pub mod FirstGoodLaws
 pub mod ReplayLaws
 pub mod FreeLaws
+pub mod IdleLaws
+pub mod SettlingLaws

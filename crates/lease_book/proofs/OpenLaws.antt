@@ -61,7 +61,7 @@ module _ (terms : Terms) (events : List Event) (leases : List Grant) (slots : Li
       ∙ in_order first unpublished free (nat_lt times terms.tries)
       ∙ own_number entry free (nat_lt times terms.tries) first refl
 
-  open_at : (entry : Entry) (d : Slot) → place_of entry < length slots → is_open_slot (get_or slots (place_of entry) d) ≡ is_open terms events entry
+  pub open_at : (entry : Entry) (d : Slot) → place_of entry < length slots → is_open_slot (get_or slots (place_of entry) d) ≡ is_open terms events entry
   open_at entry d l = ap is_open_slot (kept.slots_are (place_of entry) d l) ∙ open_as entry
 
   closed_past : (entry : Entry) → length slots ≤ place_of entry → is_open terms events entry ≡ false

@@ -1,12 +1,12 @@
 -- What follows from the definitions, for every list of events.
-use Rattle.std.specs.Prelude.{◌≡◌, ℕ, ◌*◌, ◌≤◌, ◌⊎◌, true, List, length, Option, Some, is_some}
+use Rattle.std.specs.Prelude.{◌≡◌, ℕ, ◌*◌, ◌≤◌, ◌⊎◌, true, false, List, [], ◌∷◌, ◌++◌, length, Option, Some, is_some}
 use Rattle.std.specs.List.{filter_map, list_any}
 use Rattle.std.specs.Option.{option_to_list}
 use Rattle.pbn_deals.specs.declared.boards.Board.{Board}
 use Rattle.lease_book.specs.declared.entries.Entry.{Entry}
 use Rattle.lease_book.specs.declared.events.Grant.{Grant}
 use Rattle.lease_book.specs.declared.events.Asked.{Asked}
-use Rattle.lease_book.specs.declared.events.Asked.TheVariants.{Lease}
+use Rattle.lease_book.specs.declared.events.Asked.TheVariants.{Lease, GiveUp}
 use Rattle.lease_book.specs.declared.events.Reply.{Reply}
 use Rattle.lease_book.specs.declared.events.Reply.TheVariants.{Nothing}
 use Rattle.lease_book.specs.declared.events.Event.{Event}
@@ -16,6 +16,8 @@ use Rattle.lease_book.specs.Histories.{Terms, given_in, grant_of, held_after, is
 use Rattle.lease_book.specs.Histories.{published_in, times_leased}
 use Rattle.lease_book.specs.Replies.{IsReply, IsLegal}
 use Rattle.lease_book.specs.GoodHandIns.{first_good}
+use Rattle.lease_book.specs.Done.{holder_in}
+use Rattle.lease_book.specs.Settling.{is_settled, AreSettledOnce}
 
 -- after one history one reply is named for a request
 abbrev pub NamesOneReply : Type 0
@@ -67,3 +69,11 @@ NothingIsLeft =
     → (is_some (published_in terms.boards before entry) ≡ true)
     ⊎ ((list_any (is_for_place (place_of (twin_of terms.boards entry))) (held_after before) ≡ true)
     ⊎ (times_leased before (place_of (twin_of terms.boards entry)) ≡ terms.tries))
+
+-- a lease of a legal history that is held, and that no event has settled, may be given up: then no lease is settled twice
+-- that was not before
+abbrev pub MayGiveUpUnsettled : Type 0
+MayGiveUpUnsettled =
+    (terms : Terms) (events : List Event) (place lease : ℕ) (reply : Reply) → IsLegal terms events
+    → holder_in events place ≡ Some lease → is_settled lease events ≡ false → AreSettledOnce events
+    → AreSettledOnce (events ++ record { asked = GiveUp lease; reply = reply } ∷ [])

@@ -14,3 +14,6 @@ pub mod Requests
 pub mod Replays
 pub mod ReplyTexts
 pub mod BookFaults
+pub mod Settling
+pub mod Moments
+pub mod Done

@@ -1,5 +1,5 @@
 -- What a book keeps of each entry, in the order of their places.
-use Rattle.std.specs.Prelude.{◌≡◌, ℕ, ◌/◌, ◌<◌, ◌≤◌, Bool, true, false, ◌&&◌, List, Option, None, Some, is_none}
+use Rattle.std.specs.Prelude.{◌≡◌, ℕ, ◌/◌, ◌<◌, ◌≤◌, Bool, true, false, ◌&&◌, List, Option, None, Some, is_none, is_some}
 use Rattle.std.specs.Prelude.{if◌then◌else◌, nat_eq, nat_lt, slice_index_or, length}
 use Rattle.due_rows.specs.Moments.{is_due}
 use Rattle.lease_book.specs.declared.events.Grant.{Grant}
@@ -18,6 +18,10 @@ deadline_of slot = deadline_of_holder slot.holder
 -- whether that deadline is at this moment or before it
 abbrev pub is_past_slot : ℕ → Slot → Bool
 is_past_slot now slot = is_due now (deadline_of slot)
+
+-- whether a lease of the entry is held
+abbrev pub is_held_slot : Slot → Bool
+is_held_slot slot = is_some slot.holder
 
 abbrev pub is_open_slot : Slot → Bool
 is_open_slot slot = is_none slot.published && is_none slot.holder && nat_lt 0 slot.left

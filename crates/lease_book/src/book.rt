@@ -1,7 +1,7 @@
 //! The book of leases.
 
 ghost use Rattle.std.specs.Prelude.{◌≡◌, ◌<◌, ◌≤◌, ◌*◌, ◌-◌, ◌^◌, ℕ, [], length, slice_set, slice_index_or, IfOk};
-ghost use Rattle.std.specs.Prelude.{IfSome, OnErr, Some, MatchResult, MatchBool, if◌then◌else◌, Err};
+ghost use Rattle.std.specs.Prelude.{IfSome, OnErr, Some, MatchResult, MatchBool, if◌then◌else◌, Err, IsTrue, ◌↔◌};
 ghost use Rattle.std.specs.List.{find};
 ghost use Rattle.cards.specs.Deal.{Deal};
 ghost use Rattle.lease_book.specs.Entries.{place_of};
@@ -12,6 +12,7 @@ ghost use Rattle.lease_book.specs.Replies.{IsLegal, is_evidence_for, is_shown_fo
 ghost use Rattle.lease_book.specs.Slots.{is_holder, freed_of};
 ghost use Rattle.lease_book.specs.Keeping.{AreNumberedFrom, AreProven};
 ghost use Rattle.lease_book.specs.Books.{IsAnswered, IsMade};
+ghost use Rattle.lease_book.specs.Done.{IsDone, IsIdle, holder_in};
 ghost use Rattle.lease_book.specs.declared.slots.Slot.{Slot};
 ghost use Rattle.lease_book.specs.declared.events.Asked.TheVariants.{Lease, Expire, GiveUp, HandIn};
 ghost use Rattle.lease_book.specs.declared.events.Reply.TheVariants.{GaveUp, NotHeld};
@@ -168,6 +169,20 @@ impl Book {
         self.boards.as_slice()
     }
 
+    /// How long a lease lasts.
+    pub fn term(&self) -> u64
+        ensures { result ≡ self.now.terms.term }
+    {
+        self.term
+    }
+
+    /// How often an entry is leased at most.
+    pub fn tries(&self) -> u32
+        ensures { result ≡ self.now.terms.tries }
+    {
+        self.tries
+    }
+
     /// All that was asked and replied, in order. Each reply is the one that the history before it names.
     pub fn history(&self) -> &[Event]
         ensures events { result.now ≡ self.now.events }
@@ -200,6 +215,40 @@ impl Book {
             return None;
         }
         self.slots.slot(twin.place()).published
+    }
+
+    /// How many entries there are: twenty for each board. Their places are the numbers below.
+    pub fn entries(&self) -> usize
+        ensures { result ≡ 20 * length self.now.terms.boards }
+    {
+        self.slots.len()
+    }
+
+    /// The number of the lease that is held of the entry in a place.
+    pub fn holder(&self, place: usize) -> Option<u64>
+        requires { place < 20 * length self.now.terms.boards }
+        ensures { result ≡ holder_in self.now.events place }
+    {
+        match self.slots.slot(place).holder {
+            Some(grant) => Some(grant.lease),
+            None => None,
+        }
+    }
+
+    /// Whether no lease is held and no entry is open. Then each entry whose board has a deal has a number, or was
+    /// leased as often as it may be.
+    pub fn is_idle(&self) -> bool
+        ensures idle { IsTrue result ↔ IsIdle self.now.terms self.now.events }
+        ensures done { IsTrue result → IsDone self.now.terms self.now.events }
+    {
+        if let Some(place) = self.slots.first_open() {
+            let _open = Entry::at(place);
+            return false;
+        }
+        match self.slots.first_held() {
+            Some(_) => false,
+            None => true,
+        }
     }
 
     /// Gives the least open entry to the one who asks at this moment, or answers that none is open.

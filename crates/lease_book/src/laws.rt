@@ -1,7 +1,7 @@
 //! What follows from the definitions. Each is a function that does nothing: its contract is the law.
 
 ghost use Rattle.lease_book.specs.Laws.{NamesOneReply, FindsLeastTwin, LeasesLeastTwins, PublishesFirstGood};
-ghost use Rattle.lease_book.specs.Laws.{PublishesOnce, GivesFewLeases, NothingIsLeft};
+ghost use Rattle.lease_book.specs.Laws.{PublishesOnce, GivesFewLeases, NothingIsLeft, MayGiveUpUnsettled};
 
 /// After one history one reply is named for a request.
 pub fn names_one_reply()
@@ -40,4 +40,10 @@ pub fn gives_few_leases()
 /// has a deal has a number, or its least twin is leased at that moment, or was leased as often as it may be.
 pub fn nothing_is_left()
     ensures { NothingIsLeft }
+{}
+
+/// A lease that is held, and that was neither given up nor handed in under, may be given up: then still no lease is
+/// settled twice.
+pub fn may_give_up_unsettled()
+    ensures { MayGiveUpUnsettled }
 {}

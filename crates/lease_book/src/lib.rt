@@ -25,8 +25,8 @@ pub use entries::{ENTRIES, Entry};
 pub use events::{Asked, Event, Evidence, Grant, Reply};
 pub use faults::BookFault;
 pub use laws::{
-    finds_least_twin, gives_few_leases, leases_least_twins, names_one_reply, nothing_is_left,
-    publishes_first_good, publishes_once,
+    finds_least_twin, gives_few_leases, leases_least_twins, may_give_up_unsettled, names_one_reply,
+    nothing_is_left, publishes_first_good, publishes_once,
 };
 pub use replays::replay;
 pub use requests::{GraphText, Request};

@@ -4,6 +4,7 @@ ghost use Rattle.std.specs.Prelude.{◌≡◌, ◌<◌, ◌≤◌, ◌^◌, ℕ,
 ghost use Rattle.std.specs.Prelude.{MatchOption, IfOk, ◌*◌, ◌-◌, Some, None};
 ghost use Rattle.lease_book.specs.declared.slots.Slot.{Slot};
 ghost use Rattle.lease_book.specs.Slots.{deadline_of, opening_of, is_open_slot, is_past_slot, freed_if_past, is_holder};
+ghost use Rattle.lease_book.specs.Slots.{is_held_slot};
 ghost use Rattle.lease_book.specs.Slots.{NonePasses, IsFirst, new_slot, tries_of};
 
 use crate::boards::Boards;
@@ -190,6 +191,18 @@ impl Slots {
         ensures { MatchOption result (NonePasses is_open_slot 0 self.now) (IsFirst is_open_slot 0 self.now) }
     {
         self.openings.first_due(0, 0)
+    }
+
+    /// The first place with a lease that is held.
+    pub(crate) fn first_held(&self) -> Option<usize>
+        ensures { MatchOption result (NonePasses is_held_slot 0 self.now) (IsFirst is_held_slot 0 self.now) }
+    {
+        for place in 0..self.len() {
+            if self.slot(place).holder.is_some() {
+                return Some(place);
+            }
+        }
+        None
     }
 
     /// The first place from this one on with a lease whose deadline is at this moment or before it.
