@@ -1,5 +1,5 @@
 -- What is known of chairs goes over to others of which the same is shown.
-use Rattle.std.proofs.Common.{◌≡◌, ℕ, ◌<◌, Bool, true, false, cond, List, [], ◌∷◌, map, All, Contains, count_by, refl, subst, ⊎_elim, arith}
+use Rattle.std.proofs.Common.{◌≡◌, ℕ, ◌<◌, ◌≤◌, Bool, true, false, cond, List, [], ◌∷◌, map, All, Contains, count_by, refl, subst, ⊎_elim, arith}
 use Rattle.std.specs.Prelude.{sum_by}
 use Rattle.std.proofs.lemmas.Bool.{cases_lt}
 use Rattle.std.proofs.lemmas.List.Elements.{All-nil, All-cons, All-head, All-tail, Contains-append_left, Contains-append_right, Contains-push}
@@ -31,10 +31,26 @@ above_zero f (x ∷ xs) some =
     (later.0, Contains-append_right (x ∷ []) xs later.0 later.1, later.2))
     (cases_lt 0 (f x))
 
+-- where a sum is 0, so is each of its terms
+pub zero_each : {X : Type 0} (f : X → ℕ) (xs : List X) → sum_by f xs ≡ 0 → All (λ x. f x ≡ 0) xs
+zero_each f [] none = All-nil (λ x. f x ≡ 0)
+zero_each {X = X} f (x ∷ xs) none =
+    let Of : X → Type 0 = λ y. f y ≡ 0 in
+    let cut = sum_by-cons f x xs in
+    All-cons Of x xs (omega arith) (zero_each f xs (omega arith))
+
 -- what is counted is there
 passes : (b : Bool) → 0 < cond b 1 0 → b ≡ true
 passes true some = refl
 passes false some = absurd (omega arith)
+
+abbrev pub one_if : Bool → ℕ
+one_if b = cond b 1 0
+
+pub uncounted : (b : Bool) → b ≡ true → one_if b ≡ 0 → 1 ≤ 0
+uncounted b is none =
+    let one : one_if true ≡ 0 = subst (λ (c : Bool). one_if c ≡ 0) is none in
+    omega arith
 
 pub counted_is_there : {X : Type 0} (test : X → Bool) (xs : List X) → 0 < count_by test xs → (x : X) × Contains xs x × (test x ≡ true)
 counted_is_there test xs some =

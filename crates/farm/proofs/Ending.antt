@@ -21,7 +21,7 @@ use Rattle.farm.specs.declared.posts.ClerkPost.{ClerkPost}
 use Rattle.farm.specs.declared.posts.Posts.{Posts}
 use Rattle.farm.specs.declared.relays.Relays.{Relays}
 use Rattle.farm.specs.declared.relays.RelayEnds.{RelayEnds}
-use Rattle.lease_desk.specs.Moments.{MayTell}
+use Rattle.lease_book.specs.Moments.{MayTell}
 use Rattle.farm.specs.Working.{IsNew, IsOnDuty}
 use Rattle.farm.specs.Requests.{EndsIdle}
 use Rattle.farm.specs.Flows.{given, settled, of_found, of_claim, all_found, all_claimed}

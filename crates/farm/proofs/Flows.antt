@@ -10,7 +10,7 @@ use Rattle.farm_relay.specs.declared.putters.Putter.{Putter}
 use Rattle.farm_relay.specs.Relays.{PutsAtSame}
 use Rattle.farm.specs.declared.tasks.Task.{Task}
 use Rattle.farm.specs.declared.tasks.CheckedClaim.{CheckedClaim}
-use Rattle.farm.specs.Leases.{given_by, settled_by}
+use Rattle.lease_book.specs.Settling.{given_by, settled_by}
 use Rattle.farm.specs.Requests.{Hears, IsNextTask, FreesLeases, GivesUp, HandsIn}
 use Rattle.farm.specs.Flows.{given, settled, Moves}
 

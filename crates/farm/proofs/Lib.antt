@@ -6,3 +6,5 @@ mod Flows
 mod Places
 mod Ending
 mod Runs
+mod RoundLaws
+mod Sharing

@@ -1,10 +1,11 @@
 -- A sum over the events of a closed history is one over the receipts of its chairs.
-use Rattle.std.proofs.Common.{◌≡◌, ℕ, zero, suc, ◌+◌, ◌*◌, ◌<◌, cond, List, [], ◌∷◌, map, All, Some, length, sum_by, count_by, refl, sym, ap, arith}
+use Rattle.std.proofs.Common.{◌≡◌, ℕ, zero, suc, ◌+◌, ◌*◌, ◌<◌, cond, List, [], ◌∷◌, ◌++◌, map, All, Some, length, sum_by, count_by, refl, sym, ap, ◌∙◌, arith}
 use Rattle.std.specs.Prelude.{nat_eq, slice_get}
 use Rattle.std.proofs.Math.Nat.{add-mul}
 use Rattle.std.proofs.Math.Dec.{eqb-zero-suc, eqb-suc-zero, eqb-suc-suc}
 use Rattle.std.proofs.lemmas.Option.{none-some, same_Some}
 use Rattle.std.proofs.lemmas.List.Elements.{All-head, All-tail}
+use Rattle.std.proofs.lemmas.List.{length-append}
 use Rattle.std.proofs.lemmas.List.Sums.{sum_by-cons}
 use Rattle.lease_book.specs.declared.events.Event.{Event}
 use Rattle.lease_book.specs.Histories.{Terms}
@@ -40,6 +41,15 @@ module _ (f : Event → ℕ) where
   weighed-add often more (e ∷ es) =
       let here = add-mul (often 0) (more 0) (f e) in
       let rest = weighed-add (λ k. often (suc k)) (λ k. more (suc k)) es in
+      omega arith
+
+  weighed-append : (often : ℕ → ℕ) (xs ys : List Event) → weighed often (xs ++ ys) ≡ weighed often xs + weighed (λ k. often (length xs + k)) ys
+  weighed-append often [] ys =
+      let same = weighed-same often (λ k. often (0 + k)) ys (λ k within. let e : k ≡ 0 + k = omega arith in ap often e) in
+      omega arith
+  weighed-append often (x ∷ xs) ys =
+      let rest = weighed-append (λ k. often (suc k)) xs ys in
+      let same = weighed-same (λ k. often (suc (length xs + k))) (λ k. often (length (x ∷ xs) + k)) ys (λ k within. let e : suc (length xs + k) ≡ length (x ∷ xs) + k = omega arith in ap often e) in
       omega arith
 
   weighed-one : (place : ℕ) (es : List Event) (event : Event) → slice_get es place ≡ Some event → weighed (λ k. cond (nat_eq place k) 1 0) es ≡ f event
@@ -89,10 +99,17 @@ module _ (f : Event → ℕ) where
       let cut = sum_by-cons (λ (x : Chair). sum_by (λ (r : Receipt). f r.event) (receipts_in x)) c cs in
       omega arith
 
-  pub of_closed : (terms : Terms) (chairs closed : List Chair) (book : Ledger) → IsClosed terms chairs book closed → sum_by f book.events ≡ sum_by (λ (c : Chair). sum_by (λ (r : Receipt). f r.event) (receipts_in c)) chairs
-  of_closed terms chairs closed book is =
-      let once = weighed-same (λ k. receipts_for k closed) (λ k. 1) book.events is.once in
-      let ones = weighed-ones book.events in
+  -- the events since the desk was opened
+  pub of_closed : (terms : Terms) (start : List Event) (chairs closed : List Chair) (book : Ledger) (is : IsClosed terms start chairs book closed) → sum_by f is.later ≡ sum_by (λ (c : Chair). sum_by (λ (r : Receipt). f r.event) (receipts_in c)) chairs
+  of_closed terms start chairs closed book is =
+      let often : ℕ → ℕ = λ k. receipts_for k closed in
+      let whole = ap (weighed often) is.events_are ∙ weighed-append often start is.later in
+      let long = ap (λ (l : List Event). length l) is.events_are in
+      let both = length-append start is.later in
+      let none = weighed-same often (λ k. 0) start is.none in
+      let nothing = weighed-none start in
+      let once = weighed-same (λ k. often (length start + k)) (λ k. 1) is.later (λ k within. is.once (length start + k) (omega arith) (omega arith)) in
+      let ones = weighed-ones is.later in
       let chairs' = of_chairs book.events closed is.stand in
       let old = shown_sum chairs in
       let new = shown_sum closed in

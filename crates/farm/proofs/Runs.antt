@@ -1,6 +1,7 @@
 -- What follows from the chairs of a run for the history of its book.
-use Rattle.std.proofs.Common.{◌≡◌, ℕ, List, Contains, All, count_by, sym, ap, ◌∙◌, subst, arith, get_or}
-use Rattle.std.proofs.lemmas.Bool.{eqb-true}
+use Rattle.std.proofs.Common.{◌≡◌, ℕ, ◌+◌, ◌-◌, ◌<◌, ◌≤◌, List, ◌++◌, Contains, All, length, count_by, refl, sym, ap, ◌∙◌, subst, ⊎_elim, arith, get_or}
+use Rattle.std.proofs.lemmas.Bool.{eqb-true, eq-eqb, cases_lt}
+use Rattle.std.proofs.lemmas.List.{length-append, get_or-append-add}
 use Rattle.std.proofs.lemmas.Option.{get_or_from_slice_get, slice_get_within}
 use Rattle.std.proofs.lemmas.List.Elements.{All-weaker, All-contains, Contains-push, Contains-append_left}
 use Rattle.lease_book.specs.declared.events.Asked.TheVariants.{Lease}
@@ -13,14 +14,14 @@ use Rattle.lease_desk.specs.declared.chairs.Chair.{Chair}
 use Rattle.lease_desk.specs.Receipts.{Stands, is_for}
 use Rattle.lease_desk.specs.Desks.{IsChairOf, AreChairsOf, IsClosed, AreAll, chairs_of, receipts_in}
 use Rattle.farm.specs.declared.crews.Crew.{Crew}
-use Rattle.lease_desk.specs.Moments.{MayTell, IsTimed, AreTimed}
-use Rattle.lease_book.specs.TrueHistories.{IsTrueHistory, IsGivenOut}
-use Rattle.farm.specs.Runs.{IsBookOf}
+use Rattle.lease_book.specs.Moments.{MayTell, IsTimed, AreTimed}
+use Rattle.lease_book.specs.TrueHistories.{IsGivenOut}
+use Rattle.farm.specs.Rounds.{IsRound}
 use Rattle.farm.specs.Working.{IsOnDuty}
 use Rattle.farm.specs.Requests.{EndsIdle}
-use Rattle.farm.specs.Leases.{given_by, settled_by, AreSettledOnce}
+use Rattle.lease_book.specs.Settling.{given_by, settled_by, AreSettledOnce}
 use Rattle.farm.specs.Running.{HaveWorked}
-use Rattle.farm.proofs.Chairs.{All-shown, counted_is_there, above_zero}
+use Rattle.farm.proofs.Chairs.{All-shown, counted_is_there, above_zero, zero_each, one_if, uncounted}
 use Rattle.farm.proofs.Places.{of_closed}
 
 -- a receipt tells that no entry was open
@@ -38,24 +39,50 @@ module _ {S G C : Type 0} (may_tell : C → MayTell) (crew : Crew S G C) where
     all = subst (λ (l : List ℕ). AreAll (chairs_of crew.desk.now) l) (sym have.numbers) are.all;
   }
 
-  module _ (terms : Terms) (first chairs closed : List Chair) (book : Ledger)
-      (have : HaveWorked may_tell crew first chairs) (is : IsClosed terms chairs book closed) where
+  module _ (terms : Terms) (start : List Event) (first chairs closed : List Chair) (book : Ledger)
+      (have : HaveWorked may_tell crew first chairs) (is : IsClosed terms start chairs book closed) where
+    long : length book.events ≡ length start + length is.later
+    long = ap (λ (l : List Event). length l) is.events_are ∙ length-append start is.later
+
+    -- an event since the desk was opened
+    later_at : (i : ℕ) (d : Event) → get_or is.later i d ≡ get_or book.events (length start + i) d
+    later_at i d = sym (ap (λ (l : List Event). get_or l (length start + i) d) is.events_are ∙ get_or-append-add start is.later i d)
+
     -- the request in each place is that of a receipt
-    timed : AreTimed (may_tell crew.means.clock.now) book.events
-    timed place d within =
+    timed : AreTimed (may_tell crew.means.clock.now) is.later
+    timed i d within =
+        let place : ℕ = length start + i in
         let Of : Receipt → Type 0 = λ receipt. IsTimed (may_tell crew.means.clock.now) receipt.event.asked in
-        let once = is.once place within in
+        let whole = long in
+        let once = is.once place (omega arith) (omega arith) in
         let chair = above_zero (λ (c : Chair). count_by (is_for place) (receipts_in c)) closed (omega arith) in
         let receipt = counted_is_there (is_for place) (receipts_in chair.0) chair.2 in
         let own = All-shown (λ shown. All Of shown.1) chairs closed is.same (All-weaker (IsOnDuty may_tell crew) (λ c. All Of (receipts_in c)) (λ c has. has.timed) chairs have.duty) in
         let may : Of receipt.0 = All-contains Of (receipts_in chair.0) receipt.0 (All-contains (λ (c : Chair). All Of (receipts_in c)) closed chair.0 own chair.1) receipt.1 in
         let at : receipt.0.place ≡ place = eqb-true receipt.0.place place receipt.2 in
         let stands = All-contains (Stands book.events) (receipts_in chair.0) receipt.0 (All-contains (λ (c : Chair). All (Stands book.events) (receipts_in c)) closed chair.0 is.stand chair.1) receipt.1 in
-        let event : get_or book.events place d ≡ receipt.0.event = ap (λ k. get_or book.events k d) (sym at) ∙ get_or_from_slice_get book.events receipt.0.place receipt.0.event d stands in
+        let event : get_or is.later i d ≡ receipt.0.event =
+        later_at i d ∙ ap (λ k. get_or book.events k d) (sym at) ∙ get_or_from_slice_get book.events receipt.0.place receipt.0.event d stands in
         subst (λ (e : Event). IsTimed (may_tell crew.means.clock.now) e.asked) (sym event) may
 
+    -- a receipt of these chairs is for an event since the desk was opened
+    is_late : (chair : Chair) (told : Receipt) → Contains chairs chair → Contains (receipts_in chair) told → length start ≤ told.place
+    is_late chair told there has =
+        ⊎_elim
+        (λ (early : told.place < length start).
+        let Never : List Receipt → Type 0 = λ receipts. count_by (is_for told.place) receipts ≡ 0 in
+        let none : All (λ (c : Chair). Never (receipts_in c)) closed = zero_each (λ (c : Chair). count_by (is_for told.place) (receipts_in c)) closed (is.none told.place early) in
+        let mine : Never (receipts_in chair) = All-contains (λ (c : Chair). Never (receipts_in c)) chairs chair (All-shown (λ shown. Never shown.1) closed chairs (sym is.same) none) there in
+        let Apart : Receipt → Type 0 = λ r. one_if (is_for told.place r) ≡ 0 in
+        let apart : All Apart (receipts_in chair) = zero_each (λ (r : Receipt). one_if (is_for told.place r)) (receipts_in chair) mine in
+        let own : one_if (is_for told.place told) ≡ 0 = All-contains Apart (receipts_in chair) told apart has in
+        let clash = uncounted (is_for told.place told) (eq-eqb told.place told.place refl) own in
+        absurd (omega arith))
+        (λ (late : length start ≤ told.place). late)
+        (cases_lt told.place (length start))
+
     -- one of the chairs saw that no entry was open
-    given_out : IsGivenOut book.events
+    given_out : IsGivenOut is.later
     given_out =
         let chair = have.idle.0 in
         let there : Contains chairs chair = have.idle.1 in
@@ -64,16 +91,27 @@ module _ {S G C : Type 0} (may_tell : C → MayTell) (crew : Crew S G C) where
         let told : Receipt = record { place = nothing.1; event = event } in
         let stand = All-shown (λ shown. All (Stands book.events) shown.1) closed chairs (sym is.same) is.stand in
         let stands : Stands book.events told = All-contains (Stands book.events) (receipts_in chair) told (All-contains (λ (c : Chair). All (Stands book.events) (receipts_in c)) chairs chair stand there) nothing.2 in
-        (nothing.0, (nothing.1, slice_get_within book.events nothing.1 event stands, get_or_from_slice_get book.events nothing.1 event event stands))
-
-    pub is_run : IsTrueHistory book.terms book.events → IsBookOf (may_tell crew.means.clock.now) terms book
-    is_run history =
-        record { terms_are = is.terms_are; run = record { history = subst (λ (t : Terms). IsTrueHistory t book.events) is.terms_are history; given_out = given_out; timed = timed } }
+        let late = is_late chair told there nothing.2 in
+        let within = slice_get_within book.events nothing.1 event stands in
+        let whole = long in
+        let i : ℕ = nothing.1 - length start in
+        let place : length start + i ≡ nothing.1 = omega arith in
+        (nothing.0, (i, omega arith, later_at i event ∙ ap (λ k. get_or book.events k event) place ∙ get_or_from_slice_get book.events nothing.1 event event stands))
 
     -- what the chairs settled together, the events do
-    pub settled_once : AreSettledOnce book.events
+    settled_once : AreSettledOnce is.later
     settled_once weight =
-        let a = of_closed (λ (e : Event). given_by weight e.asked e.reply) terms chairs closed book is in
-        let b = of_closed (λ (e : Event). settled_by weight e.asked) terms chairs closed book is in
+        let a = of_closed (λ (e : Event). given_by weight e.asked e.reply) terms start chairs closed book is in
+        let b = of_closed (λ (e : Event). settled_by weight e.asked) terms start chairs closed book is in
         let h = have.leases weight in
         omega arith
+
+    pub is_round : (old : Ledger) → terms ≡ old.terms → start ≡ old.events → IsRound (may_tell crew.means.clock.now) old book
+    is_round old terms_are start_is = record {
+      terms_are = is.terms_are ∙ terms_are;
+      later = is.later;
+      events_are = is.events_are ∙ ap (λ (l : List Event). l ++ is.later) start_is;
+      given_out = given_out;
+      timed = timed;
+      settled = settled_once;
+    }

@@ -37,6 +37,12 @@ IsFaultOf boards OutOfMemory = ⊤
 IsFaultOf boards NoThread = ⊤
 IsFaultOf boards (Book fault) = (fault ≡ TooManyBoards) × (4096 < length boards)
 
+-- why work on a book ends before its time: its boards are never the reason
+abbrev pub IsHalt : FarmFault → Type 0
+IsHalt OutOfMemory = ⊤
+IsHalt NoThread = ⊤
+IsHalt (Book fault) = ⊥
+
 -- why threads were not started
 abbrev pub start_halt : StartFault → Halt
 start_halt starts.OutOfMemory = halts.OutOfMemory

@@ -9,7 +9,7 @@ use Rattle.farm.specs.declared.tasks.CheckedClaim.{CheckedClaim}
 use Rattle.farm.specs.declared.posts.SolverPost.{SolverPost}
 use Rattle.farm.specs.declared.posts.CheckerPost.{CheckerPost}
 use Rattle.farm.specs.declared.posts.ClerkPost.{ClerkPost}
-use Rattle.farm.specs.Leases.{given_by, settled_by}
+use Rattle.lease_book.specs.Settling.{given_by, settled_by}
 
 module _ (weight : ℕ → ℕ) where
   -- the leases that receipts tell of as given, and as settled

@@ -1,8 +1,8 @@
 pub mod Faults
 pub mod Runs
+pub mod Rounds
 pub mod Requests
 pub mod Working
-pub mod Leases
 pub mod Flows
 pub mod Groups
 pub mod Findings

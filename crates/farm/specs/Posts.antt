@@ -10,7 +10,7 @@ use Rattle.farm.specs.declared.posts.CheckerPost.{CheckerPost}
 use Rattle.farm.specs.declared.posts.ClerkPost.{ClerkPost}
 use Rattle.farm.specs.declared.posts.Posts.{Posts}
 use Rattle.farm.specs.declared.relays.RelayEnds.{RelayEnds}
-use Rattle.lease_desk.specs.Moments.{MayTell}
+use Rattle.lease_book.specs.Moments.{MayTell}
 use Rattle.farm.specs.Working.{IsNew, StaysOnDuty}
 use Rattle.farm.specs.Requests.{EndsIdle}
 use Rattle.farm.specs.Flows.{SettlesOwn, ClaimsOwn, SettlesClaims}

@@ -14,7 +14,7 @@ use Rattle.farm.specs.declared.relays.RelayEnds.{RelayEnds}
 use Rattle.farm.specs.declared.relays.Relays.{Relays}
 use Rattle.asked.specs.declared.settings.Settings.{Settings}
 use Rattle.farm.specs.declared.started.Started.{Started}
-use Rattle.lease_desk.specs.Moments.{MayTell}
+use Rattle.lease_book.specs.Moments.{MayTell}
 use Rattle.farm.specs.Working.{IsOnDuty}
 use Rattle.farm.specs.Requests.{EndsIdle}
 use Rattle.farm.specs.Flows.{given, settled}

@@ -5,14 +5,19 @@ use Rattle.lease_book.specs.declared.events.Event.{Event}
 use Rattle.lease_book.specs.Histories.{Terms}
 use Rattle.lease_book.specs.Books.{Ledger}
 use Rattle.asked.specs.declared.settings.Settings.{Settings}
-use Rattle.lease_desk.specs.Moments.{MayTell, AreTimed}
+use Rattle.lease_book.specs.Moments.{MayTell, AreTimed}
 use Rattle.lease_book.specs.TrueHistories.{IsTrueHistory, IsGivenOut}
+use Rattle.lease_book.specs.Done.{IsDone}
+use Rattle.lease_book.specs.Settling.{AreSettledOnce}
 
--- A run over these terms: the history is true, all entries were given out, and the moments are those that the clock
--- told.
+-- A run over these terms: the history is true, and all entries were given out until each was done: no lease is held,
+-- and each entry whose board has a deal has a number, or was leased as often as it may be. No lease was settled twice,
+-- and the moments are those that the clock told.
 pub record IsRun (may_tell : MayTell) (terms : Terms) (events : List Event) : Type 0 where
   pub history : IsTrueHistory terms events
   pub given_out : IsGivenOut events
+  pub done : IsDone terms events
+  pub settled : AreSettledOnce events
   pub timed : AreTimed may_tell events
 
 -- a book over these terms, after such a run

@@ -4,7 +4,7 @@ use Rattle.lease_desk.specs.declared.chairs.Chair.{Chair}
 use Rattle.lease_desk.specs.declared.desk.Desk.{Desk}
 use Rattle.lease_desk.specs.Desks.{IsChairOf, number_of, receipts_in}
 use Rattle.farm.specs.declared.crews.Crew.{Crew}
-use Rattle.lease_desk.specs.Moments.{MayTell, IsTimed}
+use Rattle.lease_book.specs.Moments.{MayTell, IsTimed}
 
 -- the chair came with the desk, and has made no call
 pub record IsNew (desk : Desk) (chair : Chair) : Type 0 where

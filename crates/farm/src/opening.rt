@@ -1,18 +1,15 @@
-//! The opening of the desk.
+//! The opening of a run.
 
-ghost use Rattle.std.specs.Prelude.{◌≡◌, ◌+◌, IfOk, IfErr, map};
-ghost use Rattle.lease_desk.specs.Desks.{IsOpened};
+ghost use Rattle.std.specs.Prelude.{◌≡◌, [], IfOk, IfErr, map};
 ghost use Rattle.farm.specs.Faults.{IsFaultOf};
 ghost use Rattle.farm.specs.Runs.{terms_for};
 
 use crate::faults::FarmFault;
 use asked::Settings;
 use cards::Layout;
-use lease_book::BookFault;
-use lease_desk::{Chair, Desk};
+use lease_book::{Book, BookFault};
 use pbn_deals::Board;
 use std::alloc::{AllocError, Global};
-use std::sync::Wait;
 
 /// The deals of boards, by their numbers.
 pub(crate) fn deals_of(alloc: Global, boards: &[Board]) -> Result<Vec<Option<Layout>>, AllocError>
@@ -21,20 +18,17 @@ pub(crate) fn deals_of(alloc: Global, boards: &[Board]) -> Result<Vec<Option<Lay
     boards.iter().map(|board| board.deal).collect(alloc)
 }
 
-/// A desk over the boards, with a chair for each solver and each clerk, of whom there are as many as checkers.
-pub(crate) fn open_desk<R: Wait>(
-    rt: &R,
+/// A new book over the boards, with the settings' term and tries.
+pub(crate) fn open_book(
     alloc: Global,
     boards: Vec<Board>,
     settings: Settings,
-) -> Result<(Desk, Vec<Chair>), FarmFault>
-    ensures desk { IfOk result (λ made. IsOpened (terms_for boards.items settings)
-        (settings.solvers + settings.checkers) made.0 made.1.items) }
+) -> Result<Book, FarmFault>
+    ensures book { IfOk result (λ book. book ≡ record { terms = terms_for boards.items settings; events = [] }) }
     ensures fault { IfErr result (IsFaultOf boards.items) }
 {
-    let chairs = settings.solvers + settings.checkers;
-    match Desk::open(rt, alloc, boards, settings.term, settings.tries, chairs) {
-        Ok(opened) => Ok(opened),
+    match Book::new(alloc, boards, settings.term, settings.tries) {
+        Ok(book) => Ok(book),
         Err(BookFault::OutOfMemory) => Err(FarmFault::OutOfMemory),
         Err(BookFault::TooManyBoards) => Err(FarmFault::Book(BookFault::TooManyBoards)),
         Err(BookFault::Tries) => unreachable!(),

@@ -1,26 +1,22 @@
-//! The run of a farm.
+//! One round of a farm.
 
-ghost use Rattle.std.specs.Prelude.{◌≡◌, ◌+◌, All, IfOk, IfErr, length};
+ghost use Rattle.std.specs.Prelude.{◌≡◌, ◌+◌, All, IfOk, length};
 ghost use Rattle.farm.specs.Working.{IsNew};
-ghost use Rattle.farm.specs.Leases.{AreSettledOnce};
+ghost use Rattle.farm.specs.Rounds.{IsRound};
 ghost use Rattle.farm.specs.Running.{MayBegin, AreOpenedPosts, HaveEnded, HaveWorked};
-ghost use Rattle.farm.specs.Faults.{IsFaultOf};
-ghost use Rattle.farm.specs.Runs.{IsBookOf, terms_for};
 
-use crate::crews::Crew;
-use crate::faults::FarmFault;
+use crate::crews::{Crew, Signals};
 use crate::halts::Halt;
 use crate::means::Means;
-use crate::opening::{deals_of, open_desk};
 use crate::posts::{CheckerPost, ClerkPost, Posts, SolverPost};
 use crate::relays::Relays;
 use crate::started::{Started, end_all, join_all, start_all};
 use asked::Settings;
+use cards::Layout;
 use farm_threads::Work;
-use lease_book::{Book, first_boards, is_true_history};
-use lease_desk::{Chair, Clock, Closed, Gate};
+use lease_book::Book;
+use lease_desk::{Chair, Clock, Closed, Desk, Gate};
 use partition_solver::Solver;
-use pbn_deals::Board;
 use std::alloc::Global;
 use std::sync::atomic::AtomicBool;
 use std::sync::atomic::Ordering::SeqCst;
@@ -139,52 +135,52 @@ fn work_all<S: Solver + Sync, G: Gate + Sync, C: Clock + Sync, R: Threads + Wait
     ensures { IfOk result (λ worked. HaveWorked C.may_tell crew.now chairs.items worked.items) }
 {
     let opened = open_posts(crew, chairs)?;
-    let (relays, posts) = work_as(rt, crew, crew.stop, opened)?;
+    let (relays, posts) = work_as(rt, crew, &crew.signals.stop, opened)?;
     let (chairs, ends) = posts.apart(crew.alloc)?;
     relays.close(rt, ends)?;
     Ok(chairs)
 }
 
-/// Opens a desk over the boards, has as many solvers and checkers work as the settings say, and as many clerks as
-/// checkers, each in a thread of its own, and hands out the book when all have ended.
+/// Opens a desk over the book, has as many solvers and checkers work as the settings say, and as many clerks as
+/// checkers, each in a thread of its own, and hands the book out when all have ended.
 ///
 /// A solver leases a batch of entries, while no other does, each at the clock's moment. For those of a board and
 /// denomination it tells the gate of each lease, has the solver look for what shows their results, once, and puts it
 /// for the checkers, or gives the leases up for which nothing is claimed. Where no entry is open it has the leases
 /// freed that have run out, and ends where there is none. A checker tells the gate of the leases, checks both graphs,
 /// and puts each claim for the clerks. A clerk hands in one claim after another, of which the desk tells the gate. What
-/// memory is refused to on the way is dropped, and its leases stay. The book is handed out only where a solver was told
-/// that no entry is open.
-pub fn run_farm<S: Solver + Sync, G: Gate + Sync, C: Clock + Sync, R: Threads + Wait + Sync>(
+/// memory is refused to on the way is dropped, and its leases stay.
+pub(crate) fn work_round<
+    S: Solver + Sync,
+    G: Gate + Sync,
+    C: Clock + Sync,
+    R: Threads + Wait + Sync,
+>(
     rt: &R,
     alloc: Global,
-    boards: Vec<Board>,
+    book: Book,
+    deals: &[Option<Layout>],
     settings: Settings,
     means: &Means<'_, S, G, C>,
-) -> Result<Book, FarmFault>
-    ensures book { IfOk result (IsBookOf (C.may_tell means.now.clock.now) (terms_for boards.items settings)) }
-    ensures fault { IfErr result (IsFaultOf boards.items) }
-    ensures once { IfOk result (λ book. AreSettledOnce book.events) }
+) -> Result<Book, Halt>
+    ensures { IfOk result (IsRound (C.may_tell means.now.clock.now) book) }
 {
-    let deals = deals_of(alloc, boards.as_slice())?;
-    let firsts = first_boards(alloc, boards.as_slice())?;
-    means.gate.before_work(boards.as_slice(), firsts.as_slice());
-    drop(firsts);
-    let (desk, chairs) = open_desk(rt, alloc, boards, settings)?;
-    let (stop, leasing) = (AtomicBool::new(false), Mutex::new(()));
+    let count = settings.solvers + settings.checkers;
+    let (desk, chairs) = Desk::over(rt, alloc, book, count)?;
+    let signals = Signals {
+        stop: AtomicBool::new(false),
+        leasing: Mutex::new(()),
+    };
     let crew = Crew {
         alloc,
         desk: &desk,
-        deals: deals.as_slice(),
+        deals,
         settings,
         means: *means,
-        stop: &stop,
-        leasing: &leasing,
+        signals: &signals,
     };
     let chairs = work_all(rt, &crew, chairs)?;
     drop(crew);
-    means.gate.after_work();
     let Closed { book, chairs: _ } = desk.close(rt, chairs);
-    is_true_history(&book);
     Ok(book)
 }

@@ -132,8 +132,8 @@ pub(crate) fn solve_all<S: Solver, G: Gate, C: Clock, R: Wait>(
     ensures idle { OnOk result (EndsIdle (receipts_in post.new.chair)) }
 {
     for _turn in rt.forever() {
-        let leasing = crew.leasing.lock(rt);
-        if crew.stop.load(SeqCst) {
+        let leasing = crew.signals.leasing.lock(rt);
+        if crew.signals.stop.load(SeqCst) {
             return Err(Halt::NoThread);
         }
         if let Some(first) = next_task(rt, crew, &mut post.chair)? {

@@ -19,6 +19,10 @@ mod gate_tests;
 #[cfg(test)]
 mod gates;
 #[cfg(test)]
+mod late;
+#[cfg(test)]
+mod late_tests;
+#[cfg(test)]
 mod remembers;
 #[cfg(test)]
 mod run_tests;

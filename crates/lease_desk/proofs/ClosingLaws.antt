@@ -1,6 +1,6 @@
 -- The chairs of a closed desk have the receipts for its history, each once.
-use Rattle.std.proofs.Common.{◌≡◌, ◌≢◌, ℕ, ◌+◌, ◌<◌, ◌≤◌, Bool, true, false, cond, eqb, List, [], ◌∷◌, ◌++◌, length, map, All, count_by, get_or, take, drop, Some, refl, sym, ap, ◌∙◌, subst, arith, append-nil}
-use Rattle.std.specs.Prelude.{sum_by}
+use Rattle.std.proofs.Common.{◌≡◌, ◌≢◌, ℕ, ◌+◌, ◌<◌, ◌≤◌, Bool, true, false, cond, eqb, List, [], ◌∷◌, ◌++◌, length, map, All, count_by, get_or, take, drop, Some, refl, sym, ap, ◌∙◌, subst, arith, append-nil, length-append}
+use Rattle.std.specs.Prelude.{sum_by, nat_eq, if◌then◌else◌}
 use Rattle.std.proofs.lemmas.Bool.{eqb-true, eq-eqb, ne_eqb}
 use Rattle.std.proofs.lemmas.List.{length-map, take_all, drop_all}
 use Rattle.std.proofs.lemmas.List.Elements.{All-nil, All-head, All-tail}
@@ -10,7 +10,7 @@ use Rattle.lease_desk.specs.declared.chairs.Chair.{Chair}
 use Rattle.lease_desk.specs.declared.receipts.Receipt.{Receipt}
 use Rattle.lease_desk.specs.declared.views.Page.{Page}
 use Rattle.lease_desk.specs.Receipts.{receipt, keep, receipts_from, Stands, is_for}
-use Rattle.lease_desk.specs.Views.{receipts_on}
+use Rattle.lease_desk.specs.Views.{receipts_on, history_on}
 use Rattle.lease_desk.specs.Rule.{AreBelow}
 use Rattle.lease_desk.proofs.ReceiptLaws.{stand_from}
 use Rattle.lease_desk.specs.Desks.{AreAll, number_of, receipts_in, shown_of, IsClosed}
@@ -21,10 +21,10 @@ use Rattle.lease_book.specs.Replies.{IsLegal}
 
 -- each receipt stands at its place
 
-pub all_stand : (page : Page) (chairs : List Chair) → All (IsCompared page) chairs → All (λ chair. All (Stands page.book.events) (receipts_in chair)) chairs
+pub all_stand : (page : Page) (chairs : List Chair) → All (IsCompared page) chairs → All (λ chair. All (Stands (history_on page)) (receipts_in chair)) chairs
 all_stand page chairs compared k d within =
     let chair : Chair = get_or chairs k d in
-    subst (λ (l : List Receipt). All (Stands page.book.events) l) (sym (compared k d within)) (stand_from page.book.events (number_of chair) [] page.makers page.book.events refl)
+    subst (λ (l : List Receipt). All (Stands (history_on page)) l) (sym (compared k d within)) (stand_from (history_on page) (number_of chair) page.before page.makers page.book.events refl)
 
 -- sums over the numbers of the chairs
 
@@ -139,7 +139,7 @@ once_from place count numbers all from (maker ∷ makers) (event ∷ events) lat
     (λ later. once_from place count numbers all (from + 1) makers events later (omega arith) (omega arith) listed.1)
 
 -- the chairs' own receipts, where they were compared with the last page
-by_number : (measure : List Receipt → ℕ) (page : Page) (chairs : List Chair) → All (IsCompared page) chairs → sum_by (λ chair. measure (receipts_in chair)) chairs ≡ over measure 0 page.makers page.book.events (map number_of chairs)
+by_number : (measure : List Receipt → ℕ) (page : Page) (chairs : List Chair) → All (IsCompared page) chairs → sum_by (λ chair. measure (receipts_in chair)) chairs ≡ over measure (length page.before) page.makers page.book.events (map number_of chairs)
 unfolding over
 by_number measure page [] compared = refl
 by_number measure page (chair ∷ chairs) compared =
@@ -152,42 +152,71 @@ numbers_shown : (chairs : List Chair) → map (λ (s : ℕ × List Receipt). s.0
 numbers_shown [] = refl
 numbers_shown (chair ∷ chairs) = ap (λ (l : List ℕ). number_of chair ∷ l) (numbers_shown chairs)
 
-pub closed_desk : (terms : Terms) (count : ℕ) (chairs closed : List Chair) (book : Ledger) (opening : Page) → opening.book.terms ≡ terms → opening.chairs ≡ count → AreAll count (map number_of chairs) → IsCollected (Some opening) chairs closed book → IsLegal book.terms book.events → IsClosed terms chairs book closed
-closed_desk terms count chairs closed book opening terms_are count_are all collected legal =
+pub closed_desk : (terms : Terms) (start : List Event) (count : ℕ) (chairs closed : List Chair) (book : Ledger) (opening : Page) → opening.book.terms ≡ terms → opening.before ≡ start → opening.chairs ≡ count → AreAll count (map number_of chairs) → IsCollected (Some opening) chairs closed book → IsLegal book.terms book.events
+    → IsClosed terms start chairs book closed
+closed_desk terms start count chairs closed book opening terms_are start_is count_are all collected legal =
     let page : Page = collected.page in
     let of = collected.of opening refl in
-    let events_are : book.events ≡ page.book.events = ap (λ (b : Ledger). b.events) collected.book_is in
-    let own_terms : book.terms ≡ terms = ap (λ (b : Ledger). b.terms) collected.book_is ∙ sym of.terms ∙ terms_are in
+    let events_are : book.events ≡ history_on page = collected.events_are in
+    let own_terms : book.terms ≡ terms = collected.terms_are ∙ sym of.terms ∙ terms_are in
+    let before_is : page.before ≡ start = sym of.before ∙ start_is in
+    let early = ap (λ (l : List Event). length l) before_is in
+    let long = ap (λ (l : List Event). length l) events_are in
+    let both = length-append page.before page.book.events in
     let numbers : map number_of closed ≡ map number_of chairs =
     sym (numbers_shown closed) ∙ ap (map (λ (s : ℕ × List Receipt). s.0)) collected.same ∙ numbers_shown chairs in
     let all_closed : AreAll count (map number_of closed) = subst (AreAll count) (sym numbers) all in
     let listed : AreBelow count page.makers = subst (λ n. AreBelow n page.makers) (sym of.chairs ∙ count_are) collected.listed in
     record {
       terms_are = own_terms;
+      later = page.book.events;
+      events_are = events_are ∙ ap (λ (l : List Event). l ++ page.book.events) before_is;
       legal = subst (λ (t : Terms). IsLegal t book.events) own_terms legal;
       same = collected.same;
       stand = subst (λ (events : List Event). All (λ chair. All (Stands events) (receipts_in chair)) closed) (sym events_are) (all_stand page closed collected.compared);
-      once = λ place within.
+      none = λ place soon.
           by_number (λ l. count_by (is_for place) l) page closed collected.compared
-          ∙ once_from place count (map number_of closed) all_closed 0 page.makers page.book.events (omega arith) (let long = ap (λ (l : List Event). length l) events_are in omega arith) collected.even listed;
+          ∙ none_earlier place count (map number_of closed) all_closed (length page.before) page.makers page.book.events (omega arith) collected.even listed;
+      once = λ place late within.
+          by_number (λ l. count_by (is_for place) l) page closed collected.compared
+          ∙ once_from place count (map number_of closed) all_closed (length page.before) page.makers page.book.events (omega arith) (omega arith) collected.even listed;
       counted =
           by_number (λ l. length l) page closed collected.compared
-          ∙ count_from count (map number_of closed) all_closed 0 page.makers page.book.events collected.even listed
-          ∙ sym (ap (λ (l : List Event). length l) events_are);
+          ∙ count_from count (map number_of closed) all_closed (length page.before) page.makers page.book.events collected.even listed;
     }
 
-pub closed_idle : (terms : Terms) (chairs : List Chair) (book : Ledger) → book ≡ record { terms = terms; events = [] } → AreAll 0 (map number_of chairs) → IsLegal book.terms book.events → IsClosed terms chairs book chairs
-closed_idle terms [] book is all legal =
-    let none : book.events ≡ [] = ap (λ (b : Ledger). b.events) is in
+-- the book of a desk of no chairs
+idle_as : (b : Bool) (opened book : Ledger) (rest : List Ledger) → (if b then opened ∷ [] else []) ≡ rest ++ book ∷ [] → (b ≡ true) × (book ≡ opened)
+idle_as true opened book [] is = (refl, sym (ap (λ (l : List Ledger). get_or l 0 book) is))
+idle_as true opened book (x ∷ rest) is =
+    let long : 1 ≡ length (x ∷ rest ++ book ∷ []) = ap (λ (l : List Ledger). length l) is in
+    let cut = length-append rest (book ∷ []) in
+    absurd (omega arith)
+idle_as false opened book rest is =
+    let long : 0 ≡ length (rest ++ book ∷ []) = ap (λ (l : List Ledger). length l) is in
+    let cut = length-append rest (book ∷ []) in
+    absurd (omega arith)
+
+pub idle_is : (count : ℕ) (opened book : Ledger) (all rest : List Ledger) → all ≡ (if nat_eq count 0 then opened ∷ [] else []) → all ≡ rest ++ book ∷ [] → (count ≡ 0) × (book ≡ opened)
+idle_is count opened book all rest is last =
+    let known = idle_as (nat_eq count 0) opened book rest (sym is ∙ last) in
+    (eqb-true count 0 known.0, known.1)
+
+pub closed_idle : (terms : Terms) (start : List Event) (chairs : List Chair) (book : Ledger) → book ≡ record { terms = terms; events = start } → AreAll 0 (map number_of chairs) → IsLegal book.terms book.events → IsClosed terms start chairs book chairs
+closed_idle terms start [] book is all legal =
+    let same : book.events ≡ start = ap (λ (b : Ledger). b.events) is in
     record {
       terms_are = ap (λ (b : Ledger). b.terms) is;
+      later = [];
+      events_are = same ∙ sym (append-nil start);
       legal = subst (λ (t : Terms). IsLegal t book.events) (ap (λ (b : Ledger). b.terms) is) legal;
       same = refl;
       stand = All-nil (λ chair. All (Stands book.events) (receipts_in chair));
-      once = λ place within. absurd (let long = ap (λ (l : List Event). length l) none in omega arith);
-      counted = ap (λ (l : List Event). length l) (sym none);
+      none = λ place soon. refl;
+      once = λ place late within. absurd (let long = ap (λ (l : List Event). length l) same in omega arith);
+      counted = refl;
     }
-closed_idle terms (chair ∷ chairs) book is all legal = absurd (let long = all.count_is in omega arith)
+closed_idle terms start (chair ∷ chairs) book is all legal = absurd (let long = all.count_is in omega arith)
 
 -- what is left in the list of chairs once its slice is written
 pub written_back : (chairs after : List Chair) (len : ℕ) → length chairs ≡ len → map shown_of after ≡ map shown_of chairs → take len (after ++ drop (length after) chairs) ≡ after

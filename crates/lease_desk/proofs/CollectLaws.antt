@@ -11,6 +11,7 @@ use Rattle.lease_desk.specs.Views.{page_of}
 use Rattle.lease_desk.specs.Seats.{Took, spared}
 use Rattle.lease_desk.specs.Desks.{IsChairAt, shown_of}
 use Rattle.lease_desk.specs.Closing.{IsCollected, IsCompared}
+use Rattle.lease_desk.proofs.PageLaws.{whole_history}
 
 pub sits_empty : (ends : DeskEnds) (opening : Option Page) (chair : Chair) → IsChairAt ends opening chair → (view chair.pass).hand ≡ Before → ⊥
 sits_empty ends opening chair is e =
@@ -26,7 +27,8 @@ collected ends opening chairs after closed first own spare message each some is 
     let opening_is : own.opening ≡ opening = ap (λ (v : View). v.opening) is ∙ ap (λ (v : View). v.opening) knows in
     record {
       page = page;
-      book_is = refl;
+      terms_are = refl;
+      events_are = sym (whole_history message);
       of = λ opened e. took.learned.opened opened (opening_is ∙ e);
       even = took.learned.even;
       listed = took.learned.listed;

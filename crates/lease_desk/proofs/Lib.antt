@@ -1,3 +1,4 @@
+pub mod PageLaws
 pub mod Lists
 pub mod Hands
 pub mod ReceiptLaws
@@ -8,3 +9,4 @@ pub mod Numbers
 pub mod CollectLaws
 pub mod ClosingLaws
 pub mod CallLaws
+pub mod Sharing

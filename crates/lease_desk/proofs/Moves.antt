@@ -16,6 +16,7 @@ use Rattle.lease_desk.specs.Seats.{Opens, Learned, Took, MayGive, HasChairs, rec
 use Rattle.lease_desk.proofs.Lists.{set_else, below, each_set, each_added}
 use Rattle.lease_desk.proofs.Hands.{not_before, holder_has, others_have, new_has, IsHolder, holds}
 use Rattle.lease_desk.proofs.ReceiptLaws.{below_more, below_wide, below_push, none_from, from_other}
+use Rattle.lease_desk.proofs.PageLaws.{none_later}
 
 only_view : (pass : ℕ) (v : View) → get_elem? (unopened ∷ []) pass ≡ some v → (pass ≡ 0) × (unopened ≡ v)
 only_view zero v e = (refl, some-injective unopened v e)
@@ -38,14 +39,14 @@ silent pass v items views kept at = tt
 opened_fits : (page : Page) (made : ℕ) → made ≡ 0 → Fits page within (λ _. 0) 0 made 0 (usher (Some page) 0)
 opened_fits page made is = record {
   in_hand = refl;
-  opened = λ opening e. let same : page ≡ opening = cc in record { terms = ap (λ (p : Page). p.book.terms) (sym same); chairs = ap (λ (p : Page). p.chairs) (sym same) };
+  opened = λ opening e. let same : page ≡ opening = cc in record { terms = ap (λ (p : Page). p.book.terms) (sym same); before = ap (λ (p : Page). p.before) (sym same); chairs = ap (λ (p : Page). p.chairs) (sym same) };
   chair = λ k e. cc;
   ushers = λ n e. (refl, (let zero_is : 0 ≡ n = cc in sym zero_is ∙ sym is));
   told = λ last e. cc;
 }
 
-pub opens : (n pass : ℕ) (message : Message) → message.book.events ≡ [] → message.makers.items ≡ [] → Pushes IsKept n pass unopened message (Opens unopened message)
-opens n pass message no_events nobody items views room (inl before) at =
+pub opens : (n pass : ℕ) (message : Message) → message.makers.items ≡ [] → Pushes IsKept n pass unopened message (Opens unopened message)
+opens n pass message nobody items views room (inl before) at =
     let page : Page = page_of message in
     let only = only_view pass unopened (subst (λ (l : List View). get_elem? l pass ≡ some unopened) before.1 at) in
     let after : set views pass (usher (Some page) 0) ≡ usher (Some page) 0 ∷ [] = λ i. set (before.1 i) (only.0 i) (usher (Some page) 0) in (
@@ -58,7 +59,7 @@ opens n pass message no_events nobody items views room (inl before) at =
         made = 0;
         lies = (message, ap (λ l. l ++ message ∷ []) before.0, refl);
         among = tt;
-        even = ap (λ (l : List ℕ). length l) nobody ∙ sym (ap (λ (l : List Event). length l) no_events);
+        even = ap (λ (l : List ℕ). length l) nobody ∙ sym (ap (λ (l : List Event). length l) (none_later message nobody));
         listed = subst (AreBelow 0) (sym nobody) tt;
         bound = omega arith;
         fits = λ p v e. let last = first_view page p v (subst (λ (l : List View). get_elem? l p ≡ some v) after e) in subst (λ (y : ℕ × View). Fits page within (λ _. 0) 0 0 y.0 y.1) (λ i. (sym last.0 i, last.1 i)) (opened_fits page 0 refl);
@@ -69,7 +70,7 @@ opens n pass message no_events nobody items views room (inl before) at =
     first_view : (page : Page) (p : ℕ) (v : View) → get_elem? (usher (Some page) 0 ∷ []) p ≡ some v → (p ≡ 0) × (usher (Some page) 0 ≡ v)
     first_view page zero v e = (refl, some-injective (usher (Some page) 0) v e)
     first_view page (suc p) v e = absurd (some-ne-none v (sym e))
-opens n pass message no_events nobody items views room (inr open') at =
+opens n pass message nobody items views room (inr open') at =
     absurd (not_before open'.at pass open'.page Before (open'.fits pass unopened at).in_hand refl)
 
 nothing_in : (message : Message) (items : List Message) → message ∷ items ≡ [] → ⊥
@@ -152,15 +153,15 @@ pub record Follows (held page : Page) (number : ℕ) : Type 0 where
 
 pub follows_same : (held page : Page) (number : ℕ) → page ≡ held → Follows held page number
 follows_same held page number same =
-    subst (λ (p : Page). Follows held p number) (sym same) (record { of = record { terms = refl; chairs = refl }; even = λ e. e; listed = λ bound below' b. b; others = λ k apart even. refl })
+    subst (λ (p : Page). Follows held p number) (sym same) (record { of = record { terms = refl; before = refl; chairs = refl }; even = λ e. e; listed = λ bound below' b. b; others = λ k apart even. refl })
 
 pub follows_event : (held page : Page) (number : ℕ) (event : Event) → page ≡ page_with held number event → Follows held page number
 follows_event held page number event same =
     subst (λ (p : Page). Follows held p number) (sym same) (record {
-      of = record { terms = refl; chairs = refl };
+      of = record { terms = refl; before = refl; chairs = refl };
       even = λ e. omega (arith, length-append held.makers (number ∷ []), length-append held.book.events (event ∷ []));
       listed = λ bound below' b. below_push bound number held.makers below' b;
-      others = λ k apart even. sym (from_other k number 0 held.makers held.book.events event even apart);
+      others = λ k apart even. sym (from_other k number (length held.before) held.makers held.book.events event even apart);
     })
 
 other_chair : (seats : ℕ → ℕ) (k number p pass : ℕ) → seats k ≡ p → seats number ≡ pass → p ≢ pass → k ≢ number
@@ -195,7 +196,7 @@ gives_from n pass v held number x items views open' holder is_number is_none fol
             let f = open'.fits p u e in
             record {
               in_hand = f.in_hand ∙ ap (λ (at : Where). hand_at at p open'.page) holder.at_is ∙ sym (others_have false pass p open'.page apart);
-              opened = λ opening e'. let o = f.opened opening e' in record { terms = o.terms ∙ of.terms; chairs = o.chairs ∙ of.chairs };
+              opened = λ opening e'. let o = f.opened opening e' in record { terms = o.terms ∙ of.terms; before = o.before ∙ of.before; chairs = o.chairs ∙ of.chairs };
               chair = λ k e'.
                   let c = f.chair k e' in
                   (c.0, c.1, c.2 ∙ ap (λ (p' : Page). receipts_on p' k) (sym holder.page_is) ∙ follows.others k (other_chair open'.seats k number p pass c.0 my_chair.0 apart) even);
@@ -204,7 +205,7 @@ gives_from n pass v held number x items views open' holder is_number is_none fol
             })
             (record {
               in_hand = refl;
-              opened = λ opening e'. let o = mine.opened opening e' in record { terms = o.terms ∙ of.terms; chairs = o.chairs ∙ of.chairs };
+              opened = λ opening e'. let o = mine.opened opening e' in record { terms = o.terms ∙ of.terms; before = o.before ∙ of.before; chairs = o.chairs ∙ of.chairs };
               chair = λ k e'.
                   let c = mine.chair k e' in
                   (c.0, c.1, ap (λ (o : Option ℕ). receipts_told o page v.receipts) e');
@@ -340,7 +341,7 @@ seats pass opening made room items views kept there =
             opened = mine.opened;
             chair = λ k e'.
                 let k_is : k ≡ open'.made = (let is : made ≡ k = cc in sym is ∙ made_is) in
-                (ap at_seats k_is ∙ seats_new open'.seats open'.made new, omega arith, sym (none_from k open'.made 0 open'.page.makers open'.page.book.events open'.listed (omega arith)));
+                (ap at_seats k_is ∙ seats_new open'.seats open'.made new, omega arith, sym (none_from k open'.made (length open'.page.before) open'.page.makers open'.page.book.events open'.listed (omega arith)));
             ushers = λ n e'. cc;
             told = λ last e'. cc;
           }));
@@ -390,9 +391,9 @@ compares pass v knows items views kept there k last is_number told =
     let mine = open'.fits pass v there in
     (mine.chair k is_number).2 ∙ ap (λ (p : Page). receipts_on p k) (sym (mine.told last told).0)
 
-pub opens_as : (n pass : ℕ) (v : View) (message first : Message) → v ≡ unopened → message ≡ first → first.book.events ≡ [] → first.makers.items ≡ [] → Pushes IsKept n pass v message (Opens v message)
-opens_as n pass v message first is same no_events nobody =
-    subst (λ (y : View × Message). Pushes IsKept n pass y.0 y.1 (Opens y.0 y.1)) (λ k. (sym is k, sym same k)) (opens n pass first no_events nobody)
+pub opens_as : (n pass : ℕ) (v : View) (message first : Message) → v ≡ unopened → message ≡ first → first.makers.items ≡ [] → Pushes IsKept n pass v message (Opens v message)
+opens_as n pass v message first is same nobody =
+    subst (λ (y : View × Message). Pushes IsKept n pass y.0 y.1 (Opens y.0 y.1)) (λ k. (sym is k, sym same k)) (opens n pass first nobody)
 
 pub may_give_as : (n pass : ℕ) (v was : View) (message first : Message) → v ≡ was → message ≡ first → MayGive was (page_of first) → Pushes IsKept n pass v message (Gave v message)
 may_give_as n pass v was message first is same may =

@@ -1,5 +1,5 @@
 -- A call between taking the message and giving it back.
-use Rattle.std.proofs.Common.{◌≡◌, ◌⊎◌, ℕ, ◌+◌, false, List, [], ◌∷◌, ◌++◌, All, length, Option, None, Some, refl, sym, ap, ◌∙◌, subst, inl, inr, arith}
+use Rattle.std.proofs.Common.{◌≡◌, ◌⊎◌, ℕ, ◌+◌, false, List, [], ◌∷◌, ◌++◌, All, length, Option, None, Some, refl, sym, ap, ◌∙◌, subst, inl, inr, arith, length-append}
 use Rattle.lease_book.specs.declared.events.Asked.{Asked}
 use Rattle.lease_book.specs.declared.events.Event.{Event}
 use Rattle.lease_book.specs.Histories.{Terms}
@@ -11,7 +11,7 @@ use Rattle.lease_desk.specs.declared.views.Hand.{Hand}
 use Rattle.lease_desk.specs.declared.views.Hand.TheVariants.{Empty}
 use Rattle.lease_desk.specs.declared.views.View.{View}
 use Rattle.lease_desk.specs.Receipts.{receipt, IsBefore, Stands}
-use Rattle.lease_desk.specs.Views.{page_of, page_with, receipts_on}
+use Rattle.lease_desk.specs.Views.{page_of, page_with, history_on, receipts_on}
 use Rattle.lease_desk.specs.Seats.{Took, MayGive, receipts_told, gave}
 use Rattle.lease_desk.specs.Entries.{IsEntered, IsAttended}
 use Rattle.lease_desk.proofs.ReceiptLaws.{from_own, before_end, stand_from}
@@ -49,20 +49,21 @@ module _ (v w : View) (message : Message) (number : ℕ) (took : Took false v me
   attended page u asked told empty back entered =
       let old : Page = page_of message in
       let before : v.receipts ≡ receipts_on old number = took.learned.chair number number_is in
-      let at : 0 + length old.book.events ≡ told.place = omega (arith, entered.place_is) in
+      let long = length-append old.before old.book.events in
+      let at : length old.before + length old.book.events ≡ told.place = omega (arith, entered.place_is) in
       let after : receipts_on page number ≡ v.receipts ++ told ∷ [] =
       ap (λ (p : Page). receipts_on p number) entered.page_is
-      ∙ from_own number 0 old.makers old.book.events told.event took.learned.even
+      ∙ from_own number (length old.before) old.makers old.book.events told.event took.learned.even
       ∙ ap (λ (y : List Receipt × ℕ). y.0 ++ receipt y.1 told.event ∷ []) (λ i. (sym before i, at i)) in
       record {
         asked_is = entered.asked_is;
         named = λ opening e. record {
-          earlier = old.book.events;
-          legal = subst (λ (t : Terms). IsLegal t old.book.events) (sym (took.learned.opened opening e).terms) entered.legal;
-          stand = subst (λ (l : List Receipt). All (Stands old.book.events) l) (sym before) (stand_from old.book.events number [] old.makers old.book.events refl);
+          earlier = history_on old;
+          legal = subst (λ (t : Terms). IsLegal t (history_on old)) (sym (took.learned.opened opening e).terms) entered.legal;
+          stand = subst (λ (l : List Receipt). All (Stands (history_on old)) l) (sym before) (stand_from (history_on old) number old.before old.makers old.book.events refl);
           place_is = entered.place_is;
-          reply_is = subst (λ (t : Terms). IsReply t old.book.events asked told.event.reply) (sym (took.learned.opened opening e).terms) entered.reply_is;
+          reply_is = subst (λ (t : Terms). IsReply t (history_on old) asked told.event.reply) (sym (took.learned.opened opening e).terms) entered.reply_is;
         };
         knows = given page u (v.receipts ++ told ∷ []) empty back after;
-        later = subst (λ (l : List Receipt). All (IsBefore told.place) l) (sym before) (before_end told.place number 0 old.makers old.book.events (omega (arith, entered.place_is)));
+        later = subst (λ (l : List Receipt). All (IsBefore told.place) l) (sym before) (before_end told.place number (length old.before) old.makers old.book.events (omega (arith, entered.place_is)));
       }

@@ -7,7 +7,7 @@ use Rattle.lease_desk.specs.declared.views.Page.{Page}
 use Rattle.lease_desk.specs.declared.views.Hand.TheVariants.{Empty}
 use Rattle.lease_desk.specs.declared.ends.DeskEnds.{DeskEnds}
 use Rattle.lease_desk.specs.declared.chairs.Chair.{Chair}
-use Rattle.lease_desk.specs.Views.{receipts_on}
+use Rattle.lease_desk.specs.Views.{receipts_on, history_on}
 use Rattle.lease_desk.specs.Rule.{AreBelow, IsOf}
 use Rattle.lease_desk.specs.Desks.{IsChairAt, number_of, receipts_in, shown_of}
 
@@ -30,7 +30,8 @@ IsCompared last chair = receipts_in chair ≡ receipts_on last (number_of chair)
 -- the last page, with which all receipts were compared
 pub record IsCollected (opening : Option Page) (chairs closed : List Chair) (book : Ledger) : Type 0 where
   pub page : Page
-  pub book_is : book ≡ page.book
+  pub terms_are : book.terms ≡ page.book.terms
+  pub events_are : book.events ≡ history_on page
   pub of : (first : Page) → opening ≡ Some first → IsOf first page
   pub even : length page.makers ≡ length page.book.events
   pub listed : AreBelow page.chairs page.makers

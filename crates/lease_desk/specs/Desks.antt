@@ -1,5 +1,5 @@
 -- What the desk promises.
-use Rattle.std.specs.Prelude.{◌≡◌, ℕ, ◌<◌, List, [], ◌∷◌, ◌++◌, All, Option, Some, length, map, count_by, sum_by}
+use Rattle.std.specs.Prelude.{◌≡◌, ℕ, ◌<◌, ◌≤◌, List, [], ◌∷◌, ◌++◌, All, Option, Some, length, map, count_by, sum_by}
 use Rattle.std.specs.Prelude.{nat_eq}
 use Rattle.crossbeam_channel.specs.Claims.{view, IsSeatAt}
 use Rattle.crossbeam_channel.specs.Ends.{sends_on}
@@ -29,9 +29,19 @@ number_of chair = chair.number
 abbrev pub receipts_in : Chair → List Receipt
 receipts_in chair = chair.receipts.items
 
+-- the history that the book had when the desk was opened
+abbrev pub start_of : Desk → List Event
+start_of desk = desk.start.value.events
+
 -- the page with which the desk was opened
 abbrev pub opening_of : Desk → Page
-opening_of desk = record { book = record { terms = terms_of desk; events = [] }; makers = []; chairs = desk.chairs }
+opening_of desk =
+    record {
+      before = start_of desk;
+      book = record { terms = terms_of desk; events = [] };
+      makers = [];
+      chairs = desk.chairs;
+    }
 
 -- the chair's pass is one of this channel, and knows the opening and what the chair keeps
 pub record IsChairAt (ends : DeskEnds) (opening : Option Page) (chair : Chair) : Type 0 where
@@ -52,9 +62,11 @@ pub record AreChairsOf (desk : Desk) (chairs : List Chair) : Type 0 where
   pub each : All (IsChairOf desk) chairs
   pub all : AreAll (chairs_of desk) (map number_of chairs)
 
--- a desk over these terms, with all its chairs, which have no receipts
-pub record IsOpened (terms : Terms) (count : ℕ) (desk : Desk) (chairs : List Chair) : Type 0 where
+-- a desk over these terms, with a book of this history, and with all its chairs, which have no receipts
+pub record IsOpened (terms : Terms) (start : List Event) (count : ℕ) (desk : Desk) (chairs : List Chair)
+    : Type 0 where
   pub terms_are : terms_of desk ≡ terms
+  pub start_is : start_of desk ≡ start
   pub count_is : chairs_of desk ≡ count
   pub chairs_are : AreChairsOf desk chairs
   pub none_yet : All (λ chair. receipts_in chair ≡ []) chairs
@@ -87,12 +99,17 @@ receipts_for place chairs = sum_by (λ chair. count_by (is_for place) (receipts_
 abbrev pub shown_of : Chair → ℕ × List Receipt
 shown_of chair = (number_of chair, receipts_in chair)
 
--- The closed book: its history is legal over the terms of the opening, each receipt stands in it at its place, each
--- place is in one chair, once, and there are as many events as receipts. The chairs have the receipts that they had.
-pub record IsClosed (terms : Terms) (chairs : List Chair) (book : Ledger) (closed : List Chair) : Type 0 where
+-- The closed book: its history is legal over the terms of the opening and begins with that of the opening, each receipt
+-- stands in it at its place, each later place is in one chair, once, and no earlier one is in any, and there are as many
+-- later events as receipts. The chairs have the receipts that they had.
+pub record IsClosed (terms : Terms) (start : List Event) (chairs : List Chair) (book : Ledger) (closed : List Chair)
+    : Type 0 where
   pub terms_are : book.terms ≡ terms
+  pub later : List Event
+  pub events_are : book.events ≡ start ++ later
   pub legal : IsLegal terms book.events
   pub same : map shown_of closed ≡ map shown_of chairs
   pub stand : All (λ chair. All (Stands book.events) (receipts_in chair)) closed
-  pub once : (place : ℕ) → place < length book.events → receipts_for place closed ≡ 1
-  pub counted : receipts_count closed ≡ length book.events
+  pub none : (place : ℕ) → place < length start → receipts_for place closed ≡ 0
+  pub once : (place : ℕ) → length start ≤ place → place < length book.events → receipts_for place closed ≡ 1
+  pub counted : receipts_count closed ≡ length later

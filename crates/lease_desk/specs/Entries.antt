@@ -6,15 +6,15 @@ use Rattle.lease_desk.specs.declared.receipts.Receipt.{Receipt}
 use Rattle.lease_desk.specs.declared.views.Page.{Page}
 use Rattle.lease_desk.specs.declared.views.View.{View}
 use Rattle.lease_desk.specs.Receipts.{IsBefore}
-use Rattle.lease_desk.specs.Views.{page_with}
+use Rattle.lease_desk.specs.Views.{page_with, history_on}
 use Rattle.lease_desk.specs.Desks.{IsNamed}
 
 -- a chair has entered its request, with the reply that the page names
 pub record IsEntered (old new : Page) (number : ℕ) (asked : Asked) (told : Receipt) : Type 0 where
   pub asked_is : told.event.asked ≡ asked
-  pub legal : IsLegal old.book.terms old.book.events
-  pub place_is : told.place ≡ length old.book.events
-  pub reply_is : IsReply old.book.terms old.book.events asked told.event.reply
+  pub legal : IsLegal old.book.terms (history_on old)
+  pub place_is : told.place ≡ length (history_on old)
+  pub reply_is : IsReply old.book.terms (history_on old) asked told.event.reply
   pub page_is : new ≡ page_with old number told.event
 
 -- the view of a chair that has one more receipt

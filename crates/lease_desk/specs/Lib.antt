@@ -1,5 +1,4 @@
 pub mod Receipts
-pub mod Moments
 pub mod Views
 pub mod Rule
 pub mod Seats

@@ -17,10 +17,6 @@ receipts_from chair place (maker ∷ makers) (event ∷ events) =
     keep (nat_eq maker chair) (receipt place event) (receipts_from chair (place + 1) makers events)
 receipts_from chair place _ _ = []
 
--- the receipts of a chair for a whole history
-abbrev pub receipts_of : ℕ → List ℕ → List Event → List Receipt
-receipts_of chair makers events = receipts_from chair 0 makers events
-
 -- the receipt's event stands in the history at the receipt's place
 abbrev pub Stands : List Event → Receipt → Type 0
 Stands events told = slice_get events told.place ≡ Some told.event

@@ -47,6 +47,7 @@ IsFinal (out false holder) = ⊥
 -- a desk that was opened so has come to this page
 pub record IsOf (opening page : Page) : Type 0 where
   pub terms : opening.book.terms ≡ page.book.terms
+  pub before : opening.before ≡ page.before
   pub chairs : opening.chairs ≡ page.chairs
 
 -- what one pass knows is so

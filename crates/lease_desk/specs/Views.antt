@@ -1,20 +1,35 @@
 -- What the rule sees of a message, and what passes of the channel know.
-use Rattle.std.specs.Prelude.{ℕ, Bool, List, [], ◌∷◌, ◌++◌, Option, None, Some}
+use Rattle.std.specs.Prelude.{ℕ, ◌-◌, Bool, List, [], ◌∷◌, ◌++◌, length, take, drop, Option, None, Some}
 use Rattle.lease_book.specs.declared.events.Event.{Event}
 use Rattle.lease_desk.specs.declared.messages.Message.{Message}
 use Rattle.lease_desk.specs.declared.receipts.Receipt.{Receipt}
 use Rattle.lease_desk.specs.declared.views.Page.{Page}
 use Rattle.lease_desk.specs.declared.views.View.{View}
 use Rattle.lease_desk.specs.declared.views.Hand.TheVariants.{Before, Empty, Holds}
-use Rattle.lease_desk.specs.Receipts.{receipts_of}
+use Rattle.lease_desk.specs.Receipts.{receipts_from}
+
+-- how many events of a message no chair has made: those that the book had when the desk was opened
+abbrev pub earlier_in : Message → ℕ
+earlier_in message = length message.book.events - length message.makers.items
 
 abbrev pub page_of : Message → Page
-page_of message = record { book = message.book; makers = message.makers.items; chairs = message.chairs }
+page_of message =
+    record {
+      before = take (earlier_in message) message.book.events;
+      book = record { terms = message.book.terms; events = drop (earlier_in message) message.book.events };
+      makers = message.makers.items;
+      chairs = message.chairs;
+    }
+
+-- the whole history on a page: the events before the opening, and those since
+abbrev pub history_on : Page → List Event
+history_on page = page.before ++ page.book.events
 
 -- the page after a chair made an event
 abbrev pub page_with : Page → ℕ → Event → Page
 page_with page chair event =
     record {
+      before = page.before;
       book = record { terms = page.book.terms; events = page.book.events ++ event ∷ [] };
       makers = page.makers ++ chair ∷ [];
       chairs = page.chairs;
@@ -22,7 +37,7 @@ page_with page chair event =
 
 -- the receipts of a chair on a page
 abbrev pub receipts_on : Page → ℕ → List Receipt
-receipts_on page chair = receipts_of chair page.makers page.book.events
+receipts_on page chair = receipts_from chair (length page.before) page.makers page.book.events
 
 -- the pass that opens the channel, before it sends
 abbrev pub unopened : View

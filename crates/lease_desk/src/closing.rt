@@ -5,7 +5,7 @@ ghost use Rattle.crossbeam_channel.specs.Claims.{view, IsSeatAt};
 ghost use Rattle.crossbeam_channel.specs.Ends.{sends_on};
 ghost use Rattle.lease_desk.specs.declared.views.Page.{Page};
 ghost use Rattle.lease_desk.specs.declared.views.Hand.TheVariants.{Holds};
-ghost use Rattle.lease_desk.specs.Desks.{IsChairAt, AreChairsOf, IsClosed, terms_of, shown_of};
+ghost use Rattle.lease_desk.specs.Desks.{IsChairAt, AreChairsOf, IsClosed, terms_of, start_of, shown_of};
 ghost use Rattle.lease_desk.specs.Closing.{AreSeatedAt, IsCollected, IsSitting, IsCompared};
 
 use crate::chairs::Chair;
@@ -71,7 +71,7 @@ impl Desk {
     /// Closes the desk with all its chairs, in any order, and hands the book out. Takes no memory.
     pub fn close<R: Wait>(self, rt: &R, chairs: Vec<Chair>) -> Closed
         requires { AreChairsOf self chairs.items }
-        ensures { IsClosed (terms_of self) chairs.items result.book result.chairs.items }
+        ensures { IsClosed (terms_of self) (start_of self) chairs.items result.book result.chairs.items }
     {
         let mut chairs = chairs;
         let Desk {
@@ -79,10 +79,12 @@ impl Desk {
             boards: _,
             term: _,
             tries: _,
+            start: _,
             chairs: _,
             idle,
         } = self;
-        let book = match idle {
+        let mut idle = idle;
+        let book = match idle.pop() {
             Some(book) => book,
             None => collect(rt, &ends, chairs.as_mut_slice()),
         };

@@ -1,10 +1,11 @@
 //! The desk, its boards and its terms.
 
-ghost use Rattle.std.specs.Prelude.{◌≡◌, [], is_some, unwrap_or, nat_eq};
+ghost use Rattle.std.specs.Prelude.{◌≡◌, [], ◌∷◌, if◌then◌else◌, nat_eq};
 
 use crate::ends::DeskEnds;
 use lease_book::Book;
 use pbn_deals::Board;
+use std::snapshot::Snapshot;
 
 /// A book that threads share. All calls at the desk are the events of one history.
 #[derive(Drop)]
@@ -14,12 +15,13 @@ pub struct Desk {
     pub(crate) boards: Vec<Board>,
     pub(crate) term: u64,
     pub(crate) tries: u32,
+    /// The book as it was when the desk was opened. It has no bytes: contracts alone see it.
+    pub(crate) start: Snapshot<Book>,
     /// How many chairs there are.
     pub(crate) chairs: usize,
-    /// The book of a desk of no chairs.
-    pub(crate) idle: Option<Book>,
-    pub(crate) ghost idle_is: { is_some idle ≡ nat_eq chairs 0 },
-    pub(crate) ghost idle_book: { unwrap_or idle
-        (record { terms = record { boards = boards.items; term = term; tries = tries }; events = [] })
-        ≡ record { terms = record { boards = boards.items; term = term; tries = tries }; events = [] } },
+    /// The book of a desk of no chairs, and else nothing.
+    pub(crate) idle: Vec<Book>,
+    pub(crate) ghost idle_is: { idle.items ≡ (if nat_eq chairs 0
+        then (record { terms = record { boards = boards.items; term = term; tries = tries }; events = start.value.events }) ∷ []
+        else []) },
 }

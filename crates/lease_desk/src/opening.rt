@@ -15,56 +15,57 @@ use crate::turns::begin;
 use lease_book::{Book, BookFault};
 use pbn_deals::Board;
 use std::alloc::{AllocError, Global};
+use std::snapshot::Snapshot;
 use std::sync::Wait;
 
-/// A desk with this new book, and its chairs.
-fn set_up<R: Wait>(
-    rt: &R,
-    alloc: Global,
-    book: Book,
-    term: u64,
-    tries: u32,
-    chairs: usize,
-) -> Result<(Desk, Vec<Chair>), AllocError>
-    requires new { book ≡ record {
-      terms = record { boards = book.terms.boards; term = term; tries = tries };
-      events = [];
-    } }
-    ensures { IfOk result (λ made. IsOpened book.terms chairs made.0 made.1.items) }
-{
-    let boards = copies_of(alloc, book.boards())?;
-    let (ends, pass) = new_ends(alloc)?;
-    if chairs == 0 {
+impl Desk {
+    /// Opens a desk with this book, whatever its history, and makes so many chairs. Where memory runs out the book is
+    /// dropped.
+    pub fn over<R: Wait>(
+        rt: &R,
+        alloc: Global,
+        book: Book,
+        chairs: usize,
+    ) -> Result<(Desk, Vec<Chair>), AllocError>
+        ensures { IfOk result (λ made. IsOpened book.terms book.events chairs made.0 made.1.items) }
+    {
+        let (term, tries, start) = (book.term(), book.tries(), Snapshot::of(&book));
+        let boards = copies_of(alloc, book.boards())?;
+        let (ends, pass) = new_ends(alloc)?;
+        let mut idle = Vec::new(alloc);
+        if chairs == 0 {
+            idle.push(book)?;
+            let desk = Desk {
+                ends,
+                boards,
+                term,
+                tries,
+                start,
+                chairs,
+                idle,
+            };
+            return Ok((desk, Vec::new(alloc)));
+        }
+        let mut pass = pass;
+        let message = Message {
+            book,
+            makers: Vec::new(alloc),
+            chairs,
+        };
+        begin(rt, &ends.sender, &mut pass, message);
+        let seats = seat_all(alloc, &ends, pass, chairs)?;
         let desk = Desk {
             ends,
             boards,
             term,
             tries,
+            start,
             chairs,
-            idle: Some(book),
+            idle,
         };
-        return Ok((desk, Vec::new(alloc)));
+        Ok((desk, seats))
     }
-    let mut pass = pass;
-    let message = Message {
-        book,
-        makers: Vec::new(alloc),
-        chairs,
-    };
-    begin(rt, &ends.sender, &mut pass, message);
-    let seats = seat_all(alloc, &ends, pass, chairs)?;
-    let desk = Desk {
-        ends,
-        boards,
-        term,
-        tries,
-        chairs,
-        idle: None,
-    };
-    Ok((desk, seats))
-}
 
-impl Desk {
     /// Opens a desk with a new book over these boards, and makes so many chairs. The faults are those of [`Book::new`].
     pub fn open<R: Wait>(
         rt: &R,
@@ -75,11 +76,11 @@ impl Desk {
         chairs: usize,
     ) -> Result<(Desk, Vec<Chair>), BookFault>
         ensures ok { IfOk result (λ made. IsOpened
-            (record { boards = boards.items; term = term; tries = tries }) chairs made.0 made.1.items) }
+            (record { boards = boards.items; term = term; tries = tries }) [] chairs made.0 made.1.items) }
         ensures err { IfErr result (IsRefused (record { boards = boards.items; term = term; tries = tries })) }
     {
         let book = Book::new(alloc, boards, term, tries)?;
-        let Ok(opened) = set_up(rt, alloc, book, term, tries, chairs) else {
+        let Ok(opened) = Desk::over(rt, alloc, book, chairs) else {
             return Err(BookFault::OutOfMemory);
         };
         Ok(opened)

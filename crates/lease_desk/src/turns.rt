@@ -16,7 +16,6 @@ use std::thread;
 pub(crate) fn begin<R: Wait>(rt: &R, sender: &DeskSender, pass: &mut DeskPass, message: Message)
     requires seat { IsSeatAt (sends_on sender.now) pass.old }
     requires view { view pass.old ≡ unopened }
-    requires events { message.book.events ≡ [] }
     requires makers { message.makers.items ≡ [] }
     ensures seat { IsSeatAt (sends_on sender.now) pass.new }
     ensures view { view pass.new ≡ usher (Some (page_of message)) 0 }

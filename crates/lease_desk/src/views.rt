@@ -1,11 +1,14 @@
 //! What a pass of the desk's channel knows. It exists in contracts alone.
 
 use crate::receipts::Receipt;
-use lease_book::Book;
+use lease_book::{Book, Event};
 use std::collections::LinkedList;
 
 /// What the rule sees of a message. No value of it is made.
 pub struct Page {
+    /// The events that the book had when the desk was opened.
+    pub before: LinkedList<Event>,
+    /// The book, with the events since.
     pub book: Book,
     pub makers: LinkedList<usize>,
     pub chairs: usize,

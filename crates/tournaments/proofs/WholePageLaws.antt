@@ -1,12 +1,39 @@
 -- A tournament's text with its tables is read as its boards, each with the double-dummy values of its deal.
+use Rattle.std.proofs.Common.{ℕ, Bool, true, false, List, [], ◌∷◌, cond, sym, subst}
+use Rattle.std.specs.List.{AllZip, enumerate_from, filter}
+use Rattle.pbn_deals.specs.declared.boards.Board.{Board}
 use Rattle.pbn_deals.proofs.PrintableBoards.{boards_are_printable}
 use Rattle.tables.specs.BookResults.{book_results}
+use Rattle.tables.specs.TablesText.{Results}
+use Rattle.whole_texts.specs.OldTables.{has_deal}
+use Rattle.whole_texts.specs.WholeText.{Game}
+use Rattle.whole_texts.specs.Laws.{Where, ShowsBoard, ShowGames}
 use Rattle.whole_texts.proofs.WrittenLines.{keep_boards}
 use Rattle.whole_texts.proofs.NothingLost.{lose_nothing}
 use Rattle.whole_texts.proofs.ShownOnce.{show_each_once}
 use Rattle.tournaments.specs.WholePages.{WholePagesAreRead}
 use Rattle.tournaments.proofs.PageLaws.{are_tricks}
 
+-- ---- the games with a Deal tag
+module _ (results : ℕ → Results) where
+  abbrev Shows : ℕ × Board → Game → Type 0
+  Shows numbered game = ShowsBoard results numbered game.lines
+
+  abbrev is_dealt : Game → Bool
+  is_dealt game = has_deal game.lines
+
+  -- one game more, by whether it has a Deal tag
+  one_more : (dealt : Bool) (numbered : ℕ × Board) (more : List (ℕ × Board)) (game : Game) (games rest : List Game) → (ShowGames results more games → AllZip Shows more rest) → (ShowGames results (numbered ∷ more) games → AllZip Shows (numbered ∷ more) rest) → Where dealt (ShowsBoard results numbered game.lines × ShowGames results more games) (ShowGames results (numbered ∷ more) games) → AllZip Shows (numbered ∷ more) (cond dealt (game ∷ rest) rest)
+  one_more true numbered more game games rest with_it without shown = (shown.0, with_it shown.1)
+  one_more false numbered more game games rest with_it without shown = without shown
+
+  in_order : (boards : List (ℕ × Board)) (games : List Game) → ShowGames results boards games → AllZip Shows boards (filter is_dealt games)
+  in_order [] [] shown = tt
+  in_order (numbered ∷ more) [] shown = absurd shown
+  in_order [] (game ∷ games) shown = subst (λ (dealt : Bool). AllZip Shows [] (cond dealt (game ∷ filter is_dealt games) (filter is_dealt games))) (sym shown.0) (in_order [] games shown.1)
+  in_order (numbered ∷ more) (game ∷ games) shown = one_more (has_deal game.lines) numbered more game games (filter is_dealt games) (in_order more games) (in_order (numbered ∷ more) games) shown
+
+-- ---- the law
 pub whole_pages_are_read : WholePagesAreRead
 whole_pages_are_read text terms events page says history whole =
     let boards = terms.boards in
@@ -20,5 +47,6 @@ whole_pages_are_read text terms events page says history whole =
       lines = shown.0;
       read = shown.1;
       shown = shown.2;
+      in_order = in_order results (enumerate_from 0 boards) _ shown.2;
       values = history.values;
     }

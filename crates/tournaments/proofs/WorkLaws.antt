@@ -32,10 +32,10 @@ use Rattle.lease_book.specs.Books.{Ledger, IsAnswered, with_event}
 use Rattle.lease_book.proofs.LegalLaws.{gives_none}
 use Rattle.lease_book.proofs.NamedLaws.{nothing_left}
 use Rattle.lease_book.proofs.FreeLaws.{ended, free_after_hand_in, free_after_give_up, free_at_end, published_at_end, given_at_end}
-use Rattle.tournaments.specs.Done.{IsDone}
+use Rattle.lease_book.specs.Done.{IsDone}
 use Rattle.partition_solver.specs.Answers.{MayFind}
 use Rattle.tournaments.specs.Asking.{as_verdict, IsVerdictOnFound, IsFoundFor, asked_for, IsWorkedOn, AreWorkedOn}
-use Rattle.lease_desk.specs.Moments.{MayTell, IsTimed, AreTimed}
+use Rattle.lease_book.specs.Moments.{MayTell, IsTimed, AreTimed}
 use Rattle.tournaments.specs.Working.{WorksOn, GivesOut}
 
 -- what is shown of an entry's own deal is for the entry

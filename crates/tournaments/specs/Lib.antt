@@ -1,4 +1,3 @@
-pub mod Done
 pub mod Faults
 pub mod Making
 pub mod Replaying

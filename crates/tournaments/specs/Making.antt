@@ -13,10 +13,10 @@ use Rattle.tables.specs.TablesText.{complete_count}
 use Rattle.tournaments.specs.declared.faults.MakeFault.{MakeFault}
 use Rattle.tournaments.specs.declared.faults.MakeFault.TheVariants.{OutOfMemory, Read, Pbn, NoThread, Write}
 use Rattle.lease_book.specs.TrueHistories.{IsTrueHistory, IsGivenOut}
-use Rattle.tournaments.specs.Done.{IsDone}
+use Rattle.lease_book.specs.Done.{IsDone}
 use Rattle.partition_solver.specs.Answers.{MayFind}
 use Rattle.tournaments.specs.Asking.{AreWorkedOn}
-use Rattle.lease_desk.specs.Moments.{MayTell, AreTimed}
+use Rattle.lease_book.specs.Moments.{MayTell, AreTimed}
 
 -- what is so of the history of a run, over the terms of its book
 abbrev pub RunFact : Type 1

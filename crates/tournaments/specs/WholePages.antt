@@ -1,6 +1,6 @@
 -- A tournament's text as it was read, with its tables in it.
 use Rattle.std.specs.Prelude.{ℕ, List, Ok}
-use Rattle.std.specs.List.{enumerate_from}
+use Rattle.std.specs.List.{AllZip, enumerate_from, filter}
 use Rattle.pbn_deals.specs.declared.boards.Board.{Board}
 use Rattle.pbn_deals.specs.Pieces.{Line, HasLines}
 use Rattle.pbn_deals.specs.Reading.{TextAnswers}
@@ -8,12 +8,18 @@ use Rattle.lease_book.specs.declared.events.Event.{Event}
 use Rattle.lease_book.specs.Histories.{Terms}
 use Rattle.lease_book.specs.TrueHistories.{AreValues, IsTrueHistory}
 use Rattle.tables.specs.BookResults.{book_results}
-use Rattle.whole_texts.specs.WholeText.{games_of, WholeText}
-use Rattle.whole_texts.specs.Laws.{LosesNothing, ShowGames}
+use Rattle.whole_texts.specs.OldTables.{has_deal}
+use Rattle.whole_texts.specs.WholeText.{Game, games_of, WholeText}
+use Rattle.whole_texts.specs.Laws.{LosesNothing, ShowsBoard, ShowGames}
+
+-- the games with a Deal tag, in their order
+abbrev pub games_with_deal : List Line → List Game
+games_with_deal lines = filter (λ game. has_deal game.lines) (games_of lines)
 
 -- The page is the text with the tables of its boards in place of those that it had. It is read as the same boards, and
--- without what was put it is the text without its old tables. Read by its lines, each game whose board has a deal shows
--- that board's results once, and no other game shows any; each result is the double-dummy value of its deal.
+-- without the new tables it is the text without its old ones. Read by its lines, each game with a Deal tag shows the
+-- results of its board, once, and each result is the double-dummy value of its deal: the first such game those of the
+-- first board, and so on. If the board has no deal, the game shows no results. A game without a Deal tag is as it was.
 pub record IsWholePage (text : List ℕ) (boards : List Board) (events : List Event) (page : List ℕ) : Type 0 where
   pub whole : WholeText text boards (book_results boards events) page
   pub same_boards : TextAnswers page (Ok boards)
@@ -21,6 +27,9 @@ pub record IsWholePage (text : List ℕ) (boards : List Board) (events : List Ev
   pub lines : List Line
   pub read : HasLines page lines
   pub shown : ShowGames (book_results boards events) (enumerate_from 0 boards) (games_of lines)
+  pub in_order :
+      AllZip (λ numbered game. ShowsBoard (book_results boards events) numbered game.lines) (enumerate_from 0 boards)
+      (games_with_deal lines)
   pub values : AreValues boards events
 
 -- that is what is written of any text that is read as boards, after any true history over them

@@ -8,9 +8,9 @@ use Rattle.lease_book.specs.Books.{Ledger, IsAnswered}
 use Rattle.lease_book.specs.Histories.{deal_of}
 use Rattle.partition_solver.specs.Answers.{MayFind}
 use Rattle.tournaments.specs.Asking.{IsFoundFor, asked_for, AreWorkedOn}
-use Rattle.lease_desk.specs.Moments.{MayTell, AreTimed}
+use Rattle.lease_book.specs.Moments.{MayTell, AreTimed}
 use Rattle.lease_book.specs.TrueHistories.{IsGivenOut}
-use Rattle.tournaments.specs.Done.{IsDone}
+use Rattle.lease_book.specs.Done.{IsDone}
 
 -- the verdict on what the solver found for the entry was handed in under the lease, or the lease was given up
 pub record WorksOn (may_find : MayFind) (budget : ℕ) (old new : Ledger) (lease : ℕ) (entry : Entry) : Type 0 where

@@ -1,3 +1,6 @@
+use mir.Syntax.{named}
+use denote.Param.{param}
+use Rattle.farm.proofs.Sharing.{crew_sync}
 use Rattle.std.proofs.Common.{sym, subst}
 use Rattle.farm.specs.declared.relays.Relays.{Relays}
 use Rattle.farm.specs.Relaying.{AreAllEndsOf}
@@ -17,3 +20,8 @@ returns g c =
     let worked = c.in_ok-relays.ensures in
     have_worked g.C.Clock.may_tell c.args.crew.now c.in_ok-opened.opened.0 c.args.chairs.items c.in_ok-chairs.chairs.items ready.ends c.in_ok-chairs.ends c.in_ok-opened.opened.1 c.in_ok-relays.posts ready.opened ready.manned worked.posts c.in_ok-chairs.ensures
     c.in_ok-close.ensures
+
+pub work_as-requires-sync-W : goal.work_as-requires-sync-W
+work_as-requires-sync-W g c κs within =
+    let crew = crew_sync (record { mir = named 3; lft = κs.1.1.1.0 }) (param 0 g.row.S) (param 1 g.row.G) (param 2 g.row.C) (record { shared = c.type_bounds.sync-S.shared }) (record { shared = c.type_bounds.sync-G.shared }) (record { shared = c.type_bounds.sync-C.shared }) in
+    record { shared = crew.shared }

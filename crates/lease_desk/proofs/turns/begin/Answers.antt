@@ -5,4 +5,4 @@ use Rattle.lease_desk.proofs.turns.begin.Goals as goal
 pub send_as-requires-clause-rule : goal.send_as-requires-clause-rule
 send_as-requires-clause-rule g c =
     let i = c.loop.invariant in
-    (opens_as _ _ _ _ c.args.message (i.1 ∙ c.requires.view) i.2 c.requires.events c.requires.makers, silent _ _)
+    (opens_as _ _ _ _ c.args.message (i.1 ∙ c.requires.view) i.2 c.requires.makers, silent _ _)

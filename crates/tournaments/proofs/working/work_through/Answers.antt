@@ -1,7 +1,7 @@
 use Rattle.std.proofs.Common.{◌∙◌, refl, arith}
 use Rattle.std.proofs.lemmas.List.Elements.{All-nil}
 use Rattle.lease_book.specs.declared.events.Event.{Event}
-use Rattle.lease_desk.specs.Moments.{IsTimed}
+use Rattle.lease_book.specs.Moments.{IsTimed}
 use Rattle.tournaments.proofs.WorkLaws.{nothing_given, one_more, terms_then, none_held_then, worked_on_then, timed_then, terms_still, still_none_held, still_worked_on, timed_still, gives_out}
 use Rattle.tournaments.proofs.working.work_through.Goals as goal
 use Rattle.tournaments.proofs.working.work_through.Goals.{in-Given+in_ok-work_on, in_default+in_ok-expire+in-Freed+in_default-1, in_default+in_ok-expire+in-Given-1}

@@ -2,7 +2,7 @@
 use Rattle.std.proofs.Common.{◌≡◌, ◌≤◌, [], length}
 use Rattle.lease_book.specs.Histories.{held_after}
 use Rattle.tournaments.specs.Asking.{AreWorkedOn}
-use Rattle.lease_desk.specs.Moments.{AreTimed}
+use Rattle.lease_book.specs.Moments.{AreTimed}
 use Rattle.tournaments.proofs.working.work_through.Given as goal
 
 abbrev pub invariant-loop-turn : goal.invariant-loop-turn

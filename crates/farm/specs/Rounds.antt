@@ -1,0 +1,46 @@
+-- What a run adds to the history of a book.
+use Rattle.std.specs.Prelude.{◌≡◌, ℕ, List, ◌++◌, All}
+use Rattle.lease_book.specs.declared.events.Asked.TheVariants.{GiveUp}
+use Rattle.lease_book.specs.declared.events.Event.{Event}
+use Rattle.lease_book.specs.Books.{Ledger}
+use Rattle.lease_book.specs.Done.{IsDone}
+use Rattle.lease_book.specs.TrueHistories.{IsTrueHistory, IsGivenOut}
+use Rattle.lease_book.specs.Moments.{MayTell, AreTimed}
+use Rattle.lease_book.specs.Settling.{AreSettledOnce}
+
+-- a lease was given up
+abbrev pub IsGiveUp : Event → Type 0
+IsGiveUp event = (lease : ℕ) × (event.asked ≡ GiveUp lease)
+
+-- leases were given up, each of which nobody had settled
+pub record TakesBack (old new : Ledger) : Type 0 where
+  pub terms_are : new.terms ≡ old.terms
+  pub later : List Event
+  pub events_are : new.events ≡ old.events ++ later
+  pub given_up : All IsGiveUp later
+  pub settled : AreSettledOnce old.events → AreSettledOnce new.events
+
+-- Threads worked at the book until one was told that no entry is open. The clock told the moments, and no lease was
+-- settled twice.
+pub record IsRound (may_tell : MayTell) (old new : Ledger) : Type 0 where
+  pub terms_are : new.terms ≡ old.terms
+  pub later : List Event
+  pub events_are : new.events ≡ old.events ++ later
+  pub given_out : IsGivenOut later
+  pub timed : AreTimed may_tell later
+  pub settled : AreSettledOnce later
+
+-- The history goes on, at moments that the clock told. If no lease was settled twice before, none is.
+pub record GoesOn (may_tell : MayTell) (old new : Ledger) : Type 0 where
+  pub terms_are : new.terms ≡ old.terms
+  pub later : List Event
+  pub events_are : new.events ≡ old.events ++ later
+  pub timed : AreTimed may_tell later
+  pub settled : AreSettledOnce old.events → AreSettledOnce new.events
+
+-- It goes on until each entry is done. The history is true, and a request was answered that no entry is open.
+pub record Finishes (may_tell : MayTell) (old new : Ledger) : Type 0 where
+  pub on : GoesOn may_tell old new
+  pub history : IsTrueHistory new.terms new.events
+  pub given_out : IsGivenOut new.events
+  pub done : IsDone new.terms new.events

@@ -1,0 +1,92 @@
+//! The run of a farm: round after round, until all is done.
+
+ghost use Rattle.std.specs.Prelude.{◌≡◌, IfOk, IfErr};
+ghost use Rattle.farm.specs.declared.faults.FarmFault.TheVariants as faults;
+ghost use Rattle.lease_book.specs.Settling.{AreSettledOnce};
+ghost use Rattle.farm.specs.Faults.{IsFaultOf, IsHalt};
+ghost use Rattle.farm.specs.Rounds.{Finishes};
+ghost use Rattle.farm.specs.Runs.{IsBookOf, terms_for};
+
+use crate::faults::FarmFault;
+use crate::halts::Halt;
+use crate::leftovers::take_back_all;
+use crate::means::Means;
+use crate::opening::{deals_of, open_book};
+use crate::running::work_round;
+use crate::telling::tell_published;
+use asked::Settings;
+use cards::Layout;
+use lease_book::{Book, first_boards, is_true_history};
+use lease_desk::{Clock, Gate};
+use partition_solver::Solver;
+use pbn_deals::Board;
+use std::alloc::Global;
+use std::sync::Wait;
+use std::thread::Threads;
+
+/// Works on a book, round after round, until no lease is held and no entry is open. After each round the leases are
+/// given up that it left behind.
+fn work_through<S: Solver + Sync, G: Gate + Sync, C: Clock + Sync, R: Threads + Wait + Sync>(
+    rt: &R,
+    alloc: Global,
+    book: Book,
+    deals: &[Option<Layout>],
+    settings: Settings,
+    means: &Means<'_, S, G, C>,
+) -> Result<Book, Halt>
+    ensures { IfOk result (Finishes (C.may_tell means.now.clock.now) book) }
+{
+    let mut book = book;
+    for _round in rt.forever() {
+        book = work_round(rt, alloc, book, deals, settings, means)?;
+        take_back_all(&mut book)?;
+        if book.is_idle() {
+            is_true_history(&book);
+            return Ok(book);
+        }
+    }
+    unreachable!()
+}
+
+/// Has threads work through a book, whatever its history, and hands it out when no lease is held and each entry whose
+/// board has a deal has a number, or was leased as often as it may be.
+///
+/// The threads work in rounds, which [`Settings`] size. In a round solvers lease entries until none is open, and what
+/// they find is checked and handed in. When all threads have ended, nothing is on its way any more: leases that were
+/// left behind are given up, and another round begins if an entry is open, as one whose claim was refused at last.
+///
+/// The gate is told of the numbers that the book has published before the first round.
+pub fn resume_farm<S: Solver + Sync, G: Gate + Sync, C: Clock + Sync, R: Threads + Wait + Sync>(
+    rt: &R,
+    alloc: Global,
+    book: Book,
+    settings: Settings,
+    means: &Means<'_, S, G, C>,
+) -> Result<Book, FarmFault>
+    ensures book { IfOk result (Finishes (C.may_tell means.now.clock.now) book) }
+    ensures fault { IfErr result IsHalt }
+{
+    let deals = deals_of(alloc, book.boards())?;
+    let firsts = first_boards(alloc, book.boards())?;
+    means.gate.before_work(book.boards(), firsts.as_slice());
+    tell_published(&book, firsts.as_slice(), means.gate);
+    drop(firsts);
+    let book = work_through(rt, alloc, book, deals.as_slice(), settings, means)?;
+    means.gate.after_work();
+    Ok(book)
+}
+
+/// Has threads work through a new book over the boards, as [`resume_farm`] does.
+pub fn run_farm<S: Solver + Sync, G: Gate + Sync, C: Clock + Sync, R: Threads + Wait + Sync>(
+    rt: &R,
+    alloc: Global,
+    boards: Vec<Board>,
+    settings: Settings,
+    means: &Means<'_, S, G, C>,
+) -> Result<Book, FarmFault>
+    ensures book { IfOk result (IsBookOf (C.may_tell means.now.clock.now) (terms_for boards.items settings)) }
+    ensures fault { IfErr result (IsFaultOf boards.items) }
+{
+    let book = open_book(alloc, boards, settings)?;
+    resume_farm(rt, alloc, book, settings, means)
+}
