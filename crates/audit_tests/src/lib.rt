@@ -11,4 +11,6 @@ mod expect;
 #[cfg(test)]
 mod order_tests;
 #[cfg(test)]
+mod showing_tests;
+#[cfg(test)]
 mod texts;

@@ -6,7 +6,7 @@ use Rattle.pbn_deals.specs.declared.boards.Board.{Board}
 use Rattle.lease_book.specs.Histories.{deal_of}
 use Rattle.lease_book.specs.Twins.{is_this_deal, first_board, is_first}
 use Rattle.lease_book.proofs.TwinLaws.{this_deal, this_itself, deal_there, first_below, first_has, first_is_first}
-use Rattle.audits.specs.HandIns.{IsBoardWith}
+use Rattle.audits.specs.Boards.{IsBoardWith}
 
 -- no board before this one has the deal
 abbrev pub NoneBefore : List Board → Deal → ℕ → Type 0

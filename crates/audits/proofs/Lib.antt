@@ -1,5 +1,10 @@
-pub mod LeaseLaws
 pub mod BoardLaws
 pub mod ShownLaws
+pub mod FirstLaws
 pub mod ReadLaws
+pub mod BatchLaws
+pub mod GrantLaws
+pub mod PublishLaws
+pub mod AnswerLaws
+pub mod GiveUpLaws
 pub mod PageLaws

@@ -1,6 +1,7 @@
 -- A part more of a text, its end, and a reading that stops.
-use Rattle.std.proofs.Common.{◌≡◌, ℕ, zero, suc, ◌+◌, ◌-◌, ◌^◌, ◌≤◌, min, List, [], ◌∷◌, ◌++◌, length, All, Option, None, Some, inl, inr, refl, sym, ◌∙◌, ap, subst, arith, append_assoc, append-nil}
+use Rattle.std.proofs.Common.{◌≡◌, ℕ, zero, suc, ◌+◌, ◌-◌, ◌^◌, ◌≤◌, min, List, [], ◌∷◌, ◌++◌, length, All, true, Option, None, Some, Result, Ok, Err, inl, inr, refl, sym, ◌∙◌, ap, subst, arith, append_assoc, append-nil}
 use Rattle.std.proofs.lemmas.List.{length-append}
+use Rattle.std.proofs.lemmas.Option.{same_Some}
 use Rattle.std.proofs.lemmas.List.Elements.{All-nil, All-push}
 use Rattle.cards.specs.Devices.{Device, NoneIsLeft, StaysWhereTold, TakesWhereTold, one_more}
 use Rattle.streams.specs.declared.inputs.InputFault.{InputFault}
@@ -14,7 +15,10 @@ use Rattle.evidence.specs.Wholes.{Whole, IsNextOf}
 use Rattle.evidence.specs.declared.damages.Damage.{Damage}
 use Rattle.evidence.specs.Damages.{damaged_of, IsDamageOf}
 use Rattle.evidence.proofs.DamageLemmas.{damaged_found, damaged_damaged, counts_on}
-use Rattle.audits.specs.Reads.{sections_of, as_source, IsAnyPart, AreAllParts, ReadsAll}
+use Rattle.audits.specs.Reads.{sections_of, as_source, IsAnyPart, AreFirstParts, AreSomeParts, AreAllParts, ReadsAll, ReadsBeginning, ReadsUntil}
+use Rattle.audits.specs.Shows.{LosesEvidence}
+use Rattle.std.specs.Prelude.{OnOk, OnErr}
+use Rattle.std.specs.Result.{is_ok, is_err}
 
 -- ---- lists of parts
 pub sections_found : (parts : List Part) (section : SectionShape) → sections_of (parts ++ Found section ∷ []) ≡ sections_of parts ++ section ∷ []
@@ -30,11 +34,11 @@ sections_damaged (Damaged byte ∷ parts) at = sections_damaged parts at
 sections_damaged (End ∷ parts) at = sections_damaged parts at
 
 -- ---- what was passed of a text
--- these bytes were passed, at least as many as turns; and before the parts of what is left stand these
+-- these bytes were passed, at least as many as turns; they have these parts
 pub record PassesTo (at : ℕ) (left rest passed : List ℕ) (turns : ℕ) (parts : List Part) : Type 0 where
   pub whole : left ≡ passed ++ rest
   pub many : turns ≤ length passed
-  pub before : (more : List Part) → AreParts (at + length passed) rest more → AreParts at left (parts ++ more)
+  pub firsts : AreFirstParts at left parts rest
 
 abbrev pub PassesWhereTold : ℕ → Option (List ℕ) → Option (List ℕ) → List ℕ → ℕ → List Part → Type 0
 PassesWhereTold at None left' passed turns parts = All IsAnyPart parts
@@ -48,13 +52,28 @@ none_passed at (Some left) = (
   record {
     whole = refl;
     many = omega arith;
-    before = λ more parts. let same : at + length {A = ℕ} [] ≡ at = omega arith in subst (λ (n : ℕ). AreParts n left more) same parts;
+    firsts = refl;
   },
 )
 
 front_of : (text piece rest : List ℕ) → IsFirstPiece text piece rest → (text ≡ piece ++ rest) × (1 ≤ length piece)
 front_of text piece rest (inl ends) = (ends.whole, ends.some)
 front_of text piece rest (inr ends) = (ends.whole ∙ sym (append-nil piece) ∙ ap (λ (l : List ℕ). piece ++ l) (sym ends.nothing), ends.some)
+
+-- a piece more
+firsts_push : (at place : ℕ) (text rest piece behind : List ℕ) (parts : List Part) (part : Part) → AreFirstParts at text parts rest → place + length rest ≡ at + length text → IsFirstPiece rest piece behind → IsPart place piece part
+    → AreFirstParts at text (parts ++ part ∷ []) behind
+firsts_push at place text rest piece behind [] part same counted first is =
+    let here : place ≡ at = let long : length rest ≡ length text = ap length same in omega (arith, counted, long) in
+    (piece, behind, subst (λ (t : List ℕ). IsFirstPiece t piece behind) same first, subst (λ (n : ℕ). IsPart n piece part) here is, refl)
+firsts_push at place text rest piece behind (before ∷ more) part (one, after, is_first, is_part, later) counted first is =
+    let long : length text ≡ length one + length after = ap length (front_of text one after is_first).0 ∙ length-append one after in
+    (one, after, is_first, is_part, firsts_push (at + length one) place after rest piece behind more part later (omega (arith, counted, long)) first is)
+
+-- parts behind which nothing is left
+firsts_all : (at : ℕ) (text : List ℕ) (parts : List Part) → AreFirstParts at text parts [] → AreParts at text parts
+firsts_all at text [] same = sym same
+firsts_all at text (part ∷ more) (piece, behind, first, is, later) = (piece, behind, first, is, firsts_all (at + length piece) behind more later)
 
 passed_more : (at : ℕ) (left middle left' : Option (List ℕ)) (passed piece : List ℕ) (turns : ℕ) (parts : List Part) (part : Part) → PassesWhereTold at left middle passed turns parts
     → IsFirstWhereTold middle left' piece → IsPart (at + length passed) piece part → PassesWhereTold at left left' (passed ++ piece) (turns + 1) (parts ++ part ∷ [])
@@ -69,10 +88,9 @@ passed_more at (Some left) middle left' passed piece turns parts part (rest, tol
       record {
         whole = passes.whole ∙ ap (λ (l : List ℕ). passed ++ l) front.0 ∙ sym (append_assoc passed piece next.0);
         many = omega (arith, length-append passed piece);
-        before = λ more behind.
-            let place : at + length (passed ++ piece) ≡ (at + length passed) + length piece = omega (arith, length-append passed piece) in
-            subst (λ (l : List Part). AreParts at left l) (sym (append_assoc parts (part ∷ []) more))
-            (passes.before (part ∷ more) (piece, next.0, next.2, is, subst (λ (n : ℕ). AreParts n next.0 more) place behind));
+        firsts =
+            let counted : (at + length passed) + length rest ≡ at + length left = let long = ap length passes.whole in omega (arith, long, length-append passed rest) in
+            firsts_push at (at + length passed) left rest piece next.0 parts part passes.firsts counted next.2 is;
       },
     )
 
@@ -82,7 +100,12 @@ all_passed at None middle left' passed turns parts all none stays = all
 all_passed at (Some left) middle left' passed turns parts (rest, told, passes) none stays =
     let nothing = subst (λ (m : Option (List ℕ)). NoneIsLeft m) told none in
     let same = subst (λ (m : Option (List ℕ)). StaysWhereTold m left') told stays in
-    (subst (λ (l : List Part). AreParts at left l) (append-nil parts) (passes.before [] nothing), same ∙ ap (λ (r : List ℕ). Some r) nothing)
+    (firsts_all at left parts (subst (λ (r : List ℕ). AreFirstParts at left parts r) nothing passes.firsts), same ∙ ap (λ (r : List ℕ). Some r) nothing)
+
+-- the parts so far
+some_passed : (at : ℕ) (left left' : Option (List ℕ)) (passed : List ℕ) (turns : ℕ) (parts : List Part) → PassesWhereTold at left left' passed turns parts → AreSomeParts at left parts
+some_passed at None left' passed turns parts all = all
+some_passed at (Some left) left' passed turns parts (rest, told, passes) = (rest, passes.firsts)
 
 -- ---- a reading so far
 pub record ReadsSome (old new : Whole) (turns : ℕ) (parts : List Part) (damage : Damage) : Type 0 where
@@ -146,13 +169,70 @@ module _ (old middle new : Whole) (turns : ℕ) (parts : List Part) (damage : Da
           none_failed = end.none_failed ∙ some.none_failed;
         }
 
+-- ---- bytes that were passed
+-- so many bytes were passed, whatever they are
+pub record PassesBytes (old new : Whole) : Type 0 where
+  pub passed : List ℕ
+  pub told : TakesWhereTold (as_source old).bytes (as_source new).bytes passed
+  pub none_failed : new.source.failed ≡ old.source.failed
+
+takes_passed : (at : ℕ) (left left' : Option (List ℕ)) (passed : List ℕ) (turns : ℕ) (parts : List Part) → PassesWhereTold at left left' passed turns parts → TakesWhereTold left left' passed
+takes_passed at None left' passed turns parts all = tt
+takes_passed at (Some left) left' passed turns parts (rest, told, passes) = (rest, told, passes.whole)
+
+takes_more : (left middle left' : Option (List ℕ)) (passed piece : List ℕ) → TakesWhereTold left middle passed → IsFirstWhereTold middle left' piece → TakesWhereTold left left' (passed ++ piece)
+takes_more None middle left' passed piece takes first = tt
+takes_more (Some left) middle left' passed piece (rest, told, whole) first =
+    let next = subst (λ (m : Option (List ℕ)). IsFirstWhereTold m left' piece) told first in
+    (next.0, next.1, whole ∙ ap (λ (l : List ℕ). passed ++ l) (front_of rest piece next.0 next.2).0 ∙ sym (append_assoc passed piece next.0))
+
+takes_still : (left middle left' : Option (List ℕ)) (passed : List ℕ) → TakesWhereTold left middle passed → StaysWhereTold middle left' → TakesWhereTold left left' passed
+takes_still None middle left' passed takes stays = tt
+takes_still (Some left) middle left' passed (rest, told, whole) stays = (rest, subst (λ (m : Option (List ℕ)). StaysWhereTold m left') told stays, whole)
+
+pub bytes_passed : (old new : Whole) (turns : ℕ) (parts : List Part) (damage : Damage) → ReadsSome old new turns parts damage → PassesBytes old new
+bytes_passed old new turns parts damage some =
+    record { passed = some.passed; told = takes_passed old.before (as_source old).bytes (as_source new).bytes some.passed turns parts some.told; none_failed = some.none_failed }
+
+pub bytes_more : (old middle new : Whole) → PassesBytes old middle → (piece : List ℕ) → IsFirstWhereTold (as_source middle).bytes (as_source new).bytes piece → new.source.failed ≡ middle.source.failed → PassesBytes old new
+bytes_more old middle new passes piece first failed =
+    record {
+      passed = passes.passed ++ piece;
+      told = takes_more (as_source old).bytes (as_source middle).bytes (as_source new).bytes passes.passed piece passes.told first;
+      none_failed = failed ∙ passes.none_failed;
+    }
+
+pub bytes_ended : (old middle new : Whole) → PassesBytes old middle → StaysWhereTold (as_source middle).bytes (as_source new).bytes → new.source.failed ≡ middle.source.failed → PassesBytes old new
+bytes_ended old middle new passes stays failed =
+    record {
+      passed = passes.passed;
+      told = takes_still (as_source old).bytes (as_source middle).bytes (as_source new).bytes passes.passed passes.told stays;
+      none_failed = failed ∙ passes.none_failed;
+    }
+
+-- a reading of which fewer turns are told
+turns_told : (at : ℕ) (left left' : Option (List ℕ)) (passed : List ℕ) (turns fewer : ℕ) (parts : List Part) → fewer ≤ turns → PassesWhereTold at left left' passed turns parts → PassesWhereTold at left left' passed fewer parts
+turns_told at None left' passed turns fewer parts less all = all
+turns_told at (Some left) left' passed turns fewer parts less (rest, told, passes) =
+    (rest, told, record { whole = passes.whole; many = (let many = passes.many in omega (arith, many, less)); firsts = passes.firsts })
+
+pub fewer_turns : (old new : Whole) (turns fewer : ℕ) (parts : List Part) (damage : Damage) → ReadsSome old new turns parts damage → fewer ≤ turns → ReadsSome old new fewer parts damage
+fewer_turns old new turns fewer parts damage some less =
+    record {
+      passed = some.passed;
+      told = turns_told old.before (as_source old).bytes (as_source new).bytes some.passed turns fewer parts less some.told;
+      before_is = some.before_is;
+      damage_is = some.damage_is;
+      none_failed = some.none_failed;
+    }
+
 -- ---- a reading that stops
-lost_more : (at : ℕ) (left : Option (List ℕ)) (held : List ℕ) (bytes bytes' : Option (List ℕ)) (passed taken : List ℕ) (turns : ℕ) (parts : List Part) → PassesWhereTold at left (left_of held bytes) passed turns parts
-    → TakesWhereTold bytes bytes' taken → TakesWhereTold left bytes' (passed ++ (held ++ taken))
-lost_more at None held bytes bytes' passed taken turns parts all takes = tt
-lost_more at (Some left) held None bytes' passed taken turns parts (rest, told, passes) takes = cc
-lost_more at (Some left) held (Some more) bytes' passed taken turns parts (rest, told, passes) (later, is, parts_are) =
-    (later, is, passes.whole ∙ ap (λ (l : List ℕ). passed ++ l) rest_is ∙ sym (append_assoc passed (held ++ taken) later))
+lost_more : (left : Option (List ℕ)) (held : List ℕ) (bytes bytes' : Option (List ℕ)) (passed taken : List ℕ) → TakesWhereTold left (left_of held bytes) passed → TakesWhereTold bytes bytes' taken
+    → TakesWhereTold left bytes' (passed ++ (held ++ taken))
+lost_more None held bytes bytes' passed taken all takes = tt
+lost_more (Some left) held None bytes' passed taken (rest, told, whole) takes = cc
+lost_more (Some left) held (Some more) bytes' passed taken (rest, told, whole) (later, is, parts_are) =
+    (later, is, whole ∙ ap (λ (l : List ℕ). passed ++ l) rest_is ∙ sym (append_assoc passed (held ++ taken) later))
   where
     same : rest ≡ held ++ more
     same = cc
@@ -160,7 +240,7 @@ lost_more at (Some left) held (Some more) bytes' passed taken turns parts (rest,
     rest_is : rest ≡ (held ++ taken) ++ later
     rest_is = same ∙ ap (λ (l : List ℕ). held ++ l) parts_are ∙ sym (append_assoc held taken later)
 
-takes_none : (bytes : Option (List ℕ)) → TakesWhereTold bytes bytes []
+pub takes_none : (bytes : Option (List ℕ)) → TakesWhereTold bytes bytes []
 takes_none None = tt
 takes_none (Some bytes) = (bytes, refl, refl)
 
@@ -177,39 +257,40 @@ longest : (n : ℕ) → (list : List ℕ) × (n ≤ length list)
 longest zero = ([], omega arith)
 longest (suc n) = let shorter = longest n in let few = shorter.1 in (0 ∷ shorter.0, omega arith)
 
-module _ (old middle : Whole) (turns : ℕ) (parts : List Part) (damage : Damage) (some : ReadsSome old middle turns parts damage) where
-  pub stops_after : (new : Device) (fault : InputFault) → StopsSections middle.source new fault → StopsSections (as_source old) new fault
-  stops_after new OutOfMemory (inl stops) =
+module _ (old middle : Whole) (some : PassesBytes old middle) where
+  pub stops_bytes : (new : Device) (fault : InputFault) → StopsSections middle.source new fault → StopsSections (as_source old) new fault
+  stops_bytes new OutOfMemory (inl stops) =
       inl (record {
         lost = some.passed ++ (middle.held ++ stops.lost);
-        first = lost_more old.before (as_source old).bytes middle.held middle.source.bytes new.bytes some.passed stops.lost turns parts some.told stops.first;
+        first = lost_more (as_source old).bytes middle.held middle.source.bytes new.bytes some.passed stops.lost some.told stops.first;
         counted = stops.counted ∙ some.none_failed;
       })
-  stops_after new Read (inl stops) =
+  stops_bytes new Read (inl stops) =
       inl (record {
         lost = some.passed ++ (middle.held ++ stops.lost);
-        first = lost_more old.before (as_source old).bytes middle.held middle.source.bytes new.bytes some.passed stops.lost turns parts some.told stops.first;
+        first = lost_more (as_source old).bytes middle.held middle.source.bytes new.bytes some.passed stops.lost some.told stops.first;
         counted = stops.counted ∙ ap one_more some.none_failed;
       })
-  stops_after new fault (inr given) =
+  stops_bytes new fault (inr given) =
       let many = given.many in
       inr (record {
         fault_is = given.fault_is;
         taken = some.passed ++ (middle.held ++ given.taken);
-        first = lost_more old.before (as_source old).bytes middle.held middle.source.bytes new.bytes some.passed given.taken turns parts some.told given.first;
+        first = lost_more (as_source old).bytes middle.held middle.source.bytes new.bytes some.passed given.taken some.told given.first;
         many = omega (arith, length-append some.passed (middle.held ++ given.taken), length-append middle.held given.taken);
       })
 
-  pub stops_without_memory : StopsSections (as_source old) middle.source OutOfMemory
-  stops_without_memory = stops_after middle.source OutOfMemory (inl (record { lost = []; first = takes_none middle.source.bytes; counted = refl }))
+  pub bytes_lost : StopsSections (as_source old) middle.source OutOfMemory
+  bytes_lost = stops_bytes middle.source OutOfMemory (inl (record { lost = []; first = takes_none middle.source.bytes; counted = refl }))
 
+module _ (old middle : Whole) (turns : ℕ) (parts : List Part) (damage : Damage) (some : ReadsSome old middle turns parts damage) where
   given_up : (bytes : Option (List ℕ)) → PassesWhereTold old.before bytes (as_source middle).bytes some.passed turns parts → (most : ℕ) → most ≤ turns
       → (taken : List ℕ) × TakesWhereTold bytes middle.source.bytes taken × (most ≤ length taken)
   given_up None told most many = let long = longest most in (long.0, tt, long.1)
   given_up (Some left) told most many =
       let more = told.2.many in (
         some.passed ++ (middle.held ++ []),
-        lost_more old.before (Some left) middle.held middle.source.bytes middle.source.bytes some.passed [] turns parts told (takes_none middle.source.bytes),
+        lost_more (Some left) middle.held middle.source.bytes middle.source.bytes some.passed [] (takes_passed old.before (Some left) (as_source middle).bytes some.passed turns parts told) (takes_none middle.source.bytes),
         omega (arith, length-append some.passed (middle.held ++ [])),
       )
 
@@ -218,3 +299,57 @@ module _ (old middle : Whole) (turns : ℕ) (parts : List Part) (damage : Damage
   stops_at_last many =
       let given = given_up (as_source old).bytes some.told (2 ^ 64 - 1) many in
       inr (record { fault_is = refl; taken = given.0; first = given.1; many = given.2 })
+
+  -- the parts so far, where reading stops
+  pub stopped : (new : Whole) (fault : InputFault) → StopsSections (as_source old) new.source fault → ReadsBeginning old new parts damage fault
+  stopped new fault stops =
+      record {
+        parts_are = some_passed old.before (as_source old).bytes (as_source middle).bytes some.passed turns parts some.told;
+        damage_is = some.damage_is;
+        stops = stops;
+      }
+
+-- what was read to its end is lost, if memory runs out then
+pub lost_all : (old new : Whole) (parts : List Part) (damage : Damage) → ReadsAll old new parts damage → StopsSections (as_source old) new.source OutOfMemory
+lost_all old new parts damage all = inl (record { lost = lost.0; first = lost.1; counted = all.none_failed })
+  where
+    nothing_behind : (held more : List ℕ) → held ++ more ≡ [] → more ≡ []
+    nothing_behind [] more is = is
+    nothing_behind (x ∷ held) more is = cc
+
+    told : (left held : List ℕ) (bytes : Option (List ℕ)) → left_of held bytes ≡ Some [] → TakesWhereTold (Some left) bytes left
+    told left held None is = cc
+    told left held (Some more) is = (more, refl, sym (ap (λ (l : List ℕ). left ++ l) (nothing_behind held more (same_Some (held ++ more) [] is)) ∙ append-nil left))
+
+    go : (left : Option (List ℕ)) → AreAllParts old.before left (as_source new).bytes parts → (lost : List ℕ) × TakesWhereTold left new.source.bytes lost
+    go None are = ([], tt)
+    go (Some left) are = (left, told left new.held new.source.bytes are.1)
+
+    lost : (lost : List ℕ) × TakesWhereTold (as_source old).bytes new.source.bytes lost
+    lost = go (as_source old).bytes all.parts_are
+
+-- what was read is lost, however far it was read
+pub loses : (old new : Whole) (parts : List Part) (damage : Damage) (ended : Result Unit InputFault) → ReadsUntil old new parts damage ended → LosesEvidence old new
+loses old new parts damage (Ok done) all = (OutOfMemory, lost_all old new parts damage all)
+loses old new parts damage (Err fault) some = (fault, some.stops)
+
+-- ---- answers
+pub when_ok : {X E : Type 0} (r : Result X E) (A : Type 0) → is_ok r ≡ true → OnOk r A → A
+when_ok (Ok x) A is holds = holds
+when_ok (Err e) A is holds = cc
+
+pub when_err : {X E : Type 0} (r : Result X E) (A : Type 0) → true ≡ is_err r → OnErr r A → A
+when_err (Ok x) A is holds = cc
+when_err (Err e) A is holds = holds
+
+pub ok_then : {X E : Type 0} (r : Result X E) (A B : Type 0) → (A → B) → OnOk r A → OnOk r B
+ok_then (Ok x) A B next holds = next holds
+ok_then (Err e) A B next holds = tt
+
+pub err_is : {X E : Type 0} (r : Result X E) (A : Type 0) → A → OnErr r A
+err_is (Ok x) A holds = tt
+err_is (Err e) A holds = holds
+
+-- evidence that was read to its end
+pub lost_after : (old new : Whole) (parts : List Part) (damage : Damage) (ended : Result Unit InputFault) (done : Unit) → ended ≡ Ok done → ReadsUntil old new parts damage ended → StopsSections (as_source old) new.source OutOfMemory
+lost_after old new parts damage ended done is until = lost_all old new parts damage (subst (λ (e : Result Unit InputFault). ReadsUntil old new parts damage e) is until)

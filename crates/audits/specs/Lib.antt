@@ -1,6 +1,8 @@
-pub mod Leases
 pub mod Shown
-pub mod HandIns
+pub mod Firsts
+pub mod Boards
 pub mod Reads
-pub mod Adds
+pub mod Grants
+pub mod Batches
+pub mod Shows
 pub mod Audits

@@ -7,8 +7,9 @@ ghost use Rattle.tournaments.specs.WholePages.{IsWholePage};
 ghost use Rattle.audits.specs.Audits.{AuditsOrStops, AuditsOrHalts, AuditsTables};
 
 use crate::faults::AuditFault;
-use crate::leases::lease_all;
-use crate::reading::add_all;
+use crate::firsts::FirstProofs;
+use crate::publishing::publish_firsts;
+use crate::reading::read_firsts;
 use cards::{Sink, Source};
 use evidence::{Damage, Sections};
 use lease_book::{Book, is_true_history};
@@ -33,12 +34,14 @@ fn audit_boards<R: Threads + Sync, E: Source>(
     let Ok(mut book) = open_book(alloc, boards, 1, 1) else {
         return Err(InputFault::OutOfMemory);
     };
-    let Ok(leases) = lease_all(alloc, &mut book) else {
+    let mut firsts = FirstProofs::none(alloc);
+    let read = read_firsts(rt, alloc, book.boards(), evidence, &mut firsts);
+    read.ended?;
+    if publish_firsts(alloc, &mut book, 0, &firsts).is_err() {
         return Err(InputFault::OutOfMemory);
-    };
-    let damage = add_all(rt, alloc, &mut book, &leases, evidence)?;
+    }
     is_true_history(&book);
-    Ok((book, damage))
+    Ok((book, read.damage))
 }
 
 /// Reads a PBN text to its end and then the evidence. The text is handed out, a book over its boards, in which what the

@@ -4,10 +4,16 @@
 #![tactic(auto)]
 
 mod auditing;
+mod batches;
+mod boards;
 mod faults;
-mod handing_in;
-mod leases;
+mod firsts;
+mod judging;
+mod publishing;
 mod reading;
+mod showing;
 
 pub use auditing::{audit_tables, audit_whole};
 pub use faults::AuditFault;
+pub use reading::EvidenceRead;
+pub use showing::show_evidence;

@@ -11,6 +11,7 @@ use Rattle.evidence.specs.declared.parts.Part.{Part}
 use Rattle.evidence.specs.declared.parts.Part.TheVariants.{Found, Damaged, End}
 use Rattle.evidence.specs.Pieces.{border, greatest_length, IsFirstPiece, IsFirstWhereTold, IsDamaged, IsFound, Passes, IsAtEnd, IsNext, StopsSections, left_of, reading_of}
 use Rattle.evidence.specs.Parts.{IsPartOf}
+use Rattle.evidence.specs.Cuts.{IsCutOf}
 use Rattle.evidence.specs.Ends.{FindsEnd, IsEndIn, IsPassed}
 use Rattle.evidence.proofs.PieceLemmas.{occurs_in_front, occurs_before}
 
@@ -100,6 +101,18 @@ module _ (old new last : Device) (held held' : List ℕ) (before middle after en
   next_is some (Err fault) is =
       subst (StopsSections old last) (sym is) (inl (subst (λ (d : Device). StopsReading old d OutOfMemory) (sym same)
       (record { lost = found.taken; first = found.given; counted = found.none_failed })))
+
+  cut_of : (long : Bool) → is_long ≡ long → IsCutOf long piece (found.passed ++ piece)
+  cut_of true e = (let many : greatest_length < length found.passed = subst (λ b. IsPassed b found.passed) e found.long in omega (arith, length-append found.passed piece))
+  cut_of false e = sym (whole_piece e)
+
+  pub cut_is : 1 ≤ end → (at : ℕ) (bytes : List ℕ) (long : Bool) → at ≡ before → bytes ≡ piece → long ≡ is_long
+      → (at ≡ before) × Passes (reading_of old held before) (reading_of last left after) (IsCutOf long bytes)
+  cut_is some at bytes long at_is bytes_are long_is = (
+    at_is,
+    passes (IsCutOf long bytes) (omega (arith, length-piece))
+    (subst (λ (b : Bool). IsCutOf b bytes (found.passed ++ piece)) (sym long_is) (subst (λ (l : List ℕ). IsCutOf is_long l (found.passed ++ piece)) (sym bytes_are) (cut_of is_long refl))),
+  )
 
   pub at_end : length piece ≡ 0 → before < 2 ^ 64 → IsAtEnd (reading_of old held before) (reading_of last left after)
   at_end none fits =

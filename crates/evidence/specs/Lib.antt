@@ -7,3 +7,4 @@ pub mod Ends
 pub mod Parts
 pub mod Wholes
 pub mod Damages
+pub mod Cuts

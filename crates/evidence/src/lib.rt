@@ -24,7 +24,7 @@ pub use damages::Damage;
 pub use laws::{
     one_row, one_section, one_text, parts_are_joined, sections_are_parts, sections_are_read_back,
 };
-pub use parts::Part;
+pub use parts::{Part, Piece};
 pub use section_reading::read_section;
 pub use section_writing::{bundle_bytes, section_bytes, write_section};
 pub use sections::Section;

@@ -5,6 +5,7 @@ ghost use Rattle.std.specs.Prelude.{MatchBool, MatchResult};
 ghost use Rattle.streams.specs.declared.inputs.InputFault.TheVariants.{OutOfMemory};
 ghost use Rattle.evidence.specs.Pieces.{greatest_length, reading_of, IsNext, StopsSections};
 ghost use Rattle.evidence.specs.Parts.{IsPartOf};
+ghost use Rattle.evidence.specs.Cuts.{IsNextCut};
 ghost use Rattle.evidence.specs.Ends.{ReadsOn, Shortens, FindsEnd};
 
 use crate::section_reading::read_section;
@@ -38,6 +39,35 @@ pub enum Part {
     },
     /// The end of the text.
     End,
+}
+
+/// A piece of a text, as it was cut.
+#[derive(Drop)]
+pub struct Piece {
+    /// The byte where it begins, counted from 0.
+    at: u64,
+    /// Its bytes. If it is too long, the first of them were let go.
+    bytes: Vec<u8>,
+    /// Whether bytes were let go.
+    is_long: bool,
+}
+
+impl Piece {
+    /// How many bytes of it are held.
+    pub fn len(&self) -> usize
+        ensures { result ≡ vec_len self.now.bytes }
+    {
+        self.bytes.len()
+    }
+
+    /// What the piece is. Fails only if memory runs out.
+    pub fn read(&self, alloc: Global) -> Result<Part, InputFault>
+        ensures { MatchResult result
+            (IsPartOf self.now.is_long self.now.at self.now.bytes.items)
+            (λ fault. fault ≡ OutOfMemory) }
+    {
+        read_part(alloc, self.at, self.is_long, self.bytes.as_slice())
+    }
 }
 
 /// Whether a piece whose first bytes were let go, or this one, has more bytes than a section may have.
@@ -170,5 +200,25 @@ impl<S: Source> Pieces<S> {
         remove_front(&mut self.held, end);
         self.before = self.before.saturating_add(end as u64);
         part
+    }
+
+    /// The next piece, as it is cut; none at the end.
+    pub(crate) fn cut(&mut self, alloc: Global) -> Result<Option<Piece>, InputFault>
+        ensures { MatchResult result
+            (IsNextCut (reading_of (S.state self.old.source) self.old.held.items self.old.before)
+            (reading_of (S.state self.new.source) self.new.held.items self.new.before))
+            (StopsSections (S.state self.old.source) (S.state self.new.source)) }
+    {
+        let at = self.place();
+        let (end, is_long) = self.find_end()?;
+        if end == 0 {
+            return Ok(None);
+        }
+        let Ok(bytes) = Vec::from_slice(alloc, &self.held[..end]) else {
+            return Err(InputFault::OutOfMemory);
+        };
+        remove_front(&mut self.held, end);
+        self.before = self.before.saturating_add(end as u64);
+        Ok(Some(Piece { at, bytes, is_long }))
     }
 }

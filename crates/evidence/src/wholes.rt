@@ -2,9 +2,10 @@
 
 ghost use Rattle.std.specs.Prelude.{◌≡◌, [], MatchResult};
 ghost use Rattle.evidence.specs.Wholes.{IsNextOf};
+ghost use Rattle.evidence.specs.Cuts.{IsNextCutOf};
 ghost use Rattle.evidence.specs.Pieces.{StopsSections};
 
-use crate::parts::{Part, Pieces};
+use crate::parts::{Part, Piece, Pieces};
 use cards::Source;
 use std::alloc::Global;
 use std::marker::Model;
@@ -57,5 +58,13 @@ impl<S: Source> Sections<S> {
         ensures { MatchResult result (IsNextOf self.old self.new) (StopsSections self.old.source self.new.source) }
     {
         self.pieces.next(alloc)
+    }
+
+    /// The next piece of what is left, as it is cut, which [`Piece::read`] reads; none at the end. After a fault the
+    /// bytes that were read are lost; ask no more then.
+    pub fn next_piece(&mut self, alloc: Global) -> Result<Option<Piece>, InputFault>
+        ensures { MatchResult result (IsNextCutOf self.old self.new) (StopsSections self.old.source self.new.source) }
+    {
+        self.pieces.cut(alloc)
     }
 }

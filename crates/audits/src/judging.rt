@@ -1,0 +1,123 @@
+//! What pieces of evidence show.
+
+ghost use Rattle.std.specs.Prelude.{IfOk};
+ghost use Rattle.std.specs.List.{AllZip};
+ghost use Rattle.lease_book.specs.Books.{AreBoards};
+ghost use Rattle.audits.specs.Firsts.{AreShownBy};
+ghost use Rattle.audits.specs.Batches.{Judges, JudgesSection};
+
+use crate::boards::board_with;
+use crate::firsts::FirstProofs;
+use bundle_checks::CheckedPair;
+use checker::{OutOfMemory, Proven, check_claim, graphs_have_one_answer};
+use evidence::{Part, Piece, Section};
+use pbn_deals::Board;
+use rayon::prelude::*;
+use std::alloc::{AllocError, Global};
+use std::thread::Threads;
+
+/// What a piece of evidence shows.
+#[derive(Drop)]
+pub(crate) enum Judged {
+    /// Its section shows this. The number is that of the first board with its deal.
+    Shows { board: usize, proofs: Vec<Proven> },
+    /// Its section adds nothing.
+    Passed,
+    /// It is damaged.
+    Damaged { at: u64 },
+    /// Memory ran out.
+    NoMemory,
+}
+
+/// Checks the graphs of a section, and gives the proofs of those of its claims that they show.
+fn proofs_of<R: Threads + Sync>(
+    rt: &R,
+    alloc: Global,
+    section: Section,
+) -> Result<Vec<Proven>, OutOfMemory>
+    ensures { IfOk result (λ proofs. AreShownBy section proofs.items) }
+{
+    let (layout, trump) = (*section.layout(), section.trump());
+    let bundle = section.into_bundle();
+    let Ok(pair) = CheckedPair::of(rt, alloc, &bundle) else {
+        return Err(OutOfMemory);
+    };
+    graphs_have_one_answer();
+    let mut proofs = Vec::new(alloc);
+    for claim in bundle.claims.iter() {
+        let Ok(claimed) = pair.claimed(*claim) else {
+            return Err(OutOfMemory);
+        };
+        let Ok(proven) = check_claim(&layout, claim.declarer, trump, &claimed) else {
+            continue;
+        };
+        if proofs.push(proven).is_err() {
+            return Err(OutOfMemory);
+        }
+    }
+    Ok(proofs)
+}
+
+/// Checks a section, unless its deal is on no board, or there is a proof for each of its claims.
+fn judge_section<R: Threads + Sync>(
+    rt: &R,
+    alloc: Global,
+    boards: &[Board],
+    firsts: &FirstProofs,
+    section: Section,
+) -> Judged
+    requires { AreBoards boards.now }
+    ensures { JudgesSection boards.now firsts.now section result }
+{
+    let Some(board) = board_with(boards, section.layout()) else {
+        return Judged::Passed;
+    };
+    if firsts.are_known(board, section.trump(), section.claims()) {
+        return Judged::Passed;
+    }
+    match proofs_of(rt, alloc, section) {
+        Ok(proofs) => Judged::Shows { board, proofs },
+        Err(_) => Judged::NoMemory,
+    }
+}
+
+/// Reads a piece, and checks its section.
+fn judge<R: Threads + Sync>(
+    rt: &R,
+    alloc: Global,
+    boards: &[Board],
+    firsts: &FirstProofs,
+    piece: &Piece,
+) -> Judged
+    requires { AreBoards boards.now }
+    ensures { Judges boards.now firsts.now piece.now result }
+{
+    match piece.read(alloc) {
+        Ok(Part::Found(section)) => judge_section(rt, alloc, boards, firsts, section),
+        Ok(Part::Damaged { at }) => Judged::Damaged { at },
+        Ok(Part::End) | Err(_) => Judged::NoMemory,
+    }
+}
+
+/// Reads pieces and checks their sections, with as many threads as there are processors.
+pub(crate) fn judge_all<R: Threads + Sync>(
+    rt: &R,
+    alloc: Global,
+    boards: &[Board],
+    firsts: &FirstProofs,
+    pieces: &[Piece],
+) -> Result<Vec<Judged>, AllocError>
+    requires { AreBoards boards.now }
+    ensures { IfOk result (λ judged. AllZip (Judges boards.now firsts.now) pieces.now judged.items) }
+{
+    pieces
+        .par_iter()
+        .with_min_len(1)
+        .map(
+            |piece: &Piece| -> Judged
+                requires { AreBoards boards.now }
+                ensures { Judges boards.entry.now firsts.entry.now piece.now result }
+            { judge(rt, alloc, boards, firsts, piece) },
+        )
+        .collect(rt, alloc)
+}
