@@ -4,7 +4,7 @@ use Rattle.clap.specs.declared.error.kind.ErrorKind.{ErrorKind}
 use Rattle.clap.specs.declared.error.kind.ErrorKind.TheVariants as kinds
 use Rattle.cards.specs.Devices.{Device}
 use Rattle.partition_solver.specs.Answers.{MayFind}
-use Rattle.lease_desk.specs.Moments.{MayTell}
+use Rattle.lease_book.specs.Moments.{MayTell}
 use Rattle.arguments.specs.CommandLine.{AreLetters}
 use Rattle.arguments.specs.Words.{AskFor, HasNone}
 use Rattle.arguments.specs.declared.command.Letters.{Letters}
@@ -29,6 +29,10 @@ pub record IsInLines (said lines : List ℕ) : Type 0 where
   pub ended : AreLines said → lines ≡ said
   pub unended : (AreLines said → ⊥) → lines ≡ said ++ 10 ∷ []
 
+-- whole lines, which say what is said, where that is known
+abbrev pub AreLinesOf : Option (List ℕ) → List ℕ → Type 0
+AreLinesOf said lines = AreLines lines × IfSome said (λ bytes. IsInLines bytes lines)
+
 -- nothing is written, and that memory ran out is told
 abbrev pub TellsNoMemory : Device → Device → Device → Device → Status → Type 0
 TellsNoMemory sink sink' errors errors' status =
@@ -47,18 +51,20 @@ refusal_lines None = codes "ddfarm: the command line is refused" ++ 10 ∷ []
 abbrev pub TellsRefusal : Option (List ℕ) → Device → Device → Status → Type 0
 TellsRefusal lines errors errors' status = (status ≡ Refused) × IsTold errors errors' (refusal_lines lines)
 
--- What comes of words that ask for no subcommand, by the kind of the error and the lines that it says, if memory held
+-- What comes of words that ask for no subcommand, by the kind of the error and what it says, in lines if memory held
 -- them: help that was asked for is written; a refusal is told on the error output alone; or memory ran out.
-pub data EndsWords (sink sink' errors errors' : Device) (kind : ErrorKind) (status : Status) : Type 0 where
-  is_shown : IsAsked kind → (lines : Option (List ℕ)) → IfSome lines AreLines
+pub data EndsWords (said : Option (List ℕ)) (sink sink' errors errors' : Device) (kind : ErrorKind) (status : Status)
+    : Type 0 where
+  is_shown : IsAsked kind → (lines : Option (List ℕ)) → IfSome lines (AreLinesOf said)
       → ShowsHelp lines sink sink' errors errors' status
-      → EndsWords sink sink' errors errors' kind status
-  is_refused : (IsAsked kind → ⊥) → (kind ≡ kinds.OutOfMemory → ⊥) → (lines : Option (List ℕ)) → IfSome lines AreLines
-      → sink' ≡ sink → TellsRefusal lines errors errors' status → EndsWords sink sink' errors errors' kind status
+      → EndsWords said sink sink' errors errors' kind status
+  is_refused : (IsAsked kind → ⊥) → (kind ≡ kinds.OutOfMemory → ⊥) → (lines : Option (List ℕ))
+      → IfSome lines (AreLinesOf said) → sink' ≡ sink → TellsRefusal lines errors errors' status
+      → EndsWords said sink sink' errors errors' kind status
   is_without_memory : kind ≡ kinds.OutOfMemory → TellsNoMemory sink sink' errors errors' status
-      → EndsWords sink sink' errors errors' kind status
+      → EndsWords said sink sink' errors errors' kind status
 
--- the words ask for a subcommand, which is done, or there is none
+-- the words ask for a subcommand, which is done, or there is none; `clap` doesn't tell what its errors say
 pub data MeetsWords (may_find : MayFind) (may_tell : MayTell) (may_open : MayOpen) (words : List (List ℕ))
     (source source' sink sink' errors errors' : Device) (status : Status) : Type 0 where
   is_done : (letters : Letters) → AreLetters letters → (asked : Subcommand) → AskFor letters words asked
@@ -66,7 +72,7 @@ pub data MeetsWords (may_find : MayFind) (may_tell : MayTell) (may_open : MayOpe
       → MeetsWords may_find may_tell may_open words source source' sink sink' errors errors' status
   is_none : (letters : Letters) → AreLetters letters → (kind : ErrorKind) → HasNone letters words kind
       → source' ≡ source
-      → EndsWords sink sink' errors errors' kind status
+      → EndsWords None sink sink' errors errors' kind status
       → MeetsWords may_find may_tell may_open words source source' sink sink' errors errors' status
 
 -- the exit status is the number of the status that the run ends with

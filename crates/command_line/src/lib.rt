@@ -4,13 +4,11 @@
 #![tactic(auto)]
 
 ghost use Rattle.std.specs.Prelude.{IfSome, map, option_map};
-ghost use Rattle.clap.specs.Values.{kind_of};
-ghost use Rattle.command_line.specs.Commands.{AreLines, EndsWords, ExitsBy, IsInLines, MeetsWords, ShowsHelp};
+ghost use Rattle.command_line.specs.Commands.{AreLinesOf, EndsWords, ExitsBy, MeetsWords, ShowsHelp};
 ghost use Rattle.command_line.specs.Commands.{TellsRefusal};
 
 use arguments::parse_arguments;
 use cards::{Sink, Source, write_all};
-use clap::Error;
 use clap::error::ErrorKind;
 use farm::{Clock, Means};
 use lease_desk::Gate;
@@ -56,26 +54,30 @@ pub fn run_command<
 {
     match parse_arguments(alloc, words) {
         Ok(asked) => run_subcommand(rt, alloc, asked, means, streams).code(),
-        Err(error) => { tell_words(alloc, error, &mut streams.output, &mut streams.errors).code() }
+        Err(error) => {
+            let kind = error.kind();
+            tell_words(alloc, kind, error, &mut streams.output, &mut streams.errors).code()
+        }
     }
 }
 
-/// Writes the help that was asked for, or tells why the words are refused.
-fn tell_words<O: Sink, E: Sink>(
+/// Writes the help that was asked for, or tells why the words are refused, by what is said of an error of this kind.
+fn tell_words<D: Display + Drop, O: Sink, E: Sink>(
     alloc: Global,
-    error: Error,
+    kind: ErrorKind,
+    said: D,
     output: &mut O,
     errors: &mut E,
 ) -> Status
-    ensures { EndsWords (O.state output.old) (O.state output.new) (E.state errors.old) (E.state errors.new)
-        (kind_of error) result }
+    ensures { EndsWords (D.output said) (O.state output.old) (O.state output.new) (E.state errors.old)
+        (E.state errors.new) kind result }
 {
-    match error.kind() {
+    match kind {
         ErrorKind::OutOfMemory => tell(RunFault::OutOfMemory, errors),
         ErrorKind::DisplayHelp | ErrorKind::DisplayVersion => {
-            show_help(lines_of(alloc, error), output, errors)
+            show_help(lines_of(alloc, said), output, errors)
         }
-        _ => tell_refusal(lines_of(alloc, error), errors),
+        _ => tell_refusal(lines_of(alloc, said), errors),
     }
 }
 
@@ -104,8 +106,7 @@ fn tell_refusal<E: Sink>(lines: Option<String>, errors: &mut E) -> Status
 
 /// What is said of the words, in whole lines; `None` where there is no memory for it.
 fn lines_of<D: Display + Drop>(alloc: Global, said: D) -> Option<String>
-    ensures lines { IfSome result (λ text. AreLines text.bytes.items) }
-    ensures said { IfSome result (λ text. IfSome (D.output said) (λ bytes. IsInLines bytes text.bytes.items)) }
+    ensures { IfSome result (λ text. AreLinesOf (D.output said) text.bytes.items) }
 {
     let mut text = format!(in alloc; "{said}").ok()?;
     if !text.as_str().ends_with("\n") {

@@ -1,4 +1,2 @@
-pub mod ListLaws
-pub mod CourseLaws
-pub mod CatalogLaws
-pub mod TakeLaws
+pub mod AddLaws
+pub mod PartLaws

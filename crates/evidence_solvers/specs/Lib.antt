@@ -1,10 +1,5 @@
-pub mod Serving
-pub mod Spans
-pub mod Catalogs
-pub mod Listings
-pub mod Courses
-pub mod Taking
-pub mod Shelves
-pub mod Answers
+pub mod Opening
 pub mod Kept
 pub mod Tails
+pub mod Added
+pub mod Laws

@@ -1,51 +1,66 @@
 -- What is added to the end of a file.
-use Rattle.std.specs.Prelude.{◌≡◌, ℕ, Bool, true, false, not, List, [], ◌∷◌, length}
-use Rattle.std.specs.Prelude.{nat_eq, nat_le, ◌-◌, if◌then◌else◌, ⊤}
+use Rattle.std.specs.Prelude.{◌≡◌, ℕ, Bool, true, false, not, List, [], ◌∷◌, take, length}
+use Rattle.std.specs.Prelude.{nat_eq, nat_le, ◌-◌, ◌≤◌, if◌then◌else◌, ⊤}
 use Rattle.std.specs.Prelude.{Option, None, Some, Result, Ok, Err}
 use Rattle.std.proofs.Common.{Vec, Global}
-use Rattle.cards.specs.Devices.{Device, WritesPiece}
-use Rattle.cards.specs.declared.devices.DeviceFault.{DeviceFault}
+use Rattle.cards.specs.Devices.{AddsWhereTold, StaysWhereTold}
 use Rattle.cards.specs.declared.faults.OutOfMemory.{OutOfMemory as NoMemory}
+use Rattle.evidence_solvers.specs.declared.tails.Tail.{Tail}
 use Rattle.evidence_solvers.specs.declared.faults.KeepFault.{KeepFault}
 use Rattle.evidence_solvers.specs.declared.faults.KeepFault.TheVariants.{OutOfMemory, Write}
 
--- whether a call took all of a text
-abbrev pub takes_all : List ℕ → Result ℕ DeviceFault → Bool
-takes_all text (Ok count) = nat_eq count (length text)
-takes_all text (Err fault) = false
+-- what the file of a tail has, where it tells that
+abbrev pub tail_contents : {F : Type 0} → (F → Option (List ℕ)) → Tail F → Option (List ℕ)
+tail_contents contents tail = contents tail.file
 
--- A text went out by one call, and where not all of it was taken that is noted. Where something has failed before,
--- nothing went out.
-abbrev pub WritesOnce : Device → Device → List ℕ → Bool → Bool → Type 0
-WritesOnce old new text true failed' = (new ≡ old) × (failed' ≡ true)
-WritesOnce old new text false failed' =
-    (taken : Result ℕ DeviceFault) × WritesPiece old new text taken × (failed' ≡ not (takes_all text taken))
+-- whether a call took all of a text: it took so many bytes, or failed
+abbrev pub takes_all : List ℕ → Option ℕ → Bool
+takes_all text (Some count) = nat_eq count (length text)
+takes_all text None = false
 
--- where the last line of a file had no end, that went out; else nothing did
-abbrev pub EndsLastLine : Device → Device → Bool → Bool → Type 0
-EndsLastLine old new true failed = (new ≡ old) × (failed ≡ false)
-EndsLastLine old new false failed = WritesOnce old new (10 ∷ []) false failed
+-- a call took so many bytes of a text, or failed and took none
+abbrev pub Took : Option (List ℕ) → Option (List ℕ) → List ℕ → Option ℕ → Type 0
+Took told told' text (Some count) = (count ≤ length text) × AddsWhereTold told told' (take count text)
+Took told told' text None = StaysWhereTold told told'
 
--- the text went out so, and it is noted too where a sync failed after it
-abbrev pub AddsOne : Device → Device → List ℕ → Bool → Bool → Type 0
-AddsOne old new text failed failed' =
-    (missed : Bool) × WritesOnce old new text failed missed × (missed ≡ true → failed' ≡ true)
+-- A beginning of a text was added, and it is noted if that isn't all of the text. If something has failed before,
+-- nothing was added.
+abbrev pub WritesOnce : {F : Type 0} → (F → Option (List ℕ)) → F → F → List ℕ → Bool → Bool → Type 0
+WritesOnce contents old new text true failed' = (new ≡ old) × (failed' ≡ true)
+WritesOnce contents old new text false failed' =
+    (taken : Option ℕ) × Took (contents old) (contents new) text taken × (failed' ≡ not (takes_all text taken))
+
+-- if the last line of a file had no end, a line feed was added so, and else nothing
+abbrev pub EndsLastLine : {F : Type 0} → (F → Option (List ℕ)) → F → F → Bool → Bool → Type 0
+EndsLastLine contents old new true failed = (new ≡ old) × (failed ≡ false)
+EndsLastLine contents old new false failed = WritesOnce contents old new (10 ∷ []) false failed
+
+-- the text was added so, and a sync after it may fail, which is noted too
+abbrev pub AddsOne : {F : Type 0} → (F → Option (List ℕ)) → Tail F → Tail F → List ℕ → Type 0
+AddsOne contents old new text =
+    (missed : Bool) × WritesOnce contents old.file new.file text old.has_failed missed
+    × (missed ≡ true → new.has_failed ≡ true)
 
 -- what is done with a text, or that memory ran out for it, which is noted
-abbrev pub AddsText : Device → Device → Bool → Bool → Bool → Bool → Result (Option (Vec ℕ Global)) NoMemory
-    → Type 0
-AddsText old new failed failed' lacks lacks' (Ok (Some text)) =
-    AddsOne old new text.items failed failed' × (lacks' ≡ lacks)
-AddsText old new failed failed' lacks lacks' (Ok None) = (new ≡ old) × (failed' ≡ failed) × (lacks' ≡ lacks)
-AddsText old new failed failed' lacks lacks' (Err fault) = (new ≡ old) × (failed' ≡ failed) × (lacks' ≡ true)
+abbrev pub AddsText : {F : Type 0} → (F → Option (List ℕ)) → Tail F → Tail F
+    → Result (Option (Vec ℕ Global)) NoMemory → Type 0
+AddsText contents old new (Ok (Some text)) = AddsOne contents old new text.items × (new.lacks_text ≡ old.lacks_text)
+AddsText contents old new (Ok None) = new ≡ old
+AddsText contents old new (Err fault) = new ≡ record old { lacks_text = true }
 
--- the moment of the last sync after a text was added: this one where ten seconds have gone, else the one before
+-- the moment of the last sync after a text was added: this one if ten seconds have passed, else the one before
 abbrev pub synced_after : ℕ → ℕ → Result (Option (Vec ℕ Global)) NoMemory → ℕ
 synced_after synced now (Ok (Some text)) = if nat_le 10 (now - synced) then now else synced
 synced_after synced now (Ok None) = synced
 synced_after synced now (Err fault) = synced
 
--- what is told at the end: that writing failed, or else that a text is lacking; a sync may fail at last
+-- what is said of a file at the end: that writing failed, or else that a text is lacking
+abbrev pub said_of : Bool → Bool → Result Unit KeepFault
+said_of true lacks = Err Write
+said_of false true = Err OutOfMemory
+said_of false false = Ok tt
+
+-- that, but the last sync may fail too
 abbrev pub EndsAs : Bool → Bool → Result Unit KeepFault → Type 0
 EndsAs failed lacks (Ok done) = (failed ≡ false) × (lacks ≡ false)
 EndsAs failed lacks (Err OutOfMemory) = (failed ≡ false) × (lacks ≡ true)

@@ -1,8 +1,16 @@
 //! A solver whose answers are kept.
 
-use crate::faults::KeepFault;
-use crate::tails::Tail;
+ghost use Rattle.std.specs.Prelude.{◌≡◌, MatchOption, ⊤};
+ghost use Rattle.std.specs.Option.{option_flatten};
+ghost use Rattle.std.specs.Result.{result_ok};
+ghost use Rattle.evidence.specs.Sections.{kept_of};
+ghost use Rattle.evidence_solvers.specs.Added.{IsKeptAs, WasAdded};
+ghost use Rattle.evidence_solvers.specs.Tails.{tail_contents};
+
+use crate::added::NamedTail;
+use crate::tails::{Closed, Tail};
 use crate::texts::kept_text;
+use crate::told::Told;
 use cards::{Layout, Seat, Trump};
 use lease_desk::Clock;
 use partition_solver::{Bundle, Solver};
@@ -11,33 +19,48 @@ use std::fs::OpenFile;
 use std::io::Write;
 use std::sync::{Mutex, Wait};
 
-/// A solver that asks another one, adds what that answers to the end of a file, each answer by one call, and hands it
-/// on as it is. Its clock counts seconds. Threads may call it at once: they wait for one another while one writes.
+/// A solver that asks another one, adds each answer of that solver to the end of a file by one call, and hands the
+/// answer on unchanged. Its clock counts seconds. Several threads may call it at once: while one writes, the others
+/// wait. The type `T` names what the file held before.
 #[derive(Drop)]
-pub struct Keeping<'a, 'b, R, C, P, F> {
+pub struct Keeping<'a, 'b, R, C, P, F: Write, T: Told> {
     rt: &'a R,
     clock: &'b C,
     solver: &'b P,
-    tail: Mutex<Tail<F>>,
+    tail: Mutex<NamedTail<F, T>>,
 }
 
-impl<'a, 'b, R: Wait, C: Clock, P: Solver, F: Write + OpenFile> Keeping<'a, 'b, R, C, P, F> {
-    ghost use Rattle.std.specs.Prelude.{◌≡◌};
-
-    /// A solver that asks the other one, and adds what that answers to the tail. It takes no memory.
-    pub fn new(rt: &'a R, clock: &'b C, solver: &'b P, tail: Tail<F>) -> Keeping<'a, 'b, R, C, P, F>
+impl<'a, 'b, R: Wait, C: Clock, P: Solver, F: Write + OpenFile, T: Told> Keeping<
+    'a,
+    'b,
+    R,
+    C,
+    P,
+    F,
+    T,
+> {
+    /// A solver that asks the other one, and adds its answers to the tail. It takes no memory.
+    pub fn new(
+        rt: &'a R,
+        clock: &'b C,
+        solver: &'b P,
+        tail: Tail<F>,
+    ) -> Keeping<'a, 'b, R, C, P, F, T>
+        requires { tail_contents F.contents tail ≡ T.told }
         ensures { result.solver.now ≡ solver.now }
     {
         Keeping {
             rt,
             clock,
             solver,
-            tail: Mutex::new(tail),
+            tail: Mutex::new(NamedTail::new(tail)),
         }
     }
 
     /// Adds an answer.
-    fn keep(&self, alloc: Global, layout: &Layout, trump: Trump, bundle: &Bundle) {
+    fn keep(&self, alloc: Global, layout: &Layout, trump: Trump, bundle: &Bundle)
+        ensures { WasAdded T.told F.contents (kept_of layout.now trump bundle.now) }
+    {
         let text = kept_text(alloc, layout, trump, bundle);
         let now = self.clock.now();
         let mut tail = self.tail.lock(self.rt);
@@ -45,9 +68,11 @@ impl<'a, 'b, R: Wait, C: Clock, P: Solver, F: Write + OpenFile> Keeping<'a, 'b, 
     }
 }
 
-impl<R, C, P, F: Write + OpenFile + Drop> Keeping<'_, '_, R, C, P, F> {
-    /// Syncs the file, and tells whether it lacks answers.
-    pub fn close(self) -> Result<(), KeepFault> {
+impl<R, C, P, F: Write + OpenFile + Drop, T: Told> Keeping<'_, '_, R, C, P, F, T> {
+    /// Syncs the file, hands it back, and says whether it lacks answers.
+    pub fn close(self) -> Closed<F>
+        ensures { IsKeptAs T.told (F.contents result.file) result.kept }
+    {
         let Keeping {
             rt: _,
             clock: _,
@@ -58,7 +83,8 @@ impl<R, C, P, F: Write + OpenFile + Drop> Keeping<'_, '_, R, C, P, F> {
     }
 }
 
-impl<R: Wait, C: Clock, P: Solver, F: Write + OpenFile> Solver for Keeping<'_, '_, R, C, P, F> {
+impl<R: Wait, C: Clock, P: Solver, F: Write + OpenFile, T: Told> Solver
+    for Keeping<'_, '_, R, C, P, F, T> {
     ghost may_find = { λ keeping. P.may_find keeping.solver.now };
 
     fn solve(
@@ -68,7 +94,12 @@ impl<R: Wait, C: Clock, P: Solver, F: Write + OpenFile> Solver for Keeping<'_, '
         declarers: &[Seat],
         trump: Trump,
         budget: u64,
-    ) -> Result<Option<Bundle>, AllocError> {
+    ) -> Result<Option<Bundle>, AllocError>
+        ensures found { P.may_find self.now.solver.now layout.now declarers.now trump budget
+            (option_flatten (result_ok result)) }
+        ensures kept { MatchOption (option_flatten (result_ok result)) ⊤
+            (λ bundle. WasAdded T.told F.contents (kept_of layout.now trump bundle)) }
+    {
         let found = self.solver.solve(alloc, layout, declarers, trump, budget);
         if let Ok(Some(bundle)) = &found {
             self.keep(alloc, layout, trump, bundle);

@@ -1,30 +1,21 @@
-//! Evidence in a file, beside a search: what the file shows isn't searched again, and what is found is added to it.
+//! The file of evidence that a search adds to: how it is opened, and what is added.
 //!
-//! [`open_evidence`] opens a file. A [`Shelf`] is the file as it is read, once and no further than is needed: which
-//! sections it has so far, and where. A [`Tail`] is its end, to which sections are added. [`Reading`] and [`Keeping`]
-//! are two solvers around another: one answers from a shelf what can be, the other adds to a tail what the inner one
-//! answered.
+//! [`open_evidence`] opens a file, once to be read and once to be added to. A [`Tail`] is its end. [`Keeping`] is a
+//! solver around another one: it adds each answer of that solver to a tail, as the text of a section.
 #![tactic(auto)]
 
-mod catalogs;
+mod added;
 mod faults;
-mod fronts;
 mod keeping;
-mod listing;
+mod laws;
 mod opening;
-mod reading;
-mod serving;
-mod shelves;
-mod spans;
 mod tails;
-mod taking;
 mod texts;
 mod told;
 
 pub use faults::{CannotOpen, KeepFault};
 pub use keeping::Keeping;
+pub use laws::added_sections_are_parts;
 pub use opening::{Opened, open_evidence};
-pub use reading::Reading;
-pub use shelves::Shelf;
-pub use tails::Tail;
+pub use tails::{Closed, Tail};
 pub use told::Told;

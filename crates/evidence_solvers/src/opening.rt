@@ -1,26 +1,49 @@
 //! A file of evidence, opened.
 
-ghost use Rattle.std.specs.Prelude.{IfOk};
-ghost use Rattle.evidence_solvers.specs.Spans.{IsLineEnd};
+ghost use Rattle.std.specs.Prelude.{◌≡◌, true, false, IfOk, SomeIff};
+ghost use Rattle.std.specs.Fs.{asks_read, asks_append, asks_create, asks_create_new, asks_truncate, file_type, IsFile, metadata_len};
+ghost use Rattle.evidence_solvers.specs.Opening.{IsLineEnd, IsOpened};
 
 use crate::faults::CannotOpen;
 use crate::tails::Tail;
-use std::fs::{Files, OpenFile, OpenOptions};
+use std::fs::{Files, Metadata, OpenFile, OpenOptions};
 use std::io;
 use std::io::{Read, Seek, SeekFrom, Take};
 
-/// A file of evidence, opened three times.
+/// A file of evidence, opened twice.
 #[derive(Drop)]
 pub struct Opened<F> {
-    /// To be read from its beginning, as far as it went when it was opened: what is added later isn't read.
+    /// To be read from its beginning. What is added later isn't read.
     pub front: Take<F>,
-    /// To be read again, anywhere.
-    pub again: F,
     /// To be added to.
     pub tail: Tail<F>,
 }
 
-/// Whether the last line of a file of so many bytes has its end.
+/// How a file is opened to be added to: each write goes to its end, and nothing that it holds is lost. A missing file
+/// is made.
+fn to_be_added_to() -> OpenOptions
+    ensures read { asks_read result ≡ true }
+    ensures at_its_end { asks_append result ≡ true }
+    ensures made { asks_create result ≡ true }
+    ensures also_old { asks_create_new result ≡ false }
+    ensures none_lost { asks_truncate result ≡ false }
+{
+    let mut how = OpenOptions::new();
+    how.read(true).append(true).create(true);
+    how
+}
+
+/// How many bytes a regular file has. `None` for anything else, such as a pipe or a folder.
+fn regular_length(metadata: &Metadata) -> Option<u64>
+    ensures { SomeIff result (IsFile (file_type metadata.now)) (metadata_len metadata.now) }
+{
+    if !metadata.is_file() {
+        return None;
+    }
+    Some(metadata.len())
+}
+
+/// Whether the last line of a file of this length has its end.
 fn ends_line<F: Read + Seek>(file: &mut F, length: u64) -> io::Result<bool>
     ensures { IfOk result (IsLineEnd F.stream_position F.remaining file.old file.new length) }
 {
@@ -33,34 +56,29 @@ fn ends_line<F: Read + Seek>(file: &mut F, length: u64) -> io::Result<bool>
     Ok(last[0] == b'\n')
 }
 
-/// Opens a file to be read and to be added to; it is made where it isn't there. Where its last line has no end, that is
-/// written. Nothing else is, and no section is read.
-pub fn open_evidence<R: Files>(files: &R, path: &str) -> Result<Opened<R::File>, CannotOpen> {
-    let mut how = OpenOptions::new();
-    how.read(true).append(true).create(true);
-    let Ok(mut end) = how.open(files, path) else {
+/// Opens a file to be read and to be added to. A missing file is made. If its last line has no end, a line feed is
+/// written. Nothing else is written, and no section is read.
+pub fn open_evidence<R: Files>(files: &R, path: &str) -> Result<Opened<R::File>, CannotOpen>
+    ensures { IfOk result (IsOpened R.File.stream_position R.File.remaining R.File.contents) }
+{
+    let Ok(mut end) = to_be_added_to().open(files, path) else {
         return Err(CannotOpen);
     };
     let Ok(metadata) = end.metadata() else {
         return Err(CannotOpen);
     };
-    if !metadata.is_file() {
+    let Some(length) = regular_length(&metadata) else {
         return Err(CannotOpen);
-    }
-    let length = metadata.len();
+    };
     let Ok(ends_line) = ends_line(&mut end, length) else {
         return Err(CannotOpen);
     };
     let Ok(front) = OpenOptions::new().read(true).open(files, path) else {
         return Err(CannotOpen);
     };
-    let Ok(again) = OpenOptions::new().read(true).open(files, path) else {
-        return Err(CannotOpen);
-    };
     let written = u64::from(!ends_line);
     Ok(Opened {
         front: front.take(length.saturating_add(written)),
-        again,
         tail: Tail::new(end, ends_line),
     })
 }

@@ -1,38 +1,46 @@
-//! The end of a file of evidence, to which sections are added.
+//! The end of a file of evidence, to which texts are added.
 
-ghost use Rattle.std.specs.Prelude.{◌≡◌, true, false};
-ghost use Rattle.evidence_solvers.specs.Tails.{WritesOnce, EndsLastLine, AddsText, EndsAs, synced_after};
+ghost use Rattle.std.specs.Prelude.{◌≡◌, ◌||◌, false, is_err};
+ghost use Rattle.evidence_solvers.specs.Tails.{WritesOnce, EndsLastLine, AddsText, EndsAs, said_of, synced_after};
 
 use crate::faults::KeepFault;
-use cards::{OutOfMemory, Sink};
+use cards::OutOfMemory;
 use std::fs::OpenFile;
+use std::io;
 use std::io::Write;
-use streams::WriterSink;
 
-/// How many seconds go by between two syncs at the least.
+/// How many seconds pass between two syncs at the least.
 const SYNC_SECONDS: u64 = 10;
 
 /// The end of a file that was opened to be added to.
 #[derive(Drop)]
 pub struct Tail<F> {
-    sink: WriterSink<F>,
-    /// Not all of a text was taken, or a sync failed: nothing more is written.
+    file: F,
+    /// A text was not written whole, or a sync failed: nothing more is written.
     has_failed: bool,
-    /// A text was left out for want of memory.
+    /// A text was left out, because memory ran out.
     lacks_text: bool,
     /// The moment of the last sync, in seconds.
     synced: u64,
 }
 
+/// A file to which nothing more is added.
+#[derive(Drop)]
+pub struct Closed<F> {
+    /// The file.
+    pub file: F,
+    /// Whether it has every text that was to be added.
+    pub kept: Result<(), KeepFault>,
+}
+
 impl<F: Write + OpenFile> Tail<F> {
-    /// The end of a file. Where its last line has no end, that is written.
+    /// The end of a file. If the last line of the file has no end, a line feed is written.
     pub(crate) fn new(file: F, ends_line: bool) -> Tail<F>
-        ensures line { EndsLastLine (record { bytes = F.contents file; failed = 0 })
-            (⟦<WriterSink<F> as Sink>⟧.state result.sink) ends_line result.has_failed }
+        ensures line { EndsLastLine F.contents file result.file ends_line result.has_failed }
         ensures text { result.lacks_text ≡ false }
     {
         let mut tail = Tail {
-            sink: WriterSink::new(file),
+            file,
             has_failed: false,
             lacks_text: false,
             synced: 0,
@@ -43,44 +51,41 @@ impl<F: Write + OpenFile> Tail<F> {
         tail
     }
 
-    /// Writes a text by one call, unless something failed before.
+    /// Writes a text by one call, unless something failed before. A part of the text counts as a failure.
     fn write_text(&mut self, text: &[u8])
-        ensures text { WritesOnce (⟦<WriterSink<F> as Sink>⟧.state self.old.sink)
-            (⟦<WriterSink<F> as Sink>⟧.state self.new.sink) text.now self.old.has_failed self.new.has_failed }
-        ensures rest { self.new ≡ record self.old { sink = self.new.sink; has_failed = self.new.has_failed } }
+        ensures text { WritesOnce F.contents self.old.file self.new.file text.now self.old.has_failed
+            self.new.has_failed }
+        ensures rest { self.new ≡ record self.old { file = self.new.file; has_failed = self.new.has_failed } }
     {
         if self.has_failed {
             return;
         }
-        self.has_failed = match self.sink.write(text) {
+        self.has_failed = match self.file.write(text) {
             Ok(count) => count < text.len(),
             Err(_) => true,
         };
     }
 
-    /// Has the system write to the disk what was added.
-    fn sync(&mut self, now: u64)
-        ensures failed { self.old.has_failed ≡ true → self.new.has_failed ≡ true }
-        ensures rest { self.new ≡ record self.old { has_failed = self.new.has_failed; synced = now } }
+    /// Notes the result of a sync at this moment.
+    fn note_sync(&mut self, now: u64, done: &io::Result<()>)
+        ensures { self.new ≡ record self.old { has_failed = self.old.has_failed || is_err done.now; synced = now } }
     {
         self.synced = now;
-        if self.sink.get_ref().sync_data().is_err() {
-            self.has_failed = true;
-        }
+        self.has_failed = self.has_failed || done.is_err();
     }
 
-    /// Adds a text, where there is one. At this moment, in seconds, the file is synced, unless it was in the last ten.
+    /// Adds a text, if there is one. Then the file is synced, unless ten seconds have not passed since the last sync.
+    /// The moment is in seconds.
     pub(crate) fn add(&mut self, text: Result<Option<Vec<u8>>, OutOfMemory>, now: u64)
-        ensures text { AddsText (⟦<WriterSink<F> as Sink>⟧.state self.old.sink)
-            (⟦<WriterSink<F> as Sink>⟧.state self.new.sink) self.old.has_failed self.new.has_failed
-            self.old.lacks_text self.new.lacks_text text }
+        ensures text { AddsText F.contents self.old self.new text }
         ensures sync { self.new.synced ≡ synced_after self.old.synced now text }
     {
         match text {
             Ok(Some(text)) => {
                 self.write_text(text.as_slice());
                 if now.saturating_sub(self.synced) >= SYNC_SECONDS {
-                    self.sync(now);
+                    let done = self.file.sync_data();
+                    self.note_sync(now, &done);
                 }
             }
             Ok(None) => {}
@@ -90,19 +95,37 @@ impl<F: Write + OpenFile> Tail<F> {
 }
 
 impl<F: Write + OpenFile + Drop> Tail<F> {
-    /// Syncs the file, and tells what it lacks.
-    pub(crate) fn close(self) -> Result<(), KeepFault>
-        ensures { EndsAs self.has_failed self.lacks_text result }
+    /// Syncs the file, and says whether it lacks a text.
+    pub(crate) fn close(self) -> Closed<F>
+        ensures kept { EndsAs self.has_failed self.lacks_text result.kept }
+        ensures file { result.file ≡ self.file }
     {
         let mut tail = self;
+        let done = tail.file.sync_data();
         let now = tail.synced;
-        tail.sync(now);
-        if tail.has_failed {
-            return Err(KeepFault::Write);
+        tail.note_sync(now, &done);
+        let Tail {
+            file,
+            has_failed,
+            lacks_text,
+            synced: _,
+        } = tail;
+        Closed {
+            file,
+            kept: kept_unless(has_failed, lacks_text),
         }
-        if tail.lacks_text {
-            return Err(KeepFault::OutOfMemory);
-        }
-        Ok(())
     }
+}
+
+/// Whether a file has every text that was to be added. If a write failed and memory ran out, the failed write is told.
+fn kept_unless(has_failed: bool, lacks_text: bool) -> Result<(), KeepFault>
+    ensures { result ≡ said_of has_failed lacks_text }
+{
+    if has_failed {
+        return Err(KeepFault::Write);
+    }
+    if lacks_text {
+        return Err(KeepFault::OutOfMemory);
+    }
+    Ok(())
 }

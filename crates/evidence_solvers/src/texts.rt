@@ -1,4 +1,4 @@
-//! What is written of an answer.
+//! The text of an answer.
 
 ghost use Rattle.std.specs.Prelude.{IfOk};
 ghost use Rattle.evidence.specs.Sections.{kept_of};
@@ -9,11 +9,11 @@ use evidence::bundle_bytes;
 use partition_solver::Bundle;
 use std::alloc::Global;
 
-/// The most bytes that a section may have which is read again: 512 MiB.
+/// The most bytes that the text of a section may have, so that it can be read again: 512 MiB.
 const MOST_BYTES: usize = 536_870_912;
 
-/// The text of the section of an answer. None where the answer is no section, or its text too long to be read again.
-/// Fails only where memory runs out.
+/// The text of the section of an answer. `None` if the answer is no section, or if its text is too long to be read
+/// again. Fails only if memory runs out.
 pub(crate) fn kept_text(
     alloc: Global,
     layout: &Layout,

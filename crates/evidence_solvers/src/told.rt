@@ -1,13 +1,13 @@
-//! What a file tells, as a name in types.
+//! What a file held, as a name in types.
 
 use std::marker::Brand;
 
-/// What a file tells from its beginning on. Of what lies under a lock no more is known than its type: so what a shelf
-/// has read is said of the file that its type names. Who makes a shelf picks the file.
+/// What a file held when its evidence was opened. Nothing is known of a value under a lock but its type: so the type of
+/// the end of a file names the bytes to which sections are added. The caller that makes it picks them.
 pub trait Told {
     ghost use Rattle.std.specs.Prelude.{ℕ, List, Option};
 
-    /// The bytes, where they are told.
+    /// The bytes, if the file tells them.
     ghost told: { Option (List ℕ) };
 }
 

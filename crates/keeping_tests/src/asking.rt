@@ -1,10 +1,13 @@
 //! What is asked, and a solver that counts how often it is.
 
+use crate::disks::Open;
 use cards::{Layout, Seat, Trump};
 use evidence::read_section;
+use evidence_solvers::Keeping;
 use lease_desk::Clock;
 use partition_solver::{Bundle, Solver};
 use std::alloc::{AllocError, Global};
+use std::marker::Brand;
 use std::sync::atomic::AtomicU64;
 use std::sync::atomic::Ordering::SeqCst;
 
@@ -17,6 +20,19 @@ pub struct Counts<'a> {
     pub asked: AtomicU64,
     pub text: &'a str,
 }
+
+impl<'a> Counts<'a> {
+    /// A solver that wasn't asked yet.
+    pub fn of(text: &'a str) -> Counts<'a> {
+        Counts {
+            asked: AtomicU64::new(0),
+            text,
+        }
+    }
+}
+
+/// A solver around [`Counts`] whose answers are kept on a disk.
+pub type DiskKeeping<'a, R> = Keeping<'a, 'a, R, Steps, Counts<'a>, Open<'a, R>, Brand>;
 
 impl Solver for Counts<'_> {
     fn solve(

@@ -12,8 +12,10 @@ pub struct Held {
     pub bytes: Vec<u8>,
     /// How many bytes there is room for.
     pub room: usize,
-    /// How many bytes were read.
-    pub given: u64,
+    /// Whether the file is a folder.
+    pub is_folder: bool,
+    /// Whether syncs fail.
+    pub syncs_fail: bool,
     pub writes: u64,
     pub syncs: u64,
 }
@@ -33,7 +35,8 @@ impl<'a, R: Wait> Disk<'a, R> {
             held: Mutex::new(Held {
                 bytes,
                 room,
-                given: 0,
+                is_folder: false,
+                syncs_fail: false,
                 writes: 0,
                 syncs: 0,
             }),
@@ -46,6 +49,8 @@ impl<'a, R: Wait> Disk<'a, R> {
 pub struct Open<'a, R> {
     disk: &'a Disk<'a, R>,
     at: usize,
+    /// Whether each write goes to the end of the file.
+    appends: bool,
 }
 
 impl<R: Wait> Read for Open<'_, R> {
@@ -57,21 +62,29 @@ impl<R: Wait> Read for Open<'_, R> {
         let count = rest.len().min(buf.len());
         buf[..count].copy_from_slice(&rest[..count]);
         self.at = start + count;
-        held.given = held.given.saturating_add(count as u64);
         Ok(count)
     }
 }
 
 impl<R: Wait> Write for Open<'_, R> {
-    /// Takes as many bytes as there is room for.
+    /// Takes as many bytes as there is room for, and writes them over those at its place if it isn't at the end.
     fn write(&mut self, buf: &[u8]) -> io::Result<usize> {
         let mut held = self.disk.held.lock(self.disk.rt);
         held.writes = held.writes.saturating_add(1);
-        let count = held.room.saturating_sub(held.bytes.len()).min(buf.len());
+        let length = held.bytes.len();
+        let start = if self.appends {
+            length
+        } else {
+            self.at.min(length)
+        };
+        let count = held.room.saturating_sub(start).min(buf.len());
         if count == 0 && !buf.is_empty() {
             return Err(Error::from(ErrorKind::StorageFull));
         }
-        held.bytes.extend_from_slice(&buf[..count])?;
+        let over = count.min(length - start);
+        held.bytes[start..start + over].copy_from_slice(&buf[..over]);
+        held.bytes.extend_from_slice(&buf[over..count])?;
+        self.at = start.saturating_add(count);
         Ok(count)
     }
 
@@ -95,6 +108,9 @@ impl<R: Wait> Seek for Open<'_, R> {
 impl<R: Wait> OpenFile for Open<'_, R> {
     fn metadata(&self) -> io::Result<Metadata> {
         let held = self.disk.held.lock(self.disk.rt);
+        if held.is_folder {
+            return Ok(Metadata::of_dir());
+        }
         Ok(Metadata::of_file(held.bytes.len() as u64))
     }
 
@@ -109,6 +125,9 @@ impl<R: Wait> OpenFile for Open<'_, R> {
     fn sync_data(&self) -> io::Result<()> {
         let mut held = self.disk.held.lock(self.disk.rt);
         held.syncs = held.syncs.saturating_add(1);
+        if held.syncs_fail {
+            return Err(Error::from(ErrorKind::Other));
+        }
         Ok(())
     }
 }
@@ -118,7 +137,7 @@ fn not_done<T>() -> io::Result<T> {
     Err(Error::from(ErrorKind::Unsupported))
 }
 
-/// A system whose one file is that of a disk.
+/// A system whose one file is that of a disk, by the name `kept.dde`.
 #[derive(Drop)]
 pub struct System<'a, R>(pub &'a Disk<'a, R>);
 
@@ -127,11 +146,18 @@ impl<'a, R: Wait> Files for System<'a, R> {
 
     type Dir = io::Empty;
 
-    fn open_file(&self, how: &OpenOptions, _path: &str) -> io::Result<Open<'a, R>> {
+    fn open_file(&self, how: &OpenOptions, path: &str) -> io::Result<Open<'a, R>> {
         how.check()?;
+        if path != "kept.dde" {
+            return Err(Error::from(ErrorKind::NotFound));
+        }
+        if how.asks_truncate() {
+            self.0.held.lock(self.0.rt).bytes.clear();
+        }
         Ok(Open {
             disk: self.0,
             at: 0,
+            appends: how.asks_append(),
         })
     }
 

@@ -1,4 +1,4 @@
-//! Tests of files of evidence that are read and kept, over a disk in memory.
+//! Tests of files of evidence that are opened and added to, over a disk in memory.
 #![tactic(auto)]
 
 #[cfg(test)]
@@ -8,6 +8,6 @@ mod disks;
 #[cfg(test)]
 mod keeping_tests;
 #[cfg(test)]
-mod reading_tests;
+mod opening_tests;
 #[cfg(test)]
 mod texts;

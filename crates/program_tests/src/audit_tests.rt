@@ -190,6 +190,29 @@ fn full_files(rt: HostRuntime) -> Result<(), Fail> {
     Ok(())
 }
 
+/// What is shown of North's spades, claimed by a root that doesn't show it.
+fn false_ruffs(alloc: Global) -> Result<Vec<u8>, Fail> {
+    let (before, after) = RUFFS.split_once("N 13 0 -").ok_or("another claim")?;
+    Ok(joined(alloc, &[before.as_bytes(), b"N 13 1 -", after.as_bytes()])?)
+}
+
+/// False claims in front of a true one, and without it, more of them than an entry is tried: the entry has its number,
+/// by the evidence or by a search, and what was searched is kept.
+#[test]
+fn false_claims(rt: HostRuntime) -> Result<(), Fail> {
+    let alloc = rt.alloc();
+    let lie = false_ruffs(alloc)?;
+    let lie = lie.as_slice();
+    let lies = joined(alloc, &[lie, lie, lie, NO_TRUMP])?;
+    let all = joined(alloc, &[lies.as_slice(), RUFFS.as_bytes()])?;
+    let wanted = (Status::Incomplete, TWO, "");
+    for file in [lies.as_slice(), all.as_slice()] {
+        let devices = Devices { file, ..SOUND };
+        expect_end(&rt, alloc, table(NAME)?, devices, wanted, all.as_slice())?;
+    }
+    Ok(())
+}
+
 /// How many calls go to read the file to its end: one a byte, one that tells the end behind its section, and one more.
 const READS: u64 = NO_TRUMP.len() as u64 + 2;
 
@@ -204,7 +227,7 @@ const OF_AUDIT: [(u64, End<'static>); 3] = [
 /// where the file ended when it was opened (where that fails, a search finds nothing); the adding of what was found of
 /// the spades; the sync; and none. And whether the section of the spades is kept.
 const OF_TABLE: [(u64, End<'static>, bool); 5] = [
-    (6, (Status::Failed, "", OPENING_FILE), false),
+    (5, (Status::Failed, "", OPENING_FILE), false),
     (READS - 2, (Status::Failed, ONE, READING_FILE), true),
     (1, (Status::Failed, TWO, WRITING_FILE), false),
     (1, (Status::Failed, TWO, WRITING_FILE), true),

@@ -4,3 +4,5 @@ pub mod CheckLemmas
 pub mod SolveLemmas
 pub mod LineLemmas
 pub mod RunLemmas
+pub mod PutLaws
+pub mod BesideLaws

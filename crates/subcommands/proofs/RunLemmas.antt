@@ -1,7 +1,7 @@
 -- What comes of a layout alone, and of an answer that is the input, is what the run does.
 use Rattle.std.proofs.Common.{Result, refl}
 use Rattle.cards.specs.Devices.{Device}
-use Rattle.lease_desk.specs.Moments.{MayTell}
+use Rattle.lease_book.specs.Moments.{MayTell}
 use Rattle.partition_solver.specs.Answers.{MayFind}
 use Rattle.asked.specs.declared.subcommands.Subcommand.{Subcommand}
 use Rattle.asked.specs.declared.subcommands.Subcommand.TheVariants.{Plain, Solve, Table, Check, Line, Play, Audit}

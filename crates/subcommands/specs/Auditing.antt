@@ -11,7 +11,7 @@ use Rattle.subcommands.specs.declared.faults.RunFault.{RunFault}
 use Rattle.subcommands.specs.declared.faults.RunFault.TheVariants.{Evidence}
 use Rattle.subcommands.specs.declared.named_files.FileFault.TheVariants.{Open}
 use Rattle.subcommands.specs.declared.outcomes.Outcome.{Outcome}
-use Rattle.subcommands.specs.NamedFiles.{MayOpen}
+use Rattle.subcommands.specs.NamedFiles.{Opens, MayOpen}
 use Rattle.subcommands.specs.Pages.{page_fact, report_status}
 use Rattle.subcommands.specs.Statuses.{audit_fault}
 
@@ -25,14 +25,14 @@ pub record AuditsOpened (may_open : MayOpen) (name : List ℕ) (whole : Bool) (s
     (audited : Result (Report × Ledger × Damage) AuditFault)
     : Type 0 where
   pub file : Device
-  pub opened : may_open name (Some file)
+  pub opened : may_open.to_read name (Some file)
   pub none_failed : file.failed ≡ 0
   pub left : Whole
   pub audits : AuditsTables (page_fact whole) source source' (unread file) left sink sink' audited
 
 -- the file of this name can't be opened, and nothing was read or written
-pub record OpensNothing (may_open : MayOpen) (name : List ℕ) (source source' sink sink' : Device) : Type 0 where
-  pub unopened : may_open name None
+pub record OpensNothing (opens : Opens) (name : List ℕ) (source source' sink sink' : Device) : Type 0 where
+  pub unopened : opens name None
   pub source_is : source' ≡ source
   pub sink_is : sink' ≡ sink
 
@@ -44,6 +44,6 @@ AuditsFile may_open name whole source source' sink sink' (Ok outcome) =
     × (outcome.kept ≡ Ok tt)
     × AuditsOpened may_open name whole source source' sink sink' (Ok (report, book, outcome.damage))
 AuditsFile may_open name whole source source' sink sink' (Err fault) =
-    ((fault ≡ Evidence Open) × OpensNothing may_open name source source' sink sink')
+    ((fault ≡ Evidence Open) × OpensNothing may_open.to_read name source source' sink sink')
     ⊎ ((audited : AuditFault) × (fault ≡ audit_fault audited)
     × AuditsOpened may_open name whole source source' sink sink' (Err audited))

@@ -13,5 +13,6 @@ pub mod Halts
 pub mod Made
 pub mod Pages
 pub mod Auditing
+pub mod Beside
 pub mod KeptTables
 pub mod Runs

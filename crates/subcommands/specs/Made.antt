@@ -6,7 +6,7 @@ use Rattle.pbn_deals.specs.declared.boards.Board.{Board}
 use Rattle.pbn_deals.specs.Reading.{TextAnswers}
 use Rattle.streams.specs.Inputs.{IsReadToEnd, Loses}
 use Rattle.lease_book.specs.Books.{Ledger}
-use Rattle.lease_desk.specs.Moments.{MayTell}
+use Rattle.lease_book.specs.Moments.{MayTell}
 use Rattle.farm.specs.Runs.{IsBookOf, terms_for}
 use Rattle.asked.specs.declared.settings.Settings.{Settings}
 use Rattle.tournaments.specs.declared.faults.MakeFault.{MakeFault}

@@ -1,13 +1,14 @@
 -- The page of tables: which one is asked for, how a run ends with it, and what `table` does.
-use Rattle.std.specs.Prelude.{◌≡◌, Bool, true, false, Result, Ok, Err, nat_lt, if◌then◌else◌}
+use Rattle.std.specs.Prelude.{◌≡◌, ℕ, Bool, true, false, List, Result, Ok, Err, nat_lt, if◌then◌else◌}
 use Rattle.asked.specs.declared.subcommands.TableOptions.{TableOptions}
-use Rattle.cards.specs.Devices.{Device}
+use Rattle.cards.specs.Devices.{Device, Adds, AddsBeginning}
 use Rattle.lease_book.specs.Books.{Ledger}
-use Rattle.lease_desk.specs.Moments.{MayTell}
+use Rattle.lease_book.specs.Moments.{MayTell}
 use Rattle.farm.specs.Runs.{IsRun}
 use Rattle.tables.specs.declared.sheets.Report.{Report}
 use Rattle.tournaments.specs.declared.faults.MakeFault.{MakeFault}
-use Rattle.tournaments.specs.Making.{PageFact, MakesPage}
+use Rattle.tournaments.specs.declared.faults.MakeFault.TheVariants.{Write}
+use Rattle.tournaments.specs.Making.{PageFact, MakesPage, AreReported}
 use Rattle.tournaments.specs.Pages.{IsTablesPage}
 use Rattle.tournaments.specs.WholePages.{IsWholePage}
 use Rattle.subcommands.specs.declared.faults.RunFault.{RunFault}
@@ -19,6 +20,16 @@ use Rattle.subcommands.specs.Statuses.{make_fault}
 abbrev pub page_fact : Bool → PageFact
 page_fact false = IsTablesPage
 page_fact true = IsWholePage
+
+-- Such a page of a text and the book over its boards was written, which the report counts, or a beginning of it before
+-- the sink failed.
+abbrev pub PutsPage : PageFact → List ℕ → Ledger → Device → Device → Result Report MakeFault → Type 0
+PutsPage is_page text book sink sink' (Ok report) =
+    (page : List ℕ) × is_page text book.terms.boards book.events page × Adds sink sink' page
+    × AreReported book.terms.boards book.events report
+PutsPage is_page text book sink sink' (Err fault) =
+    (fault ≡ Write)
+    × ((page : List ℕ) × is_page text book.terms.boards book.events page × AddsBeginning sink sink' page)
 
 -- a table is incomplete, or all are complete
 abbrev pub report_status : Report → Status

@@ -1,6 +1,6 @@
 -- What a run does for what was asked, and how it ends.
 use Rattle.std.specs.Prelude.{◌≡◌, Result, Ok, Err, ◌⊎◌, Option, List, ℕ, ⊤}
-use Rattle.lease_desk.specs.Moments.{MayTell}
+use Rattle.lease_book.specs.Moments.{MayTell}
 use Rattle.partition_solver.specs.Answers.{MayFind}
 use Rattle.streams.specs.Flushes.{HandsOn}
 use Rattle.cards.specs.Devices.{Device, Fails, Adds, AddsBeginning}

@@ -5,6 +5,7 @@
 
 mod answers;
 mod auditing;
+mod beside;
 mod checks;
 mod damage_lines;
 mod faults;
@@ -17,6 +18,7 @@ mod outcomes;
 mod pages;
 mod plain;
 mod playing;
+mod putting;
 mod running;
 mod solves;
 mod statuses;

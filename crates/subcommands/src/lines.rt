@@ -23,8 +23,7 @@ use std::alloc::Global;
 use streams::read_all;
 
 /// Reads an answer to its end, checks it as [`check_answer`](crate::check_answer) does, and writes the verdict; behind
-/// one that accepts, the line of play in which both sides follow their certificates, in which each has just the tricks
-/// that were shown.
+/// one that accepts, a line of play in which each side has just the tricks that were shown for it.
 ///
 /// Refuses bytes that spell no layout before anything is read, and a text whose first line is not a result line.
 /// Nothing was written after any fault but a failed output, and after that one a beginning of the text.
@@ -100,7 +99,7 @@ pub(crate) fn begin(accepted: &Accepted) -> Sides<'_>
     }
 }
 
-/// The cards that are played where both sides follow their certificates.
+/// The cards of a play in which each side has just the tricks that were shown for it.
 fn line_of(proven: &Proven, sides: Sides<'_>) -> ArrayVec<Card, 52>
     requires { AreBegun proven.now.layout proven.now.declarer proven.now.trump proven.now.k sides }
     ensures { IsLineOf proven.now result.items }

@@ -1,16 +1,15 @@
 //! The tables by many threads.
 
-ghost use Rattle.std.specs.Prelude.{◌≡◌, IfOk, IsSome, Some};
+ghost use Rattle.std.specs.Prelude.{◌≡◌, IsSome, Some};
 ghost use Rattle.farm.specs.Runs.{IsRun};
-ghost use Rattle.farm.specs.Leases.{AreSettledOnce};
 ghost use Rattle.subcommands.specs.Halts.{halted_fault};
 ghost use Rattle.tournaments.specs.Making.{MakesPage};
 ghost use Rattle.tournaments.specs.Pages.{IsTablesPage};
 ghost use Rattle.tournaments.specs.WholePages.{IsWholePage};
 ghost use Rattle.subcommands.specs.Made.{MakesBook};
-ghost use Rattle.tournaments.specs.declared.faults.MakeFault.TheVariants as faults;
 
-use cards::{DeviceFault, Sink, Source};
+use crate::putting::{put_tables, put_whole};
+use cards::{Sink, Source};
 use farm::{Clock, FarmFault, Means, Settings, run_farm};
 use lease_book::Book;
 use lease_desk::Gate;
@@ -19,12 +18,11 @@ use std::alloc::Global;
 use std::sync::Wait;
 use std::thread::Threads;
 use streams::read_all;
-use tables::{Report, write_tables};
-use tournaments::{MakeFault, tables_are_read, take_boards, whole_pages_are_read};
-use whole_texts::{one_is_written, write_whole};
+use tables::Report;
+use tournaments::{MakeFault, take_boards};
 
 /// Why nothing is made where a farm over boards of a text was halted.
-fn halted(fault: FarmFault) -> MakeFault
+pub(crate) fn halted(fault: FarmFault) -> MakeFault
     requires { IsSome (halted_fault fault) }
     ensures { halted_fault fault ≡ Some result }
 {
@@ -33,13 +31,6 @@ fn halted(fault: FarmFault) -> MakeFault
         FarmFault::NoThread => MakeFault::NoThread,
         FarmFault::Book(_) => unreachable!(),
     }
-}
-
-/// The fault of a sink. (That of a source is an `InputFault`.)
-fn sink_failed(_fault: DeviceFault) -> MakeFault
-    ensures { result ≡ faults.Write }
-{
-    MakeFault::Write
 }
 
 /// Reads a PBN text to its end, and has a farm work through its boards, as the settings say. The text and the book of
@@ -57,8 +48,7 @@ fn make_book<
     settings: Settings,
     means: &Means<'_, S, G, C>,
 ) -> Result<(Vec<u8>, Book), MakeFault>
-    ensures book { MakesBook (C.may_tell means.now.clock.now) settings (I.state input.old) (I.state input.new) result }
-    ensures once { IfOk result (λ made. AreSettledOnce made.1.events) }
+    ensures { MakesBook (C.may_tell means.now.clock.now) settings (I.state input.old) (I.state input.new) result }
 {
     let text = read_all(alloc, input)?;
     let boards = take_boards(alloc, text.as_slice())?;
@@ -73,7 +63,8 @@ fn make_book<
 ///
 /// Whatever the solver answers, the gate does and the clock tells, and in whatever order the threads work, a number
 /// that is written is the double-dummy value of its deal, and is written once: an answer whose certificates don't show
-/// it gives none. No lease is settled twice. With all refusals but a failed sink nothing was written.
+/// it gives none. Each entry whose board has a deal has a number, or was leased as often as the settings allow, and no
+/// lease was settled twice (`IsRun`). With all refusals but a failed sink nothing was written.
 pub fn make_tables<
     I: Source,
     O: Sink,
@@ -89,13 +80,11 @@ pub fn make_tables<
     settings: Settings,
     means: &Means<'_, S, G, C>,
 ) -> Result<(Report, Book), MakeFault>
-    ensures tables { MakesPage (IsRun (C.may_tell means.now.clock.now)) IsTablesPage settings.term settings.tries
+    ensures { MakesPage (IsRun (C.may_tell means.now.clock.now)) IsTablesPage settings.term settings.tries
         (I.state input.old) (I.state input.new) (O.state output.old) (O.state output.new) result }
-    ensures once { IfOk result (λ made. AreSettledOnce made.1.events) }
 {
     let (_, book) = make_book(rt, alloc, input, settings, means)?;
-    tables_are_read();
-    let report = write_tables(&book, output).map_err(sink_failed)?;
+    let report = put_tables(&book, output)?;
     Ok((report, book))
 }
 
@@ -117,13 +106,10 @@ pub fn make_whole<
     settings: Settings,
     means: &Means<'_, S, G, C>,
 ) -> Result<(Report, Book), MakeFault>
-    ensures whole { MakesPage (IsRun (C.may_tell means.now.clock.now)) IsWholePage settings.term settings.tries
+    ensures { MakesPage (IsRun (C.may_tell means.now.clock.now)) IsWholePage settings.term settings.tries
         (I.state input.old) (I.state input.new) (O.state output.old) (O.state output.new) result }
-    ensures once { IfOk result (λ made. AreSettledOnce made.1.events) }
 {
     let (text, book) = make_book(rt, alloc, input, settings, means)?;
-    one_is_written();
-    whole_pages_are_read();
-    let report = write_whole(text.as_slice(), &book, output).map_err(sink_failed)?;
+    let report = put_whole(text.as_slice(), &book, output)?;
     Ok((report, book))
 }

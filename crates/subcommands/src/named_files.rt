@@ -21,31 +21,35 @@ pub trait NamedFiles {
     /// A file that was opened to be read and to be added to.
     type Kept: Read + Write + Seek + OpenFile + Drop + Send;
 
-    /// What may come of the opening of a name: what the file tells, or `None` where it can't be opened.
+    /// What may come of the opening of a name, to be read and to be added to: what the file tells, or `None` where it
+    /// can't be opened.
     ghost may_open: { Self → MayOpen };
 
-    /// Opens the file of this name to be read, from its beginning on. It may be a pipe.
+    /// Opens the file of this name to be read, from its beginning to its end. It may be a pipe.
     fn open_named(&self, name: &str) -> Option<Self::Opened>
-        ensures opens { may_open self.now name.now (option_map Self.Opened.state result) }
+        ensures opens { (may_open self.now).to_read name.now (option_map Self.Opened.state result) }
         ensures none_failed { IfSome result (λ file. (Self.Opened.state file).failed ≡ 0) };
 
     /// Opens the file of this name to be read, from its beginning on, and to be added to; it is made where it isn't
     /// there. What is no regular file can't be opened so. It tells as much as it holds then.
     fn open_kept(&self, name: &str) -> Result<Opened<Self::Kept>, CannotOpen>
-        ensures opens { may_open self.now name.now (front_of Self.Kept.remaining result) };
+        ensures opens { (may_open self.now).to_keep name.now (front_of Self.Kept.remaining result) };
 }
 
 impl<R: Files> NamedFiles for R
 where
     R::File: Send,
 {
-    ghost use Rattle.subcommands.specs.NamedFiles.{MayBeAny};
+    ghost use Rattle.subcommands.specs.NamedFiles.{MayBeAll, MayBeAny};
 
     type Opened = ReaderSource<R::File>;
 
     type Kept = R::File;
 
-    ghost may_open = { λ _ _ told. MayBeAny R.File.remaining told };
+    ghost may_open = { λ _. record {
+        to_read = λ _ told. MayBeAll R.File.remaining told;
+        to_keep = λ _ told. MayBeAny R.File.remaining told;
+    } };
 
     fn open_named(&self, name: &str) -> Option<ReaderSource<R::File>> {
         match fs::open(self, name) {

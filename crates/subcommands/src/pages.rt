@@ -22,7 +22,7 @@ use tournaments::MakeFault;
 
 /// Nobody is told of the work.
 #[derive(Drop)]
-struct Unwatched;
+pub(crate) struct Unwatched;
 
 impl Gate for Unwatched {
     fn before_solve(&self, _lease: u64) {}
@@ -57,7 +57,7 @@ fn make_page<
     }
 }
 
-/// Writes the tables of the boards of the input. The gate is told of the work only where progress is asked for.
+/// Writes the tables of the boards of the input, alone or in the input.
 pub(crate) fn write_page<
     P: Solver + Sync,
     G: Gate + Sync,
@@ -76,16 +76,7 @@ pub(crate) fn write_page<
     ensures { WritesTables (C.may_tell means.now.clock.now) options.entry (I.state input.old) (I.state input.new)
         (O.state output.old) (O.state output.new) result }
 {
-    if options.progress {
-        let made = make_page(rt, alloc, options, means, input, output)?;
-        return Ok(status_of(made.0));
-    }
-    let unwatched = Means {
-        solver: means.solver,
-        gate: &Unwatched,
-        clock: means.clock,
-    };
-    let made = make_page(rt, alloc, options, &unwatched, input, output)?;
+    let made = make_page(rt, alloc, options, means, input, output)?;
     Ok(status_of(made.0))
 }
 

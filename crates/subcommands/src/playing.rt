@@ -34,8 +34,6 @@ fn read_file<R: NamedFiles>(rt: &R, alloc: Global, name: &str) -> Result<Vec<u8>
 /// Reads the answer in the file that is named, checks it as [`check_answer`](crate::check_answer) does, and where it is
 /// accepted plays for the side that is asked for by its certificate, against the cards that are typed. A refused answer
 /// has its verdict written.
-///
-/// The layout is read first, then the answer, and then the input.
 pub(crate) fn play_answer<R: NamedFiles, I: Source, O: Sink>(
     rt: &R,
     alloc: Global,

@@ -1,6 +1,7 @@
-use Rattle.std.proofs.Common.{refl}
+use Rattle.std.proofs.Common.{None, refl, subst}
+use Rattle.clap.specs.declared.error.kind.ErrorKind.{ErrorKind}
 use Rattle.clap.specs.Values.{kind_of}
-use Rattle.command_line.specs.Commands.{is_done, is_none}
+use Rattle.command_line.specs.Commands.{EndsWords, is_done, is_none}
 use Rattle.command_line.proofs.run_command.Goals as goal
 
 pub returns-in-Ok : goal.returns-in-Ok
@@ -11,4 +12,5 @@ returns-in-Ok g c =
 pub returns-in-Err : goal.returns-in-Err
 returns-in-Err g c =
     let read = c.in-Err.ensures in
-    (c.tell_words.result, is_none read.0 read.1 (kind_of c.in-Err.error) read.2 refl c.tell_words.ensures, c.code-in-Err.ensures)
+    let ends = subst (λ (kind : ErrorKind). EndsWords None (g.O.Sink.state c.args.streams.now.output) (g.O.Sink.state c.tell_words.new.output) (g.E.Sink.state c.args.streams.now.errors) (g.E.Sink.state c.tell_words.new.errors) kind c.tell_words.result) c.kind-kind.ensures c.tell_words.ensures in
+    (c.tell_words.result, is_none read.0 read.1 (kind_of c.in-Err.error) read.2 refl ends, c.code-in-Err.ensures)

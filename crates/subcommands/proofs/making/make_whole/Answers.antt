@@ -1,58 +1,37 @@
--- One page is written of the text, and it is read as the law says, since its history is true over the text's boards.
-use Rattle.std.proofs.Common.{sym, subst, rules}
-use Rattle.cards.specs.Devices.{Adds, AddsBeginning}
+-- The book of the run is one over the boards of the text, and its page was put.
+use Rattle.std.proofs.Common.{List, ℕ, Ok, Err, sym, subst, rules}
+use Rattle.pbn_deals.specs.Reading.{TextAnswers}
 use Rattle.lease_book.specs.Histories.{Terms}
-use Rattle.farm.specs.Runs.{IsRun, terms_for}
-use Rattle.tables.specs.BookResults.{book_results}
-use Rattle.tournaments.specs.Making.{BeginsPage}
+use Rattle.farm.specs.Runs.{IsRun}
 use Rattle.tournaments.specs.WholePages.{IsWholePage}
-use Rattle.whole_texts.specs.WholeText.{WholeText}
+use Rattle.subcommands.specs.Pages.{PutsPage}
+use Rattle.subcommands.proofs.PutLaws.{page_filled, page_begun}
 use Rattle.subcommands.proofs.making.make_whole.Goals as goal
 
-pub returns-clause-whole : goal.returns-clause-whole
-returns-clause-whole g c =
-    let made = c.in_ok-text.ensures.book in
-    let run = made.run in
+pub put_whole-requires-clause-boards : goal.put_whole-requires-clause-boards
+put_whole-requires-clause-boards g c =
+    let made = c.in_ok-text.ensures in
+    let says = subst (λ (terms : Terms). TextAnswers c.in_ok-text.text.items (Ok terms.boards)) (sym made.run.terms_are) made.read in
+    subst (λ (text : List ℕ). TextAnswers text (Ok c.in_ok-text.book.terms.boards)) (sym c.as_slice.ensures.value) says
+
+pub returns : goal.returns
+returns g c =
+    let made = c.in_ok-text.ensures in
+    let book = c.in_ok-text.book in
     let text = c.in_ok-text.text.items in
-    let events = c.in_ok-text.book.events in
-    let one = c.one_is_written.ensures text made.boards (book_results made.boards events) made.read in
-    let writes =
-    c.write_whole.ensures.writes one.written
-    (subst (λ t. WholeText t c.in_ok-text.book.terms.boards (book_results c.in_ok-text.book.terms.boards events) one.written) (sym c.as_slice.ensures.value)
-    (subst (λ (terms : Terms). WholeText text terms.boards (book_results terms.boards events) one.written) (sym run.terms_are) one.whole)) in
-    let written : Adds (g.O.Sink.state c.args.output.now) (g.O.Sink.state c.write_whole.new.sink) one.written = search (rules, writes) in
-    record {
-      boards = made.boards;
-      read = record { text = text; all = made.all; read = made.read };
-      terms = run.terms_are;
-      run = subst (λ (terms : Terms). IsRun (g.C.Clock.may_tell c.args.means.now.clock.now) terms events) (sym run.terms_are) run.run;
-      page = one.written;
-      is = c.whole_pages_are_read.ensures text (terms_for made.boards c.args.settings) events one.written made.read run.run.history one.whole;
-      written = written;
-      counts = search rules;
-    }
+    let is_run = IsRun (g.C.Clock.may_tell c.args.means.now.clock.now) in
+    let run = subst (λ (terms : Terms). is_run terms book.events) (sym made.run.terms_are) made.run.run in
+    let put = subst (λ (t : List ℕ). PutsPage IsWholePage t book (g.O.Sink.state c.args.output.now) (g.O.Sink.state c.put_whole.new.output) (Ok c.in_ok-report.report)) c.as_slice.ensures.value c.in_ok-report.ensures in
+    page_filled is_run IsWholePage made.boards _ _ _ _ _ _ text book made.all made.read made.run.terms_are run c.in_ok-report.report put
 
 -- a page that a failed sink has got a beginning of
-pub returns-in_err-report-clause-whole : goal.returns-in_err-report-clause-whole
-returns-in_err-report-clause-whole g c =
-    let made = c.in_ok-text.ensures.book in
-    let run = made.run in
+pub returns-in_err-report : goal.returns-in_err-report
+returns-in_err-report g c =
+    let made = c.in_ok-text.ensures in
+    let book = c.in_ok-text.book in
     let text = c.in_ok-text.text.items in
-    let events = c.in_ok-text.book.events in
-    let one = c.one_is_written.ensures text made.boards (book_results made.boards events) made.read in
-    let writes =
-    c.write_whole.ensures.writes one.written
-    (subst (λ t. WholeText t c.in_ok-text.book.terms.boards (book_results c.in_ok-text.book.terms.boards events) one.written) (sym c.as_slice.ensures.value)
-    (subst (λ (terms : Terms). WholeText text terms.boards (book_results terms.boards events) one.written) (sym run.terms_are) one.whole)) in
-    let written : AddsBeginning (g.O.Sink.state c.args.output.now) (g.O.Sink.state c.write_whole.new.sink) one.written = search (rules, writes) in
-    let begins : BeginsPage (IsRun (g.C.Clock.may_tell c.args.means.now.clock.now)) IsWholePage c.args.settings.term c.args.settings.tries (g.I.Source.state c.args.input.now) (g.I.Source.state c.make_book.new.input) (g.O.Sink.state c.args.output.now) (g.O.Sink.state c.write_whole.new.sink) =
-    record {
-      boards = made.boards;
-      read = record { text = text; all = made.all; read = made.read };
-      events = events;
-      run = run.run;
-      page = one.written;
-      is = c.whole_pages_are_read.ensures text (terms_for made.boards c.args.settings) events one.written made.read run.run.history one.whole;
-      written = written;
-    } in
-    search (rules, begins)
+    let is_run = IsRun (g.C.Clock.may_tell c.args.means.now.clock.now) in
+    let run = subst (λ (terms : Terms). is_run terms book.events) (sym made.run.terms_are) made.run.run in
+    let put = subst (λ (t : List ℕ). PutsPage IsWholePage t book (g.O.Sink.state c.args.output.now) (g.O.Sink.state c.put_whole.new.output) (Err c.in_err-report.field-0.0)) c.as_slice.ensures.value c.in_err-report.ensures in
+    let begun = page_begun is_run IsWholePage made.boards _ _ _ _ _ _ text book made.all made.read made.run.terms_are run c.in_err-report.field-0.0 put in
+    search (rules, begun)

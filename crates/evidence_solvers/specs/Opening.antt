@@ -1,0 +1,37 @@
+-- What is opened as a file of evidence.
+use Rattle.std.specs.Prelude.{◌≡◌, ℕ, ◌+◌, ◌-◌, ◌^◌, Bool, true, List, [], ◌∷◌, nat_eq, min, Option, Some, IfSome, ◌⊎◌}
+use Rattle.std.specs.Prelude.{if◌then◌else◌}
+use Rattle.std.specs.Io.KnownBytes.{Consumes}
+use Rattle.std.specs.Io.Take.{take_limit}
+use Rattle.evidence_solvers.specs.declared.opening.Opened.{Opened}
+use Rattle.evidence_solvers.specs.Tails.{EndsLastLine}
+
+-- the last of so many bytes of a file was read: the file stood at that byte before, as far as it tells its place
+pub record ReadsLast {F : Type 0} (place : F → Option ℕ) (remaining : F → Option (List ℕ)) (old new : F)
+    (length last : ℕ)
+    : Type 0 where
+  pub there : F
+  pub stood : IfSome (place old) (λ before. place there ≡ Some (length - 1))
+  pub read : Consumes (remaining there) (remaining new) (last ∷ [])
+
+-- whether the last of so many bytes of a file is the end of a line; a file without bytes has all its lines' ends
+abbrev pub IsLineEnd : {F : Type 0} → (F → Option ℕ) → (F → Option (List ℕ)) → F → F → ℕ → Bool → Type 0
+IsLineEnd place remaining old new length ends =
+    ((length ≡ 0) × (ends ≡ true))
+    ⊎ ((last : ℕ) × ReadsLast place remaining old new length last × (ends ≡ nat_eq last 10))
+
+-- how many bytes the end of the last line takes that is written
+abbrev pub length_of_end : Bool → ℕ
+length_of_end ends = if ends then 0 else 1
+
+-- It was read whether the last line of a file of this length has its end. If not, a line feed was written, or that has
+-- failed. The file is read as far as it goes with that line feed.
+pub record IsOpened {F : Type 0} (place : F → Option ℕ) (remaining contents : F → Option (List ℕ)) (opened : Opened F)
+    : Type 0 where
+  pub end : F
+  pub seen : F
+  pub length : ℕ
+  pub ends : Bool
+  pub line_end : IsLineEnd place remaining end seen length ends
+  pub line : EndsLastLine contents seen opened.tail.file ends opened.tail.has_failed
+  pub limit_is : take_limit opened.front ≡ min (length + length_of_end ends) (2 ^ 64 - 1)

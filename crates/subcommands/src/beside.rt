@@ -1,0 +1,106 @@
+//! The tables of a run that begins with what a file of evidence shows.
+
+ghost use Rattle.std.specs.Prelude.{◌≡◌, Ok};
+ghost use Rattle.subcommands.specs.Beside.{MakesBookBeside, WritesBeside, tries_beside};
+
+use crate::faults::RunFault;
+use crate::making::halted;
+use crate::outcomes::Outcome;
+use crate::pages::status_of;
+use crate::putting::put_page;
+use asked::{Settings, TableOptions};
+use audits::{EvidenceRead, show_evidence};
+use cards::{Sink, Source};
+use evidence::Sections;
+use farm::{Clock, Means, resume_farm};
+use lease_book::Book;
+use lease_desk::Gate;
+use partition_solver::Solver;
+use std::alloc::Global;
+use std::io::Read;
+use std::sync::Wait;
+use std::thread::Threads;
+use streams::{ReaderSource, read_all};
+use tournaments::{MakeFault, open_book, take_boards};
+
+/// How tables are made.
+#[derive(Drop)]
+pub(crate) struct Work<'a, P, G, C> {
+    pub(crate) options: TableOptions<'a>,
+    pub(crate) means: &'a Means<'a, P, G, C>,
+}
+
+/// How often an entry may be leased at most.
+const MOST_TRIES: u32 = 1000;
+
+/// How often an entry is leased at most: once for what the evidence shows, and then as often as the settings say.
+fn tries_beside(settings: Settings) -> u32
+    ensures { result ≡ tries_beside settings.tries }
+{
+    settings.tries.saturating_add(1).min(MOST_TRIES)
+}
+
+/// Reads a PBN text to its end and then the evidence of a file, publishes what it shows, and has a farm work through
+/// what is left. The text and the book of the run are handed out, and how far the file was read.
+fn make_book_beside<
+    F: Read + Drop,
+    I: Source,
+    S: Solver + Sync,
+    G: Gate + Sync,
+    C: Clock + Sync,
+    R: Threads + Wait + Sync,
+>(
+    rt: &R,
+    alloc: Global,
+    file: F,
+    input: &mut I,
+    settings: Settings,
+    means: &Means<'_, S, G, C>,
+) -> Result<(Vec<u8>, Book, EvidenceRead), MakeFault>
+    ensures { MakesBookBeside (F.remaining file) (C.may_tell means.now.clock.now) settings (I.state input.old)
+        (I.state input.new) result }
+{
+    let text = read_all(alloc, input)?;
+    let boards = take_boards(alloc, text.as_slice())?;
+    let mut book = open_book(alloc, boards, settings.term, tries_beside(settings))?;
+    let mut evidence = Sections::new(alloc, ReaderSource::new(file));
+    let now = means.clock.now();
+    let Ok(read) = show_evidence(rt, alloc, &mut book, now, &mut evidence) else {
+        return Err(MakeFault::OutOfMemory);
+    };
+    match resume_farm(rt, alloc, book, settings, means) {
+        Ok(book) => Ok((text, book, read)),
+        Err(fault) => Err(halted(fault)),
+    }
+}
+
+/// Writes the tables of the boards of the input. What the file shows is published, and the rest is searched.
+pub(crate) fn write_tables_beside<
+    F: Read + Drop,
+    I: Source,
+    O: Sink,
+    S: Solver + Sync,
+    G: Gate + Sync,
+    C: Clock + Sync,
+    R: Threads + Wait + Sync,
+>(
+    rt: &R,
+    alloc: Global,
+    work: Work<'_, S, G, C>,
+    file: F,
+    input: &mut I,
+    output: &mut O,
+) -> Result<Outcome, RunFault>
+    ensures { WritesBeside (F.remaining file) (C.may_tell work.entry.means.now.clock.now) work.entry.options
+        (I.state input.old) (I.state input.new) (O.state output.old) (O.state output.new) result }
+{
+    let Work { options, means } = work;
+    let (text, book, read) = make_book_beside(rt, alloc, file, input, options.settings, means)?;
+    let report = put_page(text.as_slice(), &book, options.whole, output)?;
+    Ok(Outcome {
+        status: status_of(report),
+        damage: read.damage,
+        read: read.ended,
+        kept: Ok(()),
+    })
+}
