@@ -1,4 +1,4 @@
-//! The play in which both sides follow their certificates.
+//! A play of two sides by their certificates.
 
 ghost use Rattle.std.specs.Prelude.{◌≡◌, ◌+◌, ◌≤◌, []};
 ghost use Rattle.cards.specs.Seats.{other_side};
@@ -11,9 +11,8 @@ use crate::playing::Playing;
 use arrayvec::ArrayVec;
 use cards::Card;
 
-/// The cards that are played where the two sides both follow their certificates, from the opening lead on: a play of
-/// the deal in which each has at least what it promised. So where the promises together are all the tricks, each has
-/// just that.
+/// The cards of a play of the deal, from the opening lead on, in which each side has at least what it promised. So
+/// where the promises together are all the tricks, each has just that.
 pub fn line(mut one: Playing<'_>, mut other: Playing<'_>) -> ArrayVec<Card, 52>
     requires same { other.position ≡ one.position }
     requires start { one.position.history ≡ [] }

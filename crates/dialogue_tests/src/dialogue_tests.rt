@@ -1,7 +1,7 @@
 //! Each kind of line, each end, devices that fail.
 
 use crate::pieces::*;
-use cards::{Buffer, Bytes, Seat, Trump};
+use cards::{Buffer, Bytes, Seat, Sink, Source, Trump};
 use certificate_graph::Graph;
 use certificate_play::begin_both;
 use partition_solver::{Partition, Solver};
@@ -31,7 +31,11 @@ nodes 0
 const ROOM: usize = 10_000;
 
 /// Plays the finesse over these devices, and answers how it ends, and how many cards were played.
-fn play(alloc: Global, mut input: Bytes<'_>, output: &mut Buffer) -> Result<(End, usize), Fail> {
+pub fn play<I: Source + Drop, O: Sink>(
+    alloc: Global,
+    mut input: I,
+    output: &mut O,
+) -> Result<(End, usize), Fail> {
     let declarers = Graph::read(alloc, NOTHING)?;
     let defenders = Graph::read(alloc, FINESSE)?;
     let layout = read_layout(b"N:AQ... 65... 32... K4...")?;

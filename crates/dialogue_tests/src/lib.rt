@@ -2,6 +2,8 @@
 #![tactic(auto)]
 
 #[cfg(test)]
+mod asked_tests;
+#[cfg(test)]
 mod dialogue_tests;
 #[cfg(test)]
 mod pieces;
