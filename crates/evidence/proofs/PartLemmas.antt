@@ -111,7 +111,7 @@ module _ (old new last : Device) (held held' : List ℕ) (before middle after en
   cut_is some at bytes long at_is bytes_are long_is = (
     at_is,
     passes (IsCutOf long bytes) (omega (arith, length-piece))
-    (subst (λ (b : Bool). IsCutOf b bytes (found.passed ++ piece)) (sym long_is) (subst (λ (l : List ℕ). IsCutOf is_long l (found.passed ++ piece)) (sym bytes_are) (cut_of is_long refl))),
+        (subst (λ (b : Bool). IsCutOf b bytes (found.passed ++ piece)) (sym long_is) (subst (λ (l : List ℕ). IsCutOf is_long l (found.passed ++ piece)) (sym bytes_are) (cut_of is_long refl))),
   )
 
   pub at_end : length piece ≡ 0 → before < 2 ^ 64 → IsAtEnd (reading_of old held before) (reading_of last left after)

@@ -1,5 +1,5 @@
 -- The pieces of a whole text, as they are cut and not read yet.
-use Rattle.std.specs.Prelude.{◌≡◌, ℕ, ◌<◌, Bool, true, false, List, [], ◌∷◌, length, Option, None, Some}
+use Rattle.std.specs.Prelude.{◌≡◌, ℕ, ◌<◌, Bool, true, false, List, length, Option, None, Some}
 use Rattle.evidence.specs.declared.parts.Piece.{Piece}
 use Rattle.evidence.specs.Pieces.{greatest_length, Reading, reading_of, Passes, IsAtEnd}
 use Rattle.evidence.specs.Wholes.{Whole}
