@@ -47,8 +47,8 @@ where
     type Kept = R::File;
 
     ghost may_open = { λ _. record {
-        to_read = λ _ told. MayBeAll R.File.remaining told;
-        to_keep = λ _ told. MayBeAny R.File.remaining told;
+      to_read = λ _ told. MayBeAll R.File.remaining told;
+      to_keep = λ _ told. MayBeAny R.File.remaining told;
     } };
 
     fn open_named(&self, name: &str) -> Option<ReaderSource<R::File>> {
