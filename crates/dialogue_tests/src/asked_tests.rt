@@ -36,27 +36,36 @@ impl Write for Screen<'_> {
     }
 }
 
-/// A player with these lines, who is asked for each. To read one before it was asked for fails.
+/// A player who types these lines, and is asked for each. To read one before it was asked for fails.
 #[derive(Drop)]
 struct Player<'a> {
     asked: &'a AtomicBool,
-    lines: &'a [&'a [u8]],
+    lines: &'a [u8],
 }
 
 impl Read for Player<'_> {
     fn read(&mut self, buf: &mut [u8]) -> io::Result<usize> {
-        let was_asked = self.asked.swap(false, SeqCst);
-        let Some((line, later)) = self.lines.split_first() else {
+        let mut count = 0usize;
+        let mut is_whole = false;
+        for (spot, byte) in buf.iter_mut().zip(self.lines.iter()) {
+            *spot = *byte;
+            count = count.saturating_add(1);
+            if *byte == b'\n' {
+                is_whole = true;
+                break;
+            }
+        }
+        let Some(later) = self.lines.get(count..) else {
             return Err(Error::from(ErrorKind::Other));
         };
-        if !was_asked || buf.len() < line.len() {
+        self.lines = later;
+        if count == 0 || !self.asked.load(SeqCst) {
             return Err(Error::from(ErrorKind::Other));
         }
-        for (spot, byte) in buf.iter_mut().zip(*line) {
-            *spot = *byte;
+        if is_whole {
+            self.asked.store(false, SeqCst);
         }
-        self.lines = later;
-        Ok(line.len())
+        Ok(count.min(buf.len()))
     }
 }
 
@@ -65,8 +74,7 @@ impl Read for Player<'_> {
 fn asked_before_each_line(rt: HostRuntime) -> Result<(), Fail> {
     let alloc: Global = rt.alloc();
     let asked = &AtomicBool::new(false);
-    let lines: [&[u8]; 6] = [b"S4\n", b"S4\n", b"undo\n", b"S5\n", b"S6\n", b"SK\n"];
-    let lines = lines.as_slice();
+    let lines = b"S4\nS4\nundo\nS4\nS5\nS6\nSK\n".as_slice();
     let input = ReaderSource::new(Player { asked, lines });
     let text = Vec::new(alloc);
     let mut output = WriterSink::new(Screen { asked, text });
