@@ -3,8 +3,8 @@
 
 Usage: bench/evidence/false.py [RUNS [SEED]], by default 1,000 runs of seed 2026. The program has to be built (run
 ./ddfarm once). Over five random boards it changes true evidence: every claim of a section raised by one, a digit
-changed, and such a section three times before the others. Each run has 1, 2, 4 or 8 solvers. It stops at the first run
-whose tables or status differ, and prints how many there were of each kind.
+changed, such a section three times before the others, and all sections so. Each run has 1, 2, 4 or 8 solvers. It stops
+at the first run whose tables or status differ, and prints how many there were of each kind.
 """
 import os
 import random
