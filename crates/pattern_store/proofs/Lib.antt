@@ -1,6 +1,7 @@
 pub mod Firsts
 pub mod FoundLaws
 pub mod Held
+pub mod NearLaws
 pub mod OwnerWords
 pub mod Passing
 pub mod SameKeys

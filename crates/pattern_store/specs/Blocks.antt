@@ -21,6 +21,10 @@ record_at block place = record {
   first_card = (slice_index_or block.facts place no_facts).first_card;
 }
 
+-- in some place a block has such a record
+abbrev pub AtSomePlace : Block → (Record → Type 0) → Type 0
+AtSomePlace block Is = (place : ℕ) × (place < 4) × Is (record_at block place)
+
 -- a record is put into a place, and all else stays
 pub record SetsPlace (old new : Block) (place : ℕ) (r : Record) : Type 0 where
   pub here : record_at new place ≡ r

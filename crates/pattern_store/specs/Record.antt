@@ -5,6 +5,7 @@
 -- the first eight places of each suit, and one for those behind.
 use Rattle.std.specs.Prelude.{◌≡◌, ℕ, ◌+◌, ◌-◌, ◌*◌, ◌/◌, ◌%◌, ◌^◌, ◌<◌, ◌≤◌, ◌⊎◌, bit_and, bit_xor}
 use Rattle.std.specs.Prelude.{if◌then◌else◌, nat_lt}
+use Rattle.std.specs.Int.{bit_at}
 use Rattle.pattern_store.specs.declared.record.Owners.{Owners}
 use Rattle.pattern_store.specs.declared.record.Record.{Record}
 
@@ -23,6 +24,10 @@ depth_of depths suit = depths / 2 ^ (4 * suit) % 16
 -- how many owners of all suits are named
 abbrev pub named_in : ℕ → ℕ
 named_in depths = depth_of depths 0 + depth_of depths 1 + depth_of depths 2 + depth_of depths 3
+
+-- a record names more owners than these
+abbrev pub NamesOver : ℕ → Record → Type 0
+NamesOver named r = named < named_in r.depths
 
 -- Of eight places of a suit, from this one on, a mask has both bits where the owner is named, and none elsewhere. So
 -- many owners of the suit are named.
@@ -60,6 +65,12 @@ AgreesNear r near = bit_and (bit_xor r.near near) r.mask ≡ 0
 -- so in each place that it names, where its mask is that of its depths
 abbrev pub AgreesByOwners : Type 0
 AgreesByOwners = (r : Record) (near : ℕ) → IsMasked r → AgreesNear r near → SameOwners 0 r.depths r.near near
+
+-- Each bit of the owners of the first eight cards of each suit that a record names, by its mask, another record names
+-- too, and it is the same.
+abbrev pub NamesNoMoreNear : Record → Record → Type 0
+NamesNoMoreNear one other = (bit : ℕ) → bit_at one.mask bit ≡ 1
+    → (bit_at other.mask bit ≡ 1) × (bit_at one.near bit ≡ bit_at other.near bit)
 
 -- those after the eighth that it names, if any, are owners that may be told
 abbrev pub AgreesDeep : Record → (ℕ → Type 0) → Type 0

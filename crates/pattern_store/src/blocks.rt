@@ -1,8 +1,9 @@
 //! How records are kept: four in a block.
 
 ghost use Rattle.std.specs.Prelude.{◌≡◌, ◌↔◌, ◌<◌, ◌≤◌, ℕ, IsTrue, IsFalse};
-ghost use Rattle.pattern_store.specs.Blocks.{record_at, IsBlockOf, SetsPlace};
+ghost use Rattle.pattern_store.specs.Blocks.{record_at, AtSomePlace, IsBlockOf, SetsPlace};
 ghost use Rattle.pattern_store.specs.Record.{AgreesNear, AgreesDeep, Differs, DiffersDeep, IsKnown};
+ghost use Rattle.pattern_store.specs.Record.{NamesNoMoreNear, NamesOver};
 
 use crate::record::{FREE, Owners, Record, deep_mask, is_shallow, owners_in};
 
@@ -122,7 +123,7 @@ impl Block {
     /// Whether the owners of the first eight cards of each suit may be those that some record names. All are looked at,
     /// without a jump for each.
     pub(crate) fn may_agree(&self, near: u64) -> bool
-        ensures { IsTrue result ↔ ((place : ℕ) × (place < 4) × AgreesNear (record_at self.now place) near) }
+        ensures { IsTrue result ↔ AtSomePlace self.now (λ r. AgreesNear r near) }
     {
         let mut agrees = false;
         for place in 0..PLACES {
@@ -133,7 +134,9 @@ impl Block {
 
     /// Whether a new record may serve one of these: whether some record names all that the new one names, of the first
     /// eight cards of each suit, and alike.
-    pub(crate) fn may_be_served(&self, new: &Record) -> bool {
+    pub(crate) fn may_be_served(&self, new: &Record) -> bool
+        ensures { IsTrue result ↔ AtSomePlace self.now (NamesNoMoreNear new.now) }
+    {
         let mut served = false;
         for place in 0..PLACES {
             served |= ((self.near[place] ^ new.near) | !self.masks[place]) & new.mask == 0;
@@ -142,7 +145,9 @@ impl Block {
     }
 
     /// Whether some record names more owners than these.
-    pub(crate) fn names_more(&self, named: u16) -> bool {
+    pub(crate) fn names_more(&self, named: u16) -> bool
+        ensures { IsTrue result ↔ AtSomePlace self.now (NamesOver named) }
+    {
         let mut more = false;
         for place in 0..PLACES {
             more |= owners_in(self.facts[place].depths) > named;

@@ -1,7 +1,8 @@
 //! How a record comes to its place in a list.
 
-ghost use Rattle.std.specs.Prelude.{◌≡◌, ◌<◌, false, true};
-ghost use Rattle.pattern_store.specs.Blocks.{SetsPlace, Passes, LosesServed};
+ghost use Rattle.std.specs.Prelude.{◌≡◌, ◌↔◌, ◌<◌, ◌⊎◌, IsTrue, false, true};
+ghost use Rattle.pattern_store.specs.Blocks.{AtSomePlace, SetsPlace, Passes, LosesServed};
+ghost use Rattle.pattern_store.specs.Record.{NamesNoMoreNear, NamesOver, named_in};
 
 use crate::blocks::{Block, PLACES};
 use crate::record::{FREE, Record};
@@ -69,7 +70,11 @@ impl Waiting {
     }
 
     /// Whether a block that it goes past may change: where it serves a record, or may take a place.
-    fn changes(&self, block: &Block) -> bool {
+    fn changes(&self, block: &Block) -> bool
+        ensures { IsTrue result ↔ (AtSomePlace block.now (NamesNoMoreNear self.now.told)
+            ⊎ (IsTrue self.now.waits × (IsTrue self.now.stands
+            ⊎ AtSomePlace block.now (NamesOver (named_in self.now.told.depths))))) }
+    {
         block.may_be_served(&self.told)
             || self.waits && (self.stands || block.names_more(self.told.owners_named()))
     }
