@@ -10,7 +10,7 @@ use crate::asking::Asking;
 use crate::chairs::Chair;
 use crate::desk::Desk;
 use crate::entering::attend;
-use crate::gates::Gate;
+use crate::gates::{Gate, announce};
 use crate::receipts::Receipt;
 use crate::verdicts::verdict_on;
 use checker::Claimed;
@@ -109,8 +109,8 @@ impl Desk {
             (receipts_in chair.new) lease entry claimed.now) }
         ensures err { OnErr result (receipts_in chair.new ≡ receipts_in chair.old) }
     {
-        gate.before_check(lease);
-        let verdict = verdict_on(self.boards.as_slice(), entry, claimed);
+        let check = announce(gate, lease);
+        let verdict = verdict_on(self.boards.as_slice(), entry, claimed, check);
         self.call(
             rt,
             chair,
