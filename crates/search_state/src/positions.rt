@@ -1,6 +1,9 @@
 //! A position of the search: the cards held, and the trick in progress. Seats are numbers from North's 0.
 
-ghost use Rattle.std.specs.Prelude.{◌<◌};
+ghost use Rattle.std.specs.Prelude.{◌≡◌, ◌+◌, ◌*◌, ◌/◌, ◌%◌, ◌^◌, ◌↔◌, ℕ, IsTrue};
+ghost use Rattle.search_state.specs.declared.positions.Holdings.{Holdings};
+ghost use Rattle.search_state.specs.Seats.{before_of, put_back_to, Plays};
+ghost use Rattle.search_state.specs.Tricks.{AreLegal, IsLed, IsAfter, LiesAbove, Takes};
 
 use crate::deals::DealTables;
 use crate::weights::{ALL, EAGER, MODEST, ONE, Weights};
@@ -58,13 +61,15 @@ pub struct Turn<'a> {
 
 /// The seat so many places to the left of this one.
 pub fn seat_to_left(seat: usize, places: usize) -> usize
-    ensures { result < 4 }
+    ensures { result ≡ (seat + places) % 4 }
 {
     seat.wrapping_add(places) & 3
 }
 
 /// One card of a suit and a seat, in the word of the lengths.
-pub fn one_of(card: CardSet, seat: usize) -> Lengths {
+pub fn one_of(card: CardSet, seat: usize) -> Lengths
+    ensures { (bit : ℕ) → card ≡ 2 ^ bit → result ≡ 2 ^ (16 * (bit / 16) + 4 * (seat % 4)) }
+{
     1u64.wrapping_shl(start_of(card).wrapping_add((seat & 3) as u32 * 4))
 }
 
@@ -96,7 +101,9 @@ impl Holdings {
     }
 
     /// What the seat holds, to be put back later.
-    pub fn before(&self, seat: usize) -> Before {
+    pub fn before(&self, seat: usize) -> Before
+        ensures { result ≡ before_of self.now seat }
+    {
         Before {
             hand: self.hands[seat & 3],
             lengths: self.lengths,
@@ -104,13 +111,19 @@ impl Holdings {
     }
 
     /// The seat plays a card.
-    pub fn play(&mut self, seat: usize, card: CardSet) {
+    pub fn play(&mut self, seat: usize, card: CardSet)
+        ensures { Plays self.old self.new seat card }
+    {
         self.hands[seat & 3] &= !card;
         self.lengths = self.lengths.wrapping_sub(one_of(card, seat));
     }
 
     /// The seat has again what it held.
-    pub fn put_back(&mut self, seat: usize, before: Before) {
+    pub fn put_back(&mut self, seat: usize, before: Before)
+        ensures now { self.new ≡ put_back_to self.old seat before }
+        ensures restores { (held : Holdings) (card : ℕ) → Plays held self.old seat card
+            → before ≡ before_of held seat → self.new ≡ held }
+    {
         self.hands[seat & 3] = before.hand;
         self.lengths = before.lengths;
     }
@@ -118,7 +131,9 @@ impl Holdings {
 
 impl Trick {
     /// A trick to which the seat has led the card.
-    pub fn led(seat: usize, card: CardSet) -> Trick {
+    pub fn led(seat: usize, card: CardSet) -> Trick
+        ensures { IsLed result seat card }
+    {
         let suit = suit_of(card);
         Trick {
             led: suit,
@@ -130,7 +145,10 @@ impl Trick {
     }
 
     /// Whether the card wins against those on the table.
-    pub fn beats(&self, card: CardSet, trumps: CardSet) -> bool {
+    pub fn beats(&self, card: CardSet, trumps: CardSet) -> bool
+        ensures { (bit : ℕ) → card ≡ 2 ^ bit → LiesAbove self.now trumps card
+            → (IsTrue result ↔ Takes self.now trumps card) }
+    {
         card & (self.deciding | trumps) > self.best
     }
 
@@ -144,7 +162,9 @@ impl Trick {
     }
 
     /// The trick after the seat has played the card.
-    pub fn after(&self, seat: usize, card: CardSet, trumps: CardSet) -> Trick {
+    pub fn after(&self, seat: usize, card: CardSet, trumps: CardSet) -> Trick
+        ensures { IsAfter self.now result seat card trumps }
+    {
         let mut next = *self;
         let seat = (seat & 3) as u32;
         let bit = 1u32.wrapping_shl(seat);
@@ -164,7 +184,9 @@ impl Trick {
     }
 
     /// The cards of a hand that may be played.
-    pub fn legal(&self, hand: CardSet) -> CardSet {
+    pub fn legal(&self, hand: CardSet) -> CardSet
+        ensures { AreLegal self.now.led hand result }
+    {
         let follows = hand & self.led;
         if follows != 0 { follows } else { hand }
     }

@@ -1,5 +1,9 @@
 //! Sets of cards as words: sixteen bits a suit, the deuce lowest. The trump suit, where there is one, lies highest.
 
+ghost use Rattle.std.specs.Prelude.{◌≡◌, ◌-◌, ◌*◌, ◌/◌, ◌^◌, ◌<◌, ℕ};
+ghost use Rattle.search_state.specs.Cards.{LowestIs, HighestIs, IsLowestOf, IsHighestOf, LacksLowest, AreBelow};
+ghost use Rattle.search_state.specs.Cards.{AreOfSuit};
+
 /// A set of cards, by these bits. A card is the set of it alone.
 pub type CardSet = u64;
 
@@ -20,42 +24,61 @@ pub const MOST_CARDS: u32 = 13;
 pub const MIXER: u64 = 0x9e37_79b9_7f4a_7c15;
 
 /// The lowest card of a set.
-pub fn lowest(cards: CardSet) -> CardSet {
+pub fn lowest(cards: CardSet) -> CardSet
+    ensures { IsLowestOf cards result }
+{
     cards & 0u64.wrapping_sub(cards)
 }
 
 /// The set without its lowest card.
-pub(crate) fn without_lowest(cards: CardSet) -> CardSet {
+pub(crate) fn without_lowest(cards: CardSet) -> CardSet
+    ensures { LacksLowest cards result }
+{
     cards & cards.wrapping_sub(1)
 }
 
 /// The number of the lowest card's bit.
-pub(crate) fn lowest_bit(cards: CardSet) -> u32 {
+pub(crate) fn lowest_bit(cards: CardSet) -> u32
+    ensures some { 0 < cards → LowestIs cards result }
+    ensures none { cards ≡ 0 → result ≡ 0 }
+{
     cards.trailing_zeros() & 63
 }
 
 /// The number of the highest card's bit, 0 where there is none.
-pub(crate) fn highest_bit(cards: CardSet) -> u32 {
+pub(crate) fn highest_bit(cards: CardSet) -> u32
+    ensures some { 0 < cards → HighestIs cards result }
+    ensures none { cards ≡ 0 → result ≡ 0 }
+{
     63u32.wrapping_sub((cards | 1).leading_zeros()) & 63
 }
 
 /// The highest card of a set.
-pub fn highest(cards: CardSet) -> CardSet {
+pub fn highest(cards: CardSet) -> CardSet
+    ensures { IsHighestOf cards result }
+{
     cards & 1u64.wrapping_shl(highest_bit(cards))
 }
 
 /// Where the suit of the card begins: 0, 16, 32 or 48.
-pub fn start_of(card: CardSet) -> u32 {
+pub fn start_of(card: CardSet) -> u32
+    ensures { (bit : ℕ) → card ≡ 2 ^ bit → result ≡ 16 * (bit / 16) }
+{
     card.trailing_zeros() & 48
 }
 
 /// All bits of the suit of the card.
-pub fn suit_of(card: CardSet) -> CardSet {
+pub fn suit_of(card: CardSet) -> CardSet
+    ensures { (bit : ℕ) → card ≡ 2 ^ bit → AreOfSuit (bit / 16) result }
+{
     SUIT.wrapping_shl(start_of(card))
 }
 
 /// The cards below this one, in its suit and the suits below.
-pub fn below(card: CardSet) -> CardSet {
+pub fn below(card: CardSet) -> CardSet
+    ensures card { (bit : ℕ) → card ≡ 2 ^ bit → AreBelow bit result }
+    ensures none { card ≡ 0 → result ≡ 2 ^ 64 - 1 }
+{
     card.wrapping_sub(1)
 }
 
