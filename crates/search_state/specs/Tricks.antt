@@ -34,8 +34,8 @@ Takes trick trumps card = Tops trick card ⊎ Ruffs trick trumps card
 abbrev pub LiesAbove : Trick → ℕ → ℕ → Type 0
 LiesAbove trick trumps card = Ruffs trick trumps card → trick.best < card
 
--- The trick after a seat has played a card. If the card takes the trick it wins so far, else the card before does. After
--- a ruff trumps decide, and no other seat has played to the suit that decides.
+-- The trick after a seat has played a card. If the card takes the trick, it wins so far, else the card before does.
+-- After a ruff trumps decide, and no other seat has played to the suit that decides.
 pub record IsAfter (old new : Trick) (seat card trumps : ℕ) : Type 0 where
   pub led : new.led ≡ old.led
   pub takes : Takes old trumps card → (new.best ≡ card) × (new.winner ≡ seat % 4)
