@@ -3,3 +3,4 @@ mod StepLaws
 mod StandInLaws
 mod BranchLaws
 mod CopyLaws
+mod OwnCardLaws

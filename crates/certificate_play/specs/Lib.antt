@@ -1,4 +1,5 @@
 pub mod Promises
 pub mod Branches
 pub mod Steps
+pub mod OwnCards
 pub mod Sides

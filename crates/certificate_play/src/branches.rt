@@ -53,8 +53,8 @@ fn below_higher<'a>(
     }
 }
 
-/// By which branch a card of the seat goes, and the place below it: its own, else that of a higher card in its run; if
-/// there is either.
+/// The branch by which a card of the seat goes, and the place below it: its own branch or that of a higher card in its
+/// run, if there is one.
 pub(crate) fn below_answer<'a>(
     pattern: &Pattern,
     seat: Seat,

@@ -10,10 +10,12 @@ ghost use Rattle.play_rules.specs.Plays.{PlaysOrRefuses};
 ghost use Rattle.checker.specs.Claims.{Shows};
 ghost use Rattle.checker.specs.Roots.{from_first};
 ghost use Rattle.certificate_play.specs.Promises.{after_card, won_by, IsKept, IsSidesTurn, GoesOn};
+ghost use Rattle.certificate_play.specs.OwnCards.{IsOwnCard, IsAnswer};
 ghost use Rattle.certificate_play.specs.Steps.{IsKeptIn};
 
 use crate::copies::copy;
 use crate::holders::holders;
+use crate::stand_ins::last_card;
 use crate::steps::{Step, after_own, after_reply, own_card};
 use arrayvec::ArrayVec;
 use cards::{Card, Layout, Seat, Side};
@@ -175,21 +177,27 @@ impl<'a> Playing<'a> {
         self.table.legal()
     }
 
-    /// The card that [`Playing::answer`] plays at a turn of the side.
+    /// The side's card at its turn: the last legal card that a certificate names by which the promise is kept. Once the
+    /// promised tricks are won it may be the last of all legal cards. It is the card that [`Playing::answer`] plays, but
+    /// only tests show that.
+    #[tactic(auto, unfolding(crate::specs::OwnCards::IsAnswer))]
     pub fn next_card(&self) -> Card
         requires goes_on { GoesOn self.now }
         requires turn { IsSidesTurn self.now }
-        ensures { CanPlay self.now.position.opening self.now.position.history result }
+        ensures legal { CanPlay self.now.position.opening self.now.position.history result }
+        ensures own { IsAnswer self.now result }
     {
         let (card, _) = choose(&self.table, self.side, self.promised, &self.step);
         card
     }
 
-    /// Plays the side's card at its turn, and tells it.
+    /// Plays the side's card at its turn, and returns it. It is chosen as in [`Playing::next_card`].
+    #[tactic(auto, unfolding(crate::specs::OwnCards::IsAnswer))]
     pub fn answer(&mut self) -> Card
         requires goes_on { GoesOn self.old }
         requires turn { IsSidesTurn self.old }
         ensures legal { CanPlay self.old.position.opening self.old.position.history result }
+        ensures own { IsAnswer self.old result }
         ensures played { self.new ≡ after_card self.old result }
     {
         let (card, step) = choose(&self.table, self.side, self.promised, &self.step);
@@ -273,8 +281,7 @@ fn was_played(history: &[Card], card: Card) -> bool
     false
 }
 
-/// The card that the side plays at its turn, and the step after it. Where it has won what it promised that is the last
-/// of its legal cards.
+/// The card that the side plays at its turn, and the step after it. Without a step the card is the last legal one.
 fn choose<'a>(
     table: &Table,
     side: Side,
@@ -286,6 +293,7 @@ fn choose<'a>(
     requires goes_on { GoesOn (record { position = table.now; side = side; tricks = promised }) }
     requires turn { IsSidesTurn (record { position = table.now; side = side; tricks = promised }) }
     ensures legal { CanPlay table.now.opening table.now.history result.0 }
+    ensures own { IsOwnCard table.now step.now result.0 }
     ensures kept { IsKeptIn (after_card (record { position = table.now; side = side; tricks = promised }) result.0)
         result.1 }
 {
@@ -295,6 +303,9 @@ fn choose<'a>(
             let card = own_card(step, legal.as_slice());
             (card, after_own(step, card))
         }
-        None => (legal[legal.len() - 1], None),
+        None => {
+            let card = last_card(legal.as_slice());
+            (card, None)
+        }
     }
 }

@@ -1,8 +1,9 @@
 //! Which pattern card stands for a card of the deal.
 
-ghost use Rattle.std.specs.Prelude.{◌≡◌, ◌≤◌, ◌↔◌, IsTrue, MatchOption, Contains};
+ghost use Rattle.std.specs.Prelude.{◌≡◌, ◌<◌, ◌≤◌, ◌↔◌, IsTrue, MatchOption, Contains, length, ⊤};
 ghost use Rattle.cards.specs.declared.pack.Card.{Card};
 ghost use Rattle.pattern_step.specs.LayoutCards.{place_in_suit, StandsFor};
+ghost use Rattle.certificate_play.specs.OwnCards.{IsLastWith};
 
 use cards::{Card, Rank, Seat};
 use pattern_step::PatCard;
@@ -60,7 +61,7 @@ pub(crate) fn last_stood_for(
 ) -> Option<Card>
     ensures { MatchOption result
         ((card : Card) → Contains cards.now card → StandsFor pattern.now deal.now pat_card card → ⊥)
-        (λ card. Contains cards.now card × StandsFor pattern.now deal.now pat_card card) }
+        (IsLastWith (StandsFor pattern.now deal.now pat_card) cards.now) }
 {
     for place in 0..cards.len() {
         let card = cards[cards.len() - 1 - place];
@@ -69,4 +70,12 @@ pub(crate) fn last_stood_for(
         }
     }
     None
+}
+
+/// The last of the cards.
+pub(crate) fn last_card(cards: &[Card]) -> Card
+    requires { 0 < length cards.now }
+    ensures { IsLastWith (λ _. ⊤) cards.now result }
+{
+    cards[cards.len() - 1]
 }

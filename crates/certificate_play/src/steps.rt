@@ -5,6 +5,7 @@ ghost use Rattle.cards.specs.declared.pack.Card.{Card};
 ghost use Rattle.cards.specs.Seats.{seat_in_place};
 ghost use Rattle.play_rules.specs.Legal.{CanPlay};
 ghost use Rattle.strategies.specs.Strategies.{IsTurnOf};
+ghost use Rattle.certificate_play.specs.OwnCards.{IsLastWith};
 ghost use Rattle.certificate_play.specs.Steps.{opening_of, IsByNode, IsWayOf, IsChosen, IsKeptIn, promise_of};
 
 use crate::branches::below_answer;
@@ -64,13 +65,12 @@ fn player(step: &Step<'_>) -> Seat
     }
 }
 
-/// The card that the side plays at its turn: the last of its legal cards for which that of the tree stands.
+/// The card that the side plays at its turn: the last legal card for which the tree's card stands.
 pub(crate) fn own_card(step: &Step<'_>, legal: &[Card]) -> Card
     requires by_node { IsByNode step.now }
     requires turn { IsTurnOf (opening_of step.now) step.now.graph.now.side step.now.trick.items }
     requires all { (card : Card) → CanPlay (opening_of step.now) step.now.trick.items card → Contains legal.now card }
-    ensures legal { Contains legal.now result }
-    ensures chosen { IsChosen step.now result }
+    ensures { IsLastWith (IsChosen step.now) legal.now result }
 {
     let PlaceView::Own(pat_card, _) = step.place.view() else {
         unreachable!();
@@ -102,7 +102,7 @@ fn with_pat_card(line: &ArrayVec<PatCard, 3>, card: PatCard) -> ArrayVec<PatCard
 }
 
 /// After a card that leads to this place by a card of the tree: the trick goes on there, or it is over and the next
-/// begins.
+/// one begins, if more is promised.
 fn after<'a>(step: &Step<'a>, card: Card, taken: PatCard, place: Place<'a>) -> Option<Step<'a>>
     requires by_node { IsByNode step.now }
     requires way { IsWayOf step.now (step.now.trick.items ++ card ∷ []) (step.now.line.items ++ taken ∷ []) place }

@@ -41,8 +41,8 @@ fn without(deal: &[Option<Seat>; 52], a: Card, b: Card, c: Card, d: Card) -> [Op
     left
 }
 
-/// After the fourth card, which leads to this place: the next trick, by the node that goes on where the seat that won
-/// has won; none where that is not listed, since no more is needed then.
+/// After the fourth card, which leads to this place: the next trick, by a node that keeps what is still promised, or
+/// none once no more is promised.
 pub(crate) fn next_trick<'a>(step: &Step<'a>, card: Card, leaf: &Place<'a>) -> Option<Step<'a>>
     requires by_node { IsByNode step.now }
     requires three { length step.now.trick.items ≡ 3 }

@@ -1,10 +1,7 @@
-use Rattle.std.proofs.Common.{◌-◌, List, length, get_or, Contains, sym, ap, subst, arith}
-use Rattle.std.proofs.lemmas.List.Elements.{Contains-get_or}
+use Rattle.std.proofs.Common.{List, length, Contains, None, Some, sym, ap, subst, arith}
 use Rattle.cards.specs.declared.pack.Card.{Card}
-use Rattle.cards.specs.declared.pack.Rank.TheVariants.{Two}
-use Rattle.cards.specs.declared.suits.Suit.TheVariants.{Spades}
-use Rattle.cards.specs.Pack.{card_of}
 use Rattle.certificate_play.specs.Promises.{Promise}
+use Rattle.certificate_play.proofs.OwnCardLaws.{own_of, own_can}
 use Rattle.certificate_play.proofs.PromiseLaws.{can_in_play, can_in_step, turn_in_step, kept_on, won_stays, some_listed}
 use Rattle.certificate_play.proofs.playing.choose.Goals as goal
 
@@ -22,34 +19,31 @@ pub after_own-requires-clause-can : goal.after_own-requires-clause-can
 after_own-requires-clause-can c =
     let promise : Promise = record { position = c.args.table.now; side = c.args.side; tricks = c.args.promised } in
     let card = c.own_card-card.result in
-    let listed = subst (λ (cards : List Card). Contains cards card) c.as_slice.ensures.value c.own_card-card.ensures.legal in
-    can_in_step promise c.in-Some.step card (rw c.in-Some.is at c.requires.kept) (c.legal-legal.ensures.legal.legal card listed)
+    let own = own_of c.args.table.now (Some c.in-Some.step) c.legal-legal.result.items c.as_slice.result.now card c.legal-legal.ensures.legal c.as_slice.ensures.value c.own_card-card.ensures in
+    can_in_step promise c.in-Some.step card (rw c.in-Some.is at c.requires.kept) (own_can c.args.table.now (Some c.in-Some.step) card own)
 
 pub returns-in-Some : goal.returns-in-Some
 returns-in-Some c =
     let promise : Promise = record { position = c.args.table.now; side = c.args.side; tricks = c.args.promised } in
     let card = c.own_card-card.result in
-    let listed = subst (λ (cards : List Card). Contains cards card) c.as_slice.ensures.value c.own_card-card.ensures.legal in
+    let own = own_of c.args.table.now (Some c.in-Some.step) c.legal-legal.result.items c.as_slice.result.now card c.legal-legal.ensures.legal c.as_slice.ensures.value c.own_card-card.ensures in
     record {
-      legal = c.legal-legal.ensures.legal.legal card listed;
+      legal = own_can c.args.table.now (Some c.in-Some.step) card own;
+      own = rw c.in-Some.is own;
       kept = kept_on promise c.in-Some.step card c.after_own.result (rw c.in-Some.is at c.requires.kept) c.after_own.ensures;
     }
 
-pub overflow_sub-result : goal.overflow_sub-result
-overflow_sub-result c = omega (arith, c.len.ensures.value, some_listed c.args.table.now c.legal-legal.result.items c.requires.reached c.requires.goes_on c.legal-legal.ensures.legal)
-
-pub bounds-deref-len : goal.bounds-deref-len
-bounds-deref-len c =
-    omega (arith, c.len.ensures.value, ap length c.deref.ensures.0, some_listed c.args.table.now c.legal-legal.result.items c.requires.reached c.requires.goes_on c.legal-legal.ensures.legal)
+pub last_card-card-requires : goal.last_card-card-requires
+last_card-card-requires c =
+    omega (arith, ap length c.as_slice-in-None.ensures.value, some_listed c.args.table.now c.legal-legal.result.items c.requires.reached c.requires.goes_on c.legal-legal.ensures.legal)
 
 pub returns-in-None : goal.returns-in-None
 returns-in-None c =
     let promise : Promise = record { position = c.args.table.now; side = c.args.side; tricks = c.args.promised } in
-    let some = some_listed c.args.table.now c.legal-legal.result.items c.requires.reached c.requires.goes_on c.legal-legal.ensures.legal in
-    let two = card_of Spades Two in
-    let card = get_or c.deref.result.now (c.len.result - 1) two in
-    let listed = Contains-get_or c.deref.result.now (c.len.result - 1) two (omega (arith, c.len.ensures.value, ap length c.deref.ensures.0, some)) in
+    let card = c.last_card-card.result in
+    let own = own_of c.args.table.now None c.legal-legal.result.items c.as_slice-in-None.result.now card c.legal-legal.ensures.legal c.as_slice-in-None.ensures.value c.last_card-card.ensures in
     record {
-      legal = c.legal-legal.ensures.legal.legal card (subst (λ (cards : List Card). Contains cards card) c.deref.ensures.0 listed);
+      legal = own_can c.args.table.now None card own;
+      own = rw c.in-None.is own;
       kept = won_stays promise card (rw c.in-None.is at c.requires.kept);
     }
