@@ -114,6 +114,10 @@ abbrev pub whole_lines : List Board → (ℕ → Results) → List Line → List
 whole_lines boards results lines =
     games_lines (first_end lines) results (enumerate_from 0 boards) (games_of lines)
 
+-- the text is cut into lines, and no comment is open at its end
+abbrev pub IsOfLines : List ℕ → Type 0
+IsOfLines text = (lines : List Line) × HasLines text lines
+
 -- what is written of a text that is read as these boards, with their results
 pub record WholeText (text : List ℕ) (boards : List Board) (results : ℕ → Results) (written : List ℕ) : Type 0 where
   pub lines : List Line

@@ -6,7 +6,7 @@ ghost use Rattle.cards.specs.Devices.{Writes};
 ghost use Rattle.pbn_deals.specs.Pieces.{Line, line_bytes, rows_of, AreLines};
 ghost use Rattle.tables.specs.TablesText.{table_text, complete_count};
 ghost use Rattle.whole_texts.specs.OldTables.{left_of};
-ghost use Rattle.whole_texts.specs.WholeText.{first_end, if_none, whole_lines, WholeText};
+ghost use Rattle.whole_texts.specs.WholeText.{first_end, if_none, whole_lines, IsOfLines, WholeText};
 ghost use Rattle.whole_texts.specs.LineEnds.{missing_end};
 ghost use Rattle.whole_texts.specs.LeftText.{WritesLast};
 ghost use Rattle.whole_texts.specs.FirstGame.{HasGameLines};
@@ -113,14 +113,16 @@ fn write_games<T: Sheet, S: Sink>(sink: &mut S, sheet: &T, text: &[u8]) -> Resul
     Ok(())
 }
 
-/// Writes a text whose boards are those of the sheet, with their tables in place of those that it has, and tells how many
-/// boards there are and how many of their tables are complete. After a fault of the sink a beginning of the text has gone
-/// out. Takes no memory.
+/// Writes a text whose boards are those of the sheet, with their tables in place of those that it has. Answers how many
+/// boards there are and how many of their tables are complete. After a fault of the sink a beginning of the text is
+/// written. Takes no memory. A text in which a comment is open at the end has no lines, and no caller has one: it is
+/// refused when its boards are read.
 pub fn write_whole<T: Sheet, S: Sink>(
     text: &[u8],
     sheet: &T,
     sink: &mut S,
 ) -> Result<Report, DeviceFault>
+    requires { IsOfLines text.now }
     ensures writes { (written : List ℕ)
         → WholeText text.now (T.boards_of sheet.now) (T.results_of sheet.now) written
         → Writes (S.state sink.old) (S.state sink.new) written result }

@@ -3,10 +3,16 @@ use Rattle.std.proofs.Common.{sym, subst}
 use Rattle.lease_book.specs.Histories.{Terms}
 use Rattle.tables.specs.BookResults.{book_results}
 use Rattle.tournaments.specs.WholePages.{IsWholePage}
-use Rattle.whole_texts.specs.WholeText.{WholeText}
+use Rattle.whole_texts.specs.WholeText.{IsOfLines, WholeText}
 use Rattle.audits.specs.Audits.{audit_terms}
 use Rattle.audits.proofs.PageLaws.{fills, begins_page}
 use Rattle.audits.proofs.auditing.audit_whole.Goals as goal
+
+pub write_whole-requires : goal.write_whole-requires
+write_whole-requires g c =
+    let made = c.in_ok-text.ensures in
+    let one = c.one_is_written.ensures c.in_ok-text.text.items made.boards (book_results made.boards c.in_ok-text.book.events) made.read in
+    subst IsOfLines (sym c.as_slice.ensures.value) (one.whole.lines, one.whole.read)
 
 pub returns-in-Ok : goal.returns-in-Ok
 returns-in-Ok g c =

@@ -2,6 +2,12 @@
 use Rattle.tables.specs.BookResults.{book_results}
 use Rattle.subcommands.proofs.putting.put_whole.Goals as goal
 
+pub write_whole-requires : goal.write_whole-requires
+write_whole-requires g c =
+    let terms = c.args.book.now.terms in
+    let one = c.one_is_written.ensures c.args.text.now terms.boards (book_results terms.boards c.args.book.now.events) c.requires.boards in
+    (one.whole.lines, one.whole.read)
+
 pub returns-in-Ok : goal.returns-in-Ok
 returns-in-Ok g c =
     let text = c.args.text.now in
