@@ -1,10 +1,30 @@
 -- What is opened as a file of evidence.
-use Rattle.std.specs.Prelude.{◌≡◌, ℕ, ◌+◌, ◌-◌, ◌^◌, Bool, true, List, [], ◌∷◌, nat_eq, min, Option, Some, IfSome, ◌⊎◌}
-use Rattle.std.specs.Prelude.{if◌then◌else◌}
+use Rattle.std.specs.Prelude.{◌≡◌, ℕ, ◌+◌, ◌-◌, ◌^◌, Bool, true, false, ◌||◌, List, [], ◌∷◌, nat_eq, min, ◌⊎◌}
+use Rattle.std.specs.Prelude.{Option, Some, IfSome, if◌then◌else◌}
+use Rattle.std.specs.declared.io.ErrorKind.{ErrorKind}
+use Rattle.std.specs.declared.io.ErrorKind.TheVariants as kind
 use Rattle.std.specs.Io.KnownBytes.{Consumes}
 use Rattle.std.specs.Io.Take.{take_limit}
+use Rattle.evidence_solvers.specs.declared.access.Access.{Access}
+use Rattle.evidence_solvers.specs.declared.access.Access.TheVariants.{ReadAndAdd, ReadOnly}
+use Rattle.evidence_solvers.specs.declared.faults.CannotOpen.{CannotOpen}
+use Rattle.evidence_solvers.specs.declared.faults.CannotOpen.TheVariants.{Missing, Denied, NotAFile, Refused}
 use Rattle.evidence_solvers.specs.declared.opening.Opened.{Opened}
 use Rattle.evidence_solvers.specs.Tails.{EndsLastLine}
+
+-- whether nothing can be added to a file
+abbrev pub is_read_only : Access → Bool
+is_read_only ReadAndAdd = false
+is_read_only ReadOnly = true
+
+-- why a file can't be opened, by what the system says
+abbrev pub why_of : ErrorKind → CannotOpen
+why_of kind.NotFound = Missing
+why_of kind.NotADirectory = Missing
+why_of kind.PermissionDenied = Denied
+why_of kind.ReadOnlyFilesystem = Denied
+why_of kind.IsADirectory = NotAFile
+why_of _ = Refused
 
 -- the last of so many bytes of a file was read: the file stood at that byte before, as far as it tells its place
 pub record ReadsLast {F : Type 0} (place : F → Option ℕ) (remaining : F → Option (List ℕ)) (old new : F)
@@ -25,7 +45,8 @@ abbrev pub length_of_end : Bool → ℕ
 length_of_end ends = if ends then 0 else 1
 
 -- It was read whether the last line of a file of this length has its end. If not, a line feed was written, or that has
--- failed. The file is read as far as it goes with that line feed.
+-- failed; but nothing was written to a file that can only be read. The file is read as far as it goes with that line
+-- feed.
 pub record IsOpened {F : Type 0} (place : F → Option ℕ) (remaining contents : F → Option (List ℕ)) (opened : Opened F)
     : Type 0 where
   pub end : F
@@ -33,5 +54,7 @@ pub record IsOpened {F : Type 0} (place : F → Option ℕ) (remaining contents 
   pub length : ℕ
   pub ends : Bool
   pub line_end : IsLineEnd place remaining end seen length ends
-  pub line : EndsLastLine contents seen opened.tail.file ends opened.tail.has_failed
-  pub limit_is : take_limit opened.front ≡ min (length + length_of_end ends) (2 ^ 64 - 1)
+  pub line :
+      EndsLastLine contents seen opened.tail.file (ends || is_read_only opened.access) opened.tail.has_failed
+  pub limit_is :
+      take_limit opened.front ≡ min (length + length_of_end (ends || is_read_only opened.access)) (2 ^ 64 - 1)

@@ -2,10 +2,22 @@
 
 use thiserror::Error;
 
-/// A file can't be opened to be read and to be added to, or it isn't a regular file.
+/// Why a file can't be opened.
 #[derive(Clone, Copy, Debug, PartialEq, Eq, Error)]
-#[error("cannot open")]
-pub struct CannotOpen;
+pub enum CannotOpen {
+    /// The file, or a folder of its path, isn't there.
+    #[error("no such file")]
+    Missing,
+    /// The file may not be opened, or a file that isn't there may not be made.
+    #[error("permission denied")]
+    Denied,
+    /// It is a folder, a pipe or a device.
+    #[error("not a regular file")]
+    NotAFile,
+    /// The system has another reason.
+    #[error("the system does not open it")]
+    Refused,
+}
 
 /// Why a file lacks an answer.
 #[derive(Clone, Copy, Debug, PartialEq, Eq, Error)]

@@ -4,6 +4,7 @@
 //! solver around another one: it adds each answer of that solver to a tail, as the text of a section.
 #![tactic(auto)]
 
+mod access;
 mod added;
 mod faults;
 mod keeping;
@@ -13,6 +14,7 @@ mod tails;
 mod texts;
 mod told;
 
+pub use access::{Access, why_of};
 pub use faults::{CannotOpen, KeepFault};
 pub use keeping::Keeping;
 pub use laws::added_sections_are_parts;

@@ -4,6 +4,7 @@ ghost use Rattle.std.specs.Prelude.{◌≡◌, true, false, IfOk, SomeIff};
 ghost use Rattle.std.specs.Fs.{asks_read, asks_append, asks_create, asks_create_new, asks_truncate, file_type, IsFile, metadata_len};
 ghost use Rattle.evidence_solvers.specs.Opening.{IsLineEnd, IsOpened};
 
+use crate::access::{Access, why_of};
 use crate::faults::CannotOpen;
 use crate::tails::Tail;
 use std::fs::{Files, Metadata, OpenFile, OpenOptions};
@@ -17,6 +18,8 @@ pub struct Opened<F> {
     pub front: Take<F>,
     /// To be added to.
     pub tail: Tail<F>,
+    /// Whether it can be added to. If not, each write to the tail fails.
+    pub access: Access,
 }
 
 /// How a file is opened to be added to: each write goes to its end, and nothing that it holds is lost. A missing file
@@ -56,29 +59,46 @@ fn ends_line<F: Read + Seek>(file: &mut F, length: u64) -> io::Result<bool>
     Ok(last[0] == b'\n')
 }
 
+/// Opens a file to be read and to be added to. If the system lets nothing be added, it is opened to be read.
+fn open_end<R: Files>(files: &R, path: &str) -> Result<(R::File, Access), CannotOpen> {
+    let why = match to_be_added_to().open(files, path) {
+        Ok(end) => return Ok((end, Access::ReadAndAdd)),
+        Err(fault) => why_of(fault.kind()),
+    };
+    if !matches!(why, CannotOpen::Denied) {
+        return Err(why);
+    }
+    match OpenOptions::new().read(true).open(files, path) {
+        Ok(end) => Ok((end, Access::ReadOnly)),
+        Err(_) => Err(why),
+    }
+}
+
 /// Opens a file to be read and to be added to. A missing file is made. If its last line has no end, a line feed is
-/// written. Nothing else is written, and no section is read.
+/// written. Nothing else is written, and no section is read. If the system lets nothing be added, the file is opened to
+/// be read, and its last line stays as it is.
 pub fn open_evidence<R: Files>(files: &R, path: &str) -> Result<Opened<R::File>, CannotOpen>
     ensures { IfOk result (IsOpened R.File.stream_position R.File.remaining R.File.contents) }
 {
-    let Ok(mut end) = to_be_added_to().open(files, path) else {
-        return Err(CannotOpen);
-    };
+    let (mut end, access) = open_end(files, path)?;
     let Ok(metadata) = end.metadata() else {
-        return Err(CannotOpen);
+        return Err(CannotOpen::Refused);
     };
     let Some(length) = regular_length(&metadata) else {
-        return Err(CannotOpen);
+        return Err(CannotOpen::NotAFile);
     };
     let Ok(ends_line) = ends_line(&mut end, length) else {
-        return Err(CannotOpen);
+        return Err(CannotOpen::Refused);
     };
-    let Ok(front) = OpenOptions::new().read(true).open(files, path) else {
-        return Err(CannotOpen);
+    let front = match OpenOptions::new().read(true).open(files, path) {
+        Ok(front) => front,
+        Err(fault) => return Err(why_of(fault.kind())),
     };
-    let written = u64::from(!ends_line);
+    let stays = ends_line || access.is_read_only();
+    let written = u64::from(!stays);
     Ok(Opened {
         front: front.take(length.saturating_add(written)),
-        tail: Tail::new(end, ends_line),
+        tail: Tail::new(end, stays),
+        access,
     })
 }

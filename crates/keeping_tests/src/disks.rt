@@ -6,6 +6,14 @@ use std::io;
 use std::io::{Error, ErrorKind, Read, Seek, SeekFrom, Write};
 use std::sync::{Mutex, Wait};
 
+/// What the disk lets be done with its file.
+#[derive(Clone, Copy, Debug, PartialEq, Eq)]
+pub enum Allows {
+    All,
+    Reading,
+    Nothing,
+}
+
 /// What the disk holds, and what was done to it.
 #[derive(Drop)]
 pub struct Held {
@@ -14,6 +22,7 @@ pub struct Held {
     pub room: usize,
     /// Whether the file is a folder.
     pub is_folder: bool,
+    pub allows: Allows,
     /// Whether syncs fail.
     pub syncs_fail: bool,
     pub writes: u64,
@@ -36,6 +45,7 @@ impl<'a, R: Wait> Disk<'a, R> {
                 bytes,
                 room,
                 is_folder: false,
+                allows: Allows::All,
                 syncs_fail: false,
                 writes: 0,
                 syncs: 0,
@@ -51,6 +61,8 @@ pub struct Open<'a, R> {
     at: usize,
     /// Whether each write goes to the end of the file.
     appends: bool,
+    /// Whether it was opened to be written.
+    writes: bool,
 }
 
 impl<R: Wait> Read for Open<'_, R> {
@@ -71,6 +83,9 @@ impl<R: Wait> Write for Open<'_, R> {
     fn write(&mut self, buf: &[u8]) -> io::Result<usize> {
         let mut held = self.disk.held.lock(self.disk.rt);
         held.writes = held.writes.saturating_add(1);
+        if !self.writes {
+            return Err(Error::from(ErrorKind::Other));
+        }
         let length = held.bytes.len();
         let start = if self.appends {
             length
@@ -151,6 +166,11 @@ impl<'a, R: Wait> Files for System<'a, R> {
         if path != "kept.dde" {
             return Err(Error::from(ErrorKind::NotFound));
         }
+        let writes = how.asks_append() || how.asks_write();
+        let allows = self.0.held.lock(self.0.rt).allows;
+        if allows == Allows::Nothing || (writes && allows == Allows::Reading) {
+            return Err(Error::from(ErrorKind::PermissionDenied));
+        }
         if how.asks_truncate() {
             self.0.held.lock(self.0.rt).bytes.clear();
         }
@@ -158,6 +178,7 @@ impl<'a, R: Wait> Files for System<'a, R> {
             disk: self.0,
             at: 0,
             appends: how.asks_append(),
+            writes,
         })
     }
 

@@ -1,10 +1,10 @@
 //! How a file of evidence is opened, and what is read of it then.
 
 use crate::asking::{Counts, DiskKeeping, Steps, tricks_of_north};
-use crate::disks::{Disk, Open, System};
+use crate::disks::{Allows, Disk, Open, System};
 use crate::texts::{layout, section};
 use evidence::{Part, Sections};
-use evidence_solvers::{CannotOpen, Keeping, Opened, open_evidence};
+use evidence_solvers::{Access, CannotOpen, KeepFault, Keeping, Opened, open_evidence};
 use std::alloc::Global;
 use std::io::Take;
 use std::process::Abort;
@@ -66,16 +66,45 @@ fn line_end(rt: HostRuntime) -> Result<(), Fail> {
     Ok(())
 }
 
-/// What isn't a regular file can't be opened, and nothing is written.
+/// Why the file of this name on a disk can't be opened. Nothing is written.
+fn refusal<R: Wait + Abort>(rt: &R, disk: &Disk<'_, R>, name: &str) -> Option<CannotOpen> {
+    let fault = open_evidence(&System(disk), name).err();
+    assert_eq!(rt; disk.held.lock(rt).writes, 0);
+    fault
+}
+
+/// What isn't there, isn't a regular file or may not be read can't be opened, and the reason is given.
 #[test]
-fn folder(rt: HostRuntime) -> Result<(), Fail> {
+fn refusals(rt: HostRuntime) -> Result<(), Fail> {
     let alloc = rt.alloc();
     let disk = disk_of(&rt, alloc, b"x")?;
+    assert_eq!(rt; refusal(&rt, &disk, "other.dde"), Some(CannotOpen::Missing));
     disk.held.lock(&rt).is_folder = true;
-    let Err(CannotOpen) = open_evidence(&System(&disk), "kept.dde") else {
-        return Err(Fail::new("a folder can't be opened"));
-    };
-    assert_eq!(rt; disk.held.lock(&rt).writes, 0);
+    assert_eq!(rt; refusal(&rt, &disk, "kept.dde"), Some(CannotOpen::NotAFile));
+    disk.held.lock(&rt).allows = Allows::Nothing;
+    assert_eq!(rt; refusal(&rt, &disk, "kept.dde"), Some(CannotOpen::Denied));
+    Ok(())
+}
+
+/// A file that can only be read is read as it is: its last line gets no end, so its last section is damaged. A section
+/// that is to be added to it is lost, and that is said.
+#[test]
+fn read_only(rt: HostRuntime) -> Result<(), Fail> {
+    let alloc = rt.alloc();
+    let (layout, text) = (layout(alloc)?, section(alloc, 9)?);
+    let cut = format!(in alloc; "{text}{}", text.as_str().strip_suffix("\n").unwrap_or(""))?;
+    let disk = disk_of(&rt, alloc, cut.as_bytes())?;
+    disk.held.lock(&rt).allows = Allows::Reading;
+    let opened = open_evidence(&System(&disk), "kept.dde")?;
+    assert_eq!(rt; (opened.access, disk.held.lock(&rt).writes), (Access::ReadOnly, 0));
+    assert_eq!(rt; parts_of(alloc, opened.front)?, (1, 1));
+    let inner = Counts::of(text.as_str());
+    let clock = Steps::new(1);
+    let keeping: DiskKeeping<'_, HostRuntime> =
+        Keeping::new(&rt, &clock, &inner, opened.tail);
+    assert_eq!(rt; tricks_of_north(alloc, &keeping, &layout), 9);
+    assert_eq!(rt; keeping.close().kept, Err(KeepFault::Write));
+    assert_eq!(rt; disk.held.lock(&rt).bytes.as_slice(), cut.as_bytes());
     Ok(())
 }
 
@@ -86,7 +115,8 @@ fn added_sections(rt: HostRuntime) -> Result<(), Fail> {
     let layout = layout(alloc)?;
     let text = section(alloc, 13)?;
     let disk = disk_of(&rt, alloc, text.as_bytes())?;
-    let Opened { front, tail } = open_evidence(&System(&disk), "kept.dde")?;
+    let Opened { front, tail, access } = open_evidence(&System(&disk), "kept.dde")?;
+    assert_eq!(rt; access, Access::ReadAndAdd);
     let inner = Counts::of(text.as_str());
     let clock = Steps::new(1);
     let keeping: DiskKeeping<'_, HostRuntime> = Keeping::new(&rt, &clock, &inner, tail);
