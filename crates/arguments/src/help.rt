@@ -52,11 +52,11 @@ What is refused, each with its line:
   8 TooManyBoards  there are more than 4,096 boards
 
 Exit status:
-  0  every table is complete
+  0  no table is incomplete
   1  the input, the output or the evidence failed, FILE can't be opened, memory ran out
      outside a search, or a thread could not be started
   2  the command line or the text is refused
-  3  a table is incomplete: steps or memory ran out in a search";
+  3  a table is incomplete: a note says whether steps or memory ran out";
 
 pub const AUDIT_ABOUT: &str = "\
 Reads the boards of a tournament and writes the tables that evidence shows of them";
@@ -82,7 +82,7 @@ deals are passed over. So are damaged ones, and that is told once on the error o
   ddfarm: evidence: 2 sections are damaged, the first at byte 81920
 
 Exit status:
-  0  every table is complete
+  0  no table is incomplete
   1  FILE can't be opened or read, the input or the output failed, or memory ran out
   2  the command line is refused, or the text, as by `ddfarm table`
   3  a table is incomplete: the evidence doesn't show all of its numbers";

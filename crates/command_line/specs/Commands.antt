@@ -12,7 +12,8 @@ use Rattle.subcommands.specs.declared.faults.RunFault.TheVariants.{OutOfMemory}
 use Rattle.subcommands.specs.declared.statuses.Status.{Status}
 use Rattle.subcommands.specs.declared.statuses.Status.TheVariants.{Failed, Refused}
 use Rattle.asked.specs.declared.subcommands.Subcommand.{Subcommand}
-use Rattle.subcommands.specs.Statuses.{status_code, told_line, IsTold}
+use Rattle.subcommands.specs.Explanations.{told_text}
+use Rattle.subcommands.specs.Statuses.{status_code, IsTold}
 use Rattle.subcommands.specs.NamedFiles.{MayOpen}
 use Rattle.subcommands.specs.Runs.{Shows, RunsSubcommand}
 
@@ -36,7 +37,7 @@ AreLinesOf said lines = AreLines lines × IfSome said (λ bytes. IsInLines bytes
 -- nothing is written, and that memory ran out is told
 abbrev pub TellsNoMemory : Device → Device → Device → Device → Status → Type 0
 TellsNoMemory sink sink' errors errors' status =
-    (status ≡ Failed) × (sink' ≡ sink) × IsTold errors errors' (told_line OutOfMemory)
+    (status ≡ Failed) × (sink' ≡ sink) × IsTold errors errors' (told_text None OutOfMemory)
 
 -- the lines of help are written, unless memory ran out for them
 abbrev pub ShowsHelp : Option (List ℕ) → Device → Device → Device → Device → Status → Type 0

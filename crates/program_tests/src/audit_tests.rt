@@ -107,13 +107,34 @@ const READING: &str = "ddfarm: reading failed\n";
 
 const WRITING: &str = "ddfarm: writing failed\n";
 
-const OPENING_FILE: &str = "ddfarm: evidence: cannot open\n";
+/// What is told of a file that fails while it is opened.
+const OPENING_FILE: &str = "ddfarm: evidence: cannot open
+  club.dde: the system does not open it
+";
 
-const READING_FILE: &str = "ddfarm: evidence: reading failed\n";
+const READING_FILE: &str = "ddfarm: evidence: reading failed
+  the file cannot be read to its end; a folder cannot be read at all
+";
 
-const WRITING_FILE: &str = "ddfarm: evidence: writing failed\n";
+const WRITING_FILE: &str = "ddfarm: evidence: writing failed
+  the tables are written, but some of their evidence is not in the file
+";
 
-/// A file that isn't there is told before anything of the input, of which the first call would fail, is read.
+/// What is told of the board's table after an audit.
+const UNSHOWN: &str = "ddfarm: note: 1 table is incomplete: the evidence does not show all results
+  table --evidence searches the rest and adds it to the file
+";
+
+/// What is told of it after so many searches that found nothing, and so many refused answers.
+fn searched(alloc: Global, steps: u8, refused: u8) -> Result<String, AllocError> {
+    format!(in alloc; "ddfarm: note: 1 table is incomplete: {steps} searches ran out of steps, 0 out of memory, \
+        {refused} answers were refused
+  each missing result was tried as often as --tries says; --budget gives a search more steps
+")
+}
+
+/// A file that isn't there is told, with its name, before anything of the input, of which the first call would fail, is
+/// read. A control character of the name is shown as a question mark.
 #[test]
 fn no_file(rt: HostRuntime) -> Result<(), Fail> {
     let alloc = rt.alloc();
@@ -121,8 +142,10 @@ fn no_file(rt: HostRuntime) -> Result<(), Fail> {
         input_fails: 0,
         ..SOUND
     };
-    let wanted = (Status::Failed, "", OPENING_FILE);
-    for name in ["", "club", "club.dde2", "/club.dde"] {
+    for name in ["", "club", "club.dde2", "/club.dde", "\u{1b}club\n\u{7f}"] {
+        let shown = if name.starts_with("\u{1b}") { "?club??" } else { name };
+        let told = format!(in alloc; "ddfarm: evidence: cannot open\n  {shown}: no such file\n")?;
+        let wanted = (Status::Failed, "", told.as_str());
         expect_end(&rt, alloc, audit(name), devices, wanted, NO_TRUMP)?;
         expect_end(&rt, alloc, table(name)?, devices, wanted, NO_TRUMP)?;
     }
@@ -172,7 +195,9 @@ fn full_files(rt: HostRuntime) -> Result<(), Fail> {
     let alloc = rt.alloc();
     let whole = joined(alloc, &[b"x\n", RUFFS.as_bytes()])?;
     let damaged = "ddfarm: evidence: 1 section is damaged, at byte 0\n";
-    let failed = format!(in alloc; "{damaged}{WRITING_FILE}")?;
+    let noted = searched(alloc, 19, 0)?;
+    let failed = format!(in alloc; "{damaged}{noted}{WRITING_FILE}")?;
+    let done = format!(in alloc; "{damaged}{noted}")?;
     for length in 1..=whole.len() {
         let kept = whole.as_slice().get(..length).ok_or("a longer text")?;
         let devices = Devices {
@@ -183,7 +208,7 @@ fn full_files(rt: HostRuntime) -> Result<(), Fail> {
         let wanted = if length < whole.len() {
             (Status::Failed, ONE, failed.as_str())
         } else {
-            (Status::Incomplete, ONE, damaged)
+            (Status::Incomplete, ONE, done.as_str())
         };
         expect_end(&rt, alloc, table(NAME)?, devices, wanted, kept)?;
     }
@@ -205,7 +230,8 @@ fn false_claims(rt: HostRuntime) -> Result<(), Fail> {
     let lie = lie.as_slice();
     let lies = joined(alloc, &[lie, lie, lie, NO_TRUMP])?;
     let all = joined(alloc, &[lies.as_slice(), RUFFS.as_bytes()])?;
-    let wanted = (Status::Incomplete, TWO, "");
+    let noted = searched(alloc, 18, 0)?;
+    let wanted = (Status::Incomplete, TWO, noted.as_str());
     for file in [lies.as_slice(), all.as_slice()] {
         let devices = Devices { file, ..SOUND };
         expect_end(&rt, alloc, table(NAME)?, devices, wanted, all.as_slice())?;
@@ -220,22 +246,22 @@ const READS: u64 = NO_TRUMP.len() as u64 + 2;
 const OF_AUDIT: [(u64, End<'static>); 3] = [
     (1, (Status::Failed, "", OPENING_FILE)),
     (READS, (Status::Failed, "", READING_FILE)),
-    (1, (Status::Incomplete, ONE, "")),
+    (1, (Status::Incomplete, ONE, UNSHOWN)),
 ];
 
 /// Those of tables: the opening, for which the last byte is read; the reading of the section for North's no-trump, to
 /// where the file ended when it was opened (where that fails, a search finds nothing); the adding of what was found of
-/// the spades; the sync; and none. And whether the section of the spades is kept.
-const OF_TABLE: [(u64, End<'static>, bool); 5] = [
-    (5, (Status::Failed, "", OPENING_FILE), false),
-    (READS - 2, (Status::Failed, ONE, READING_FILE), true),
-    (1, (Status::Failed, TWO, WRITING_FILE), false),
-    (1, (Status::Failed, TWO, WRITING_FILE), true),
-    (1, (Status::Incomplete, TWO, ""), true),
+/// the spades; the sync; and none. And how many searches find nothing, and whether the section of the spades is kept.
+const OF_TABLE: [(u64, End<'static>, u8, bool); 5] = [
+    (5, (Status::Failed, "", OPENING_FILE), 0, false),
+    (READS - 2, (Status::Failed, ONE, READING_FILE), 19, true),
+    (1, (Status::Failed, TWO, WRITING_FILE), 18, false),
+    (1, (Status::Failed, TWO, WRITING_FILE), 18, true),
+    (1, (Status::Incomplete, TWO, ""), 18, true),
 ];
 
-/// A file of which some call fails. Where it can't be opened, the input isn't read; where it can't be read on, that is
-/// told behind the tables.
+/// A file of which some call fails. If it can't be opened, the input isn't read. If it can't be read on, that is told
+/// after the tables, and after what they lack.
 #[test]
 fn failing_files(rt: HostRuntime) -> Result<(), Fail> {
     let alloc = rt.alloc();
@@ -251,9 +277,15 @@ fn failing_files(rt: HostRuntime) -> Result<(), Fail> {
         }
     }
     devices.file_fails = 0;
-    for (calls, wanted, is_kept) in OF_TABLE {
+    for (calls, (status, page, fault), steps, is_kept) in OF_TABLE {
         let kept = if is_kept { both.as_slice() } else { NO_TRUMP };
-        devices.input_fails = if wanted.1.is_empty() { 0 } else { u64::MAX };
+        devices.input_fails = if page.is_empty() { 0 } else { u64::MAX };
+        let mut told = String::new(alloc);
+        if steps > 0 {
+            told = searched(alloc, steps, 0)?;
+        }
+        told.push_str(fault)?;
+        let wanted = (status, page, told.as_str());
         for _ in 0..calls {
             expect_end(&rt, alloc, table(NAME)?, devices, wanted, kept)?;
             devices.file_fails = devices.file_fails.saturating_add(1);

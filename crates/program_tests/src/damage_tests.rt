@@ -1,6 +1,6 @@
 //! A certificate of each version with one byte changed, for each place and each byte, and the beginnings of an answer.
 
-use crate::expect::{expect_bytes, expect_eq};
+use crate::expect::{NO_RESULT, expect_bytes, expect_eq};
 use cards::{Buffer, Bytes, Seat, Trump};
 use certificate_graph::{Graph, TextFault};
 use farm::Means;
@@ -218,8 +218,7 @@ fn answers_with_one_byte_changed(rt: HostRuntime) -> Result<(), Fail> {
 fn end_of_beginning(count: usize) -> (Status, &'static str, &'static str) {
     let printed = match count {
         0..9 => {
-            let told = "ddfarm: first line is not a result line\n";
-            return (Status::Refused, "", told);
+            return (Status::Refused, "", NO_RESULT);
         }
         9..15 => "refused declarer 10 Text 1 Head line 1\n",
         15..24 => "refused declarer 10 Text 1 Head line 2\n",
@@ -252,7 +251,7 @@ fn expect_beginnings<R: Abort + NamedFiles + Threads + Wait + Sync>(
         let mut streams = Streams {
             input: Bytes::new(text, 100),
             output: Buffer::new(alloc, 100, 3)?,
-            errors: Buffer::new(alloc, 100, 3)?,
+            errors: Buffer::new(alloc, 200, 3)?,
         };
         let status = check(rt, alloc, &mut streams);
         let printed = str::from_utf8(streams.output.bytes())?;

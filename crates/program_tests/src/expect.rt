@@ -16,6 +16,16 @@ use test_support::idle::{LetsPass, StandsStill};
 /// Room for all that a run prints.
 pub const ROOM: usize = 8192;
 
+/// What is told of a text whose first line is not that of an answer.
+pub const NO_RESULT: &str = "ddfarm: first line is not a result line
+  an answer begins with a line as solve prints it: result 9
+";
+
+/// What is told of a layout with a card twice.
+pub const CARD_TWICE: &str = "ddfarm: layout: 5 CardTwice
+  this layout has a card twice
+";
+
 /// How a run ends, what is on its output, and what is on its error output.
 pub type End<'a> = (Status, &'a str, &'a str);
 

@@ -1,6 +1,6 @@
 //! Lines of play by the certificates of answers.
 
-use crate::expect::{End, ROOM, expect_run};
+use crate::expect::{CARD_TWICE, End, NO_RESULT, ROOM, expect_run};
 use cards::{Seat, Trump};
 use std::alloc::Global;
 use std::process::Abort;
@@ -75,7 +75,7 @@ const ANSWERS: [(&[u8], bool, End<'static>); 8] = [
         (
             Status::Refused,
             "",
-            "ddfarm: first line is not a result line\n",
+            NO_RESULT,
         ),
     ),
     (
@@ -84,7 +84,7 @@ const ANSWERS: [(&[u8], bool, End<'static>); 8] = [
         (
             Status::Refused,
             "",
-            "ddfarm: first line is not a result line\n",
+            NO_RESULT,
         ),
     ),
 ];
@@ -144,6 +144,6 @@ fn no_layout(rt: HostRuntime) -> Result<(), Fail> {
         declarer: Seat::East,
         trump: Trump::Nt,
     };
-    let wanted = (Status::Refused, "", "ddfarm: layout: 5 CardTwice\n");
+    let wanted = (Status::Refused, "", CARD_TWICE);
     expect_run(&rt, rt.alloc(), asked, &FindsNothing, b"", ROOM, wanted)
 }

@@ -161,10 +161,16 @@ const OF_ONE_SUIT_EACH: &str = "% PBN 2.1
 
 ";
 
+/// Each of the twenty results is tried three times, and each answer is refused.
+const REFUSED: &str =
+    "ddfarm: note: 1 table is incomplete: 0 searches ran out of steps, 0 out of memory, 60 answers were refused
+  each missing result was tried as often as --tries says; --budget gives a search more steps
+";
+
 /// A proof for another deal shows no number.
 #[test]
 fn one_proof_for_every_entry(rt: HostRuntime) -> Result<(), Fail> {
-    let wanted = (Status::Incomplete, OF_ONE_SUIT_EACH, "");
+    let wanted = (Status::Incomplete, OF_ONE_SUIT_EACH, REFUSED);
     for batch in [1, 20] {
         let run = tables(false, batch)?;
         expect_run(&rt, rt.alloc(), run, &OneProof, ONE_SUIT_EACH, ROOM, wanted)?;

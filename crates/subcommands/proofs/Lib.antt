@@ -6,3 +6,5 @@ pub mod LineLemmas
 pub mod RunLemmas
 pub mod PutLaws
 pub mod BesideLaws
+pub mod ExplainLaws
+pub mod ReportLaws

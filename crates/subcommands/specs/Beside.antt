@@ -1,5 +1,5 @@
 -- Tables of a run that begins with what a file of evidence shows.
-use Rattle.std.specs.Prelude.{◌≡◌, ℕ, ◌+◌, ◌≤◌, min, true, List, ◌++◌, Option, Some, Result, Ok, Err}
+use Rattle.std.specs.Prelude.{◌≡◌, ℕ, ◌+◌, ◌≤◌, min, Bool, true, false, List, ◌++◌, Option, Some, Result, Ok, Err}
 use Rattle.std.proofs.Common.{Vec, Global}
 use Rattle.asked.specs.declared.settings.Settings.{Settings}
 use Rattle.asked.specs.declared.subcommands.TableOptions.{TableOptions}
@@ -28,7 +28,7 @@ use Rattle.audits.specs.Shown.{PublishesShown}
 use Rattle.subcommands.specs.declared.faults.RunFault.{RunFault}
 use Rattle.subcommands.specs.declared.outcomes.Outcome.{Outcome}
 use Rattle.subcommands.specs.Auditing.{unread}
-use Rattle.subcommands.specs.Pages.{page_fact, report_status}
+use Rattle.subcommands.specs.Pages.{IsOutcomeOf, page_fact}
 use Rattle.subcommands.specs.Statuses.{make_fault}
 
 -- How often an entry is leased at most: once for what evidence shows, and then as often as settings say, but never more
@@ -100,12 +100,18 @@ MakesPageBeside is_run options source source' sink sink' made =
 abbrev pub IsRunBesideSome : Option (List ℕ) → MayTell → RunFact
 IsRunBesideSome told may_tell terms events = (read : EvidenceRead) × IsRunBesideFile told read may_tell terms events
 
+-- what came of a page beside a file: but for what is said of the file, it is what comes of one without
+abbrev pub IsOutcomeBeside : Bool → Report → Ledger → Outcome → Type 0
+IsOutcomeBeside whole report book outcome =
+    (page : Outcome) × IsOutcomeOf whole report book page × (outcome.status ≡ page.status)
+    × (record outcome.notes { read_only = false } ≡ page.notes)
+
 -- The tables of the boards of the input beside a file that tells this: how far it was read, and this is the damage of
 -- what was read.
 abbrev pub WritesBeside : Option (List ℕ) → MayTell → TableOptions → Device → Device → Device → Device
     → Result Outcome RunFault → Type 0
 WritesBeside told may_tell options source source' sink sink' (Ok outcome) =
-    (report : Report) × (book : Ledger) × (outcome.status ≡ report_status report)
+    (report : Report) × (book : Ledger) × IsOutcomeBeside options.whole report book outcome
     × MakesPageBeside (IsRunBesideFile told (record { damage = outcome.damage; ended = outcome.read }) may_tell)
     options source source' sink sink' (Ok (report, book))
 WritesBeside told may_tell options source source' sink sink' (Err fault) =

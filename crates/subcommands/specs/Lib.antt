@@ -1,4 +1,7 @@
 pub mod Statuses
+pub mod Explanations
+pub mod Notes
+pub mod Reports
 pub mod NamedFiles
 pub mod Outcomes
 pub mod PlainLine

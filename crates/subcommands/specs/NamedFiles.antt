@@ -1,36 +1,49 @@
 -- Files that are opened by their names.
-use Rattle.std.specs.Prelude.{◌≡◌, ℕ, List, take, Option, None, Some, option_map, Result, Ok, Err, ◌⊎◌, ⊤}
+use Rattle.std.specs.Prelude.{◌≡◌, ℕ, List, take, Option, option_map, Result, Ok, Err, ◌⊎◌, ⊤}
 use Rattle.std.specs.Io.Take.{take_remaining}
 use Rattle.cards.specs.Devices.{Device}
+use Rattle.evidence_solvers.specs.declared.access.Access.{Access}
 use Rattle.evidence_solvers.specs.declared.faults.CannotOpen.{CannotOpen}
 use Rattle.evidence_solvers.specs.declared.opening.Opened.{Opened}
 
--- what may come of the opening of a name: what the file tells then, or None where it can't be opened
+-- what may come of the opening of a name: what the file tells then, or why it can't be opened
 abbrev pub Opens : Type 1
-Opens = List ℕ → Option Device → Type 0
+Opens = List ℕ → Result Device CannotOpen → Type 0
+
+-- the same of a file that is to be added to, with how it can be used
+abbrev pub OpensToKeep : Type 1
+OpensToKeep = List ℕ → Result (Device × Access) CannotOpen → Type 0
 
 -- the same of a file that is to be read, and of one that is to be read and added to
 pub record MayOpen : Type 1 where
   pub to_read : Opens
-  pub to_keep : Opens
+  pub to_keep : OpensToKeep
 
--- any file may be opened to be read, with all that its reader tells, or none
-abbrev pub MayBeAll : {File : Type 0} → (File → Option (List ℕ)) → Option Device → Type 0
-MayBeAll remaining None = ⊤
-MayBeAll {File} remaining (Some device) =
+-- what a file that was opened to be read tells, or why it can't be opened
+abbrev pub told_of : {File : Type 0} → (File → Device) → Result File CannotOpen → Result Device CannotOpen
+told_of state (Ok file) = Ok (state file)
+told_of state (Err why) = Err why
+
+-- any file may be opened to be read, with all that its reader tells, or none, for any reason
+abbrev pub MayBeAll : {File : Type 0} → (File → Option (List ℕ)) → Result Device CannotOpen → Type 0
+MayBeAll remaining (Err why) = ⊤
+MayBeAll {File} remaining (Ok device) =
     (file : File) × (device ≡ record { bytes = remaining file; failed = 0 })
 
 -- all that a file tells, or as much of it as it held when it was opened
 abbrev pub IsToldOf : Option (List ℕ) → Option (List ℕ) → Type 0
 IsToldOf remaining told = (told ≡ remaining) ⊎ ((size : ℕ) × (told ≡ option_map (take size) remaining))
 
--- any file may be opened to be added to, with what its reader tells so far, or none
-abbrev pub MayBeAny : {File : Type 0} → (File → Option (List ℕ)) → Option Device → Type 0
-MayBeAny remaining None = ⊤
-MayBeAny {File} remaining (Some device) =
-    (file : File) × IsToldOf (remaining file) device.bytes × (device.failed ≡ 0)
+-- any file may be opened to be added to, with what its reader tells so far, or none, for any reason
+abbrev pub MayBeAny : {File : Type 0} → (File → Option (List ℕ)) → Result (Device × Access) CannotOpen → Type 0
+MayBeAny remaining (Err why) = ⊤
+MayBeAny {File} remaining (Ok opened) =
+    (file : File) × IsToldOf (remaining file) opened.0.bytes × (opened.0.failed ≡ 0)
 
--- what a file that was opened to be read and to be added to tells where it is read, or None where it can't be opened
-abbrev pub front_of : {File : Type 0} → (File → Option (List ℕ)) → Result (Opened File) CannotOpen → Option Device
-front_of remaining (Ok opened) = Some (record { bytes = take_remaining remaining opened.front; failed = 0 })
-front_of remaining (Err fault) = None
+-- what a file that was opened to be read and to be added to tells where it is read, with how it can be used, or why it
+-- can't be opened
+abbrev pub front_of : {File : Type 0} → (File → Option (List ℕ)) → Result (Opened File) CannotOpen
+    → Result (Device × Access) CannotOpen
+front_of remaining (Ok opened) =
+    Ok (record { bytes = take_remaining remaining opened.front; failed = 0 }, opened.access)
+front_of remaining (Err why) = Err why

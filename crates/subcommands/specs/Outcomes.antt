@@ -13,11 +13,17 @@ use Rattle.subcommands.specs.declared.named_files.FileFault.TheVariants as file
 use Rattle.subcommands.specs.declared.outcomes.Outcome.{Outcome}
 use Rattle.subcommands.specs.declared.statuses.Status.{Status}
 use Rattle.subcommands.specs.declared.statuses.Status.TheVariants.{Done}
+use Rattle.subcommands.specs.Notes.{quiet_notes}
 use Rattle.subcommands.specs.Statuses.{IsTold}
 
--- a run that has passed nothing over, and had nothing to keep
+-- nothing was passed over
+abbrev pub undamaged : Damage
+undamaged = record { count = 0; first = 0 }
+
+-- a run of which nothing is said, that has passed nothing over and had nothing to keep
 abbrev pub quiet : Status → Outcome
-quiet status = record { status = status; damage = record { count = 0; first = 0 }; read = Ok tt; kept = Ok tt }
+quiet status =
+    record { status = status; damage = undamaged; notes = quiet_notes; read = Ok tt; kept = Ok tt }
 
 -- what comes of what such a run answers
 abbrev pub quiet_answer : Result Status RunFault → Result Outcome RunFault

@@ -1,5 +1,5 @@
 -- The page of tables: which one is asked for, how a run ends with it, and what `table` does.
-use Rattle.std.specs.Prelude.{◌≡◌, ℕ, Bool, true, false, List, Result, Ok, Err, nat_lt, if◌then◌else◌}
+use Rattle.std.specs.Prelude.{◌≡◌, ℕ, Bool, true, false, List, Result, Ok, Err}
 use Rattle.asked.specs.declared.subcommands.TableOptions.{TableOptions}
 use Rattle.cards.specs.Devices.{Device, Adds, AddsBeginning}
 use Rattle.lease_book.specs.Books.{Ledger}
@@ -12,8 +12,10 @@ use Rattle.tournaments.specs.Making.{PageFact, MakesPage, AreReported}
 use Rattle.tournaments.specs.Pages.{IsTablesPage}
 use Rattle.tournaments.specs.WholePages.{IsWholePage}
 use Rattle.subcommands.specs.declared.faults.RunFault.{RunFault}
-use Rattle.subcommands.specs.declared.statuses.Status.{Status}
-use Rattle.subcommands.specs.declared.statuses.Status.TheVariants.{Done, Incomplete}
+use Rattle.subcommands.specs.declared.notes.Searches.{Searches}
+use Rattle.subcommands.specs.declared.outcomes.Outcome.{Outcome}
+use Rattle.subcommands.specs.Outcomes.{quiet}
+use Rattle.subcommands.specs.Reports.{page_status, refusal_count, searched_notes}
 use Rattle.subcommands.specs.Statuses.{make_fault}
 
 -- the tables alone, or the input with them in it
@@ -31,14 +33,19 @@ PutsPage is_page text book sink sink' (Err fault) =
     (fault ≡ Write)
     × ((page : List ℕ) × is_page text book.terms.boards book.events page × AddsBeginning sink sink' page)
 
--- a table is incomplete, or all are complete
-abbrev pub report_status : Report → Status
-report_status report = if nat_lt report.complete report.boards then Incomplete else Done
+-- What came of a page that was written for the book of a run: whether a table of it is incomplete, and what is said of
+-- that. Of how searches ended, only the number of refused answers is known here.
+pub record IsOutcomeOf (whole : Bool) (report : Report) (book : Ledger) (outcome : Outcome) : Type 0 where
+  pub searches : Searches
+  pub refused : searches.refused ≡ refusal_count book.events
+  pub is : outcome ≡ record (quiet (page_status whole report book.terms.boards)) {
+    notes = searched_notes report book.terms.boards searches;
+  }
 
--- the tables of the boards of the input, and whether one is incomplete
-abbrev pub WritesTables : MayTell → TableOptions → Device → Device → Device → Device → Result Status RunFault → Type 0
-WritesTables may_tell options source source' sink sink' (Ok status) =
-    (report : Report) × (book : Ledger) × (status ≡ report_status report)
+-- the tables of the boards of the input, and what came of them
+abbrev pub WritesTables : MayTell → TableOptions → Device → Device → Device → Device → Result Outcome RunFault → Type 0
+WritesTables may_tell options source source' sink sink' (Ok outcome) =
+    (report : Report) × (book : Ledger) × IsOutcomeOf options.whole report book outcome
     × MakesPage (IsRun may_tell) (page_fact options.whole) options.settings.term options.settings.tries source source'
     sink sink' (Ok (report, book))
 WritesTables may_tell options source source' sink sink' (Err fault) =

@@ -1,5 +1,5 @@
 -- What `play` does with the bytes of a layout, the name of a file with an answer, and the input.
-use Rattle.std.specs.Prelude.{◌≡◌, ℕ, ◌-◌, List, None, Some, Result, Ok, Err}
+use Rattle.std.specs.Prelude.{◌≡◌, ℕ, ◌-◌, List, Result, Ok, Err}
 use Rattle.std.proofs.Common.{Vec, Global}
 use Rattle.asked.specs.declared.sides.ContractSide.{ContractSide}
 use Rattle.asked.specs.declared.sides.ContractSide.TheVariants.{Declarer, Defenders}
@@ -31,7 +31,7 @@ use Rattle.subcommands.specs.Checks.{IsVerdictOf, JudgesText, Prints, IsVerdictL
 -- the file of this name was opened, and what it gave is so
 pub record IsReadFrom (may_open : MayOpen) (name : List ℕ) (Fact : Device → Device → Type 0) : Type 0 where
   pub file : Device
-  pub opened : may_open.to_read name (Some file)
+  pub opened : may_open.to_read name (Ok file)
   pub none_failed : file.failed ≡ 0
   pub left : Device
   pub fact : Fact file left
@@ -39,7 +39,7 @@ pub record IsReadFrom (may_open : MayOpen) (name : List ℕ) (Fact : Device → 
 -- the text of the file, or why there is none
 abbrev pub ReadsFile : MayOpen → List ℕ → Result (Vec ℕ Global) RunFault → Type 0
 ReadsFile may_open name (Ok text) = IsReadFrom may_open name (λ file left. IsReadToEnd file left text.items)
-ReadsFile may_open name (Err (AnswerFile file.Open)) = may_open.to_read name None
+ReadsFile may_open name (Err (AnswerFile (file.Open why))) = may_open.to_read name (Err why)
 ReadsFile may_open name (Err (AnswerFile file.Read)) =
     IsReadFrom may_open name (λ file left. Loses file left (one_more file.failed))
 ReadsFile may_open name (Err OutOfMemory) = IsReadFrom may_open name (λ file left. Loses file left file.failed)

@@ -1,5 +1,5 @@
 -- What a run does for what was asked, and how it ends.
-use Rattle.std.specs.Prelude.{◌≡◌, Result, Ok, Err, ◌⊎◌, Option, List, ℕ, ⊤}
+use Rattle.std.specs.Prelude.{◌≡◌, Result, Ok, Err, ◌⊎◌, Option, None, Some, option_map, List, ℕ, ⊤}
 use Rattle.lease_book.specs.Moments.{MayTell}
 use Rattle.partition_solver.specs.Answers.{MayFind}
 use Rattle.streams.specs.Flushes.{HandsOn}
@@ -13,7 +13,9 @@ use Rattle.subcommands.specs.declared.statuses.Status.{Status}
 use Rattle.subcommands.specs.declared.statuses.Status.TheVariants.{Done, Failed, Refused, Incomplete, Rejected}
 use Rattle.asked.specs.declared.subcommands.Subcommand.{Subcommand}
 use Rattle.asked.specs.declared.subcommands.Subcommand.TheVariants.{Plain, Solve, Table, Check, Line, Play, Audit}
-use Rattle.subcommands.specs.Statuses.{fault_status, status_code, told_line, IsTold}
+use Rattle.subcommands.specs.Explanations.{told_text}
+use Rattle.subcommands.specs.Notes.{TellsNotes}
+use Rattle.subcommands.specs.Statuses.{fault_status, status_code, IsTold}
 use Rattle.subcommands.specs.NamedFiles.{MayOpen}
 use Rattle.subcommands.specs.Outcomes.{Quietly, DoneQuietly, TellsDamage, shelf_fault}
 use Rattle.subcommands.specs.PlainLine.{MeetsPlainLine}
@@ -75,33 +77,45 @@ Does may_find may_tell may_open (Audit file whole) source source' sink sink' ans
 abbrev pub EndsKept : Result Unit KeepFault → Status → Device → Device → Status → Type 0
 EndsKept (Ok done) reached errors errors' status = (status ≡ reached) × (errors' ≡ errors)
 EndsKept (Err fault) reached errors errors' status =
-    (status ≡ Failed) × IsTold errors errors' (told_line (Unkept fault))
+    (status ≡ Failed) × IsTold errors errors' (told_text None (Unkept fault))
 
 -- that, where all was read that was to be read, or that not all was is told
 abbrev pub EndsRead : Result Unit InputFault → Result Unit KeepFault → Status → Device → Device → Status → Type 0
 EndsRead (Ok done) kept reached errors errors' status = EndsKept kept reached errors errors' status
 EndsRead (Err fault) kept reached errors errors' status =
-    (status ≡ Failed) × IsTold errors errors' (told_line (shelf_fault fault))
+    (status ≡ Failed) × IsTold errors errors' (told_text None (shelf_fault fault))
 
--- How the run ends: a fault is told on the error output, what was passed over of evidence, and that not all of it was
--- read or kept. Nothing else touches it.
-abbrev pub Ends : Result Outcome RunFault → Device → Device → Status → Type 0
-Ends (Ok outcome) errors errors' status =
-    (between : Device) × TellsDamage outcome.damage errors between
-    × EndsRead outcome.read outcome.kept outcome.status between errors' status
-Ends (Err fault) errors errors' status = (status ≡ fault_status fault) × IsTold errors errors' (told_line fault)
+-- the name of the file that is asked for, if one is
+abbrev pub file_of : Subcommand → Option (List ℕ)
+file_of (Plain layout leader trump) = None
+file_of (Solve layout declarer trump budget) = None
+file_of (Table options) = option_map (λ name. name.now) options.evidence
+file_of (Check layout declarer trump) = None
+file_of (Line layout declarer trump) = None
+file_of (Play options) = Some options.answer.now
+file_of (Audit file whole) = Some file.now
+
+-- How the run ends, which was to open the file of this name. The error output gets what was passed over of evidence, the
+-- notes, and that not all of it was read or kept; or a fault, with what explains it. Nothing else touches it.
+abbrev pub Ends : Option (List ℕ) → Result Outcome RunFault → Device → Device → Status → Type 0
+Ends file (Ok outcome) errors errors' status =
+    (between : Device) × (noted : Device) × TellsDamage outcome.damage errors between
+    × TellsNotes outcome.notes between noted
+    × EndsRead outcome.read outcome.kept outcome.status noted errors' status
+Ends file (Err fault) errors errors' status =
+    (status ≡ fault_status fault) × IsTold errors errors' (told_text file fault)
 
 -- a whole run
 pub record RunsSubcommand (may_find : MayFind) (may_tell : MayTell) (may_open : MayOpen) (run : Subcommand)
     (source source' sink sink' errors errors' : Device) (status : Status) : Type 0 where
   pub answer : Result Outcome RunFault
   pub does : Does may_find may_tell may_open run source source' sink sink' answer
-  pub ends : Ends answer errors errors' status
+  pub ends : Ends (file_of run) answer errors errors' status
 
 -- a text was written on the output, or a beginning of it, and that it failed was told
 abbrev pub Shows : Device → Device → Device → Device → List ℕ → Status → Type 0
 Shows sink sink' errors errors' text Done = Adds sink sink' text × (errors' ≡ errors)
-Shows sink sink' errors errors' text Failed = AddsBeginning sink sink' text × IsTold errors errors' (told_line Write)
+Shows sink sink' errors errors' text Failed = AddsBeginning sink sink' text × IsTold errors errors' (told_text None Write)
 Shows sink sink' errors errors' text Refused = ⊥
 Shows sink sink' errors errors' text Incomplete = ⊥
 Shows sink sink' errors errors' text Rejected = ⊥
@@ -117,7 +131,7 @@ pub data Closes (sink sink' : Device) (below : Option (List ℕ)) (errors errors
     : Type 0 where
   is_flushed : ended ≡ code → HandsOn sink sink' below → errors' ≡ errors
       → Closes sink sink' below errors errors' code ended
-  fails : (IsUndone code → ⊥) → ended ≡ status_code Failed → Fails sink sink' → IsTold errors errors' (told_line Write)
+  fails : (IsUndone code → ⊥) → ended ≡ status_code Failed → Fails sink sink' → IsTold errors errors' (told_text None Write)
       → Closes sink sink' below errors errors' code ended
   fails_too : IsUndone code → ended ≡ code → Fails sink sink' → errors' ≡ errors
       → Closes sink sink' below errors errors' code ended

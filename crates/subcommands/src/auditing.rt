@@ -8,7 +8,7 @@ ghost use Rattle.subcommands.specs.Pages.{page_fact};
 use crate::faults::RunFault;
 use crate::named_files::{FileFault, NamedFiles};
 use crate::outcomes::Outcome;
-use crate::pages::status_of;
+use crate::reports::{page_status, unshown_notes};
 use audits::{AuditFault, audit_tables, audit_whole};
 use cards::{Sink, Source};
 use evidence::{Damage, Sections};
@@ -33,14 +33,16 @@ pub(crate) fn audit_file<R: Threads + Sync + NamedFiles, I: Source, O: Sink>(
     ensures { AuditsFile (R.may_open rt.now) name.now whole (I.state input.old) (I.state input.new)
         (O.state output.old) (O.state output.new) result }
 {
-    let Some(file) = rt.open_named(name) else {
-        return Err(RunFault::Evidence(FileFault::Open));
+    let file = match rt.open_named(name) {
+        Ok(file) => file,
+        Err(why) => return Err(RunFault::Evidence(FileFault::Open(why))),
     };
     let mut evidence = Sections::new(alloc, file);
     match audit_page(rt, alloc, whole, input, &mut evidence, output) {
-        Ok((report, _, damage)) => Ok(Outcome {
-            status: status_of(report),
+        Ok((report, book, damage)) => Ok(Outcome {
+            status: page_status(whole, report, book.boards()),
             damage,
+            notes: unshown_notes(report, &book),
             read: Ok(()),
             kept: Ok(()),
         }),

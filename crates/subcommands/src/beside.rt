@@ -6,8 +6,9 @@ ghost use Rattle.subcommands.specs.Beside.{MakesBookBeside, WritesBeside, tries_
 use crate::faults::RunFault;
 use crate::making::halted;
 use crate::outcomes::Outcome;
-use crate::pages::status_of;
+use crate::pages::outcome_of;
 use crate::putting::put_page;
+use crate::searches::{Counted, Tally};
 use asked::{Settings, TableOptions};
 use audits::{EvidenceRead, show_evidence};
 use cards::{Sink, Source};
@@ -95,12 +96,21 @@ pub(crate) fn write_tables_beside<
         (I.state input.old) (I.state input.new) (O.state output.old) (O.state output.new) result }
 {
     let Work { options, means } = work;
+    let tally = Tally::new();
+    let solver = &Counted {
+        solver: means.solver,
+        tally: &tally,
+    };
+    let means = &Means {
+        solver,
+        gate: means.gate,
+        clock: means.clock,
+    };
     let (text, book, read) = make_book_beside(rt, alloc, file, input, options.settings, means)?;
     let report = put_page(text.as_slice(), &book, options.whole, output)?;
     Ok(Outcome {
-        status: status_of(report),
         damage: read.damage,
         read: read.ended,
-        kept: Ok(()),
+        ..outcome_of(options.whole, report, &book, &tally)
     })
 }

@@ -1,12 +1,14 @@
 //! Why a run fails or is refused, and the line that tells it.
 
-ghost use Rattle.std.specs.Prelude.{◌≡◌};
+ghost use Rattle.std.specs.Prelude.{◌≡◌, None, option_map};
 ghost use Rattle.cards.specs.Devices.{Writes};
 ghost use Rattle.pbn_deals.specs.Faults.{fault_text};
 ghost use Rattle.subcommands.specs.declared.faults.RunFault.TheVariants as faults;
+ghost use Rattle.subcommands.specs.Explanations.{told_text};
 ghost use Rattle.subcommands.specs.Statuses.{fault_status, IsTold, told_line, said_of, after_line};
 ghost use Rattle.pbn_deals.specs.Faults.{fault_line};
 
+use crate::explanations::write_explanation;
 use crate::named_files::FileFault;
 use crate::statuses::Status;
 use audits::AuditFault;
@@ -105,13 +107,22 @@ pub(crate) fn write_failed(_fault: DeviceFault) -> RunFault
     RunFault::Write
 }
 
-/// Tells the fault on the error output, and answers how the run ends. Where the error output fails, nobody is left to
-/// be told.
+/// Writes the fault on the error output, with what explains it, and answers how the run ends. If the error output
+/// fails, nobody is left to be told.
 pub fn tell<E: Sink>(fault: RunFault, errors: &mut E) -> Status
     ensures status { result ≡ fault_status fault }
-    ensures line { IsTold (E.state errors.old) (E.state errors.new) (told_line fault) }
+    ensures text { IsTold (E.state errors.old) (E.state errors.new) (told_text None fault) }
 {
-    let _ = write_line(fault, errors);
+    tell_of_file(fault, None, errors)
+}
+
+/// The same. A file that can't be opened has this name.
+pub(crate) fn tell_of_file<E: Sink>(fault: RunFault, name: Option<&str>, errors: &mut E) -> Status
+    ensures status { result ≡ fault_status fault }
+    ensures text { IsTold (E.state errors.old) (E.state errors.new)
+        (told_text (option_map (λ text. text.now) name.entry) fault) }
+{
+    let _ = write_text(fault, name, errors);
     match fault {
         RunFault::OutOfMemory
         | RunFault::Read
@@ -127,6 +138,19 @@ pub fn tell<E: Sink>(fault: RunFault, errors: &mut E) -> Status
         | RunFault::NoResult => Status::Refused,
         RunFault::NoAnswer => Status::Incomplete,
     }
+}
+
+/// Writes the line of the fault, and what explains it.
+fn write_text<E: Sink>(
+    fault: RunFault,
+    name: Option<&str>,
+    errors: &mut E,
+) -> Result<(), DeviceFault>
+    ensures { Writes (E.state errors.old) (E.state errors.new)
+        (told_text (option_map (λ text. text.now) name.entry) fault) result }
+{
+    write_line(fault, errors)?;
+    write_explanation(fault, name, errors)
 }
 
 /// Writes the line of the fault.
@@ -164,7 +188,7 @@ fn write_file_fault<E: Sink>(fault: FileFault, errors: &mut E) -> Result<(), Dev
     ensures { Writes (E.state errors.old) (E.state errors.new) (said_of (faults.Evidence fault)) result }
 {
     match fault {
-        FileFault::Open => write_all(errors, b"evidence: cannot open"),
+        FileFault::Open(_) => write_all(errors, b"evidence: cannot open"),
         FileFault::Read => write_all(errors, b"evidence: reading failed"),
     }
 }
@@ -174,7 +198,7 @@ fn write_answer_fault<E: Sink>(fault: FileFault, errors: &mut E) -> Result<(), D
     ensures { Writes (E.state errors.old) (E.state errors.new) (said_of (faults.AnswerFile fault)) result }
 {
     match fault {
-        FileFault::Open => write_all(errors, b"answer: cannot open"),
+        FileFault::Open(_) => write_all(errors, b"answer: cannot open"),
         FileFault::Read => write_all(errors, b"answer: reading failed"),
     }
 }

@@ -4,16 +4,17 @@ ghost use Rattle.std.specs.Prelude.{◌≡◌};
 ghost use Rattle.std.specs.Io.Take.{take_remaining};
 ghost use Rattle.evidence_solvers.specs.Tails.{tail_contents};
 ghost use Rattle.subcommands.specs.Beside.{WritesBeside};
-ghost use Rattle.subcommands.specs.KeptTables.{FillsTables, HasKept, with_kept};
+ghost use Rattle.subcommands.specs.KeptTables.{FillsTables, HasKept, IsSaidOf, with_file};
 
 use crate::beside::{Work, write_tables_beside};
 use crate::faults::RunFault;
 use crate::named_files::{FileFault, NamedFiles};
-use crate::outcomes::{Outcome, quietly};
+use crate::notes::Notes;
+use crate::outcomes::Outcome;
 use crate::pages::{Unwatched, write_page};
 use asked::TableOptions;
 use cards::{Sink, Source};
-use evidence_solvers::{Closed, KeepFault, Keeping, Opened, Told};
+use evidence_solvers::{Access, Closed, KeepFault, Keeping, Opened, Told};
 use farm::{Clock, Means};
 use lease_desk::Gate;
 use partition_solver::Solver;
@@ -29,15 +30,25 @@ struct Ended<F> {
     file: F,
 }
 
-/// What came of tables, with what is said of the file to which evidence was added.
-fn with_kept(
+/// What came of tables, with what is said of the file to which evidence is added: how it can be used, and whether all
+/// was kept.
+fn with_file(
     answer: Result<Outcome, RunFault>,
+    access: Access,
     kept: Result<(), KeepFault>,
 ) -> Result<Outcome, RunFault>
-    ensures { result ≡ with_kept answer kept }
+    ensures { result ≡ with_file answer access kept }
 {
     let outcome = answer?;
-    Ok(Outcome { kept, ..outcome })
+    let notes = Notes {
+        read_only: access.is_read_only(),
+        ..outcome.notes
+    };
+    Ok(Outcome {
+        notes,
+        kept,
+        ..outcome
+    })
 }
 
 /// Writes the tables beside a file, which has what the type `T` names. What is found is added to it.
@@ -61,10 +72,15 @@ fn write_beside<
     ensures tables { WritesBeside (take_remaining R.Kept.remaining opened.front)
         (C.may_tell work.entry.means.now.clock.now) work.entry.options (I.state input.old) (I.state input.new)
         (O.state output.old) (O.state output.new) result.answer }
+    ensures said { IsSaidOf opened.access result.answer }
     ensures kept { HasKept T.told (R.Kept.contents result.file) result.answer }
 {
     let Work { options, means } = work;
-    let Opened { front, tail } = opened;
+    let Opened {
+        front,
+        tail,
+        access,
+    } = opened;
     let keeping = Keeping::<'_, '_, R, C, P, R::Kept, T>::new(rt, means.clock, means.solver, tail);
     let answer = {
         let means = &Means {
@@ -77,7 +93,7 @@ fn write_beside<
     };
     let Closed { file, kept } = keeping.close();
     Ended {
-        answer: with_kept(answer, kept),
+        answer: with_file(answer, access, kept),
         file,
     }
 }
@@ -105,10 +121,11 @@ fn fill_tables<
         (I.state input.old) (I.state input.new) (O.state output.old) (O.state output.new) result }
 {
     let Some(name) = options.evidence else {
-        return quietly(write_page(rt, alloc, options, means, input, output));
+        return write_page(rt, alloc, options, means, input, output);
     };
-    let Ok(opened) = rt.open_kept(name) else {
-        return Err(RunFault::Evidence(FileFault::Open));
+    let opened = match rt.open_kept(name) {
+        Ok(opened) => opened,
+        Err(why) => return Err(RunFault::Evidence(FileFault::Open(why))),
     };
     let work = Work { options, means };
     write_beside::<P, G, C, I, O, R, Brand>(rt, alloc, work, opened, input, output).answer

@@ -1,10 +1,10 @@
 //! Files that a run opens by their names.
 
-ghost use Rattle.std.specs.Prelude.{◌≡◌, IfSome, option_map};
-ghost use Rattle.subcommands.specs.NamedFiles.{front_of};
+ghost use Rattle.std.specs.Prelude.{◌≡◌, IfOk};
+ghost use Rattle.subcommands.specs.NamedFiles.{front_of, told_of};
 
 use cards::Source;
-use evidence_solvers::{CannotOpen, Opened, open_evidence};
+use evidence_solvers::{CannotOpen, Opened, open_evidence, why_of};
 use std::fs;
 use std::fs::OpenFile;
 use std::io::{Read, Seek, Write};
@@ -21,17 +21,18 @@ pub trait NamedFiles {
     /// A file that was opened to be read and to be added to.
     type Kept: Read + Write + Seek + OpenFile + Drop + Send;
 
-    /// What may come of the opening of a name, to be read and to be added to: what the file tells, or `None` where it
-    /// can't be opened.
+    /// What may come of the opening of a name, to be read and to be added to: what the file tells, or why it can't be
+    /// opened.
     ghost may_open: { Self → MayOpen };
 
     /// Opens the file of this name to be read, from its beginning to its end. It may be a pipe.
-    fn open_named(&self, name: &str) -> Option<Self::Opened>
-        ensures opens { (may_open self.now).to_read name.now (option_map Self.Opened.state result) }
-        ensures none_failed { IfSome result (λ file. (Self.Opened.state file).failed ≡ 0) };
+    fn open_named(&self, name: &str) -> Result<Self::Opened, CannotOpen>
+        ensures opens { (may_open self.now).to_read name.now (told_of Self.Opened.state result) }
+        ensures none_failed { IfOk result (λ file. (Self.Opened.state file).failed ≡ 0) };
 
-    /// Opens the file of this name to be read, from its beginning on, and to be added to; it is made where it isn't
-    /// there. What is no regular file can't be opened so. It tells as much as it holds then.
+    /// Opens the file of this name to be read, from its beginning on, and to be added to. A missing file is made. A
+    /// file that can only be read is opened too. Anything but a regular file is refused. The file tells as much as it
+    /// holds then.
     fn open_kept(&self, name: &str) -> Result<Opened<Self::Kept>, CannotOpen>
         ensures opens { (may_open self.now).to_keep name.now (front_of Self.Kept.remaining result) };
 }
@@ -51,10 +52,10 @@ where
       to_keep = λ _ told. MayBeAny R.File.remaining told;
     } };
 
-    fn open_named(&self, name: &str) -> Option<ReaderSource<R::File>> {
+    fn open_named(&self, name: &str) -> Result<ReaderSource<R::File>, CannotOpen> {
         match fs::open(self, name) {
-            Ok(file) => Some(ReaderSource::new(file)),
-            Err(_) => None,
+            Ok(file) => Ok(ReaderSource::new(file)),
+            Err(fault) => Err(why_of(fault.kind())),
         }
     }
 
@@ -66,8 +67,8 @@ where
 /// Why a file that was named is of no use.
 #[derive(Clone, Copy, Debug, PartialEq, Eq)]
 pub enum FileFault {
-    /// It can't be opened.
-    Open,
+    /// It can't be opened, for this reason.
+    Open(CannotOpen),
     /// It can't be read to its end.
     Read,
 }

@@ -4,6 +4,7 @@ ghost use Rattle.std.specs.Prelude.{◌≡◌};
 ghost use Rattle.subcommands.specs.Outcomes.{quiet, quiet_answer};
 
 use crate::faults::RunFault;
+use crate::notes::Notes;
 use crate::statuses::Status;
 use evidence::Damage;
 use evidence_solvers::KeepFault;
@@ -16,6 +17,8 @@ pub(crate) struct Outcome {
     pub(crate) status: Status,
     /// What was passed over of its evidence, as far as that was read.
     pub(crate) damage: Damage,
+    /// What else is said of it.
+    pub(crate) notes: Notes,
     /// Whether its evidence was read to the end.
     pub(crate) read: Result<(), InputFault>,
     /// Whether all evidence was kept that was to be kept.
@@ -23,20 +26,21 @@ pub(crate) struct Outcome {
 }
 
 impl Outcome {
-    /// Of a run that has passed nothing over, and had nothing to keep.
+    /// Of a run of which nothing is said, that has passed nothing over and had nothing to keep.
     pub(crate) fn quiet(status: Status) -> Outcome
         ensures { result ≡ quiet status }
     {
         Outcome {
             status,
             damage: Damage { count: 0, first: 0 },
+            notes: Notes::none(),
             read: Ok(()),
             kept: Ok(()),
         }
     }
 }
 
-/// What came of a run that passes nothing over, and has nothing to keep.
+/// What came of a run of which nothing is said, that passes nothing over and has nothing to keep.
 pub(crate) fn quietly(answer: Result<Status, RunFault>) -> Result<Outcome, RunFault>
     ensures { result ≡ quiet_answer answer }
 {

@@ -2,14 +2,17 @@
 
 ghost use Rattle.std.specs.Prelude.{◌≡◌};
 ghost use Rattle.farm.specs.Runs.{IsRun};
-ghost use Rattle.subcommands.specs.Pages.{WritesTables, page_fact, report_status};
+ghost use Rattle.subcommands.specs.Pages.{IsOutcomeOf, WritesTables, page_fact};
 ghost use Rattle.tournaments.specs.Making.{MakesPage};
 
 use crate::faults::RunFault;
 use crate::making::{make_tables, make_whole};
-use crate::statuses::Status;
+use crate::outcomes::Outcome;
+use crate::reports::{count_refusals, page_status, searched_notes};
+use crate::searches::{Counted, Tally};
 use asked::TableOptions;
 use cards::{Sink, Source};
+use evidence::Damage;
 use farm::{Clock, Means};
 use lease_book::Book;
 use lease_desk::Gate;
@@ -72,21 +75,34 @@ pub(crate) fn write_page<
     means: &Means<'_, P, G, C>,
     input: &mut I,
     output: &mut O,
-) -> Result<Status, RunFault>
+) -> Result<Outcome, RunFault>
     ensures { WritesTables (C.may_tell means.now.clock.now) options.entry (I.state input.old) (I.state input.new)
         (O.state output.old) (O.state output.new) result }
 {
-    let made = make_page(rt, alloc, options, means, input, output)?;
-    Ok(status_of(made.0))
+    let tally = Tally::new();
+    let solver = &Counted {
+        solver: means.solver,
+        tally: &tally,
+    };
+    let means = &Means {
+        solver,
+        gate: means.gate,
+        clock: means.clock,
+    };
+    let (report, book) = make_page(rt, alloc, options, means, input, output)?;
+    Ok(outcome_of(options.whole, report, &book, &tally))
 }
 
-/// Whether a table is incomplete.
-pub(crate) fn status_of(report: Report) -> Status
-    ensures { result ≡ report_status report }
+/// What came of a page that was written for the book of a run.
+pub(crate) fn outcome_of(whole: bool, report: Report, book: &Book, tally: &Tally) -> Outcome
+    ensures { IsOutcomeOf whole report book.now result }
 {
-    if report.complete < report.boards {
-        Status::Incomplete
-    } else {
-        Status::Done
+    let searches = tally.with_refused(count_refusals(book.history()));
+    Outcome {
+        status: page_status(whole, report, book.boards()),
+        damage: Damage { count: 0, first: 0 },
+        notes: searched_notes(report, book, searches),
+        read: Ok(()),
+        kept: Ok(()),
     }
 }

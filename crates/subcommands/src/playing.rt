@@ -21,8 +21,9 @@ use streams::{InputFault, read_all};
 fn read_file<R: NamedFiles>(rt: &R, alloc: Global, name: &str) -> Result<Vec<u8>, RunFault>
     ensures { ReadsFile (R.may_open rt.now) name.now result }
 {
-    let Some(mut file) = rt.open_named(name) else {
-        return Err(RunFault::AnswerFile(FileFault::Open));
+    let mut file = match rt.open_named(name) {
+        Ok(file) => file,
+        Err(why) => return Err(RunFault::AnswerFile(FileFault::Open(why))),
     };
     match read_all(alloc, &mut file) {
         Ok(text) => Ok(text),

@@ -1,20 +1,22 @@
 //! What a run does for what was asked, and how it ends.
 
-ghost use Rattle.std.specs.Prelude.{◌≡◌};
+ghost use Rattle.std.specs.Prelude.{◌≡◌, None, option_map};
 ghost use Rattle.streams.specs.Flushes.{inner_contents};
 ghost use Rattle.subcommands.specs.declared.statuses.Status.TheVariants.{Failed};
 ghost use Rattle.subcommands.specs.Outcomes.{shelf_fault};
-ghost use Rattle.subcommands.specs.Statuses.{IsTold, told_line};
+ghost use Rattle.subcommands.specs.Explanations.{told_text};
+ghost use Rattle.subcommands.specs.Statuses.{IsTold};
 ghost use Rattle.subcommands.specs.Runs.{Closes, Ends, EndsRead, EvaluatesLayout, IsOfAnswer, IsOfLayout, JudgesInput};
-ghost use Rattle.subcommands.specs.Runs.{RunsSubcommand, Shows};
+ghost use Rattle.subcommands.specs.Runs.{RunsSubcommand, Shows, file_of};
 
 use crate::auditing::audit_file;
 use crate::checks::check_answer;
 use crate::damage_lines::tell_damage;
-use crate::faults::{RunFault, tell};
+use crate::faults::{RunFault, tell, tell_of_file};
 use crate::kept_tables::write_tables;
 use crate::lines::follow_answer;
 use crate::named_files::{FileFault, NamedFiles};
+use crate::notes::tell_notes;
 use crate::outcomes::{Outcome, quietly};
 use crate::plain::plain_line;
 use crate::playing::play_answer;
@@ -34,10 +36,10 @@ use streams::{InputFault, Streams, WriterSink};
 
 /// Does what is asked, and answers how the run ends.
 ///
-/// What can't be done is told on the error output, with nothing on the output but what `play` has written, and the
-/// beginning that a failed output has taken; so is what was passed over of evidence, or couldn't be read or kept,
-/// behind a page that was written. Else the error output is as it was. Where the error output fails, nobody is left to
-/// be told.
+/// A fault is written on the error output, with a line that explains it. Then the output has nothing but what `play` has
+/// written, and the beginning that a failed output has taken. After a page that was written, the error output has what
+/// was passed over of evidence, the notes, and what could not be read or kept. Otherwise it stays as it was. If it fails,
+/// nobody is left to be told.
 pub fn run_subcommand<
     P: Solver + Sync,
     G: Gate + Sync,
@@ -72,19 +74,35 @@ pub fn run_subcommand<
         Subcommand::Play(options) => quietly(play_answer(rt, alloc, options, input, output)),
         Subcommand::Audit { file, whole } => audit_file(rt, alloc, file, whole, input, output),
     };
-    end(answer, &mut streams.errors)
+    end(answer, file_of(asked), &mut streams.errors)
 }
 
-/// Tells what there is to tell of a run, and answers how it ends.
-fn end<E: Sink>(answer: Result<Outcome, RunFault>, errors: &mut E) -> Status
-    ensures { Ends answer (E.state errors.old) (E.state errors.new) result }
+/// The name of the file that is asked for, if one is.
+fn file_of(asked: Subcommand<'_>) -> Option<&str>
+    ensures { option_map (λ name. name.now) result ≡ file_of asked.entry }
+{
+    match asked {
+        Subcommand::Table(options) => options.evidence,
+        Subcommand::Play(options) => Some(options.answer),
+        Subcommand::Audit { file, whole: _ } => Some(file),
+        Subcommand::Plain { .. }
+        | Subcommand::Solve { .. }
+        | Subcommand::Check { .. }
+        | Subcommand::Line { .. } => None,
+    }
+}
+
+/// Writes what there is to say of a run, which was to open the file of this name, and answers how it ends.
+fn end<E: Sink>(answer: Result<Outcome, RunFault>, file: Option<&str>, errors: &mut E) -> Status
+    ensures { Ends (option_map (λ name. name.now) file.entry) answer (E.state errors.old) (E.state errors.new) result }
 {
     match answer {
         Ok(outcome) => {
             tell_damage(outcome.damage, errors);
+            tell_notes(outcome.notes, errors);
             end_done(outcome, errors)
         }
-        Err(fault) => tell(fault, errors),
+        Err(fault) => tell_of_file(fault, file, errors),
     }
 }
 
@@ -105,7 +123,7 @@ fn end_done<E: Sink>(outcome: Outcome, errors: &mut E) -> Status
 /// Tells why evidence was not read to its end, and answers that the run has failed.
 fn tell_unread<E: Sink>(fault: InputFault, errors: &mut E) -> Status
     ensures status { result ≡ Failed }
-    ensures line { IsTold (E.state errors.old) (E.state errors.new) (told_line (shelf_fault fault)) }
+    ensures line { IsTold (E.state errors.old) (E.state errors.new) (told_text None (shelf_fault fault)) }
 {
     match fault {
         InputFault::OutOfMemory => tell(RunFault::Unkept(KeepFault::OutOfMemory), errors),

@@ -9,15 +9,15 @@ returns g c =
     let source' = g.I.Source.state c.audit_page.new.input in
     let sink' = g.O.Sink.state c.audit_page.new.output in
     inr (
-      c.in-Err.fault,
+      c.in-Err-audit_page.fault,
       c.from.ensures,
       record {
-        file = g.R.Opened.Source.state c.in-Some.file;
-        opened = c.in-Some.ensures.opens;
-        none_failed = c.in-Some.ensures.none_failed;
+        file = g.R.Opened.Source.state c.in-Ok.file;
+        opened = c.in-Ok.ensures.opens;
+        none_failed = c.in-Ok.ensures.none_failed;
         left = c.audit_page.new.evidence;
         audits =
-            subst (λ (evidence : Whole). AuditsTables (page_fact c.args.whole) (g.I.Source.state c.args.input.now) source' evidence c.audit_page.new.evidence (g.O.Sink.state c.args.output.now) sink' (Err c.in-Err.fault))
-            c.new-evidence.ensures c.in-Err.ensures;
+            subst (λ (evidence : Whole). AuditsTables (page_fact c.args.whole) (g.I.Source.state c.args.input.now) source' evidence c.audit_page.new.evidence (g.O.Sink.state c.args.output.now) sink' (Err c.in-Err-audit_page.fault))
+            c.new-evidence.ensures c.in-Err-audit_page.ensures;
       },
     )

@@ -1,8 +1,10 @@
 -- The book of the run is one over the boards of the text, and its page was put.
-use Rattle.std.proofs.Common.{List, ℕ, Ok, Err, sym, subst, rules}
+use Rattle.std.proofs.Common.{◌≡◌, List, ℕ, false, Ok, Err, refl, sym, ap, ◌∙◌, subst, rules}
 use Rattle.pbn_deals.specs.Reading.{TextAnswers}
 use Rattle.lease_book.specs.Histories.{Terms}
 use Rattle.subcommands.specs.Beside.{IsRunBesideFile, IsRunBesideSome}
+use Rattle.subcommands.specs.declared.notes.Notes.{Notes}
+use Rattle.subcommands.specs.declared.outcomes.Outcome.{Outcome}
 use Rattle.subcommands.specs.Pages.{PutsPage, page_fact}
 use Rattle.subcommands.proofs.PutLaws.{page_filled, page_begun}
 use Rattle.subcommands.proofs.BesideLaws.{unmade}
@@ -27,10 +29,13 @@ returns g c =
     let whole = c.args.work.options.whole in
     let is_run = IsRunBesideFile (g.F.Read.remaining c.args.file) c.in_ok-text.read (g.C.Clock.may_tell c.args.work.means.now.clock.now) in
     let run = subst (λ (terms : Terms). is_run terms book.events) (sym made.terms_are) made.run in
+    let said = ap (λ (o : Outcome). o.notes) c.outcome_of.ensures.is in
+    let same_notes : record c.outcome_of.result.notes { read_only = false } ≡ c.outcome_of.result.notes =
+    ap (λ (n : Notes). let m : Notes = record n { read_only = false } in m) said ∙ sym said in
     let put = subst (λ (t : List ℕ). PutsPage (page_fact whole) t book (g.O.Sink.state c.args.output.now) (g.O.Sink.state c.put_page.new.output) (Ok c.in_ok-report.report)) c.as_slice.ensures.value c.in_ok-report.ensures in (
       c.in_ok-report.report,
       book,
-      c.status_of.ensures,
+      (c.outcome_of.result, c.outcome_of.ensures, refl, same_notes),
       page_filled is_run (page_fact whole) made.boards _ _ _ _ _ _ text book made.all made.boards_are made.terms_are run c.in_ok-report.report put,
     )
 

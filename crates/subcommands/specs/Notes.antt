@@ -1,0 +1,90 @@
+-- What is said of a run that was done and is no fault: each note at most once.
+use Rattle.std.specs.Prelude.{◌≡◌, ◌==◌, ℕ, ◌<◌, Bool, true, false, List, [], ◌∷◌, ◌++◌, ◌⊎◌, codes}
+use Rattle.std.specs.Prelude.{if◌then◌else◌}
+use Rattle.std.specs.Fmt.{decimal}
+use Rattle.cards.specs.Devices.{Device}
+use Rattle.subcommands.specs.declared.notes.Searches.{Searches}
+use Rattle.subcommands.specs.declared.notes.Lacking.{Lacking}
+use Rattle.subcommands.specs.declared.notes.Lacking.TheVariants.{Nothing, Searched, Unshown}
+use Rattle.subcommands.specs.declared.notes.Notes.{Notes}
+use Rattle.subcommands.specs.Statuses.{IsTold}
+
+-- nothing is said
+abbrev pub quiet_notes : Notes
+quiet_notes = record { lacks_boards = false; undealt = 0; read_only = false; lacking = Nothing }
+
+-- ---- the notes
+-- no board was found
+abbrev pub no_board_text : List ℕ
+no_board_text =
+    codes "ddfarm: note: no board was found" ++ 10
+    ∷ codes "  the input has to be plain text in PBN, not UTF-16, and its lines have to end by LF or CR LF" ++ 10 ∷ []
+
+-- how many boards have something
+abbrev pub counted_boards : ℕ → List ℕ
+counted_boards count = if count == 1 then codes "1 board has" else decimal count ++ codes " boards have"
+
+-- boards have no deal
+abbrev pub undealt_text : ℕ → List ℕ
+undealt_text count =
+    codes "ddfarm: note: " ++ (counted_boards count ++ (codes " no deal, so there is no table" ++ 10 ∷ []))
+
+-- a file of evidence can only be read
+abbrev pub read_only_text : List ℕ
+read_only_text = codes "ddfarm: note: evidence: the file can only be read, so nothing is added to it" ++ 10 ∷ []
+
+-- how many tables are incomplete, as the beginning of a note
+abbrev pub counted_tables : ℕ → List ℕ
+counted_tables tables =
+    if tables == 1 then codes "ddfarm: note: 1 table is incomplete: "
+    else codes "ddfarm: note: " ++ (decimal tables ++ codes " tables are incomplete: ")
+
+-- how searches ended
+abbrev pub counts_text : Searches → List ℕ
+counts_text searches =
+    decimal searches.steps
+    ++ (codes " searches ran out of steps, "
+    ++ (decimal searches.memory
+    ++ (codes " out of memory, " ++ (decimal searches.refused ++ (codes " answers were refused" ++ 10 ∷ [])))))
+
+-- tables are incomplete after searches
+abbrev pub searched_text : ℕ → Searches → List ℕ
+searched_text tables searches =
+    counted_tables tables
+    ++ (counts_text searches
+    ++ (codes "  each missing result was tried as often as --tries says; --budget gives a search more steps"
+    ++ 10 ∷ []))
+
+-- tables lack results that evidence doesn't show
+abbrev pub unshown_text : ℕ → List ℕ
+unshown_text tables =
+    counted_tables tables
+    ++ (codes "the evidence does not show all results" ++ 10
+    ∷ codes "  table --evidence searches the rest and adds it to the file" ++ 10 ∷ [])
+
+-- ---- what is told
+-- a text, if it holds
+abbrev pub TellsIf : Bool → List ℕ → Device → Device → Type 0
+TellsIf true text errors errors' = IsTold errors errors' text
+TellsIf false text errors errors' = errors' ≡ errors
+
+-- that boards have no deal, if any have none
+abbrev pub TellsUndealt : ℕ → Device → Device → Type 0
+TellsUndealt count errors errors' =
+    ((count ≡ 0) × (errors' ≡ errors)) ⊎ ((0 < count) × IsTold errors errors' (undealt_text count))
+
+-- which tables are incomplete, if any are
+abbrev pub TellsLacking : Lacking → Device → Device → Type 0
+TellsLacking Nothing errors errors' = errors' ≡ errors
+TellsLacking (Searched tables searches) errors errors' = IsTold errors errors' (searched_text tables searches)
+TellsLacking (Unshown tables) errors errors' = IsTold errors errors' (unshown_text tables)
+
+-- all notes, one after the other
+pub record TellsNotes (notes : Notes) (errors errors' : Device) : Type 0 where
+  pub with_boards : Device
+  pub with_deals : Device
+  pub with_file : Device
+  pub boards : TellsIf notes.lacks_boards no_board_text errors with_boards
+  pub deals : TellsUndealt notes.undealt with_boards with_deals
+  pub file : TellsIf notes.read_only read_only_text with_deals with_file
+  pub tables : TellsLacking notes.lacking with_file errors'
