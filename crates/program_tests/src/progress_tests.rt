@@ -2,7 +2,7 @@
 
 use crate::expect::{ROOM, expect_eq, means};
 use crate::table_tests::tables;
-use cards::{Buffer, Bytes, Seat, Trump};
+use cards::{Buffer, Bytes, DeviceFault, Seat, Sink, Trump};
 use lease_book::{Entry, Reply, first_boards};
 use lease_desk::{Clock, Gate};
 use partition_solver::{Partition, Solver};
@@ -14,6 +14,7 @@ use std::sync::Wait;
 use std::sync::atomic::AtomicU64;
 use std::sync::atomic::Ordering::SeqCst;
 use std::test::Fail;
+use std::thread;
 use std::thread::Threads;
 use streams::Streams;
 use subcommands::{NamedFiles, Status, Subcommand, run_subcommand};
@@ -35,7 +36,7 @@ struct CallCounts {
 }
 
 impl CallCounts {
-    /// FindsNothing was told yet.
+    /// No call was counted yet.
     fn new() -> CallCounts {
         CallCounts {
             begun: AtomicU64::new(0),
@@ -149,14 +150,22 @@ impl Clock for SetByHand {
     }
 }
 
-/// So many boards: the second has no deal, and all others have the same.
-fn some_boards(alloc: Global, count: usize) -> Result<Vec<Board>, Fail> {
-    let layout = read_layout(b"N:A... K... Q... J...")?;
+/// The deals of the boards.
+const DEAL: Option<&[u8]> = Some(b"N:A... K... Q... J...");
+
+const OTHER_DEAL: Option<&[u8]> = Some(b"N:2... K... Q... J...");
+
+/// Boards with these deals.
+fn boards_with(alloc: Global, deals: &[Option<&[u8]>]) -> Result<Vec<Board>, Fail> {
     let mut boards = Vec::new(alloc);
-    for number in 0..count {
+    for value in deals {
+        let deal = match value {
+            Some(value) => Some(read_layout(value)?),
+            None => None,
+        };
         boards.push(Board {
             name: BoardName::new(Vec::new(alloc)),
-            deal: if number == 1 { None } else { Some(layout) },
+            deal,
         })?;
     }
     Ok(boards)
@@ -169,25 +178,49 @@ fn begin(alloc: Global, gate: &impl Gate, boards: &[Board]) -> Result<(), Fail> 
     Ok(())
 }
 
-/// So many answers for the first board, each with this reply.
-fn check(gate: &impl Gate, count: usize, reply: Reply) {
+/// So many leases are worked on for the board with this number, and each claim has this reply.
+fn check(gate: &impl Gate, count: usize, board: usize, reply: Reply) {
     for _ in 0..count {
         let entry = Entry {
-            board: 0,
+            board,
             declarer: Seat::North,
             trump: Trump::Nt,
         };
+        gate.before_solve(1);
+        gate.before_graphs(1);
+        gate.before_check(1);
         gate.after_check(entry, reply);
     }
 }
 
-const LINES: &[u8] = b"ddfarm: 2 of 20 results, 0 of 2 boards, 4 s
+/// Replies by which no result was published.
+const OTHER_REPLIES: [Reply; 8] = [
+    Reply::Given {
+        lease: 1,
+        entry: Entry {
+            board: 0,
+            declarer: Seat::North,
+            trump: Trump::Nt,
+        },
+        deadline: 2,
+    },
+    Reply::Nothing,
+    Reply::Freed(1),
+    Reply::GaveUp,
+    Reply::UnknownLease,
+    Reply::NotHeld,
+    Reply::OtherEntry,
+    Reply::AlreadyPublished,
+];
+
+const LINES: &[u8] = b"ddfarm: 2 of 20 results, 0 of 2 boards, 5 s
 ddfarm: 19 of 20 results, 0 of 2 boards, 6 s
 ddfarm: 20 of 20 results, 1 of 2 boards, 9 s
 ddfarm: 20 of 20 results, 1 of 2 boards, 12 s, 1 tables incomplete
 ";
 
-/// A line stands where a result was published in another second than that of the last line, or of the beginning.
+/// A line is written when a result is published in another second than that of the last line, or of the beginning. No
+/// other reply counts or gives a line.
 #[test]
 fn a_line_a_second_and_one_at_the_end(rt: HostRuntime) -> Result<(), Fail> {
     let alloc = rt.alloc();
@@ -195,26 +228,34 @@ fn a_line_a_second_and_one_at_the_end(rt: HostRuntime) -> Result<(), Fail> {
         seconds: AtomicU64::new(3),
     };
     let progress = Progress::new(&rt, &clock, Buffer::new(alloc, ROOM, 5)?);
-    begin(alloc, &progress, some_boards(alloc, 2)?.as_slice())?;
-    check(&progress, 1, Reply::Published(7));
+    begin(
+        alloc,
+        &progress,
+        boards_with(alloc, &[DEAL, None])?.as_slice(),
+    )?;
+    check(&progress, 1, 0, Reply::Published(7));
     clock.seconds.store(4, SeqCst);
-    check(&progress, 3, Reply::AlreadyPublished);
-    check(&progress, 17, Reply::Published(0));
+    for reply in OTHER_REPLIES {
+        check(&progress, 1, 0, reply);
+    }
+    clock.seconds.store(5, SeqCst);
+    check(&progress, 17, 0, Reply::Published(0));
     clock.seconds.store(6, SeqCst);
-    check(&progress, 1, Reply::Published(0));
+    check(&progress, 1, 0, Reply::Published(0));
     clock.seconds.store(9, SeqCst);
-    check(&progress, 1, Reply::Published(13));
+    check(&progress, 1, 0, Reply::Published(13));
     clock.seconds.store(12, SeqCst);
     progress.after_work();
     expect_eq(&rt, &progress.into_sink().bytes(), &LINES);
     Ok(())
 }
 
-const SHARED_LINES: &[u8] = b"ddfarm: 3 of 60 results, 0 of 4 boards, 4 s
-ddfarm: 60 of 60 results, 3 of 4 boards, 5 s, 1 tables incomplete
+const SHARED_LINES: &[u8] = b"ddfarm: 2 of 60 results, 0 of 4 boards, 4 s
+ddfarm: 41 of 60 results, 2 of 4 boards, 5 s
+ddfarm: 60 of 60 results, 3 of 4 boards, 6 s, 1 tables incomplete
 ";
 
-/// A result counts for each of the boards with its deal.
+/// A result counts for each of the boards with its deal, and for no other board.
 #[test]
 fn boards_that_share_a_deal(rt: HostRuntime) -> Result<(), Fail> {
     let alloc = rt.alloc();
@@ -222,11 +263,78 @@ fn boards_that_share_a_deal(rt: HostRuntime) -> Result<(), Fail> {
         seconds: AtomicU64::new(3),
     };
     let progress = Progress::new(&rt, &clock, Buffer::new(alloc, ROOM, 5)?);
-    begin(alloc, &progress, some_boards(alloc, 4)?.as_slice())?;
+    let boards = boards_with(alloc, &[DEAL, None, OTHER_DEAL, DEAL])?;
+    begin(alloc, &progress, boards.as_slice())?;
     clock.seconds.store(4, SeqCst);
-    check(&progress, 20, Reply::Published(0));
+    check(&progress, 20, 0, Reply::Published(0));
     clock.seconds.store(5, SeqCst);
+    check(&progress, 20, 2, Reply::Published(0));
+    clock.seconds.store(6, SeqCst);
     progress.after_work();
     expect_eq(&rt, &progress.into_sink().bytes(), &SHARED_LINES);
+    Ok(())
+}
+
+/// A clock that goes on by a second each time it is read.
+#[derive(Drop)]
+struct Readings {
+    seconds: AtomicU64,
+}
+
+impl Clock for Readings {
+    fn now(&self) -> u64 {
+        self.seconds.fetch_add(1, SeqCst)
+    }
+}
+
+/// A buffer that lets other threads run before it takes a piece.
+#[derive(Drop)]
+struct Slow(Buffer);
+
+impl Sink for Slow {
+    ghost use Rattle.cards.specs.Memory.{stock_device};
+
+    ghost state = { λ slow. stock_device slow.0 };
+
+    fn write(&mut self, piece: &[u8]) -> Result<usize, DeviceFault> {
+        for _ in 0..100u8 {
+            thread::yield_now();
+        }
+        self.0.write(piece)
+    }
+}
+
+/// A line for each of twenty results, and the last line.
+fn twenty_lines(alloc: Global) -> Result<String, Fail> {
+    let mut lines = String::new(alloc);
+    for count in 1..=20u8 {
+        let finished = count / 20;
+        let line =
+            format!(in alloc; "ddfarm: {count} of 20 results, {finished} of 1 boards, {count} s")?;
+        lines.push_str(&line)?;
+        lines.push_str("\n")?;
+    }
+    lines.push_str("ddfarm: 20 of 20 results, 1 of 1 boards, 21 s, 0 tables incomplete\n")?;
+    Ok(lines)
+}
+
+/// Two threads hand ten results each to the gate, one after the other or at once. Each result counts and has its line.
+#[test]
+fn results_of_two_threads(rt: HostRuntime) -> Result<(), Fail> {
+    let alloc = rt.alloc();
+    let clock = Readings {
+        seconds: AtomicU64::new(0),
+    };
+    let progress = Progress::new(&rt, &clock, Slow(Buffer::new(alloc, ROOM, 5)?));
+    begin(alloc, &progress, boards_with(alloc, &[DEAL])?.as_slice())?;
+    thread::join(
+        &rt,
+        || check(&progress, 10, 0, Reply::Published(7)),
+        || check(&progress, 10, 0, Reply::Published(7)),
+    );
+    progress.after_work();
+    let Slow(buffer) = progress.into_sink();
+    let lines = twenty_lines(alloc)?;
+    expect_eq(&rt, &buffer.bytes(), &lines.as_bytes());
     Ok(())
 }

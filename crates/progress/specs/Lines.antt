@@ -1,7 +1,9 @@
 -- What is told of the work.
-use Rattle.std.specs.Prelude.{ℕ, ◌-◌, List, ◌++◌, codes, ◌⊎◌}
+use Rattle.std.specs.Prelude.{ℕ, ◌-◌, List, ◌++◌, codes, ◌⊎◌, ⊤}
 use Rattle.std.specs.Fmt.{decimal}
 use Rattle.cards.specs.Devices.{Device, Adds, AddsBeginning}
+use Rattle.lease_book.specs.declared.events.Reply.{Reply}
+use Rattle.lease_book.specs.declared.events.Reply.TheVariants.{Published}
 use Rattle.progress.specs.declared.counts.Counts.{Counts}
 
 -- `37 of 200 results, `
@@ -24,6 +26,11 @@ last_line_text counts seconds =
     counts_text counts
     ++ (decimal seconds ++ (codes " s, "
     ++ (decimal (counts.boards - counts.finished) ++ codes " tables incomplete\n")))
+
+-- the reply is that a result was published
+abbrev pub IsPublished : Reply → Type 0
+IsPublished (Published k) = ⊤
+IsPublished _ = ⊥
 
 -- a text goes out, or a beginning of it where the sink fails
 abbrev pub Tells : Device → Device → List ℕ → Type 0

@@ -21,7 +21,7 @@ struct Told<S> {
 
 impl<S: Sink> Told<S> {
     ghost use Rattle.progress.specs.Counts.{IsBegun, AddsResult};
-    ghost use Rattle.progress.specs.Lines.{Tells, line_text, last_line_text};
+    ghost use Rattle.progress.specs.Lines.{IsPublished, Tells, line_text, last_line_text};
     ghost use Rattle.lease_book.specs.Keeping.{AreFirsts};
 
     /// The work on these boards begins at this moment.
@@ -35,15 +35,20 @@ impl<S: Sink> Told<S> {
         self.moment = now;
     }
 
-    /// A result of this board was published at this moment: a line is written, unless one was in the same moment.
-    fn publish(&mut self, board: usize, now: u64)
-        ensures counts { AddsResult self.old.counts self.new.counts board }
-        ensures moment { self.new.moment ≡ max self.old.moment now }
-        ensures line { self.old.moment < now
+    /// A claim for this entry had this reply at this moment. A published result counts, and a line is written unless one
+    /// was in the same moment. Any other reply changes nothing.
+    fn hear(&mut self, entry: Entry, reply: Reply, now: u64)
+        ensures other { (IsPublished reply → ⊥) → self.new ≡ self.old }
+        ensures counts { IsPublished reply → AddsResult self.old.counts self.new.counts entry.board }
+        ensures moment { IsPublished reply → self.new.moment ≡ max self.old.moment now }
+        ensures line { IsPublished reply → self.old.moment < now
             → Tells (S.state self.old.sink) (S.state self.new.sink) (line_text self.new.counts now) }
         ensures no_line { now ≤ self.old.moment → self.new.sink ≡ self.old.sink }
     {
-        self.counts.publish(board);
+        let Reply::Published(_) = reply else {
+            return;
+        };
+        self.counts.publish(entry.board);
         if now > self.moment {
             self.moment = now;
             let _ = write_line(&self.counts, now, &mut self.sink);
@@ -100,8 +105,9 @@ impl<'a, R: Wait, C: Clock, S: Sink> Progress<'a, R, C, S> {
 
 impl<R: Wait, C: Clock, S: Sink> Gate for Progress<'_, R, C, S> {
     fn before_work(&self, boards: &[Board], firsts: &[usize]) {
-        let mut told = self.told.lock(self.rt);
-        told.begin(boards, firsts, self.clock.now());
+        self.told
+            .lock(self.rt)
+            .begin(boards, firsts, self.clock.now());
     }
 
     fn before_solve(&self, _lease: u64) {}
@@ -109,15 +115,10 @@ impl<R: Wait, C: Clock, S: Sink> Gate for Progress<'_, R, C, S> {
     fn before_check(&self, _lease: u64) {}
 
     fn after_check(&self, entry: Entry, reply: Reply) {
-        let Reply::Published(_) = reply else {
-            return;
-        };
-        let mut told = self.told.lock(self.rt);
-        told.publish(entry.board, self.clock.now());
+        self.told.lock(self.rt).hear(entry, reply, self.clock.now());
     }
 
     fn after_work(&self) {
-        let mut told = self.told.lock(self.rt);
-        told.end(self.clock.now());
+        self.told.lock(self.rt).end(self.clock.now());
     }
 }
