@@ -96,12 +96,14 @@ fn read_only(rt: HostRuntime) -> Result<(), Fail> {
     let disk = disk_of(&rt, alloc, cut.as_bytes())?;
     disk.held.lock(&rt).allows = Allows::Reading;
     let opened = open_evidence(&System(&disk), "kept.dde")?;
-    assert_eq!(rt; (opened.access, disk.held.lock(&rt).writes), (Access::ReadOnly, 0));
+    assert_eq!(rt;
+        (opened.access, disk.held.lock(&rt).writes),
+        (Access::ReadOnly, 0)
+    );
     assert_eq!(rt; parts_of(alloc, opened.front)?, (1, 1));
     let inner = Counts::of(text.as_str());
     let clock = Steps::new(1);
-    let keeping: DiskKeeping<'_, HostRuntime> =
-        Keeping::new(&rt, &clock, &inner, opened.tail);
+    let keeping: DiskKeeping<'_, HostRuntime> = Keeping::new(&rt, &clock, &inner, opened.tail);
     assert_eq!(rt; tricks_of_north(alloc, &keeping, &layout), 9);
     assert_eq!(rt; keeping.close().kept, Err(KeepFault::Write));
     assert_eq!(rt; disk.held.lock(&rt).bytes.as_slice(), cut.as_bytes());
@@ -115,7 +117,11 @@ fn added_sections(rt: HostRuntime) -> Result<(), Fail> {
     let layout = layout(alloc)?;
     let text = section(alloc, 13)?;
     let disk = disk_of(&rt, alloc, text.as_bytes())?;
-    let Opened { front, tail, access } = open_evidence(&System(&disk), "kept.dde")?;
+    let Opened {
+        front,
+        tail,
+        access,
+    } = open_evidence(&System(&disk), "kept.dde")?;
     assert_eq!(rt; access, Access::ReadAndAdd);
     let inner = Counts::of(text.as_str());
     let clock = Steps::new(1);

@@ -127,10 +127,12 @@ const UNSHOWN: &str = "ddfarm: note: 1 table is incomplete: the evidence does no
 
 /// What is told of it after so many searches that found nothing, and so many refused answers.
 fn searched(alloc: Global, steps: u8, refused: u8) -> Result<String, AllocError> {
-    format!(in alloc; "ddfarm: note: 1 table is incomplete: {steps} searches ran out of steps, 0 out of memory, \
+    format!(in alloc;
+        "ddfarm: note: 1 table is incomplete: {steps} searches ran out of steps, 0 out of memory, \
         {refused} answers were refused
   each missing result was tried as often as --tries says; --budget gives a search more steps
-")
+"
+    )
 }
 
 /// A file that isn't there is told, with its name, before anything of the input, of which the first call would fail, is
@@ -143,7 +145,11 @@ fn no_file(rt: HostRuntime) -> Result<(), Fail> {
         ..SOUND
     };
     for name in ["", "club", "club.dde2", "/club.dde", "\u{1b}club\n\u{7f}"] {
-        let shown = if name.starts_with("\u{1b}") { "?club??" } else { name };
+        let shown = if name.starts_with("\u{1b}") {
+            "?club??"
+        } else {
+            name
+        };
         let told = format!(in alloc; "ddfarm: evidence: cannot open\n  {shown}: no such file\n")?;
         let wanted = (Status::Failed, "", told.as_str());
         expect_end(&rt, alloc, audit(name), devices, wanted, NO_TRUMP)?;

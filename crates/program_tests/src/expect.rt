@@ -26,6 +26,16 @@ pub const CARD_TWICE: &str = "ddfarm: layout: 5 CardTwice
   this layout has a card twice
 ";
 
+/// What is told of a word that is no layout.
+pub const NO_LAYOUT: &str = "ddfarm: layout: 4 DealForm
+  a layout is one word, in quotes: a seat and four hands as spades.hearts.diamonds.clubs, T for the ten
+";
+
+/// What is told of a layout whose hands have no cards.
+pub const NO_CARDS: &str = "ddfarm: layout: 6 HandSize
+  the four hands must have equally many cards, 1 to 13
+";
+
 /// How a run ends, what is on its output, and what is on its error output.
 pub type End<'a> = (Status, &'a str, &'a str);
 

@@ -69,24 +69,8 @@ const ANSWERS: [(&[u8], bool, End<'static>); 8] = [
             "",
         ),
     ),
-    (
-        b"result 14\n",
-        false,
-        (
-            Status::Refused,
-            "",
-            NO_RESULT,
-        ),
-    ),
-    (
-        b"",
-        false,
-        (
-            Status::Refused,
-            "",
-            NO_RESULT,
-        ),
-    ),
+    (b"result 14\n", false, (Status::Refused, "", NO_RESULT)),
+    (b"", false, (Status::Refused, "", NO_RESULT)),
 ];
 
 /// The answer is followed as `line` says, and where it is refused `check` refuses it with the same words.

@@ -309,8 +309,9 @@ fn twenty_lines(alloc: Global) -> Result<String, Fail> {
     let mut lines = String::new(alloc);
     for count in 1..=20u8 {
         let finished = count / 20;
-        let line =
-            format!(in alloc; "ddfarm: {count} of 20 results, {finished} of 1 boards, {count} s")?;
+        let line = format!(in alloc;
+            "ddfarm: {count} of 20 results, {finished} of 1 boards, {count} s"
+        )?;
         lines.push_str(&line)?;
         lines.push_str("\n")?;
     }

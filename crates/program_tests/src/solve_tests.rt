@@ -1,6 +1,6 @@
 //! Answers that are found, written and then checked.
 
-use crate::expect::{CARD_TWICE, End, ROOM, expect_eq, expect_run, means};
+use crate::expect::{CARD_TWICE, End, NO_CARDS, NO_LAYOUT, ROOM, expect_eq, expect_run, means};
 use arrayvec::ArrayVec;
 use cards::{Buffer, Bytes, Layout, Seat, Side, Suit, Trump};
 use certificate_graph::{Graph, Version};
@@ -184,7 +184,11 @@ impl Solver for Claims {
 }
 
 /// How a run ends that has no answer.
-const NO_ANSWER: End<'static> = (Status::Incomplete, "", "ddfarm: no answer\n  --budget gives the search more steps\n");
+const NO_ANSWER: End<'static> = (
+    Status::Incomplete,
+    "",
+    "ddfarm: no answer\n  --budget gives the search more steps\n",
+);
 
 /// What is written of thirteen tricks that nothing shows.
 pub const THIRTEEN: &str = "result 13
@@ -210,16 +214,8 @@ const CLAIMS: [(&str, Option<u8>, End<'static>); 7] = [
         None,
         (Status::Refused, "", CARD_TWICE),
     ),
-    (
-        "N:... ... ... ...",
-        None,
-        (Status::Refused, "", "ddfarm: layout: 6 HandSize\n  the four hands must have equally many cards, 1 to 13\n"),
-    ),
-    (
-        "",
-        None,
-        (Status::Refused, "", "ddfarm: layout: 4 DealForm\n  a layout is one word, in quotes: a seat and four hands as spades.hearts.diamonds.clubs, T for the ten\n"),
-    ),
+    ("N:... ... ... ...", None, (Status::Refused, "", NO_CARDS)),
+    ("", None, (Status::Refused, "", NO_LAYOUT)),
 ];
 
 /// A solver is trusted for nothing, but that a hand has no fourteenth trick; and it may find nothing in its steps.
