@@ -32,6 +32,10 @@ module _ {T : Type 0} where
   abbrev pub marks_of : Taker T → ℕ
   marks_of taker = marks_in (items_taken_by taker)
 
+  -- whether `Relay::end` was called
+  abbrev pub is_ended : Relay T → Bool
+  is_ended relay = relay.ended
+
   -- how many end marks were put by `Relay::end`
   abbrev pub marks_at_end : Relay T → ℕ
   marks_at_end relay = marks_in (view relay.pass).put
@@ -90,7 +94,8 @@ module _ {T : Type 0} where
     pub none_taken : All (λ taker. taken_by taker ≡ []) takers
     pub no_marks_put : All (λ putter. marks_by putter ≡ 0) putters
     pub no_marks_taken : All (λ taker. marks_of taker ≡ 0) takers
-    pub not_ended : marks_at_end relay ≡ 0
+    pub not_ended : is_ended relay ≡ false
+    pub no_marks_at_end : marks_at_end relay ≡ 0
 
   -- The messages put are those taken and those left, each as often as it was put: so it is where every weight of
   -- messages gives the same sum.

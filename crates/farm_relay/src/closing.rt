@@ -101,6 +101,7 @@ impl<T: Drop> Relay<T> {
             unfinished: _,
             putters: _,
             takers: _,
+            ended: _,
         } = self;
         let mut pass = pass;
         join_putters(&sender, &mut pass, putters);

@@ -90,6 +90,7 @@ impl<T: Drop> Relay<T> {
             unfinished,
             putters,
             takers,
+            ended: false,
         };
         Ok((relay, all_putters, all_takers))
     }

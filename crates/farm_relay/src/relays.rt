@@ -24,6 +24,8 @@ pub struct Relay<T: Drop> {
     /// How many putters and takers there are.
     pub(crate) putters: usize,
     pub(crate) takers: usize,
+    /// Whether [`Relay::end`] was called.
+    pub(crate) ended: bool,
     pub(crate) ghost seat: { IsSeatAt (sends_on sender) pass },
     pub(crate) ghost put: { messages_in (view pass).put ≡ [] },
     pub(crate) ghost taken: { (view pass).taken ≡ [] },
@@ -33,16 +35,22 @@ pub struct Relay<T: Drop> {
 }
 
 impl<T: Drop> Relay<T> {
-    ghost use Rattle.std.specs.Prelude.{◌≤◌};
-    ghost use Rattle.farm_relay.specs.Relays.{IsSameRelay, marks_at_end, takers_of};
+    ghost use Rattle.std.specs.Prelude.{◌≤◌, true};
+    ghost use Rattle.farm_relay.specs.Relays.{IsSameRelay, is_ended, marks_at_end, takers_of};
 
-    /// Puts the end marks that putters owe, one for each taker, unless all have finished: for who closes a relay some
-    /// of whose putters never will. A putter that finishes later puts none, and a second call does nothing. Waits while
-    /// all places are full, but not where nobody is left to take.
+    /// Ends the relay when some putters will never finish. It puts the end marks that the putters owe, one for each
+    /// taker, unless all putters have finished. A putter that finishes later puts no mark, and a second call does
+    /// nothing. The call waits while all places are full, unless no taker is left.
     pub fn end<R: Wait>(&mut self, rt: &R)
+        ensures ended { is_ended self.new ≡ true }
         ensures marks { marks_at_end self.new ≤ marks_at_end self.old + takers_of self.old }
+        ensures again { is_ended self.old ≡ true → self.new ≡ self.old }
         ensures same { IsSameRelay self.old self.new }
     {
+        if self.ended {
+            return;
+        }
+        self.ended = true;
         if self.unfinished.swap(0, SeqCst) > 0 {
             send_marks(rt, &self.sender, &mut self.pass, self.takers);
         }

@@ -5,6 +5,7 @@ ghost use Rattle.farm_relay.specs.Relays.{PutsAtSame, TakesAtSame};
 
 use crate::expect::{expect_eq, numbers};
 use crate::runs::{put_range, take_all};
+use crate::watch::soon;
 use farm_relay::{OutOfMemory, Putter, Relay, Taker};
 use std::alloc::Global;
 use std::sync::Wait;
@@ -147,7 +148,8 @@ fn exchange<R: Threads + Wait + Sync>(
 
 #[test]
 fn two_and_two(rt: HostRuntime) -> Result<(), Fail> {
-    let (came, back) = exchange(&rt, rt.alloc())?;
+    let exchanged = soon(&rt, || exchange(&rt, rt.alloc()));
+    let (came, back) = exchanged?;
     let mut came = came;
     came.sort()?;
     expect_eq(&rt, &came, &numbers(rt.alloc(), 1, 1001)?);

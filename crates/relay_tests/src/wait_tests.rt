@@ -2,7 +2,7 @@
 //! and no take where the relay is ended.
 
 use crate::expect::expect_eq;
-use crate::watch::{soon, take_soon};
+use crate::watch::{soon, take_end_soon};
 use farm_relay::{OutOfMemory, Putter, Relay, Taker};
 use std::alloc::Global;
 use std::sync::Wait;
@@ -93,13 +93,15 @@ fn put_when_full<R: Threads + Wait + Sync>(
 
 #[test]
 fn a_take_waits(rt: HostRuntime) -> Result<(), Fail> {
-    expect_eq(&rt, &taken_when_empty(&rt, rt.alloc())?, &Some(3));
+    let taken = soon(&rt, || taken_when_empty(&rt, rt.alloc()));
+    expect_eq(&rt, &taken?, &Some(3));
     Ok(())
 }
 
 #[test]
 fn a_put_waits(rt: HostRuntime) -> Result<(), Fail> {
-    expect_eq(&rt, &put_when_full(&rt, rt.alloc())?, &(true, Some(4)));
+    let put = soon(&rt, || put_when_full(&rt, rt.alloc()));
+    expect_eq(&rt, &put?, &(true, Some(4)));
     Ok(())
 }
 
@@ -136,7 +138,8 @@ fn taken_when_ended<R: Threads + Wait + Sync>(
 
 #[test]
 fn an_end_wakes_a_taker(rt: HostRuntime) -> Result<(), Fail> {
-    expect_eq(&rt, &taken_when_ended(&rt, rt.alloc())?, &None);
+    let taken = soon(&rt, || taken_when_ended(&rt, rt.alloc()));
+    expect_eq(&rt, &taken?, &None);
     Ok(())
 }
 
@@ -161,6 +164,6 @@ fn nobody_finishes(rt: HostRuntime) -> Result<(), Fail> {
     let (mut relay, putters, mut takers) = Relay::<u64>::open(rt.alloc(), 4, 1, 1)?;
     drop(putters);
     relay.end(&rt);
-    expect_eq(&rt, &take_soon(&rt, &mut takers[0]), &None);
+    take_end_soon(&rt, &mut takers[0]);
     Ok(())
 }
