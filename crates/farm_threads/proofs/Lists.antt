@@ -1,9 +1,10 @@
 -- Lists that grow by one, and lists beside each other.
-use Rattle.std.proofs.Common.{◌≡◌, List, [], ◌∷◌, ◌++◌, All, map, Result, length, append-nil, sym, ap, ◌∙◌, subst, append_assoc, arith}
+use Rattle.std.proofs.Common.{◌≡◌, List, [], ◌∷◌, ◌++◌, All, map, length, append-nil, sym, ap, ◌∙◌, subst, append_assoc, arith}
 use Rattle.std.proofs.lemmas.List.{map_push}
 use Rattle.std.proofs.lemmas.List.Elements.{All-head, All-tail, All-push}
 use Rattle.std.specs.declared.thread.PromisedHandle.{PromisedHandle}
 use Rattle.farm_threads.specs.declared.promises.Keeps.{Keeps}
+use Rattle.farm_threads.specs.declared.works.Ended.{Ended}
 use Rattle.farm_threads.specs.Beside.{AreBeside}
 use Rattle.farm_threads.specs.Posts.{AreThreadsOf}
 
@@ -35,16 +36,16 @@ module _ {X Y : Type 0} (R : X → Y → Type 0) where
   beside_more xs ys more x y is are one = subst (λ (l : List Y). AreBeside R (xs ++ x ∷ []) l) (sym is) (both_more xs ys x y are one)
 
 module _ {P F W : Type 0} (ends : W → P → P → Type 0) (work : W) where
-  kept_one_by_one : (threads : List (PromisedHandle (Result P F) (Keeps P W))) (ended : List P) → All (λ (t : PromisedHandle (Result P F) (Keeps P W)). t.promise.work.value ≡ work) threads → AreBeside (λ (t : PromisedHandle (Result P F) (Keeps P W)) post. ends t.promise.work.value t.promise.post.value post) threads ended → AreBeside (ends work) (map (λ (t : PromisedHandle (Result P F) (Keeps P W)). t.promise.post.value) threads) ended
+  kept_one_by_one : (threads : List (PromisedHandle (Ended P F) (Keeps P W))) (ended : List P) → All (λ (t : PromisedHandle (Ended P F) (Keeps P W)). t.promise.work.value ≡ work) threads → AreBeside (λ (t : PromisedHandle (Ended P F) (Keeps P W)) post. ends t.promise.work.value t.promise.post.value post) threads ended → AreBeside (ends work) (map (λ (t : PromisedHandle (Ended P F) (Keeps P W)). t.promise.post.value) threads) ended
   kept_one_by_one [] [] of are = tt
   kept_one_by_one [] (e ∷ es) of are = absurd are
   kept_one_by_one (t ∷ ts) [] of are = absurd are
   kept_one_by_one (t ∷ ts) (e ∷ es) of are =
-      let Of : PromisedHandle (Result P F) (Keeps P W) → Type 0 = λ t. t.promise.work.value ≡ work in (
+      let Of : PromisedHandle (Ended P F) (Keeps P W) → Type 0 = λ t. t.promise.work.value ≡ work in (
         subst (λ (w : W). ends w t.promise.post.value e) (All-head Of t ts of) are.0,
         kept_one_by_one ts es (All-tail Of t ts of) are.1,
       )
 
   -- what the threads have kept, of the posts that they were started at
-  pub kept : (posts : List P) (threads : List (PromisedHandle (Result P F) (Keeps P W))) (ended : List P) → AreThreadsOf work posts threads → AreBeside (λ (t : PromisedHandle (Result P F) (Keeps P W)) post. ends t.promise.work.value t.promise.post.value post) threads ended → AreBeside (ends work) posts ended
+  pub kept : (posts : List P) (threads : List (PromisedHandle (Ended P F) (Keeps P W))) (ended : List P) → AreThreadsOf work posts threads → AreBeside (λ (t : PromisedHandle (Ended P F) (Keeps P W)) post. ends t.promise.work.value t.promise.post.value post) threads ended → AreBeside (ends work) posts ended
   kept posts threads ended of are = subst (λ (l : List P). AreBeside (ends work) l ended) of.posts_are (kept_one_by_one threads ended of.work_is are)

@@ -14,4 +14,4 @@ pub use faults::StartFault;
 pub use joining::{end_each, join_each};
 pub use promises::{Keeps, Thread};
 pub use starting::start_each;
-pub use works::Work;
+pub use works::{Ended, Work};

@@ -1,12 +1,10 @@
-//! What a thread has promised.
+//! The promise of a thread.
 
-ghost use Rattle.std.specs.Prelude.{IfOk};
-
-use crate::works::Work;
+use crate::works::{Ended, Work};
 use std::snapshot::Snapshot;
 use std::thread::{Promise, PromisedHandle};
 
-/// That this work is done at this post. It has no bytes.
+/// The promise that this work was done at this post. It has no bytes.
 pub struct Keeps<P, W> {
     pub(crate) work: Snapshot<W>,
     pub(crate) post: Snapshot<P>,
@@ -18,9 +16,11 @@ impl<P, W> Drop for Keeps<P, W> {
     }
 }
 
-impl<P, F, W: Work<P, F>> Promise<Result<P, F>> for Keeps<P, W> {
-    ghost kept_by = { λ keeps ended. IfOk ended (W.ends keeps.work.value keeps.post.value) };
+impl<P, F, W: Work<P, F>> Promise<Ended<P, F>> for Keeps<P, W> {
+    ghost use Rattle.farm_threads.specs.Promises.{IsKept};
+
+    ghost kept_by = { IsKept W.leaves W.ends };
 }
 
 /// A thread that works at a post.
-pub type Thread<P, F, W> = PromisedHandle<Result<P, F>, Keeps<P, W>>;
+pub type Thread<P, F, W> = PromisedHandle<Ended<P, F>, Keeps<P, W>>;

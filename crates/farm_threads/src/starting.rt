@@ -1,11 +1,12 @@
 //! The starting of threads.
 
 ghost use Rattle.std.specs.Prelude.{◌≡◌, [], All, IfSome, OnOk};
+ghost use denote.Param.Send.{IsSync};
 ghost use Rattle.farm_threads.specs.Posts.{IsThreadOf, AreThreadsOf};
 
 use crate::faults::StartFault;
 use crate::promises::{Keeps, Thread};
-use crate::works::Work;
+use crate::works::{Ended, Work};
 use core::thread::Stack;
 use std::snapshot::Snapshot;
 use std::sync::Wait;
@@ -14,6 +15,18 @@ use std::thread::{Scope, Threads};
 /// How many bytes of stack a thread gets, whatever the process's limit is. What a search needs most of is a call for
 /// each card of the deal that was played.
 const STACK: usize = 1 << 20;
+
+/// Works at a post, and hands it back.
+fn work_at<P, F, W: Work<P, F>, R: Threads + Wait + Sync>(rt: &R, work: &W, post: P) -> Ended<P, F>
+    requires begins { W.begins work.now post }
+    requires shared { IsSync R.row }
+    ensures left { W.leaves work.now post result.post }
+    ensures done { OnOk result.outcome (W.ends work.now post result.post) }
+{
+    let mut post = post;
+    let outcome = work.work(rt, &mut post);
+    Ended { post, outcome }
+}
 
 /// Starts a thread at a post, where one can be started.
 fn start<
@@ -33,10 +46,15 @@ fn start<
     };
     Stack::new()
         .stack_size(STACK)
-        .spawn_scoped_with(scope, keeps, move || work.work(rt, post))
+        .spawn_scoped_with(
+            scope,
+            keeps,
+            move || -> Ended<P, F>
+                requires { W.begins work.now post }
+            { work_at(rt, work, post) },
+        )
         .ok()
 }
-
 /// Starts a thread at each post, in their order. On a fault those that were started are in the list; the other posts
 /// are let go.
 pub fn start_each<
