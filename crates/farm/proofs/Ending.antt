@@ -22,6 +22,7 @@ use Rattle.farm.specs.declared.posts.Posts.{Posts}
 use Rattle.farm.specs.declared.relays.Relays.{Relays}
 use Rattle.farm.specs.declared.relays.RelayEnds.{RelayEnds}
 use Rattle.lease_book.specs.Moments.{MayTell}
+use Rattle.partition_solver.specs.Answers.{MayFind}
 use Rattle.farm.specs.Working.{IsNew, IsOnDuty}
 use Rattle.farm.specs.Requests.{EndsIdle}
 use Rattle.farm.specs.Flows.{given, settled, of_found, of_claim, all_found, all_claimed}
@@ -102,22 +103,22 @@ can_be_manned settings relays chairs ends opened count =
     let d' = b.all_takers in
     record { chairs_are = omega arith; ends_are = omega arith }
 
-module _ {S G C : Type 0} (may_tell : C → MayTell) (crew : Crew S G C) (relays : Relays) (chairs after : List Chair) (ends back : RelayEnds) (before worked : Posts)
+module _ {S G C : Type 0} (may_tell : C → MayTell) (may_find : S → MayFind) (crew : Crew S G C) (relays : Relays) (chairs after : List Chair) (ends back : RelayEnds) (before worked : Posts)
     (opened : AreOpened crew.settings relays ends) (manned : AreManned chairs ends before)
-    (ended : HaveEnded (HasSolved may_tell crew) HasChecked (HasSettled may_tell crew) before worked) (apart : AreManned after back worked) where
+    (ended : HaveEnded (HasSolved may_tell may_find crew) HasChecked (HasSettled may_tell crew) before worked) (apart : AreManned after back worked) where
   -- all ends are back
   pub all_ends : AreAllEndsOf relays back
   all_ends =
       let found = opened.found.ends in
       let claims = opened.claims.ends in
-      let finds_many = as_many_parts (HasSolved may_tell crew) (λ (p : SolverPost). p.found) _ _ _ _ manned.finds apart.finds ended.solvers in
+      let finds_many = as_many_parts (HasSolved may_tell may_find crew) (λ (p : SolverPost). p.found) _ _ _ _ manned.finds apart.finds ended.solvers in
       let found_many = as_many_parts HasChecked (λ (p : CheckerPost). p.found) _ _ _ _ manned.found apart.found ended.checkers in
       let claims_many = as_many_parts HasChecked (λ (p : CheckerPost). p.claims) _ _ _ _ manned.claims apart.claims ended.checkers in
       let heard_many = as_many_parts (HasSettled may_tell crew) (λ (p : ClerkPost). p.claims) _ _ _ _ manned.heard apart.heard ended.clerks in
       record {
         found = record {
           putters_are = subst (λ (l : List (Putter FoundBundle)). All (IsPutterOf relays.found) l) (sym apart.finds)
-              (carried (HasSolved may_tell crew) (IsPutterOf relays.found) (λ (p : SolverPost). p.found) (λ x y has is. still_putter relays.found x.found y.found has.stays.found is) _ _ ended.solvers
+              (carried (HasSolved may_tell may_find crew) (IsPutterOf relays.found) (λ (p : SolverPost). p.found) (λ x y has is. still_putter relays.found x.found y.found has.stays.found is) _ _ ended.solvers
               (subst (λ (l : List (Putter FoundBundle)). All (IsPutterOf relays.found) l) manned.finds found.putters_are));
           takers_are = subst (λ (l : List (Taker FoundBundle)). All (IsTakerOf relays.found) l) (sym apart.found)
               (carried HasChecked (IsTakerOf relays.found) (λ (p : CheckerPost). p.found) (λ x y has is. still_taker relays.found x.found y.found has.stays.found is) _ _ ended.checkers
@@ -176,7 +177,7 @@ module _ {S G C : Type 0} (may_tell : C → MayTell) (crew : Crew S G C) (relays
       let none2 : CheckerPost → ℕ = λ p. 0 in
       let none3 : ClerkPost → ℕ = λ p. 0 in
       let checked = worked.checkers.items in
-      let solvers = sums_below S1 F G1 none1 Solved (each_after (HasSolved may_tell crew) (λ p. S1 p + F p ≤ G1 p + none1 p) (λ x y has. let own = has.leases weight in omega arith) before.solvers.items Solved ended.solvers) in
+      let solvers = sums_below S1 F G1 none1 Solved (each_after (HasSolved may_tell may_find crew) (λ p. S1 p + F p ≤ G1 p + none1 p) (λ x y has. let own = has.leases weight in omega arith) before.solvers.items Solved ended.solvers) in
       let checkers = sums_below Q none2 T none2 checked (each_after HasChecked (λ p. Q p + none2 p ≤ T p + none2 p) (λ x y has. let own = has.leases weight in omega arith) before.checkers.items checked ended.checkers) in
       let clerks = sums_below S2 none3 G2 K Settled (each_after (HasSettled may_tell crew) (λ p. S2 p + none3 p ≤ G2 p + K p) (λ x y has. let own = has.leases weight in omega arith) before.clerks.items Settled ended.clerks) in
       let n1 = sum_of_nothing Solved in
@@ -198,18 +199,18 @@ module _ {S G C : Type 0} (may_tell : C → MayTell) (crew : Crew S G C) (relays
       let a = opened.found.ends.all_putters in
       let b = opened.found.putters_are in
       let c = ap length manned.finds in
-      let d = as_many (HasSolved may_tell crew) before.solvers.items Solved ended.solvers in
+      let d = as_many (HasSolved may_tell may_find crew) before.solvers.items Solved ended.solvers in
       let e = crew.settings.solvers_are in
       omega (arith, length-map before.solvers.items (λ (p : SolverPost). p.found))
       ) in
-      let idle = some_idle Solved (map desk_chair_of Settled) some (each_after (HasSolved may_tell crew) (λ p. EndsIdle (receipts_in p.chair)) (λ x y has. has.idle) before.solvers.items Solved ended.solvers) in
+      let idle = some_idle Solved (map desk_chair_of Settled) some (each_after (HasSolved may_tell may_find crew) (λ p. EndsIdle (receipts_in p.chair)) (λ x y has. has.idle) before.solvers.items Solved ended.solvers) in
       record {
         duty = subst (λ (l : List Chair). All (IsOnDuty may_tell crew) l) (sym apart.chairs_are)
             (All-append (IsOnDuty may_tell crew) (map chair_of Solved) (map desk_chair_of Settled)
-            (to_parts (IsOnDuty may_tell crew) chair_of Solved (each_after (HasSolved may_tell crew) (λ p. IsOnDuty may_tell crew p.chair) (λ x y has. has.stays.chair.duty) before.solvers.items Solved ended.solvers))
+            (to_parts (IsOnDuty may_tell crew) chair_of Solved (each_after (HasSolved may_tell may_find crew) (λ p. IsOnDuty may_tell crew p.chair) (λ x y has. has.stays.chair.duty) before.solvers.items Solved ended.solvers))
             (to_parts (IsOnDuty may_tell crew) desk_chair_of Settled (each_after (HasSettled may_tell crew) (λ p. IsOnDuty may_tell crew p.chair) (λ x y has. has.stays.chair.duty) before.clerks.items Settled ended.clerks)));
         numbers =
-            let solved = same_of_each (HasSolved may_tell crew) (λ (p : SolverPost). number_of p.chair) (λ x y has. has.stays.chair.number) before.solvers.items Solved ended.solvers in
+            let solved = same_of_each (HasSolved may_tell may_find crew) (λ (p : SolverPost). number_of p.chair) (λ x y has. has.stays.chair.number) before.solvers.items Solved ended.solvers in
             let settled = same_of_each (HasSettled may_tell crew) (λ (p : ClerkPost). number_of p.chair) (λ x y has. has.stays.chair.number) before.clerks.items Settled ended.clerks in
             ap (map number_of) apart.chairs_are ∙ numbers_apart Solved Settled
             ∙ (λ i. solved i ++ settled i)

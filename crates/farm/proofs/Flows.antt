@@ -1,6 +1,7 @@
 -- How what is in hand changes with the receipts.
-use Rattle.std.proofs.Common.{◌≡◌, ℕ, ◌+◌, List, [], ◌∷◌, ◌++◌, None, Some, Bool, ap, ◌∙◌, arith}
-use Rattle.std.proofs.lemmas.List.Sums.{sum_by_push}
+use Rattle.std.proofs.Common.{◌≡◌, ℕ, ◌+◌, ◌<◌, ◌≤◌, List, [], ◌∷◌, ◌++◌, None, Some, Bool, ap, ◌∙◌, arith, take, length, get_or}
+use Rattle.std.proofs.lemmas.List.{take_more}
+use Rattle.std.proofs.lemmas.List.Sums.{sum_by-cons, sum_by_push}
 use Rattle.lease_book.specs.declared.events.Asked.{Asked}
 use Rattle.lease_book.specs.declared.events.Reply.{Reply}
 use Rattle.lease_book.specs.Histories.{Terms}
@@ -12,7 +13,7 @@ use Rattle.farm.specs.declared.tasks.Task.{Task}
 use Rattle.farm.specs.declared.tasks.CheckedClaim.{CheckedClaim}
 use Rattle.lease_book.specs.Settling.{given_by, settled_by}
 use Rattle.farm.specs.Requests.{Hears, IsNextTask, FreesLeases, GivesUp, HandsIn}
-use Rattle.farm.specs.Flows.{given, settled, Moves}
+use Rattle.farm.specs.Flows.{given, settled, of_task, of_tasks, Moves}
 
 -- what a call at the desk tells
 pub heard : (terms : Terms) (before after : List Receipt) (asked : Asked) (reply : Reply) (told : Receipt) → IsTold terms before after asked told → told.event.reply ≡ reply → Hears asked reply before after
@@ -63,4 +64,24 @@ module _ (weight : ℕ → ℕ) where
       let b = settled_more before after told is.receipts in
       let c = ap (λ (q : Asked). given_by weight q told.event.reply) is.asked_is in
       let d = ap (λ (q : Asked). settled_by weight q) is.asked_is in
+      omega arith
+
+  -- a batch of one lease
+  pub leased_first : (receipts : List Receipt) (task : Task) (batch : List Task) → batch ≡ task ∷ [] → Moves weight receipts receipts (of_task weight task) (of_tasks weight batch)
+  leased_first receipts task batch is =
+      let all = ap (of_tasks weight) is in
+      omega (arith, sum_by-cons (of_task weight) task [])
+
+  -- and one of a lease more
+  pub leased_more : (before now after : List Receipt) (had : ℕ) (tasks batch : List Task) (task : Task) → batch ≡ tasks ++ task ∷ [] → IsNextTask now after (Some task) → Moves weight before now had (of_tasks weight tasks) → Moves weight before after had (of_tasks weight batch)
+  leased_more before now after had tasks batch task is next own =
+      let moved = task_moves now after task next in
+      let all = ap (of_tasks weight) is in
+      omega (arith, sum_by_push (of_task weight) tasks task)
+
+  -- the claim for the next of these leases is put, or none is
+  pub claimed_more : (tasks : List Task) (i : ℕ) (d : Task) (before now after : ℕ) → i < length tasks → now ≤ before + of_tasks weight (take i tasks) → after ≤ now + weight (get_or tasks i d).lease → after ≤ before + of_tasks weight (take (i + 1) tasks)
+  claimed_more tasks i d before now after within own more =
+      let all = ap (of_tasks weight) (take_more tasks i d within) in
+      let one = sum_by_push (of_task weight) (take i tasks) (get_or tasks i d) in
       omega arith

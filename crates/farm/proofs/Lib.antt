@@ -8,3 +8,4 @@ mod Ending
 mod Runs
 mod RoundLaws
 mod Sharing
+mod Findings

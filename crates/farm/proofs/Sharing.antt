@@ -8,7 +8,7 @@ use Rattle.asked.proofs.settings.Settings.TheSendSync as settings
 use Rattle.lease_desk.proofs.Sharing.{desk_sync}
 use Rattle.farm.specs.contracts.crews.Crew as crew
 use Rattle.farm.proofs.means.Means.TheSendSync as means
-use Rattle.farm.proofs.crews.Signals.TheSendSync as signals
+use Rattle.farm.proofs.signals.Signals.TheSendSync as signals
 
 module _ (a : NamedLft) (S G C : RattleType) (s : IsSync S) (g : IsSync G) (c : IsSync C) where
   crew_field : IsSync (crew.the_field a S G C).row

@@ -1,18 +1,23 @@
 -- What is known of a post before and after the work.
-use Rattle.std.specs.Prelude.{◌≡◌, ℕ, ◌+◌, List, [], ◌++◌, map, length}
+use Rattle.std.specs.Prelude.{◌≡◌, ℕ, ◌+◌, true, List, [], ◌++◌, All, map, length}
 use Rattle.lease_desk.specs.declared.chairs.Chair.{Chair}
 use Rattle.lease_desk.specs.declared.desk.Desk.{Desk}
-use Rattle.lease_desk.specs.Desks.{receipts_in}
-use Rattle.farm_relay.specs.Relays.{PutsAtSame, TakesAtSame, put_by, taken_by, marks_of}
+use Rattle.lease_desk.specs.Desks.{receipts_in, terms_of}
+use Rattle.farm_relay.specs.Relays.{PutsAtSame, TakesAtSame, put_by, taken_by, marks_of, is_finished}
 use Rattle.farm.specs.declared.crews.Crew.{Crew}
+use Rattle.farm.specs.declared.tasks.Task.{Task}
+use Rattle.farm.specs.declared.tasks.CheckedClaim.{CheckedClaim}
 use Rattle.farm.specs.declared.posts.SolverPost.{SolverPost}
 use Rattle.farm.specs.declared.posts.CheckerPost.{CheckerPost}
 use Rattle.farm.specs.declared.posts.ClerkPost.{ClerkPost}
 use Rattle.farm.specs.declared.posts.Posts.{Posts}
 use Rattle.farm.specs.declared.relays.RelayEnds.{RelayEnds}
+use Rattle.lease_book.specs.Histories.{Terms}
 use Rattle.lease_book.specs.Moments.{MayTell}
+use Rattle.partition_solver.specs.Answers.{MayFind}
 use Rattle.farm.specs.Working.{IsNew, StaysOnDuty}
-use Rattle.farm.specs.Requests.{EndsIdle}
+use Rattle.farm.specs.Requests.{AreHandedIn, EndsIdle}
+use Rattle.farm.specs.Findings.{PutsFound, IsFoundUnder, IsClaimUnder}
 use Rattle.farm.specs.Flows.{SettlesOwn, ClaimsOwn, SettlesClaims}
 
 -- posts at which nobody has worked
@@ -28,6 +33,45 @@ pub record IsNewClerk (desk : Desk) (post : ClerkPost) : Type 0 where
   pub chair : IsNew desk post.chair
   pub none_taken : taken_by post.claims ≡ []
 
+module _ {S G C : Type 0} (may_find : S → MayFind) (crew : Crew S G C) where
+  -- one message for a group of leases was put, or none was
+  abbrev pub PutsOne : List Task → SolverPost → SolverPost → Type 0
+  PutsOne group old new =
+      PutsFound (may_find crew.means.solver.now) crew.deals.now crew.settings.budget group (put_by old.found)
+      (put_by new.found)
+
+  -- each message that a solver put is for leases that it was given
+  pub record FindsOwn (post : SolverPost) : Type 0 where
+    pub each :
+        All
+        (IsFoundUnder (may_find crew.means.solver.now) crew.deals.now crew.settings.budget (receipts_in post.chair))
+        (put_by post.found)
+
+-- each claim that a checker put is for a message that it took
+pub record ClaimsTaken (post : CheckerPost) : Type 0 where
+  pub each : All (IsClaimUnder (taken_by post.found)) (put_by post.claims)
+
+-- the claims that a clerk took since were handed in, in their order, and nothing else was asked
+pub record HandsInTaken (terms : Terms) (old new : ClerkPost) : Type 0 where
+  pub claims : List CheckedClaim
+  pub taken : taken_by new.claims ≡ taken_by old.claims ++ claims
+  pub handed_in : AreHandedIn terms claims (receipts_in old.chair) (receipts_in new.chair)
+
+-- a solver has finished putting messages, even if its work failed
+pub record LeavesSolver (old new : SolverPost) : Type 0 where
+  pub same : PutsAtSame old.found new.found
+  pub finished : is_finished new.found ≡ true
+
+-- a checker took an end mark, and has finished putting claims
+pub record LeavesChecker (old new : CheckerPost) : Type 0 where
+  pub ended : marks_of new.found ≡ marks_of old.found + 1
+  pub same : PutsAtSame old.claims new.claims
+  pub finished : is_finished new.claims ≡ true
+
+-- a clerk took an end mark, even if its work failed
+abbrev pub LeavesClerk : ClerkPost → ClerkPost → Type 0
+LeavesClerk old new = marks_of new.claims ≡ marks_of old.claims + 1
+
 module _ {S G C : Type 0} (may_tell : C → MayTell) (crew : Crew S G C) where
   -- the same chair, and the same end of the same relay
   pub record StaysSolver (old new : SolverPost) : Type 0 where
@@ -38,28 +82,33 @@ module _ {S G C : Type 0} (may_tell : C → MayTell) (crew : Crew S G C) where
     pub chair : StaysOnDuty may_tell crew old.chair new.chair
     pub claims : TakesAtSame old.claims new.claims
 
-  -- a solver works until no entry is open and no lease has run out; it puts or settles what it is given
-  pub record HasSolved (old new : SolverPost) : Type 0 where
-    pub stays : StaysSolver old new
-    pub idle : EndsIdle (receipts_in new.chair)
-    pub leases : (weight : ℕ → ℕ) → SettlesOwn weight new
-
-  -- a clerk works until it takes an end mark, and settles what it takes
+  -- a clerk works until it takes an end mark, and hands in the claims that it takes, in their order
   pub record HasSettled (old new : ClerkPost) : Type 0 where
     pub stays : StaysClerk old new
     pub ended : marks_of new.claims ≡ marks_of old.claims + 1
     pub leases : (weight : ℕ → ℕ) → SettlesClaims weight new
+    pub hands_in : HandsInTaken (terms_of crew.desk.now) old new
+
+module _ {S G C : Type 0} (may_tell : C → MayTell) (may_find : S → MayFind) (crew : Crew S G C) where
+  -- A solver works until no entry is open and no lease has run out. It puts or settles the leases that it is given, and
+  -- each message is one that it may find for them.
+  pub record HasSolved (old new : SolverPost) : Type 0 where
+    pub stays : StaysSolver may_tell crew old new
+    pub idle : EndsIdle (receipts_in new.chair)
+    pub leases : (weight : ℕ → ℕ) → SettlesOwn weight new
+    pub finds : FindsOwn may_find crew new
 
 -- the same ends of the same relays
 pub record StaysChecker (old new : CheckerPost) : Type 0 where
   pub found : TakesAtSame old.found new.found
   pub claims : PutsAtSame old.claims new.claims
 
--- a checker works until it takes an end mark, and puts claims for leases of what it takes
+-- a checker works until it takes an end mark, and puts claims for leases of the messages that it takes
 pub record HasChecked (old new : CheckerPost) : Type 0 where
   pub stays : StaysChecker old new
   pub ended : marks_of new.found ≡ marks_of old.found + 1
   pub leases : (weight : ℕ → ℕ) → ClaimsOwn weight new
+  pub claims_taken : ClaimsTaken new
 
 -- there is a chair for each solver and each clerk, and both ends for each checker
 pub record CanBeManned (chairs : List Chair) (ends : RelayEnds) : Type 0 where

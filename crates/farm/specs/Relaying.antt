@@ -1,6 +1,6 @@
 -- The relays of a run, and what went through them.
-use Rattle.std.specs.Prelude.{List}
-use Rattle.farm_relay.specs.Relays.{IsOpened, AreAllOf, IsNothingLost}
+use Rattle.std.specs.Prelude.{◌≡◌, true, List}
+use Rattle.farm_relay.specs.Relays.{IsOpened, AreAllOf, IsNothingLost, AreMarksPut, is_ended}
 use Rattle.asked.specs.declared.settings.Settings.{Settings}
 use Rattle.farm.specs.declared.tasks.FoundBundle.{FoundBundle}
 use Rattle.farm.specs.declared.tasks.CheckedClaim.{CheckedClaim}
@@ -24,3 +24,13 @@ pub record IsRelayed (ends : RelayEnds) : Type 0 where
   pub unheard : List CheckedClaim
   pub found : IsNothingLost ends.finds.items ends.found.items unchecked
   pub claims : IsNothingLost ends.claims.items ends.heard.items unheard
+
+-- the takers of each relay took no more end marks than were put into it
+pub record AreAllMarksPut (relays : Relays) (ends : RelayEnds) : Type 0 where
+  pub found : AreMarksPut relays.found ends.finds.items ends.found.items
+  pub claims : AreMarksPut relays.claims ends.claims.items ends.heard.items
+
+-- both relays were ended
+pub record AreEnded (relays : Relays) : Type 0 where
+  pub found : is_ended relays.found ≡ true
+  pub claims : is_ended relays.claims ≡ true

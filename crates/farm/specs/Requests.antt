@@ -1,5 +1,5 @@
 -- What a worker is told at the desk: its chair has one receipt more.
-use Rattle.std.specs.Prelude.{◌≡◌, ℕ, Bool, not, List, [], ◌∷◌, ◌++◌, Option, None, Some, nat_eq}
+use Rattle.std.specs.Prelude.{◌≡◌, ℕ, Bool, not, List, [], ◌∷◌, ◌++◌, Option, None, Some, All, Contains, nat_eq}
 use Rattle.lease_book.specs.declared.events.Asked.{Asked}
 use Rattle.lease_book.specs.declared.events.Asked.TheVariants.{Lease, Expire, GiveUp}
 use Rattle.lease_book.specs.declared.events.Reply.{Reply}
@@ -21,6 +21,21 @@ IsNextTask before after None = (now : ℕ) × Hears (Lease now) Nothing before a
 IsNextTask before after (Some task) =
     (now : ℕ) × (deadline : ℕ) × Hears (Lease now) (Given task.lease task.entry deadline) before after
 
+-- one of these receipts is for this lease, which was given
+abbrev pub WasGiven : List Receipt → Task → Type 0
+WasGiven receipts task =
+    (place : ℕ) × (now : ℕ) × (deadline : ℕ)
+    × Contains receipts
+    (record { place = place; event = record { asked = Lease now; reply = Given task.lease task.entry deadline } })
+
+-- these receipts show each of the tasks as a lease that was given
+pub record AreGiven (receipts : List Receipt) (tasks : List Task) : Type 0 where
+  pub each : All (WasGiven receipts) tasks
+
+-- the receipts are those that there were before, and later ones
+abbrev pub Continues : List Receipt → List Receipt → Type 0
+Continues before after = (later : List Receipt) × (after ≡ before ++ later)
+
 -- an expiry was asked for, and the answer is whether it freed a lease
 abbrev pub FreesLeases : List Receipt → List Receipt → Bool → Type 0
 FreesLeases before after freed =
@@ -34,6 +49,12 @@ GivesUp lease before after = (reply : Reply) × Hears (GiveUp lease) reply befor
 abbrev pub HandsIn : Terms → CheckedClaim → List Receipt → List Receipt → Type 0
 HandsIn terms claim before after =
     (told : Receipt) × IsHandedIn terms before after claim.task.lease claim.task.entry claim.claimed told
+
+-- claims were handed in, one after another, and nothing else was asked
+abbrev pub AreHandedIn : Terms → List CheckedClaim → List Receipt → List Receipt → Type 0
+AreHandedIn terms [] before after = after ≡ before
+AreHandedIn terms (claim ∷ claims) before after =
+    (between : List Receipt) × HandsIn terms claim before between × AreHandedIn terms claims between after
 
 -- the last two requests: no entry was open, and then no lease had run out
 pub record EndsIdle (receipts : List Receipt) : Type 0 where

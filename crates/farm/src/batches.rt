@@ -1,36 +1,42 @@
-//! What a solver leases at a time.
+//! The batch of entries that a solver leases at a time.
 
-ghost use Rattle.std.specs.Prelude.{ℕ, ◌≤◌, IfOk, length};
+ghost use Rattle.std.specs.Prelude.{ℕ, ◌≤◌, IfOk, OnOk, length};
 ghost use Rattle.lease_desk.specs.Desks.{receipts_in};
 ghost use Rattle.farm.specs.Working.{IsOnDuty, StaysOnDuty};
+ghost use Rattle.farm.specs.Requests.{WasGiven, AreGiven, Continues};
 ghost use Rattle.farm.specs.Flows.{Moves, of_task, of_tasks};
 
 use crate::crews::Crew;
 use crate::requests::next_task;
+use crate::signals::Leasing;
 use crate::tasks::{Task, Tasks};
 use lease_book::OutOfMemory;
 use lease_desk::{Chair, Clock};
 use std::sync::Wait;
 
-/// Leases more entries, until with the first they are a batch or none is open.
+/// Leases more entries after the first, until the batch is full or no entry is open.
 pub(crate) fn lease_batch<S, G, C: Clock, R: Wait>(
     rt: &R,
     crew: &Crew<'_, S, G, C>,
     chair: &mut Chair,
     first: Task,
+    leasing: &Leasing<'_>,
 ) -> Result<Tasks, OutOfMemory>
-    requires { IsOnDuty C.may_tell crew.now chair.old }
+    requires duty { IsOnDuty C.may_tell crew.now chair.old }
+    requires given { WasGiven (receipts_in chair.old) first }
     ensures stays { StaysOnDuty C.may_tell crew.now chair.old chair.new }
     ensures count { IfOk result (λ batch. length batch.items ≤ crew.now.settings.batch) }
     ensures leases { IfOk result (λ batch. (weight : ℕ → ℕ) →
         Moves weight (receipts_in chair.old) (receipts_in chair.new) (of_task weight first)
         (of_tasks weight batch.items)) }
+    ensures given { IfOk result (λ batch. AreGiven (receipts_in chair.new) batch.items) }
+    ensures receipts { OnOk result (Continues (receipts_in chair.old) (receipts_in chair.new)) }
 {
     let mut batch = Tasks::new();
     batch.push(first);
     for _more in 1..crew.settings.batch {
-        let Some(task) = next_task(rt, crew, chair)? else {
-            break;
+        let Some(task) = next_task(rt, crew, chair, leasing)? else {
+            return Ok(batch);
         };
         batch.push(task);
     }

@@ -2,9 +2,9 @@
 
 ghost use Rattle.std.specs.Prelude.{◌≡◌, ◌+◌, ◌≤◌, ℕ};
 ghost use Rattle.farm_relay.specs.Relays.{PutsAtSame, put_by, taken_by, marks_of};
-ghost use Rattle.farm.specs.Findings.{PutsClaim};
+ghost use Rattle.farm.specs.Findings.{PutsClaim, PutsClaims};
 ghost use Rattle.farm.specs.Flows.{ClaimsOwn, of_found, all_claimed};
-ghost use Rattle.farm.specs.Posts.{StaysChecker};
+ghost use Rattle.farm.specs.Posts.{StaysChecker, ClaimsTaken};
 
 use crate::crews::Crew;
 use crate::posts::CheckerPost;
@@ -17,7 +17,7 @@ use std::alloc::AllocError;
 use std::sync::Wait;
 use std::thread::Threads;
 
-/// Puts the claim for a lease, where there is one. A claim that is handed back is dropped; its lease stays.
+/// Puts the claim for a lease, if there is one. A claim that is handed back is dropped, and its lease stays held.
 fn put_claim<R: Wait>(
     rt: &R,
     bundle: &Bundle,
@@ -40,7 +40,7 @@ fn put_claim<R: Wait>(
     Ok(())
 }
 
-/// Tells the gate of the leases of a message, checks its graphs, and puts each claim.
+/// Checks the graphs of a message, and puts its claims. The gate is told of each lease before.
 fn check_found<S, G: Gate, C, R: Threads + Wait + Sync>(
     rt: &R,
     crew: &Crew<'_, S, G, C>,
@@ -49,6 +49,7 @@ fn check_found<S, G: Gate, C, R: Threads + Wait + Sync>(
 ) -> Result<(), AllocError>
     ensures leases { (weight : ℕ → ℕ) →
         all_claimed weight (put_by claims.new) ≤ all_claimed weight (put_by claims.old) + of_found weight found }
+    ensures puts { PutsClaims found (put_by claims.old) (put_by claims.new) }
     ensures same { PutsAtSame claims.old claims.new }
 {
     let FoundBundle { tasks, bundle } = found;
@@ -62,17 +63,19 @@ fn check_found<S, G: Gate, C, R: Threads + Wait + Sync>(
     Ok(())
 }
 
-/// Takes what was found until an end mark comes, checks the graphs, and puts the claims. What is refused for memory is
-/// dropped; its leases stay.
+/// Takes messages until an end mark comes, checks their graphs, and puts their claims. If memory runs out at a message,
+/// its other claims are dropped, and their leases stay held.
 pub(crate) fn check_all<S, G: Gate, C, R: Threads + Wait + Sync>(
     rt: &R,
     crew: &Crew<'_, S, G, C>,
     post: &mut CheckerPost,
 )
-    requires { (weight : ℕ → ℕ) → ClaimsOwn weight post.old }
+    requires leases { (weight : ℕ → ℕ) → ClaimsOwn weight post.old }
+    requires claims { ClaimsTaken post.old }
     ensures stays { StaysChecker post.old post.new }
     ensures ended { marks_of post.new.found ≡ marks_of post.old.found + 1 }
     ensures leases { (weight : ℕ → ℕ) → ClaimsOwn weight post.new }
+    ensures claims { ClaimsTaken post.new }
 {
     for _ in rt.forever() {
         let Some(message) = post.found.take(rt) else {

@@ -5,7 +5,7 @@ ghost use Rattle.lease_desk.specs.Desks.{receipts_in, terms_of};
 ghost use Rattle.farm_relay.specs.Relays.{TakesAtSame, marks_of};
 ghost use Rattle.farm.specs.Working.{IsOnDuty, StaysOnDuty};
 ghost use Rattle.farm.specs.Requests.{HandsIn};
-ghost use Rattle.farm.specs.Posts.{StaysClerk};
+ghost use Rattle.farm.specs.Posts.{StaysClerk, HandsInTaken};
 ghost use Rattle.farm.specs.Flows.{SettlesClaims};
 
 use crate::crews::Crew;
@@ -16,7 +16,7 @@ use lease_book::OutOfMemory;
 use lease_desk::{Chair, Clock, Gate};
 use std::sync::Wait;
 
-/// Hands a claim in, and tells the gate of the reply.
+/// Hands a claim in. The gate is told of the reply.
 fn hand_in<S, G: Gate, C: Clock, R: Wait>(
     rt: &R,
     crew: &Crew<'_, S, G, C>,
@@ -53,6 +53,7 @@ fn hand_in_all<S, G: Gate, C: Clock, R: Wait>(
     ensures ended { OnOk result (marks_of post.new.claims ≡ marks_of post.old.claims + 1) }
     ensures going { OnErr result (marks_of post.new.claims ≡ marks_of post.old.claims) }
     ensures leases { OnOk result ((weight : ℕ → ℕ) → SettlesClaims weight post.new) }
+    ensures hands_in { OnOk result (HandsInTaken (terms_of crew.now.desk.now) post.old post.new) }
 {
     for _ in rt.forever() {
         let Some(claim) = post.claims.take(rt) else {
@@ -63,7 +64,7 @@ fn hand_in_all<S, G: Gate, C: Clock, R: Wait>(
     unreachable!()
 }
 
-/// Takes claims until an end mark comes, and lets them go.
+/// Takes claims until an end mark comes, and drops them.
 fn take_rest<R: Wait>(rt: &R, claims: &mut Taker<CheckedClaim>)
     ensures same { TakesAtSame claims.old claims.new }
     ensures ended { marks_of claims.new ≡ marks_of claims.old + 1 }
@@ -75,7 +76,7 @@ fn take_rest<R: Wait>(rt: &R, claims: &mut Taker<CheckedClaim>)
     }
 }
 
-/// Takes claims until an end mark comes, and hands each in. Once memory has run out it only goes on taking, so that no
+/// Takes claims until an end mark comes, and hands each in. Once memory has run out it only takes them, so that no
 /// checker waits for room.
 pub(crate) fn settle_all<S, G: Gate, C: Clock, R: Wait>(
     rt: &R,
@@ -87,6 +88,7 @@ pub(crate) fn settle_all<S, G: Gate, C: Clock, R: Wait>(
     ensures stays { StaysClerk C.may_tell crew.now post.old post.new }
     ensures ended { marks_of post.new.claims ≡ marks_of post.old.claims + 1 }
     ensures leases { OnOk result ((weight : ℕ → ℕ) → SettlesClaims weight post.new) }
+    ensures hands_in { OnOk result (HandsInTaken (terms_of crew.now.desk.now) post.old post.new) }
 {
     match hand_in_all(rt, crew, post) {
         Ok(()) => Ok(()),

@@ -1,22 +1,11 @@
 //! What the threads of a round work with.
 
 use crate::means::Means;
+use crate::signals::Signals;
 use asked::Settings;
 use cards::Layout;
 use lease_desk::Desk;
 use std::alloc::Global;
-use std::sync::Mutex;
-use std::sync::atomic::AtomicBool;
-
-/// What the threads of a round tell each other beside the desk.
-#[derive(Drop)]
-pub(crate) struct Signals {
-    /// Whether the round has failed, so that no more is to be leased.
-    pub(crate) stop: AtomicBool,
-    /// Whoever leases a batch has it, so that the entries of a denomination aren't divided between two solvers. No
-    /// promise rests on it: it only saves searches.
-    pub(crate) leasing: Mutex<()>,
-}
 
 /// What the threads of a round work with.
 pub(crate) struct Crew<'a, S, G, C> {

@@ -1,5 +1,5 @@
-//! The threads of solvers, of checkers and of clerks: what each does at its post. Whatever comes, what a thread puts
-//! into ends with it.
+//! The work of solvers, of checkers and of clerks, each at its post. Even if the work fails, a thread finishes what it
+//! puts into, and takes until an end mark comes.
 
 use crate::checking::check_all;
 use crate::clerks::settle_all;
@@ -14,50 +14,48 @@ use std::sync::Wait;
 use std::thread::Threads;
 
 impl<S: Solver, G: Gate, C: Clock> Work<SolverPost, Halt> for Crew<'_, S, G, C> {
-    ghost use Rattle.farm.specs.Posts.{IsNewSolver, HasSolved};
+    ghost use Rattle.farm.specs.Posts.{IsNewSolver, LeavesSolver, HasSolved};
 
     ghost begins = { λ crew. IsNewSolver crew.desk.now };
 
-    ghost ends = { HasSolved C.may_tell };
+    ghost leaves = { λ crew. LeavesSolver };
 
-    fn work<R: Threads + Wait + Sync>(&self, rt: &R, post: SolverPost) -> Result<SolverPost, Halt> {
-        let mut post = post;
-        let outcome = solve_all(rt, self, &mut post);
+    ghost ends = { HasSolved C.may_tell S.may_find };
+
+    fn work<R: Threads + Wait + Sync>(&self, rt: &R, post: &mut SolverPost) -> Result<(), Halt> {
+        let outcome = solve_all(rt, self, post);
         post.found.finish(rt);
-        outcome?;
-        Ok(post)
+        outcome
     }
 }
 
 impl<S: Solver, G: Gate, C: Clock> Work<CheckerPost, Halt> for Crew<'_, S, G, C> {
-    ghost use Rattle.farm.specs.Posts.{IsNewChecker, HasChecked};
+    ghost use Rattle.farm.specs.Posts.{IsNewChecker, LeavesChecker, HasChecked};
 
     ghost begins = { λ crew. IsNewChecker };
 
+    ghost leaves = { λ crew. LeavesChecker };
+
     ghost ends = { λ crew. HasChecked };
 
-    fn work<R: Threads + Wait + Sync>(
-        &self,
-        rt: &R,
-        post: CheckerPost,
-    ) -> Result<CheckerPost, Halt> {
-        let mut post = post;
-        check_all(rt, self, &mut post);
+    fn work<R: Threads + Wait + Sync>(&self, rt: &R, post: &mut CheckerPost) -> Result<(), Halt> {
+        check_all(rt, self, post);
         post.claims.finish(rt);
-        Ok(post)
+        Ok(())
     }
 }
 
 impl<S: Solver, G: Gate, C: Clock> Work<ClerkPost, Halt> for Crew<'_, S, G, C> {
-    ghost use Rattle.farm.specs.Posts.{IsNewClerk, HasSettled};
+    ghost use Rattle.farm.specs.Posts.{IsNewClerk, LeavesClerk, HasSettled};
 
     ghost begins = { λ crew. IsNewClerk crew.desk.now };
 
+    ghost leaves = { λ crew. LeavesClerk };
+
     ghost ends = { HasSettled C.may_tell };
 
-    fn work<R: Threads + Wait + Sync>(&self, rt: &R, post: ClerkPost) -> Result<ClerkPost, Halt> {
-        let mut post = post;
-        settle_all(rt, self, &mut post)?;
-        Ok(post)
+    fn work<R: Threads + Wait + Sync>(&self, rt: &R, post: &mut ClerkPost) -> Result<(), Halt> {
+        settle_all(rt, self, post)?;
+        Ok(())
     }
 }

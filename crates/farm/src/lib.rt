@@ -23,6 +23,7 @@ mod relays;
 mod requests;
 mod rounds;
 mod running;
+mod signals;
 mod solving;
 mod started;
 mod tasks;

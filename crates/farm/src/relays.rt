@@ -1,7 +1,7 @@
 //! The relays of a run, and their ends.
 
 ghost use Rattle.std.specs.Prelude.{OnOk, IfOk};
-ghost use Rattle.farm.specs.Relaying.{AreOpened, AreAllEndsOf, IsRelayed};
+ghost use Rattle.farm.specs.Relaying.{AreOpened, AreAllEndsOf, IsRelayed, AreAllMarksPut};
 
 use crate::tasks::{CheckedClaim, FoundBundle};
 use asked::Settings;
@@ -49,10 +49,11 @@ impl Relays {
         Ok((Relays { found, claims }, ends))
     }
 
-    /// Closes both relays, once all their ends are back. What is left in them is let go.
+    /// Closes both relays with all their ends. The messages and claims that are left in them are dropped.
     pub(crate) fn close<R: Wait>(self, rt: &R, ends: RelayEnds) -> Result<(), OutOfMemory>
         requires { AreAllEndsOf self ends }
-        ensures { OnOk result (IsRelayed ends) }
+        ensures messages { OnOk result (IsRelayed ends) }
+        ensures marks { OnOk result (AreAllMarksPut self ends) }
     {
         let Relays { found, claims } = self;
         let _unchecked = found.close(rt, ends.finds, ends.found)?;

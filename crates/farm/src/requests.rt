@@ -6,16 +6,18 @@ ghost use Rattle.farm.specs.Working.{IsOnDuty, StaysOnDuty};
 ghost use Rattle.farm.specs.Requests.{IsNextTask, FreesLeases, GivesUp};
 
 use crate::crews::Crew;
+use crate::signals::Leasing;
 use crate::tasks::Task;
 use lease_book::{OutOfMemory, Reply};
 use lease_desk::{Chair, Clock};
 use std::sync::Wait;
 
-/// Asks for a lease at the clock's moment. There is none where no entry is open.
+/// Asks for a lease at the clock's moment. There is none if no entry is open.
 pub(crate) fn next_task<S, G, C: Clock, R: Wait>(
     rt: &R,
     crew: &Crew<'_, S, G, C>,
     chair: &mut Chair,
+    _leasing: &Leasing<'_>,
 ) -> Result<Option<Task>, OutOfMemory>
     requires { IsOnDuty C.may_tell crew.now chair.old }
     ensures stays { StaysOnDuty C.may_tell crew.now chair.old chair.new }
@@ -28,7 +30,7 @@ pub(crate) fn next_task<S, G, C: Clock, R: Wait>(
     }
 }
 
-/// Has the leases freed that have run out at the clock's moment, and says whether there was one.
+/// Frees the leases that have run out at the clock's moment, and says whether there was one.
 pub(crate) fn frees_a_lease<S, G, C: Clock, R: Wait>(
     rt: &R,
     crew: &Crew<'_, S, G, C>,
@@ -45,7 +47,7 @@ pub(crate) fn frees_a_lease<S, G, C: Clock, R: Wait>(
     }
 }
 
-/// Takes a lease back.
+/// Gives a lease up.
 pub(crate) fn give_up<S, G, C: Clock, R: Wait>(
     rt: &R,
     crew: &Crew<'_, S, G, C>,

@@ -5,11 +5,12 @@ ghost use Rattle.farm.specs.Working.{IsNew};
 ghost use Rattle.farm.specs.Rounds.{IsRound};
 ghost use Rattle.farm.specs.Running.{MayBegin, AreOpenedPosts, HaveEnded, HaveWorked};
 
-use crate::crews::{Crew, Signals};
+use crate::crews::Crew;
 use crate::halts::Halt;
 use crate::means::Means;
 use crate::posts::{CheckerPost, ClerkPost, Posts, SolverPost};
 use crate::relays::Relays;
+use crate::signals::Signals;
 use crate::started::{Started, end_all, join_all, start_all};
 use asked::Settings;
 use cards::Layout;
@@ -18,14 +19,12 @@ use lease_book::Book;
 use lease_desk::{Chair, Clock, Closed, Desk, Gate};
 use partition_solver::Solver;
 use std::alloc::Global;
-use std::sync::atomic::AtomicBool;
-use std::sync::atomic::Ordering::SeqCst;
-use std::sync::{Mutex, Wait};
+use std::sync::Wait;
 use std::thread;
 use std::thread::{Scope, Threads};
 
-/// Works at all posts, each in a thread of a scope, and hands the posts and the relays back. Where a thread can't be
-/// started, no more is leased.
+/// Works at all posts, each in a thread of a scope, and returns the relays and the posts. If a thread can't be started,
+/// the round is stopped, and all threads have ended when this returns.
 fn work_in<
     's,
     E,
@@ -39,7 +38,7 @@ fn work_in<
     solver: &'s A,
     checker: &'s B,
     clerk: &'s D,
-    stop: &AtomicBool,
+    signals: &Signals,
     opened: (Relays, Posts),
 ) -> Result<(Relays, Posts), Halt>
     requires { MayBegin (A.begins solver.now) (B.begins checker.now) (D.begins clerk.now) opened.1 }
@@ -55,14 +54,14 @@ fn work_in<
             Ok((relays, posts))
         }
         Err(halt) => {
-            stop.store(true, SeqCst);
-            end_all(rt, relays, started);
+            let mut relays = relays;
+            end_all(rt, signals.stop(rt), &mut relays, started);
             Err(halt)
         }
     }
 }
 
-/// Works at all posts, each in a thread, and hands the posts and the relays back.
+/// Works at all posts, each in a thread, and returns the relays and the posts.
 fn work_at<
     A: Work<SolverPost, Halt> + Sync,
     B: Work<CheckerPost, Halt> + Sync,
@@ -73,7 +72,7 @@ fn work_at<
     solver: &A,
     checker: &B,
     clerk: &D,
-    stop: &AtomicBool,
+    signals: &Signals,
     opened: (Relays, Posts),
 ) -> Result<(Relays, Posts), Halt>
     requires { MayBegin (A.begins solver.now) (B.begins checker.now) (D.begins clerk.now) opened.1 }
@@ -89,7 +88,7 @@ fn work_at<
             ensures relays { IfOk result (λ worked. worked.0 ≡ opened.0) }
             ensures posts { IfOk result (λ worked. HaveEnded (A.ends solver.entry.now) (B.ends checker.entry.now)
                 (D.ends clerk.entry.now) opened.1 worked.1) }
-        { work_in(rt, scope, solver, checker, clerk, stop, opened) },
+        { work_in(rt, scope, solver, checker, clerk, signals, opened) },
     )
 }
 
@@ -97,7 +96,7 @@ fn work_at<
 fn work_as<
     W: Work<SolverPost, Halt> + Work<CheckerPost, Halt> + Work<ClerkPost, Halt> + Sync,
     R: Threads + Wait + Sync,
->(rt: &R, staff: &W, stop: &AtomicBool, opened: (Relays, Posts)) -> Result<(Relays, Posts), Halt>
+>(rt: &R, staff: &W, signals: &Signals, opened: (Relays, Posts)) -> Result<(Relays, Posts), Halt>
     requires { MayBegin (⟦<W as Work<SolverPost, Halt>>⟧.begins staff.now)
         (⟦<W as Work<CheckerPost, Halt>>⟧.begins staff.now)
         (⟦<W as Work<ClerkPost, Halt>>⟧.begins staff.now) opened.1 }
@@ -106,7 +105,7 @@ fn work_as<
         (⟦<W as Work<CheckerPost, Halt>>⟧.ends staff.now)
         (⟦<W as Work<ClerkPost, Halt>>⟧.ends staff.now) opened.1 worked.1) }
 {
-    work_at(rt, staff, staff, staff, stop, opened)
+    work_at(rt, staff, staff, staff, signals, opened)
 }
 
 /// Relays, and posts at these chairs with all their ends, the solvers' at the first of the chairs.
@@ -135,7 +134,7 @@ fn work_all<S: Solver + Sync, G: Gate + Sync, C: Clock + Sync, R: Threads + Wait
     ensures { IfOk result (λ worked. HaveWorked C.may_tell crew.now chairs.items worked.items) }
 {
     let opened = open_posts(crew, chairs)?;
-    let (relays, posts) = work_as(rt, crew, &crew.signals.stop, opened)?;
+    let (relays, posts) = work_as(rt, crew, crew.signals, opened)?;
     let (chairs, ends) = posts.apart(crew.alloc)?;
     relays.close(rt, ends)?;
     Ok(chairs)
@@ -167,10 +166,7 @@ pub(crate) fn work_round<
 {
     let count = settings.solvers + settings.checkers;
     let (desk, chairs) = Desk::over(rt, alloc, book, count)?;
-    let signals = Signals {
-        stop: AtomicBool::new(false),
-        leasing: Mutex::new(()),
-    };
+    let signals = Signals::new();
     let crew = Crew {
         alloc,
         desk: &desk,

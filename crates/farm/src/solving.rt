@@ -4,8 +4,8 @@ ghost use Rattle.std.specs.Prelude.{◌+◌, ℕ, OnOk};
 ghost use Rattle.lease_desk.specs.Desks.{receipts_in};
 ghost use Rattle.farm_relay.specs.Relays.{put_by};
 ghost use Rattle.farm.specs.Working.{IsOnDuty, StaysOnDuty};
-ghost use Rattle.farm.specs.Requests.{EndsIdle};
-ghost use Rattle.farm.specs.Posts.{StaysSolver};
+ghost use Rattle.farm.specs.Requests.{AreGiven, Continues, EndsIdle};
+ghost use Rattle.farm.specs.Posts.{StaysSolver, PutsOne, FindsOwn};
 ghost use Rattle.farm.specs.Findings.{IsFoundFor};
 ghost use Rattle.farm.specs.Flows.{Moves, SettlesOwn, of_tasks, all_found};
 
@@ -20,9 +20,8 @@ use lease_book::OutOfMemory;
 use lease_desk::{Chair, Clock, Gate};
 use partition_solver::{Bundle, Solver};
 use std::sync::Wait;
-use std::sync::atomic::Ordering::SeqCst;
 
-/// What the solver finds for leases of a board and denomination. There is nothing where it has no answer within the
+/// Looks for an answer to leases of a board and denomination. There is none if the solver has no answer within the
 /// budget, or no memory.
 fn found_for<S: Solver, G, C>(crew: &Crew<'_, S, G, C>, group: &Tasks) -> Option<Bundle>
     ensures { IsFoundFor (S.may_find crew.now.means.solver.now) crew.now.deals.now crew.now.settings.budget
@@ -43,7 +42,7 @@ fn found_for<S: Solver, G, C>(crew: &Crew<'_, S, G, C>, group: &Tasks) -> Option
         .ok()?
 }
 
-/// Takes leases back.
+/// Gives leases up.
 fn give_up_all<S, G, C: Clock, R: Wait>(
     rt: &R,
     crew: &Crew<'_, S, G, C>,
@@ -54,6 +53,7 @@ fn give_up_all<S, G, C: Clock, R: Wait>(
     ensures stays { StaysOnDuty C.may_tell crew.now chair.old chair.new }
     ensures leases { OnOk result ((weight : ℕ → ℕ) →
         Moves weight (receipts_in chair.old) (receipts_in chair.new) (of_tasks weight tasks.now.items) 0) }
+    ensures receipts { OnOk result (Continues (receipts_in chair.old) (receipts_in chair.new)) }
 {
     let tasks = tasks.as_slice();
     for task in tasks.iter() {
@@ -62,8 +62,8 @@ fn give_up_all<S, G, C: Clock, R: Wait>(
     Ok(())
 }
 
-/// Tells the gate of leases of a board and denomination, has the solver look for answers, and puts them for the
-/// checkers. Where there is none, or they are handed back, leases are given up.
+/// Works on leases of a board and denomination. It tells the gate of each lease, asks the solver once, and puts the
+/// answer for the checkers. It gives up the leases that nothing is claimed for, and all if the answer is handed back.
 fn work_on<S: Solver, G: Gate, C: Clock, R: Wait>(
     rt: &R,
     crew: &Crew<'_, S, G, C>,
@@ -76,6 +76,8 @@ fn work_on<S: Solver, G: Gate, C: Clock, R: Wait>(
         Moves weight (receipts_in post.old.chair) (receipts_in post.new.chair)
         (of_tasks weight group.now.items + all_found weight (put_by post.old.found))
         (all_found weight (put_by post.new.found))) }
+    ensures receipts { OnOk result (Continues (receipts_in post.old.chair) (receipts_in post.new.chair)) }
+    ensures puts { PutsOne S.may_find crew.now group.now.items post.old post.new }
 {
     for task in group.iter() {
         crew.means.gate.before_solve(task.lease);
@@ -94,20 +96,22 @@ fn work_on<S: Solver, G: Gate, C: Clock, R: Wait>(
     give_up_all(rt, crew, &mut post.chair, &back.tasks)
 }
 
-/// Works on leases, one group that a search serves after another, in the order of their first leases. Once none is
-/// left, what is worked on is empty.
+/// Works on leases, one group after another, in the order of their first leases.
 fn work_on_all<S: Solver, G: Gate, C: Clock, R: Wait>(
     rt: &R,
     crew: &Crew<'_, S, G, C>,
     post: &mut SolverPost,
     batch: Tasks,
 ) -> Result<(), OutOfMemory>
-    requires { IsOnDuty C.may_tell crew.now post.old.chair }
+    requires duty { IsOnDuty C.may_tell crew.now post.old.chair }
+    requires given { AreGiven (receipts_in post.old.chair) batch.items }
+    requires finds { FindsOwn S.may_find crew.now post.old }
     ensures stays { StaysSolver C.may_tell crew.now post.old post.new }
     ensures leases { OnOk result ((weight : ℕ → ℕ) →
         Moves weight (receipts_in post.old.chair) (receipts_in post.new.chair)
         (of_tasks weight batch.items + all_found weight (put_by post.old.found))
         (all_found weight (put_by post.new.found))) }
+    ensures finds { OnOk result (FindsOwn S.may_find crew.now post.new) }
 {
     let mut rest = batch;
     for _turn in 0..rest.len() {
@@ -118,8 +122,8 @@ fn work_on_all<S: Solver, G: Gate, C: Clock, R: Wait>(
     Ok(())
 }
 
-/// Leases entries and works on them, until none is open and no lease has run out. It ends sooner where memory runs out
-/// at the desk, or where not all threads could be started.
+/// Leases entries and works on them, until no entry is open and no lease has run out. It ends sooner if memory runs out
+/// at the desk, or if the round was stopped.
 pub(crate) fn solve_all<S: Solver, G: Gate, C: Clock, R: Wait>(
     rt: &R,
     crew: &Crew<'_, S, G, C>,
@@ -127,17 +131,18 @@ pub(crate) fn solve_all<S: Solver, G: Gate, C: Clock, R: Wait>(
 ) -> Result<(), Halt>
     requires duty { IsOnDuty C.may_tell crew.now post.old.chair }
     requires leases { (weight : ℕ → ℕ) → SettlesOwn weight post.old }
+    requires finds { FindsOwn S.may_find crew.now post.old }
     ensures stays { StaysSolver C.may_tell crew.now post.old post.new }
     ensures leases { OnOk result ((weight : ℕ → ℕ) → SettlesOwn weight post.new) }
+    ensures finds { OnOk result (FindsOwn S.may_find crew.now post.new) }
     ensures idle { OnOk result (EndsIdle (receipts_in post.new.chair)) }
 {
     for _turn in rt.forever() {
-        let leasing = crew.signals.leasing.lock(rt);
-        if crew.signals.stop.load(SeqCst) {
+        let Some(leasing) = crew.signals.leasing(rt) else {
             return Err(Halt::NoThread);
-        }
-        if let Some(first) = next_task(rt, crew, &mut post.chair)? {
-            let batch = lease_batch(rt, crew, &mut post.chair, first)?;
+        };
+        if let Some(first) = next_task(rt, crew, &mut post.chair, &leasing)? {
+            let batch = lease_batch(rt, crew, &mut post.chair, first, &leasing)?;
             drop(leasing);
             work_on_all(rt, crew, post, batch)?;
         } else if !frees_a_lease(rt, crew, &mut post.chair)? {

@@ -1,26 +1,30 @@
 //! The threads of a run: their start, and their end.
 
-ghost use Rattle.std.specs.Prelude.{IfOk, OnOk};
+ghost use Rattle.std.specs.Prelude.{All, IfOk, OnOk};
+ghost use Rattle.farm_threads.specs.Promises.{HasEnded, IsKept};
+ghost use Rattle.farm.specs.Relaying.{AreEnded};
 ghost use Rattle.farm.specs.Running.{IsEmpty, MayBegin, AreStarted, HaveEnded};
 ghost use Rattle.farm.specs.declared.posts.Posts.{Posts as PostsOfRun};
 
 use crate::halts::Halt;
 use crate::posts::{CheckerPost, ClerkPost, Posts, SolverPost};
 use crate::relays::Relays;
+use crate::signals::Stopped;
 use farm_threads::{Thread, Work, end_each, join_each, start_each};
 use std::alloc::AllocError;
 use std::sync::Wait;
 use std::thread::{Scope, Threads};
 
-/// The threads of solvers, which do the work `A`, of checkers and of clerks.
+/// The threads of solvers, which do the work `A`, of checkers and of clerks. They can't be dropped: [`join_all`] or
+/// [`end_all`] waits for them.
 pub(crate) struct Started<
     A: Work<SolverPost, Halt>,
     B: Work<CheckerPost, Halt>,
     D: Work<ClerkPost, Halt>,
 > {
-    pub(crate) solvers: Vec<Thread<SolverPost, Halt, A>>,
-    pub(crate) checkers: Vec<Thread<CheckerPost, Halt, B>>,
-    pub(crate) clerks: Vec<Thread<ClerkPost, Halt, D>>,
+    solvers: Vec<Thread<SolverPost, Halt, A>>,
+    checkers: Vec<Thread<CheckerPost, Halt, B>>,
+    clerks: Vec<Thread<ClerkPost, Halt, D>>,
 }
 
 impl<A: Work<SolverPost, Halt>, B: Work<CheckerPost, Halt>, D: Work<ClerkPost, Halt>> Started<
@@ -41,8 +45,8 @@ impl<A: Work<SolverPost, Halt>, B: Work<CheckerPost, Halt>, D: Work<ClerkPost, H
     }
 }
 
-/// Starts a thread at each post: the checkers before those who put for them, and the clerks last. On a fault the posts
-/// that have no thread are let go.
+/// Starts a thread at each post: first the checkers, then the solvers, last the clerks. On a fault the posts that have
+/// no thread are dropped.
 pub(crate) fn start_all<
     's,
     E,
@@ -74,7 +78,7 @@ pub(crate) fn start_all<
     Ok(())
 }
 
-/// Waits for the threads, and hands out their posts, unless the run has failed.
+/// Waits for the threads, and returns their posts, unless the work of one failed.
 pub(crate) fn join_all<
     A: Work<SolverPost, Halt>,
     B: Work<CheckerPost, Halt>,
@@ -100,16 +104,20 @@ pub(crate) fn join_all<
     })
 }
 
-/// Ends the threads that were started, where not all were and no more is leased. Whoever takes from a relay gets an end
-/// mark, once nobody is left who puts into it; who puts where nobody takes gets back what it puts. So nobody waits for
-/// ever.
+/// Waits for the threads that were started, if not all were. No solver leases any more. When nobody is left who puts
+/// into a relay, each of its takers gets an end mark. A message that nobody takes is handed back. So no thread waits
+/// for ever.
 pub(crate) fn end_all<
     A: Work<SolverPost, Halt>,
     B: Work<CheckerPost, Halt>,
     D: Work<ClerkPost, Halt>,
     R: Threads + Wait,
->(rt: &R, relays: Relays, started: Started<A, B, D>) {
-    let mut relays = relays;
+>(rt: &R, _stopped: Stopped, relays: &mut Relays, started: Started<A, B, D>)
+    ensures solvers { All (HasEnded (IsKept A.leaves A.ends)) started.solvers.items }
+    ensures checkers { All (HasEnded (IsKept B.leaves B.ends)) started.checkers.items }
+    ensures clerks { All (HasEnded (IsKept D.leaves D.ends)) started.clerks.items }
+    ensures relays { AreEnded relays.new }
+{
     let Started {
         solvers,
         checkers,

@@ -3,6 +3,7 @@ use Rattle.std.proofs.lemmas.List.Sums.{sum_by_push}
 use Rattle.farm_relay.specs.Relays.{taken_by}
 use Rattle.farm.specs.Flows.{of_found, all_found}
 use Rattle.farm.proofs.Flows.{puts_then}
+use Rattle.farm.proofs.Findings.{claims_taken_more}
 use Rattle.farm.proofs.checking.check_all.Goals as goal
 
 pub loop-preserved : goal.loop-preserved
@@ -18,4 +19,5 @@ loop-preserved g c =
           let taken = ap (all_found weight) took.some in
           let one = sum_by_push (of_found weight) (taken_by c.loop.post.found) c.in-Some-take.message in
           omega arith,
+      record { each = claims_taken_more _ _ _ _ _ took.some checked.puts i.3.each },
     )

@@ -1,7 +1,8 @@
 use Rattle.std.proofs.Common.{ℕ, ◌+◌, ◌≤◌, ◌-◌, length}
 use Rattle.lease_desk.specs.Desks.{receipts_in}
 use Rattle.farm_relay.specs.Relays.{put_by}
-use Rattle.farm.specs.Posts.{StaysSolver}
+use Rattle.farm.specs.Posts.{StaysSolver, FindsOwn}
+use Rattle.farm.specs.Requests.{AreGiven}
 use Rattle.farm.specs.Flows.{Moves, of_tasks, all_found}
 use Rattle.farm.proofs.solving.work_on_all.Given as goal
 
@@ -14,3 +15,5 @@ invariant-loop-turn g l =
     (of_tasks weight l.fn.batch.items + all_found weight (put_by l.initial.post.found))
     (of_tasks weight l.rest.items + all_found weight (put_by l.post.found))
     )
+    × AreGiven (receipts_in l.post.chair) l.rest.items
+    × FindsOwn g.S.Solver.may_find l.crew l.post
