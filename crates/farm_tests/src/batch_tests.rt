@@ -5,7 +5,7 @@ use crate::expect::expect_eq;
 use crate::gates::{TellsAll, Told};
 use crate::remembers::{Call, Remembers, declarers_of, trumps_of};
 use crate::solvers::ACE;
-use crate::tables::{ONE_SUIT_EACH, TableTally, boards_of, one_board, tally_of};
+use crate::tables::{ONE_SUIT_EACH, TURNED, TableTally, boards_of, one_board, tally_of};
 use cards::{Seat, Trump};
 use farm::{Means, Settings, run_farm};
 use lease_book::{Book, Reply};
@@ -130,9 +130,6 @@ fn leases_are_grouped_by_denominations(rt: HostRuntime) -> Result<(), Fail> {
     }
     Ok(())
 }
-
-/// The cards of North's ace, each at the next seat.
-const TURNED: &[u8] = b"N:J... A... K... Q...";
 
 /// What the leases of a history say, each alone: the deal of its board, its declarer, its denomination, and the budget.
 fn said_one_by_one(alloc: Global, book: &Book, budget: u64) -> Result<Vec<Call>, Fail> {

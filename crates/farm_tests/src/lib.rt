@@ -23,6 +23,10 @@ mod late;
 #[cfg(test)]
 mod late_tests;
 #[cfg(test)]
+mod notice_tests;
+#[cfg(test)]
+mod notices;
+#[cfg(test)]
 mod remembers;
 #[cfg(test)]
 mod run_tests;
@@ -32,6 +36,10 @@ mod settings_tests;
 mod sharing;
 #[cfg(test)]
 mod solvers;
+#[cfg(test)]
+mod stack_tests;
+#[cfg(test)]
+mod stacks;
 #[cfg(test)]
 mod tables;
 #[cfg(test)]

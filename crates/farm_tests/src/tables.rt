@@ -10,6 +10,9 @@ use std::test::Fail;
 pub const ONE_SUIT_EACH: &[u8] =
     b"N:AKQJT98765432... .AKQJT98765432.. ..AKQJT98765432. ...AKQJT98765432";
 
+/// The deal of one card each in which East has the ace: the cards of North's ace, each at the next seat.
+pub const TURNED: &[u8] = b"N:J... A... K... Q...";
+
 /// A board for each of these deals.
 pub fn boards_of(alloc: Global, deals: &[&[u8]]) -> Result<Vec<Board>, Fail> {
     let mut boards = Vec::new(alloc);
