@@ -57,7 +57,8 @@ impl<S: Sink> Told<S> {
 
     /// All work has ended at this moment.
     fn end(&mut self, now: u64)
-        ensures { Tells (S.state self.old.sink) (S.state self.new.sink) (last_line_text self.old.counts now) }
+        ensures line { Tells (S.state self.old.sink) (S.state self.new.sink) (last_line_text self.old.counts now) }
+        ensures rest { self.new ≡ record self.old { sink = self.new.sink } }
     {
         let _ = write_last_line(&self.counts, now, &mut self.sink);
     }
