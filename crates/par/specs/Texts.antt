@@ -1,0 +1,55 @@
+-- The texts of par, as `EW 110`, and of the par contracts, as `NS 3NT+2, W 4S, EW 5Cx-1`.
+use Rattle.std.specs.Prelude.{ℕ, zero, suc, ◌+◌, List, [], ◌∷◌, ◌++◌, codes, ℤ, pos, negsuc}
+use Rattle.std.specs.List.{flat_map}
+use Rattle.std.specs.Fmt.{decimal}
+use Rattle.cards.specs.declared.seats.Side.TheVariants.{NorthSouth, EastWest}
+use Rattle.cards.specs.Seats.{seat_letter, side_letters}
+use Rattle.cards.specs.Pack.{trump_letters}
+use Rattle.scoring.specs.declared.bids.Bid.{Bid}
+use Rattle.scoring.specs.declared.scores.Doubling.{Doubling}
+use Rattle.scoring.specs.declared.scores.Doubling.TheVariants.{Undoubled, Doubled}
+use Rattle.scoring.specs.declared.scores.Outcome.{Outcome}
+use Rattle.scoring.specs.declared.scores.Outcome.TheVariants.{Made, Down}
+use Rattle.scoring.specs.Bids.{level_number}
+use Rattle.par.specs.declared.contracts.Declarers.{Declarers}
+use Rattle.par.specs.declared.contracts.Declarers.TheVariants.{Either, Only}
+use Rattle.par.specs.declared.contracts.ParContract.{ParContract}
+
+-- the side that gains, and what it gains: `NS 0` if nobody does
+abbrev pub score_text : ℤ → List ℕ
+score_text (pos points) = codes "NS " ++ decimal points
+score_text (negsuc points) = codes "EW " ++ decimal (points + 1)
+
+-- the side, or the seat if only one hand declares
+abbrev pub declarers_text : Declarers → List ℕ
+declarers_text (Either side) = side_letters side
+declarers_text (Only seat) = seat_letter seat
+
+-- the number of odd tricks, and the denomination
+abbrev pub bid_text : Bid → List ℕ
+bid_text bid = decimal (level_number bid.level) ++ trump_letters bid.denomination
+
+abbrev pub doubling_text : Doubling → List ℕ
+doubling_text Undoubled = []
+doubling_text Doubled = codes "x"
+
+-- the tricks over or under, if there are any
+abbrev pub outcome_text : Outcome → List ℕ
+outcome_text (Made zero) = []
+outcome_text (Made (suc over)) = codes "+" ++ decimal (suc over)
+outcome_text (Down under) = codes "-" ++ decimal under
+
+unfoldable pub contract_text : ParContract → List ℕ
+contract_text contract =
+    declarers_text contract.declarers
+    ++ (codes " "
+    ++ (bid_text contract.bid ++ (doubling_text contract.doubling ++ outcome_text contract.outcome)))
+
+-- a contract after another one
+abbrev pub next_text : ParContract → List ℕ
+next_text contract = codes ", " ++ contract_text contract
+
+-- the contracts in their order, or `Pass` if there are none
+abbrev pub contracts_text : List ParContract → List ℕ
+contracts_text [] = codes "Pass"
+contracts_text (contract ∷ contracts) = contract_text contract ++ flat_map next_text contracts

@@ -1,0 +1,14 @@
+//! Laws about par. Each is a function that does nothing: its contract is the law.
+
+ghost use Rattle.par.specs.Laws.{HasOnePar, HasParContract, NoneAtZero};
+
+/// A board has one par.
+pub fn par_is_unique()
+    ensures { HasOnePar }
+{}
+
+/// There is a par contract exactly if par isn't 0.
+pub fn par_has_contracts()
+    ensures some { HasParContract }
+    ensures none { NoneAtZero }
+{}

@@ -1,0 +1,2 @@
+pub mod PenaltyLaws
+pub mod BidLaws

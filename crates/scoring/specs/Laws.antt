@@ -1,0 +1,27 @@
+-- What follows from the definitions, for all bids.
+use Rattle.std.specs.Prelude.{◌≡◌, ℕ, ◌<◌, ◌≤◌, ◌↔◌, pos, ◌<ℤ◌}
+use Rattle.scoring.specs.declared.bids.Bid.{Bid}
+use Rattle.scoring.specs.declared.scores.Vulnerability.{Vulnerability}
+use Rattle.scoring.specs.declared.scores.Doubling.{Doubling}
+use Rattle.scoring.specs.Bids.{Supersedes, bid_number}
+use Rattle.scoring.specs.Scores.{score, tricks_bid}
+
+-- a bid supersedes the bids with lower numbers, and no others
+abbrev pub AreInOrder : Type 0
+AreInOrder = (bid other : Bid) → Supersedes bid other ↔ (bid_number other < bid_number bid)
+
+-- different bids have different numbers
+abbrev pub HaveNumbers : Type 0
+HaveNumbers = (bid other : Bid) → bid_number bid ≡ bid_number other → bid ≡ other
+
+-- declarer's side scores points if it makes its contract
+abbrev pub MadeContractsGain : Type 0
+MadeContractsGain =
+    (bid : Bid) (doubling : Doubling) (vulnerability : Vulnerability) (tricks : ℕ) →
+    tricks_bid bid ≤ tricks → pos 0 <ℤ score bid doubling vulnerability tricks
+
+-- and otherwise its opponents do
+abbrev pub FailingContractsLose : Type 0
+FailingContractsLose =
+    (bid : Bid) (doubling : Doubling) (vulnerability : Vulnerability) (tricks : ℕ) →
+    tricks < tricks_bid bid → score bid doubling vulnerability tricks <ℤ pos 0

@@ -1,0 +1,3 @@
+pub mod Bids
+pub mod Scores
+pub mod Laws
