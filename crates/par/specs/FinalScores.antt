@@ -48,7 +48,9 @@ final_score tricks vulnerable contract =
 
 -- What a side gains if this contract is the last, where `final` has the final score of each contract: the score of its
 -- own contract, and minus that of a contract of the other side. Nobody gains if there is none.
+abbrev pub gain_by : Side → Side → ℤ → ℤ
+gain_by side of points = if is_same_side side of then points else neg_ℤ points
+
 abbrev pub gain_of : (Contract → ℤ) → Side → Option Contract → ℤ
 gain_of final side None = pos 0
-gain_of final side (Some contract) =
-    if is_same_side side contract.side then final contract else neg_ℤ (final contract)
+gain_of final side (Some contract) = gain_by side contract.side (final contract)

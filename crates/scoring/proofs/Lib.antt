@@ -1,2 +1,2 @@
-pub mod PenaltyLaws
+pub mod ScoreLaws
 pub mod BidLaws

@@ -1,5 +1,8 @@
-use Rattle.scoring.proofs.BidLaws.{in_order}
+use Rattle.scoring.proofs.BidLaws.{in_order, one_bid}
 use Rattle.scoring.proofs.laws.bids_are_in_order.Goals as goal
 
 pub returns-clause-order : goal.returns-clause-order
 returns-clause-order c = in_order
+
+pub returns-clause-numbers : goal.returns-clause-numbers
+returns-clause-numbers c = one_bid

@@ -1,5 +1,5 @@
 use Rattle.std.proofs.Common.{◌∙◌, sym, arith}
-use Rattle.scoring.proofs.PenaltyLaws.{undoubled, undoubled_vulnerable, doubled_few, doubled_many, doubled_vulnerable}
+use Rattle.scoring.proofs.ScoreLaws.{undoubled, undoubled_vulnerable, doubled_few, doubled_many, doubled_vulnerable}
 use Rattle.scoring.proofs.scores.lost.Goals as goal
 
 pub returns-in-Undoubled-NotVulnerable-clause-points : goal.returns-in-Undoubled-NotVulnerable-clause-points

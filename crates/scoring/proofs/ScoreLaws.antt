@@ -1,12 +1,13 @@
--- The penalty for all undertricks, in one step.
-use Rattle.std.proofs.Common.{◌≡◌, ℕ, zero, suc, ◌+◌, ◌-◌, ◌*◌, ◌<◌, ◌≤◌, ℤ, pos, neg_ℤ, ◌<ℤ◌, refl, arith, lt-ltb}
+-- The penalty for all undertricks in one step, and who scores.
+use Rattle.std.proofs.Common.{◌≡◌, ℕ, zero, suc, ◌+◌, ◌-◌, ◌*◌, ◌<◌, ◌≤◌, ℤ, pos, neg_ℤ, ◌<ℤ◌, inl, inr, ltb, refl, arith, lt-ltb, le-ltb}
+use Rattle.std.proofs.lemmas.Bool.{cases_Bool}
 use Rattle.std.proofs.lemmas.Int.{ints}
 use Rattle.scoring.specs.declared.scores.Vulnerability.{Vulnerability}
 use Rattle.scoring.specs.declared.scores.Doubling.{Doubling}
 use Rattle.scoring.specs.declared.scores.Vulnerability.TheVariants.{NotVulnerable, Vulnerable}
 use Rattle.scoring.specs.declared.scores.Doubling.TheVariants.{Undoubled, Doubled}
-use Rattle.scoring.specs.Scores.{undertrick_penalty, penalty, tricks_bid}
-use Rattle.scoring.specs.Laws.{FailingContractsLose}
+use Rattle.scoring.specs.Scores.{undertrick_penalty, penalty, tricks_bid, trick_score, game_or_part_score, made_score}
+use Rattle.scoring.specs.Laws.{MadeContractsGain, FailingContractsLose}
 
 pub undoubled : (under : ℕ) → penalty Undoubled NotVulnerable under ≡ 50 * under
 undoubled zero = refl
@@ -63,9 +64,23 @@ penalty-above doubling vulnerability zero some = absurd (omega arith)
 penalty-above doubling vulnerability (suc others) some =
     omega (arith, undertrick_penalty-above doubling vulnerability others)
 
+above_zero : (points : ℕ) → 0 < points → pos 0 <ℤ pos points
+above_zero points some = omega (arith, ints)
+
 below_zero : (lost : ℕ) → 0 < lost → neg_ℤ (pos lost) <ℤ pos 0
 below_zero zero some = absurd (omega arith)
 below_zero (suc lost) some = omega (arith, ints)
+
+premium-above : (vulnerability : Vulnerability) (points : ℕ) → 0 < game_or_part_score vulnerability points
+premium-above NotVulnerable points = elim (cases_Bool (ltb points 100)) [ inl t ↦ rw t (omega arith) | inr f ↦ rw f (omega arith) ]
+premium-above Vulnerable points = elim (cases_Bool (ltb points 100)) [ inl t ↦ rw t (omega arith) | inr f ↦ rw f (omega arith) ]
+
+pub made : MadeContractsGain
+made bid doubling vulnerability tricks makes =
+    let premium = premium-above vulnerability (trick_score bid doubling) in
+    let over = tricks - tricks_bid bid in
+    let some : 0 < made_score bid doubling vulnerability over = omega arith in
+    rw (le-ltb tricks (tricks_bid bid) makes) (above_zero (made_score bid doubling vulnerability over) some)
 
 pub failing : FailingContractsLose
 failing bid doubling vulnerability tricks fails =
