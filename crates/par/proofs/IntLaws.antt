@@ -68,3 +68,7 @@ le-both x y h k = omega (arith, ints)
 
 pub max-first : (x y : ℤ) → y ≤ℤ x → int_max x y ≡ x
 max-first x y h = omega (arith, ints, clamps)
+
+pub min-one : (x y : ℤ) → (int_min x y ≡ x) ⊎ (int_min x y ≡ y)
+min-one x y =
+    ⊎_elim (λ less. inl (omega (arith, ints, clamps))) (λ no_less. inr (omega (arith, ints, clamps))) (cases_int_lt x y)

@@ -5,3 +5,5 @@ pub mod Reaching
 pub mod PlayedOut
 pub mod Standing
 pub mod Lowest
+pub mod StepLaws
+pub mod ListLaws

@@ -104,7 +104,7 @@ module _ (final : Contract → ℤ) (par : ℤ) where
             omega arith,
             record {
               stands = stands;
-              lowest = λ lower less. none lower (omega arith);
+              lowest = λ lower. none lower.0 (omega (arith, lower.1)) lower.2;
             },
           )
           | inr not ↦ inr (λ other h stands. elim (cases_eq (level_number other) (suc n)) [

@@ -15,25 +15,33 @@ use Rattle.par.specs.declared.contracts.Declarers.TheVariants.{Either, Only}
 use Rattle.par.specs.declared.contracts.ParContract.{ParContract}
 use Rattle.par.specs.FinalScores.{first_hand, second_hand, final_outcome, final_doubling, final_score, gain_of}
 
--- what North and South gain by the contract is par, and the other side gains no more by a higher contract of its own
+-- the other side gains no more by a higher contract of its own
+abbrev pub IsUnbeaten : (Contract → ℤ) → Contract → Type 0
+IsUnbeaten final contract =
+    (higher : Bid) → Supersedes higher contract.bid
+    → final (record { side = other_side contract.side; bid = higher })
+    ≤ℤ gain_of final (other_side contract.side) (Some contract)
+
+-- what North and South gain by the contract is par, and no higher contract is better for the other side
 pub record Stands (final : Contract → ℤ) (par : ℤ) (contract : Contract) : Type 0 where
   pub score : gain_of final NorthSouth (Some contract) ≡ par
-  pub unbeaten :
-      (higher : Bid) → Supersedes higher contract.bid
-      → final (record { side = other_side contract.side; bid = higher })
-      ≤ℤ gain_of final (other_side contract.side) (Some contract)
+  pub unbeaten : IsUnbeaten final contract
 
 -- the same at another level
 abbrev pub at_level : Contract → Level → Contract
 at_level contract level =
     record { side = contract.side; bid = record { level = level; denomination = contract.bid.denomination } }
 
+-- a lower contract of the side in the denomination stands
+abbrev pub StandsLower : (Contract → ℤ) → ℤ → Contract → Type 0
+StandsLower final par contract =
+    (level : Level) × (level_number level < level_number contract.bid.level)
+    × Stands final par (at_level contract level)
+
 -- A par contract: of those of a side in a denomination the lowest.
 pub record IsParContract (final : Contract → ℤ) (par : ℤ) (contract : Contract) : Type 0 where
   pub stands : Stands final par contract
-  pub lowest :
-      (level : Level) → level_number level < level_number contract.bid.level
-      → Stands final par (at_level contract level) → ⊥
+  pub lowest : StandsLower final par contract → ⊥
 
 -- the order of the list: the highest bid first, and of one bid the contract of North and South before that of East
 -- and West

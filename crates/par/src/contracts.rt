@@ -1,7 +1,7 @@
 //! Contracts of a side, and the par contracts.
 
-use cards::{Seat, Side};
-use scoring::{Bid, Doubling, Outcome};
+use cards::{Seat, Side, Trump};
+use scoring::{Bid, Doubling, Level, Outcome};
 
 /// A contract: the last bid, and the side that made it.
 #[derive(Clone, Copy, Debug, PartialEq, Eq)]
@@ -32,4 +32,23 @@ pub struct ParContract {
     pub doubling: Doubling,
     /// By how many tricks it is made, or fails.
     pub outcome: Outcome,
+}
+
+impl Default for ParContract {
+    ghost use Rattle.std.specs.Prelude.{⊤};
+
+    ghost is_default = { λ contract. ⊤ };
+
+    /// Some contract, for the unused places of a list.
+    fn default() -> ParContract {
+        ParContract {
+            declarers: Declarers::Either(Side::NorthSouth),
+            bid: Bid {
+                level: Level::One,
+                denomination: Trump::Nt,
+            },
+            doubling: Doubling::Undoubled,
+            outcome: Outcome::Made(0),
+        }
+    }
 }

@@ -111,10 +111,10 @@ level_at-number Seven = refl
 pub one_level : (level other : Level) → level_number level ≡ level_number other → level ≡ other
 one_level level other e = sym (level_at-number level) ∙ (ap level_at e ∙ level_at-number other)
 
-abbrev denomination_at : ℕ → Trump
+abbrev pub denomination_at : ℕ → Trump
 denomination_at rank = get_or trumps (4 - rank) trump.Nt
 
-denomination_at-rank : (denomination : Trump) → denomination_at (rank_of denomination) ≡ denomination
+pub denomination_at-rank : (denomination : Trump) → denomination_at (rank_of denomination) ≡ denomination
 denomination_at-rank (trump.Suit Clubs) = refl
 denomination_at-rank (trump.Suit Diamonds) = refl
 denomination_at-rank (trump.Suit Hearts) = refl

@@ -52,6 +52,15 @@ impl Level {
             Level::Seven => 7,
         }
     }
+
+    /// The level of this number.
+    pub fn at(number: u8) -> Level
+        requires above { 1 ≤ number }
+        requires below { number < 8 }
+        ensures { level_number result ≡ number }
+    {
+        Level::ALL[number as usize - 1]
+    }
 }
 
 /// One of the 35 bids (Law 18A).
