@@ -7,3 +7,4 @@ pub mod Standing
 pub mod Lowest
 pub mod StepLaws
 pub mod ListLaws
+pub mod TextLaws

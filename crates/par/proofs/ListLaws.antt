@@ -1,8 +1,8 @@
 -- The list of the par contracts.
-use Rattle.std.proofs.Common.{◌≡◌, ℕ, zero, suc, ◌+◌, ◌-◌, ◌*◌, ◌<◌, ◌≤◌, ◌⊎◌, inl, inr, true, false, eqb, Some}
-use Rattle.std.proofs.Common.{List, [], ◌∷◌, ◌++◌, length, map, get_or, length-append, refl, sym, ◌∙◌, ap, subst, arith}
+use Rattle.std.proofs.Common.{◌≡◌, ℕ, ◌+◌, ◌-◌, ◌*◌, ◌<◌, ◌≤◌, ◌⊎◌, inl, inr, eqb}
+use Rattle.std.proofs.Common.{List, [], ◌∷◌, ◌++◌, length, map, get_or, refl, sym, ◌∙◌, ap, subst, arith}
 use Rattle.std.specs.Prelude.{ℤ, ◌≤ℤ◌, ◌<ℤ◌, AllPairs, Contains}
-use Rattle.std.specs.List.{IsDistinct, list_any}
+use Rattle.std.specs.List.{IsDistinct}
 use Rattle.std.proofs.lemmas.List.{get_or-map, length-map}
 use Rattle.std.proofs.lemmas.List.Elements.{Contains-get_or, Contains-push, Contains-push_cases, Contains-append_left}
 use Rattle.std.proofs.lemmas.List.Quantifiers.{all_pairs_push}
@@ -11,7 +11,6 @@ use Rattle.std.proofs.lemmas.Map.Steps.{length-le_from_distinct_below}
 use Rattle.std.proofs.lemmas.Map.Views.{Contains-from_any}
 use Rattle.std.proofs.lemmas.Int.{ints}
 use Rattle.std.proofs.lemmas.Bool.{cases_lt, cases_eq, eqb-true, ne_eqb}
-use Rattle.cards.specs.declared.suits.Suit.TheVariants.{Clubs}
 use Rattle.cards.specs.declared.suits.Trump.{Trump}
 use Rattle.cards.specs.declared.suits.Trump.TheVariants as trump
 use Rattle.cards.specs.declared.seats.Side.{Side}
@@ -20,7 +19,7 @@ use Rattle.cards.specs.Seats.{side_number}
 use Rattle.scoring.specs.declared.bids.Bid.{Bid}
 use Rattle.scoring.specs.declared.bids.Level.{Level}
 use Rattle.scoring.specs.declared.bids.Level.TheVariants.{One}
-use Rattle.scoring.specs.Bids.{bid_number, level_number, rank_of, Supersedes}
+use Rattle.scoring.specs.Bids.{bid_number, level_number, rank_of}
 use Rattle.scoring.proofs.BidLaws.{one_bid, one_level, in_order, bid_number-below, rank-below, denomination_at, denomination_at-rank}
 use Rattle.cards.specs.declared.seats.Seat.{Seat}
 use Rattle.par.specs.declared.boards.VulnerableSides.{VulnerableSides}

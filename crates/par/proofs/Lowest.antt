@@ -1,5 +1,5 @@
 -- From a contract that stands to a par contract, and the laws about par contracts.
-use Rattle.std.proofs.Common.{◌≡◌, ◌≢◌, ℕ, zero, suc, ◌+◌, ◌-◌, ◌<◌, ◌≤◌, ◌⊎◌, inl, inr, Some, get_or, refl, sym, ◌∙◌, ap, subst, arith}
+use Rattle.std.proofs.Common.{◌≡◌, ◌≢◌, ℕ, zero, suc, ◌<◌, ◌≤◌, ◌⊎◌, inl, inr, Some, get_or, refl, sym, ◌∙◌, ap, subst, arith}
 use Rattle.std.specs.Prelude.{ℤ, pos, neg_ℤ, ◌≤ℤ◌, ◌<ℤ◌}
 use Rattle.std.proofs.lemmas.Int.{ints}
 use Rattle.std.proofs.lemmas.Bool.{cases_lt, cases_eq}
@@ -19,12 +19,11 @@ use Rattle.par.specs.declared.boards.VulnerableSides.{VulnerableSides}
 use Rattle.par.specs.declared.contracts.Contract.{Contract}
 use Rattle.par.specs.Boards.{vulnerability_of}
 use Rattle.par.specs.FinalScores.{gain_by, gain_of, final_score, final_outcome, final_doubling, most_tricks}
-use Rattle.par.specs.Par.{IsPar}
 use Rattle.par.specs.ParContracts.{Stands, IsParContract, at_level}
 use Rattle.par.specs.Laws.{HasParContract, NoneAtZero}
 use Rattle.par.proofs.IntLaws.{cases_int_lt, cases_int_eq, neg-neg}
 use Rattle.par.proofs.Ladder.{rung, above_of, above_of-rung, rung-above_of, above_of-below, above_of-less, Supersedes-rung, worth}
-use Rattle.par.proofs.Plans.{contract_of, gain-own, gain-other}
+use Rattle.par.proofs.Plans.{contract_of}
 use Rattle.par.proofs.Reaching.{value, north_south_value, value_is_par, worth-is}
 use Rattle.par.proofs.PlayedOut.{one_par}
 use Rattle.par.proofs.Standing.{share, share-other, search_below, IsHighest, some_highest}

@@ -1,8 +1,8 @@
 -- A strategy by which a side gains what its bids are worth, and a strategy that holds it to that.
-use Rattle.std.proofs.Common.{◌≡◌, ℕ, zero, suc, ◌+◌, ◌-◌, ◌<◌, ◌≤◌, Bool, true, false, cond, List, [], ◌∷◌, Option, None, Some, inl, inr, refl, sym, ◌∙◌, ap, subst, arith}
-use Rattle.std.specs.Prelude.{ℤ, pos, neg_ℤ, ◌≤ℤ◌, ◌<ℤ◌, int_lt, IfSome, if◌then◌else◌}
-use Rattle.std.specs.Int.{int_min, int_max}
-use Rattle.std.proofs.lemmas.Int.{ints, clamps}
+use Rattle.std.proofs.Common.{◌≡◌, ℕ, zero, suc, ◌<◌, Bool, true, false, None, Some, inl, inr, refl, ◌∙◌, ap, subst, arith}
+use Rattle.std.specs.Prelude.{ℤ, neg_ℤ, ◌≤ℤ◌, ◌<ℤ◌, int_lt, IfSome}
+use Rattle.std.specs.Int.{int_min}
+use Rattle.std.proofs.lemmas.Int.{ints}
 use Rattle.std.proofs.lemmas.Bool.{cases_Bool}
 use Rattle.cards.specs.declared.seats.Side.{Side}
 use Rattle.cards.specs.declared.seats.Side.TheVariants.{NorthSouth, EastWest}
@@ -11,10 +11,10 @@ use Rattle.scoring.specs.declared.bids.Bid.{Bid}
 use Rattle.scoring.specs.Bids.{Supersedes}
 use Rattle.par.specs.declared.contracts.Contract.{Contract}
 use Rattle.par.specs.FinalScores.{gain_of}
-use Rattle.par.specs.Auctions.{Call, MayBeBid, GoesOn, IsAuction, contract_after, Strategy, IsLawful, FollowsAfter, CanReach}
-use Rattle.par.proofs.IntLaws.{cases_int_lt, le-trans, neg-le, neg-swap, neg-min-accept, neg-min-bid}
-use Rattle.par.proofs.Ladder.{rung, above_of, above_of-rung, rung-above_of, above_of-below, above_of-less, Supersedes-rung}
-use Rattle.par.proofs.Ladder.{other_side-twice, worth, best, after, after-worth, after-best, best-reached, after-others}
+use Rattle.par.specs.Auctions.{Call, MayBeBid, Strategy, IsLawful}
+use Rattle.par.proofs.IntLaws.{neg-min-accept, neg-min-bid}
+use Rattle.par.proofs.Ladder.{rung, above_of, above_of-rung, rung-above_of, above_of-below, Supersedes-rung}
+use Rattle.par.proofs.Ladder.{other_side-twice, worth, best, after, best-reached}
 
 abbrev pub contract_of : Side → Bid → Contract
 contract_of side bid = record { side = side; bid = bid }

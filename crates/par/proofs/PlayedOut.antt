@@ -1,17 +1,16 @@
 -- Two strategies can be played against each other, so neither side can reach more than the other leaves it.
 use Rattle.std.proofs.Common.{◌≡◌, ℕ, zero, suc, ◌<◌, ◌≤◌, List, [], ◌∷◌, Option, None, Some, refl, sym, ◌∙◌, ap, subst, arith}
-use Rattle.std.specs.Prelude.{ℤ, pos, neg_ℤ, ◌≤ℤ◌, IfSome}
+use Rattle.std.specs.Prelude.{ℤ, neg_ℤ, ◌≤ℤ◌, IfSome}
 use Rattle.std.proofs.lemmas.Int.{ints}
-use Rattle.cards.specs.declared.seats.Seat.{Seat}
 use Rattle.cards.specs.declared.seats.Side.{Side}
 use Rattle.cards.specs.declared.seats.Side.TheVariants.{NorthSouth, EastWest}
-use Rattle.cards.specs.Seats.{other_side, side_of, is_same_side}
+use Rattle.cards.specs.Seats.{other_side, side_of}
 use Rattle.scoring.specs.declared.bids.Bid.{Bid}
 use Rattle.par.specs.declared.contracts.Contract.{Contract}
 use Rattle.par.specs.FinalScores.{gain_by, gain_of, final_score}
-use Rattle.par.specs.Auctions.{Call, MayBeBid, last_after, GoesOn, IsAuction, contract_after, Strategy, IsLawful, FollowsAfter, CanReach}
+use Rattle.par.specs.Auctions.{Call, MayBeBid, GoesOn, IsAuction, contract_after, Strategy, IsLawful, FollowsAfter, CanReach}
 use Rattle.par.specs.Laws.{HasOnePar}
-use Rattle.par.proofs.IntLaws.{le-trans, neg-neg, le-both}
+use Rattle.par.proofs.IntLaws.{neg-neg, le-both}
 use Rattle.par.proofs.Ladder.{above_of, above_of-below, above_of-less}
 
 -- what one side gains the other loses

@@ -1,23 +1,21 @@
 -- By its plan each side gets its share of the value, whatever the other side calls.
-use Rattle.std.proofs.Common.{◌≡◌, ℕ, ◌<◌, List, [], ◌∷◌, Option, None, Some, refl, sym, ◌∙◌, ap, subst, arith}
+use Rattle.std.proofs.Common.{◌≡◌, ℕ, List, [], ◌∷◌, Option, None, Some, refl, sym, ◌∙◌, ap, arith}
 use Rattle.std.specs.Prelude.{ℤ, pos, neg_ℤ, ◌≤ℤ◌}
 use Rattle.std.specs.Int.{int_min, int_max}
-use Rattle.std.proofs.lemmas.Int.{ints, clamps}
 use Rattle.cards.specs.declared.seats.Side.{Side}
 use Rattle.cards.specs.declared.seats.Side.TheVariants.{NorthSouth, EastWest}
 use Rattle.cards.specs.declared.seats.Seat.{Seat}
 use Rattle.cards.specs.declared.suits.Trump.{Trump}
 use Rattle.cards.specs.Seats.{other_side, side_of}
 use Rattle.scoring.specs.declared.bids.Bid.{Bid}
-use Rattle.scoring.specs.Bids.{Supersedes}
 use Rattle.par.specs.declared.contracts.Contract.{Contract}
 use Rattle.par.specs.declared.boards.VulnerableSides.{VulnerableSides}
 use Rattle.par.specs.FinalScores.{gain_of, final_score}
-use Rattle.par.specs.Auctions.{Call, GoesOn, IsAuction, contract_after, Strategy, FollowsAfter, CanReach}
+use Rattle.par.specs.Auctions.{Call, GoesOn, IsAuction, contract_after, FollowsAfter, CanReach}
 use Rattle.par.specs.Par.{IsPar}
 use Rattle.par.proofs.IntLaws.{neg-neg, le-trans, le-refl, le-from_lt, neg-le, min-left, min-right, max-left, max-least, hold-passed, hold-bid}
-use Rattle.par.proofs.Ladder.{rung, above_of, above_of-rung, rung-above_of, above_of-below, above_of-less}
-use Rattle.par.proofs.Ladder.{other_side-twice, worth, best, after, after-worth, after-best, best-reached, after-others}
+use Rattle.par.proofs.Ladder.{above_of, above_of-rung, rung-above_of, above_of-below, above_of-less}
+use Rattle.par.proofs.Ladder.{other_side-twice, worth, best, after, after-worth, after-best, after-others}
 use Rattle.par.proofs.Plans.{contract_of, gain-own, gain-other, plan, plan-lawful, reply-none, reply-some, plan-over, first-none, first-some}
 
 side-apart : (side : Side) → other_side side ≡ side → ⊥

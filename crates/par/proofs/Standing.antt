@@ -1,16 +1,15 @@
 -- If par isn't 0, some contract stands: the highest one to which the bidding may lead.
-use Rattle.std.proofs.Common.{◌≡◌, ◌≢◌, ℕ, zero, suc, ◌+◌, ◌-◌, ◌<◌, ◌≤◌, ◌⊎◌, inl, inr, Some, refl, sym, ◌∙◌, ap, subst, arith}
+use Rattle.std.proofs.Common.{◌≡◌, ◌≢◌, ℕ, zero, suc, ◌<◌, ◌≤◌, ◌⊎◌, inl, inr, refl, sym, ◌∙◌, ap, subst, arith}
 use Rattle.std.specs.Prelude.{ℤ, pos, neg_ℤ, ◌≤ℤ◌, ◌<ℤ◌}
 use Rattle.std.specs.Int.{int_min, int_max}
 use Rattle.std.proofs.lemmas.Int.{ints, clamps}
-use Rattle.std.proofs.lemmas.Bool.{cases_lt, cases_eq}
+use Rattle.std.proofs.lemmas.Bool.{cases_eq}
 use Rattle.cards.specs.declared.seats.Side.{Side}
 use Rattle.cards.specs.declared.seats.Side.TheVariants.{NorthSouth, EastWest}
 use Rattle.cards.specs.Seats.{other_side}
-use Rattle.scoring.specs.declared.bids.Bid.{Bid}
 use Rattle.par.specs.declared.contracts.Contract.{Contract}
-use Rattle.par.proofs.IntLaws.{cases_int_lt, cases_int_eq, le-trans, le-refl, le-both, neg-le, neg-swap, max-first}
-use Rattle.par.proofs.Ladder.{worth, best, after, after-worth, after-best, Reached, best-reached, after-others, other_side-twice}
+use Rattle.par.proofs.IntLaws.{cases_int_lt, cases_int_eq, le-trans, neg-swap, max-first}
+use Rattle.par.proofs.Ladder.{worth, best, after, after-best, best-reached, after-others, other_side-twice}
 use Rattle.par.proofs.Reaching.{value}
 
 -- par, as a gain of this side

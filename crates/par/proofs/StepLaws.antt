@@ -1,6 +1,6 @@
 -- One bid lower, in the numbers of the machine.
 use Rattle.std.proofs.Common.{◌≡◌, ℕ, zero, suc, ◌+◌, ◌-◌, ◌<◌, ◌≤◌, ◌^◌, ⊎_elim, refl, sym, ◌∙◌, ap, subst, arith}
-use Rattle.std.specs.Prelude.{ℤ, pos, negsuc, neg_ℤ, ◌-ℤ◌, nat_abs, FitsSigned}
+use Rattle.std.specs.Prelude.{ℤ, pos, negsuc, neg_ℤ, ◌-ℤ◌, nat_abs}
 use Rattle.std.specs.Int.{int_min, int_max, w32, cast_signed, cast_unsigned}
 use Rattle.std.proofs.lemmas.Int.{ints, clamps, to_z-of_z, fits_signed_from_abs}
 use Rattle.cards.specs.declared.seats.Side.{Side}
@@ -8,7 +8,7 @@ use Rattle.cards.specs.declared.seats.Side.TheVariants.{NorthSouth, EastWest}
 use Rattle.cards.specs.Seats.{other_side}
 use Rattle.scoring.specs.declared.bids.Bid.{Bid}
 use Rattle.scoring.specs.Bids.{bid_number}
-use Rattle.scoring.proofs.BidLaws.{bid_at, bid_number-bid_at, one_bid}
+use Rattle.scoring.proofs.BidLaws.{bid_number-bid_at, one_bid}
 use Rattle.par.specs.declared.contracts.Contract.{Contract}
 use Rattle.par.proofs.IntLaws.{max-one, min-one}
 use Rattle.par.proofs.Ladder.{rung, worth, best, best-zero, best-suc}

@@ -1,6 +1,6 @@
 -- The contracts of a side, and their final scores. Here and below, `tricks` has the tricks that each declarer takes in
 -- each denomination.
-use Rattle.std.specs.Prelude.{ℕ, max, ℤ, pos, neg_ℤ, Option, None, Some, if◌then◌else◌, nat_lt}
+use Rattle.std.specs.Prelude.{ℕ, max, ℤ, pos, neg_ℤ, Option, None, Some, if◌then◌else◌}
 use Rattle.cards.specs.declared.seats.Seat.{Seat}
 use Rattle.cards.specs.declared.seats.Seat.TheVariants.{North, East, South, West}
 use Rattle.cards.specs.declared.seats.Side.{Side}

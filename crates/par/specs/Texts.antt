@@ -1,7 +1,8 @@
 -- The texts of par, as `EW 110`, and of the par contracts, as `NS 3NT+2, W 4S, EW 5Cx-1`.
-use Rattle.std.specs.Prelude.{ℕ, zero, suc, ◌+◌, List, [], ◌∷◌, ◌++◌, codes, ℤ, pos, negsuc}
+use Rattle.std.specs.Prelude.{ℕ, zero, suc, List, [], ◌∷◌, ◌++◌, codes, ℤ, pos, negsuc, unsigned_abs}
 use Rattle.std.specs.List.{flat_map}
 use Rattle.std.specs.Fmt.{decimal}
+use Rattle.cards.specs.declared.seats.Side.{Side}
 use Rattle.cards.specs.declared.seats.Side.TheVariants.{NorthSouth, EastWest}
 use Rattle.cards.specs.Seats.{seat_letter, side_letters}
 use Rattle.cards.specs.Pack.{trump_letters}
@@ -15,10 +16,14 @@ use Rattle.par.specs.declared.contracts.Declarers.{Declarers}
 use Rattle.par.specs.declared.contracts.Declarers.TheVariants.{Either, Only}
 use Rattle.par.specs.declared.contracts.ParContract.{ParContract}
 
--- the side that gains, and what it gains: `NS 0` if nobody does
+-- the side that gains; North and South if nobody does
+abbrev pub gaining_side : ℤ → Side
+gaining_side (pos points) = NorthSouth
+gaining_side (negsuc points) = EastWest
+
+-- that side, and what it gains
 abbrev pub score_text : ℤ → List ℕ
-score_text (pos points) = codes "NS " ++ decimal points
-score_text (negsuc points) = codes "EW " ++ decimal (points + 1)
+score_text par = side_letters (gaining_side par) ++ (codes " " ++ decimal (unsigned_abs par))
 
 -- the side, or the seat if only one hand declares
 abbrev pub declarers_text : Declarers → List ℕ

@@ -5,7 +5,7 @@ use Rattle.cards.specs.declared.suits.Suit.TheVariants.{Spades, Hearts, Diamonds
 use Rattle.cards.specs.declared.suits.Trump.{Trump}
 use Rattle.cards.specs.declared.suits.Trump.TheVariants as trump
 use Rattle.scoring.specs.declared.bids.Level.{Level}
-use Rattle.scoring.specs.declared.bids.Level.TheVariants.{One, Two, Three, Four, Five, Six, Seven}
+use Rattle.scoring.specs.declared.bids.Level.TheVariants.{Six, Seven}
 use Rattle.scoring.specs.declared.bids.Bid.{Bid}
 use Rattle.scoring.specs.declared.scores.Vulnerability.{Vulnerability}
 use Rattle.scoring.specs.declared.scores.Vulnerability.TheVariants.{NotVulnerable, Vulnerable}

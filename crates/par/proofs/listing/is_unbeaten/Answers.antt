@@ -1,7 +1,6 @@
-use Rattle.std.proofs.Common.{◌≡◌, ◌<◌, sym, ◌∙◌, ap, subst, arith}
+use Rattle.std.proofs.Common.{◌≡◌, ◌∙◌, subst, arith}
 use Rattle.std.specs.Prelude.{◌≤ℤ◌, ◌<ℤ◌, Some}
 use Rattle.std.proofs.lemmas.Int.{ints}
-use Rattle.scoring.specs.declared.bids.Bid.{Bid}
 use Rattle.scoring.specs.Bids.{bid_number, Supersedes}
 use Rattle.scoring.proofs.BidLaws.{in_order, bid_number-below}
 use Rattle.cards.specs.Seats.{other_side}

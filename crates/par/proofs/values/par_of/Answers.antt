@@ -1,9 +1,7 @@
-use Rattle.std.proofs.Common.{◌≡◌, ◌∙◌, sym, ap, subst, arith}
-use Rattle.std.specs.Prelude.{ℤ}
+use Rattle.std.proofs.Common.{◌≡◌, ◌∙◌, sym, ap, arith}
 use Rattle.cards.specs.Seats.{other_side}
 use Rattle.par.specs.Boards.{tricks_in}
 use Rattle.par.specs.FinalScores.{final_score}
-use Rattle.par.specs.Par.{IsPar}
 use Rattle.par.proofs.Ladder.{other_side-twice}
 use Rattle.par.proofs.Reaching.{value_is_par}
 use Rattle.par.proofs.StepLaws.{first_bid, one_more, dealer_gain, north_south_gain, east_west_gain}

@@ -1,7 +1,6 @@
 -- What each side gains at best by the bids seen so far.
 use Rattle.std.proofs.Common.{◌≡◌, ◌-◌, ◌<◌, ◌^◌}
 use Rattle.std.specs.Prelude.{unsigned_abs}
-use Rattle.cards.specs.Seats.{other_side, side_of}
 use Rattle.par.specs.Boards.{tricks_in}
 use Rattle.par.specs.FinalScores.{final_score}
 use Rattle.par.proofs.Ladder.{best}

@@ -1,0 +1,5 @@
+use Rattle.cards.proofs.WriteLemmas.{Writes-then}
+use Rattle.par.proofs.texts.write_difference.Goals as goal
+
+pub returns : goal.returns
+returns g c = Writes-then c.write_number.result _ _ c.in_ok-write_all.ensures c.write_number.ensures
