@@ -1,0 +1,26 @@
+//! Prints the lines of its input, each with its score or its par below it.
+//!
+//! It passes over a line of the input that has an answer, so the file with the answers is an input too.
+#![tactic(auto)]
+
+mod cases;
+
+use cases::answer_case;
+use std::io;
+
+fn main(rt: HostRuntime) -> io::Result<()> {
+    for line in rt.lines(rt.alloc()) {
+        let line = line?;
+        let case = line.as_str();
+        if case.starts_with("=") {
+            continue;
+        }
+        println!(rt; "{case}")?;
+        if !case.is_empty() && !case.starts_with("#") {
+            let mut answer = String::new(rt.alloc());
+            answer_case(rt.alloc(), case, &mut answer)?;
+            println!(rt; "= {answer}")?;
+        }
+    }
+    Ok(())
+}
