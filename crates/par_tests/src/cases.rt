@@ -1,7 +1,9 @@
 //! What a line asks for, and the answer.
 
 use cards::{Buffer, DeviceFault, Seat, Trump, write_all};
-use par::{ParContract, Tricks, VulnerableSides, par_contracts, par_of, write_contracts, write_score};
+use par::{
+    ParContract, Tricks, VulnerableSides, par_contracts, par_of, write_contracts, write_score,
+};
 use scoring::{Bid, Doubling, Level, Vulnerability, score_of};
 use std::alloc::{AllocError, Global};
 
@@ -12,7 +14,12 @@ const ROOM: usize = 200;
 pub fn answer_case(alloc: Global, case: &str, out: &mut String) -> Result<(), AllocError> {
     match word(case, 0) {
         "score" => {
-            let score = score_of(bid(case), doubling(case), vulnerability(case), number(case, 5));
+            let score = score_of(
+                bid(case),
+                doubling(case),
+                vulnerability(case),
+                number(case, 5),
+            );
             write!(out, "{score}")
         }
         "par" => answer_par(alloc, case, out),
