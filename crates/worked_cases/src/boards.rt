@@ -8,8 +8,8 @@ use pbn_deals::{Board, read_boards, read_layout};
 use std::alloc::{AllocError, Global};
 use tables::Report;
 use test_support::idle::StandsStill;
-use tournaments::{MakeFault, make_single};
-use whole_texts::write_whole;
+use tournaments::{MakeFault, make_single, take_boards};
+use whole_texts::{one_is_written, write_whole};
 
 /// Room for the tables of a case.
 const ROOM: usize = 4096;
@@ -87,8 +87,13 @@ fn say_made_fault(fault: &MakeFault, out: &mut String) -> Result<(), AllocError>
     }
 }
 
-/// Says how many tables are complete, and the text with them in it.
+/// Says how many tables are complete, and the text with them in it. The text was read before, and is read once more,
+/// since only a text whose boards are read is written.
 fn say_whole(alloc: Global, text: &[u8], book: &Book, out: &mut String) -> Result<(), AllocError> {
+    let Ok(_boards) = take_boards(alloc, text) else {
+        return out.push_str("no boards");
+    };
+    one_is_written();
     let mut sink = Buffer::new(alloc, ROOM, 5)?;
     match write_whole(text, book, &mut sink) {
         Ok(Report { boards, complete }) => {
