@@ -2,7 +2,8 @@
 print."""
 from texts import SEATS, SUITS, TOPS, TextFault, read_answer, read_graph
 
-NOT_AN_ANSWER = "ddfarm: first line is not a result line"
+NOT_AN_ANSWER = ("ddfarm: first line is not a result line\n"
+                 "  an answer begins with a line as solve prints it: result 9")
 RANKS = "AKQJT98765432"
 
 

@@ -9,14 +9,17 @@ reader = module_of("reading", "reader")
 writer = module_of("whole", "model")
 COUNTS = rb"ddfarm: \d+ of \d+ results, \d+ of \d+ boards, \d+ s"
 PROGRESS = re.compile(rb"(?:" + COUNTS + rb"\n)*" + COUNTS + rb", (\d+) tables incomplete\n")
+NOTE = reader.NOTE.encode()
+STEPS = re.compile(rb" (\d+) searches ran out of steps,")
 REFUSED = re.compile(
     rb"refused (?:9 KTooLarge|(?:declarer|defenders) (?:10 Text [1-6] [A-Za-z]+ line \d+|1 RootMissing|2 RootNeedless"
     rb"|3 RootTrump|4 RootSide|5 RootLead|6 RootNeed|7 RootPattern|8 Node \d+ [1-8] [A-Za-z]+))\n")
-# A board with a deal, and no result.
+# A board with a deal, and no result; and with its table, or how many results are known.
 DEALT = re.compile(rb'(\[Deal "N:.*"\]\n); table incomplete: 0 of 20\n')
+SHOWN = re.compile(rb'^\[Deal "(N:.*)"\]\n(?:; table incomplete: (\d+) of 20)?', re.M)
 # Longer answers are not given to the slow checker too.
 SHORT = 20_000
-WRITING_FAILED = (1, b"ddfarm: writing failed\n")
+WRITING_FAILED = b"ddfarm: writing failed\n"
 
 
 def progress_fault(told, lacking):
@@ -25,6 +28,24 @@ def progress_fault(told, lacking):
     if match is None:
         return "progress has another form"
     return None if int(match[1]) == lacking else "progress tells another number of incomplete tables"
+
+
+def searches_fault(steps, missing, words):
+    """What is wrong with the number of searches that ran out of steps, if each deal lacks this many results: for those
+    every try did, for each other result all but one at most."""
+    tries, lacks = int(words[words.index("--tries") + 1]), sum(missing.values())
+    least, known = tries * lacks, reader.ENTRIES * len(missing) - lacks
+    most = least + (tries - 1) * known
+    return None if least <= steps <= most else f"{steps} searches are noted, not {least} to {most}"
+
+
+def notes_fault(noted, text, shown, words):
+    """What is wrong with the notes on a text, if its boards with a deal have these deals and lack that many results."""
+    tables, match = sum(lacks > 0 for _, lacks in shown), STEPS.search(noted)
+    steps = int(match[1]) if match else 0
+    if noted != reader.board_note(reader.read(text)) + reader.table_note(tables, steps):
+        return "other notes"
+    return searches_fault(steps, dict(shown), words) if tables else None
 
 
 def game_fault(game, predicted, numbers):
@@ -63,6 +84,23 @@ def as_tables(written, text, predicted):
     return DEALT.sub(lambda board: board[1] + writer.section(next(shown), b"\n"), predicted)
 
 
+def end_fault(outcome, text, written, words):
+    """What is wrong with the status and the error output of `table` with these words on a text, of which it wrote this
+    or, with `--whole`, the same tables."""
+    shown = [(deal, reader.ENTRIES - int(known) if known else 0) for deal, known in SHOWN.findall(written)]
+    lacking = lacking_in(written)
+    incomplete = sum(lacks > 0 for _, lacks in shown) if "--whole" in words else lacking
+    if outcome.status != (3 if incomplete else 0):
+        return f"another status with {incomplete} incomplete tables"
+    told, note, notes = outcome.err.partition(NOTE)
+    fault = notes_fault(note + notes, text, shown, words)
+    if fault:
+        return fault
+    if "--progress" in words:
+        return progress_fault(told, lacking)
+    return "something is told" if told else None
+
+
 def table_fault(outcome, text, numbers, words):
     """What is wrong with an outcome of `table` with these words on a text."""
     status, predicted, told = reader.predict(text)
@@ -74,12 +112,7 @@ def table_fault(outcome, text, numbers, words):
     fault = tables_fault(written, predicted, numbers)
     if fault:
         return fault
-    lacking = lacking_in(written)
-    if outcome.status != (3 if lacking else 0):
-        return f"another status with {lacking} incomplete tables"
-    if "--progress" in words:
-        return progress_fault(outcome.err, lacking)
-    return "something is told" if outcome.err else None
+    return end_fault(outcome, text, written, words)
 
 
 def check_fault(outcome, words, text, tricks):
@@ -100,10 +133,10 @@ def check_fault(outcome, words, text, tricks):
 
 def unread_fault(outcome, whole, room):
     """What is wrong with an outcome whose output was closed, of a run that ends as `whole` does where it is read to its
-    end. What was not read of it but written lies in the pipe, that has so much room."""
+    end. What was not read of it but written lies in the pipe, that has so much room. Notes may come before a fault."""
     if not whole.out.startswith(outcome.out):
         return "other bytes were written"
-    if (outcome.status, outcome.err) == WRITING_FAILED:
+    if outcome.status == 1 and outcome.err in (WRITING_FAILED, whole.err + WRITING_FAILED):
         return None
     if (outcome.status, outcome.err) != (whole.status, whole.err):
         return "another end"

@@ -11,6 +11,7 @@ does with ample memory, and two steps further. Each run has to end with one of t
 line, within two minutes, and what it prints has to be what it prints with ample memory, a table that lacks a number
 aside. Prints how the runs ended, and ends with status 1 where one ended otherwise.
 """
+import re
 import resource
 import signal
 import sys
@@ -19,6 +20,7 @@ from collections import namedtuple
 from itertools import groupby
 from pathlib import Path
 
+from judging import lacking_in, reader
 from running import BETWEEN, HANGS, LACKS, ROOT, module_of, run
 
 speed = module_of("farm", "speed")
@@ -36,8 +38,9 @@ FURTHER = 2
 THREADS = (1, 2, 4)
 WELL = "well"
 TOLD = {(1, b"ddfarm: out of memory\n"): "out of memory", (1, b"ddfarm: a thread could not be started\n"): "no thread",
-        (3, b"ddfarm: no answer\n"): "no answer"}
+        (3, b"ddfarm: no answer\n  --budget gives the search more steps\n"): "no answer"}
 NO_ROOM = (b"refused declarer 10 Text 7 OutOfMemory\n", b"refused defenders 10 Text 7 OutOfMemory\n")
+SEARCHES = re.compile(rb" (\d+) searches ran out of steps, (\d+) out of memory,")
 PARTLY = {"table": "incomplete", "check": "no memory for a text"}
 DOCUMENTED = {WELL, *TOLD.values(), *PARTLY.values()}
 SIGNALS = {known.name for known in signal.Signals}
@@ -74,10 +77,17 @@ def is_partly(text, ample):
                                                                for game, full in zip(games, whole))
 
 
+def is_noted(told, tables):
+    """Whether it is told that so many tables are incomplete and no answer was refused, and nothing else."""
+    match = SEARCHES.search(told)
+    return match is not None and told == reader.table_note(tables, *map(int, match.groups()))
+
+
 def is_partly_done(case, outcome):
     """Whether a run came to its end, but some of its work had no memory."""
     if case.words[0] == "table":
-        return (outcome.status, outcome.err) == (3, b"") and is_partly(outcome.out, case.ample.out)
+        return (outcome.status == 3 and is_partly(outcome.out, case.ample.out)
+                and is_noted(outcome.err, lacking_in(outcome.out)))
     return case.words[0] == "check" and (outcome.status, outcome.err) == (4, b"") and outcome.out in NO_ROOM
 
 

@@ -95,11 +95,11 @@ def words_of_table(source):
 
 
 def met_in(outcome):
-    """How an outcome is counted: its status, and what is told of it without numbers of lines and nodes."""
+    """How an outcome is counted: its status, and the line of its fault without numbers of lines and nodes."""
     told = outcome.err if outcome.status in (1, 2) else outcome.out if outcome.status == 4 else b""
-    told = told.decode(errors="replace")
-    names = re.findall(r"[1-9] [A-Z][A-Za-z]+", told)
-    return f"{outcome.status} {names[-1] if names else told.strip()}".strip()
+    lines = [line for line in told.decode(errors="replace").splitlines() if not line.startswith("  ")] or [""]
+    names = re.findall(r"[1-9] [A-Z][A-Za-z]+", lines[-1])
+    return f"{outcome.status} {names[-1] if names else lines[-1]}".strip()
 
 
 def pieces_of(source, text):

@@ -33,7 +33,8 @@ def compare(text):
         sys.exit(f"on {text!r}\nddfarm: {ours}\nreader: {theirs}")
     if ours[0] == 3 and run(ours[1]) != ours:
         sys.exit(f"on {text!r}: {ours[1]!r} is not read back")
-    return ours[2].split()[-1].decode() if ours[2] else "boards" if ours[0] else "no board"
+    status, _, told = theirs
+    return told.split()[4].decode() if status == 2 else "boards" if status else "no board"
 
 
 def all_texts(count, seed):

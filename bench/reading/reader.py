@@ -1,16 +1,29 @@
 """A second reader of PBN texts, to compare `ddfarm table` with. It was written from the rules of docs/FORMATS.md alone,
-without a look at ddfarm's.
+without a look at ddfarm's. The fixed words of second lines are those of the definitions in `subcommands`.
 
-predict(text) answers the exit status, the standard output and the standard error of `ddfarm table` on the text.
+predict(text) answers the exit status, the standard output and the standard error of `ddfarm table` on the text, if each
+entry is searched once and no search finds a result.
 """
 import re
 
-NAMES = {1: "TagForm", 2: "OpenComment", 3: "SecondDeal", 4: "DealForm", 5: "CardTwice", 6: "HandSize", 7: "Inherited",
-         8: "TooManyBoards"}
+# The name of each fault, and its second line.
+FAULTS = {
+    1: ("TagForm", "a tag pair is a name and a quoted value in brackets, on one line"),
+    2: ("OpenComment", "the comment that begins in this line has no end"),
+    3: ("SecondDeal", "a game has one Deal: an empty line must separate two boards"),
+    4: ("DealForm", "this Deal is not four hands as in PBN: spades.hearts.diamonds.clubs, T for the ten"),
+    5: ("CardTwice", "this Deal has a card twice"),
+    6: ("HandSize", "each hand of a board has thirteen cards"),
+    7: ("Inherited", "a value that begins with # repeats that of an earlier game: write the value itself"),
+    8: ("TooManyBoards", "at most 4096 boards are read at a time: divide the file"),
+}
+NOTE = "ddfarm: note: "
 MARK = b"\xef\xbb\xbf"
 BLANKS = b" \t"
 FALLING = b"AKQJT98765432"
 MOST_BOARDS = 4096
+# Of a deal: the results of its table.
+ENTRIES = 20
 
 TAG = re.compile(rb'\[[ \t]*([A-Za-z0-9_]+)[ \t]*"([^"\n]*)"[ \t]*\]')
 GROUP = rb"[AKQJT98765432akqjt]*"
@@ -134,16 +147,43 @@ def read(text):
     return boards + game.boards()
 
 
+def deal_of(hands):
+    """A deal as it is written."""
+    if hands is None:
+        return b"?"
+    return b"N:" + b" ".join(b".".join(bytes(sorted(group, key=FALLING.index)) for group in hand) for hand in hands)
+
+
 def written(boards):
     """The text of boards without results."""
-    text = b"% PBN 2.1\n"
-    for name, hands in boards:
-        value = b"?"
-        if hands is not None:
-            value = b"N:" + b" ".join(b".".join(bytes(sorted(group, key=FALLING.index)) for group in hand)
-                                      for hand in hands)
-        text += b'[Board "' + name + b'"]\n[Deal "' + value + b'"]\n; table incomplete: 0 of 20\n\n'
-    return text
+    return b"% PBN 2.1\n" + b"".join(
+        b'[Board "' + name + b'"]\n[Deal "' + deal_of(hands) + b'"]\n; table incomplete: 0 of 20\n\n'
+        for name, hands in boards)
+
+
+def counted(count, one, more):
+    """A number of things, of which a single one has other words."""
+    return f"1 {one}" if count == 1 else f"{count} {more}"
+
+
+def board_note(boards):
+    """The note on boards, before any search, if there is one."""
+    if not boards:
+        return (f"{NOTE}no board was found\n  the input has to be plain text in PBN, not UTF-16, "
+                "and its lines have to end by LF or CR LF\n").encode()
+    undealt = [hands for _, hands in boards].count(None)
+    if not undealt:
+        return b""
+    return f"{NOTE}{counted(undealt, 'board has', 'boards have')} no deal, so there is no table\n".encode()
+
+
+def table_note(tables, steps, memory=0):
+    """The note on incomplete tables, if there are any, after so many searches that ran out of steps and of memory."""
+    if not tables:
+        return b""
+    return (f"{NOTE}{counted(tables, 'table is', 'tables are')} incomplete: {steps} searches ran out of steps, "
+            f"{memory} out of memory, 0 answers were refused\n"
+            "  each missing result was tried as often as --tries says; --budget gives a search more steps\n").encode()
 
 
 def predict(text):
@@ -151,5 +191,8 @@ def predict(text):
     try:
         boards = read(text)
     except Fault as fault:
-        return 2, b"", f"ddfarm: line {fault.line}: {fault.number} {NAMES[fault.number]}\n".encode()
-    return 3 if boards else 0, written(boards), b""
+        name, explanation = FAULTS[fault.number]
+        return 2, b"", f"ddfarm: line {fault.line}: {fault.number} {name}\n  {explanation}\n".encode()
+    deals = [deal_of(hands) for _, hands in boards if hands is not None]
+    notes = board_note(boards) + table_note(len(deals), ENTRIES * len(set(deals)))
+    return 3 if boards else 0, written(boards), notes

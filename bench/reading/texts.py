@@ -78,8 +78,10 @@ def games(source):
 
 
 def deals(source):
-    """A few games of one Deal tag."""
-    return b"\n".join(b'[Deal "' + deal_value(source) + b'"]\n' for _ in range(source.choice([1, 1, 2])))
+    """A few games of one Deal tag, at times one deal twice."""
+    values = [deal_value(source) for _ in range(source.choice([1, 1, 2]))]
+    values += values[: source.choice([0, 0, 0, 1])]
+    return b"\n".join(b'[Deal "' + value + b'"]\n' for value in values)
 
 
 KINDS = [soup, calm_soup, games, deals]

@@ -61,7 +61,7 @@ def best(command, path, output):
     for _ in range(5):
         with open(path, "rb") as given, open(output, "wb") as taken:
             start = time.perf_counter()
-            subprocess.run(command, stdin=given, stdout=taken, check=False)
+            subprocess.run(command, stdin=given, stdout=taken, stderr=subprocess.DEVNULL, check=False)
             times.append(time.perf_counter() - start)
     return 1000 * min(times)
 

@@ -49,11 +49,11 @@ def trial_of(program, budget, text):
 
 
 def end_fault(trial):
-    """The status and what is told have to be those of `table`, and of a text that is refused nothing is written."""
-    if (trial.whole.status, trial.whole.err) != (trial.plain.status, trial.plain.err):
-        return "another status, or other things told"
+    """The error output has to be that of `table`, and if a text is refused, nothing is written."""
+    if trial.whole.err != trial.plain.err:
+        return "another error output"
     if trial.plain.status == 2:
-        return "a text is refused and something written" if trial.whole.out else None
+        return None if (trial.whole.status, trial.whole.out) == (2, b"") else "`table` alone refuses the text"
     return None if trial.plain.status in (0, 3) else "a run failed"
 
 
@@ -67,6 +67,14 @@ def section_fault(trial):
     if model.without(bare) != bare:
         return "an old table stands beside the section"
     return None if shown == printed[1] else "other numbers than those of `table`"
+
+
+def status_fault(trial):
+    """The status has to be 3 if a line on the page says how many results are known, otherwise 0."""
+    _, shown = model.taken_out(trial.whole.out)
+    lacks = (b"\n; table incomplete: " in trial.plain.out, any(isinstance(shows, int) for shows in shown))
+    wanted = [3 if any_lacks else 0 for any_lacks in lacks]
+    return None if [trial.plain.status, trial.whole.status] == wanted else "another status"
 
 
 def loss_fault(trial):
@@ -89,7 +97,7 @@ def again_fault(trial):
 
 
 # In the order in which they are asked: the first that tells something is the trial's.
-JUDGES = (section_fault, loss_fault, model_fault, board_fault, again_fault)
+JUDGES = (section_fault, status_fault, loss_fault, model_fault, board_fault, again_fault)
 
 
 def fault_of(trial):
