@@ -22,7 +22,7 @@ use Rattle.scoring.specs.declared.bids.Level.TheVariants.{One}
 use Rattle.scoring.specs.Bids.{bid_number, level_number, rank_of}
 use Rattle.scoring.proofs.BidLaws.{one_bid, one_level, in_order, bid_number-below, rank-below, denomination_at, denomination_at-rank}
 use Rattle.cards.specs.declared.seats.Seat.{Seat}
-use Rattle.par.specs.declared.boards.VulnerableSides.{VulnerableSides}
+use Rattle.scoring.specs.declared.vulnerable_sides.VulnerableSides.{VulnerableSides}
 use Rattle.par.specs.declared.contracts.Contract.{Contract}
 use Rattle.par.specs.declared.contracts.ParContract.{ParContract}
 use Rattle.par.specs.FinalScores.{final_score}

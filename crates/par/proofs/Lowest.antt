@@ -15,9 +15,9 @@ use Rattle.scoring.specs.Bids.{level_number, Supersedes}
 use Rattle.scoring.specs.Scores.{score, tricks_bid}
 use Rattle.scoring.proofs.BidLaws.{levels, level_number-in_place, level-above, level-below, one_level}
 use Rattle.scoring.proofs.ScoreLaws.{made, failing}
-use Rattle.par.specs.declared.boards.VulnerableSides.{VulnerableSides}
+use Rattle.scoring.specs.declared.vulnerable_sides.VulnerableSides.{VulnerableSides}
 use Rattle.par.specs.declared.contracts.Contract.{Contract}
-use Rattle.par.specs.Boards.{vulnerability_of}
+use Rattle.scoring.specs.VulnerableSides.{vulnerability_of}
 use Rattle.par.specs.FinalScores.{gain_by, gain_of, final_score, final_outcome, final_doubling, most_tricks}
 use Rattle.par.specs.ParContracts.{Stands, IsParContract, at_level}
 use Rattle.par.specs.Laws.{HasParContract, NoneAtZero}

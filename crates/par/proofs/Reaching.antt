@@ -9,7 +9,7 @@ use Rattle.cards.specs.declared.suits.Trump.{Trump}
 use Rattle.cards.specs.Seats.{other_side, side_of}
 use Rattle.scoring.specs.declared.bids.Bid.{Bid}
 use Rattle.par.specs.declared.contracts.Contract.{Contract}
-use Rattle.par.specs.declared.boards.VulnerableSides.{VulnerableSides}
+use Rattle.scoring.specs.declared.vulnerable_sides.VulnerableSides.{VulnerableSides}
 use Rattle.par.specs.FinalScores.{gain_of, final_score}
 use Rattle.par.specs.Auctions.{Call, GoesOn, IsAuction, contract_after, FollowsAfter, CanReach}
 use Rattle.par.specs.Par.{IsPar}

@@ -57,8 +57,8 @@ FollowsAfter side strategy turn last (call ∷ calls) =
     (turn ≡ side → call ≡ strategy last)
     × FollowsAfter side strategy (other_side turn) (last_after last call) calls
 
--- The side can reach this gain: it has a strategy by which it gains at least so much in every auction, whatever the
--- other side calls.
+-- The side can reach this gain: it has a strategy that gains at least this much in every auction, whatever the other
+-- side calls. Here `dealer` is the dealer's side.
 pub record CanReach (final : Contract → ℤ) (dealer side : Side) (gain : ℤ) : Type 0 where
   pub strategy : Strategy
   pub lawful : IsLawful strategy

@@ -12,9 +12,9 @@ use Rattle.scoring.specs.declared.scores.Doubling.TheVariants.{Undoubled, Double
 use Rattle.scoring.specs.declared.scores.Outcome.{Outcome}
 use Rattle.scoring.specs.declared.scores.Outcome.TheVariants.{Made, Down}
 use Rattle.scoring.specs.Scores.{outcome_of, score}
-use Rattle.par.specs.declared.boards.VulnerableSides.{VulnerableSides}
+use Rattle.scoring.specs.declared.vulnerable_sides.VulnerableSides.{VulnerableSides}
 use Rattle.par.specs.declared.contracts.Contract.{Contract}
-use Rattle.par.specs.Boards.{vulnerability_of}
+use Rattle.scoring.specs.VulnerableSides.{vulnerability_of}
 
 -- the two hands of a side
 abbrev pub first_hand : Side → Seat
@@ -46,11 +46,13 @@ final_score tricks vulnerable contract =
     score contract.bid (final_doubling (final_outcome tricks contract)) (vulnerability_of vulnerable contract.side)
     (most_tricks tricks contract.side contract.bid.denomination)
 
--- What a side gains if this contract is the last, where `final` has the final score of each contract: the score of its
--- own contract, and minus that of a contract of the other side. Nobody gains if there is none.
+-- what a side gains by a contract of side `of` that scores these points: the points if the contract is its own, and
+-- otherwise minus the points
 abbrev pub gain_by : Side → Side → ℤ → ℤ
 gain_by side of points = if is_same_side side of then points else neg_ℤ points
 
+-- What a side gains if this contract is the last. `final` has the final score of each contract. Nobody gains if there
+-- is no contract.
 abbrev pub gain_of : (Contract → ℤ) → Side → Option Contract → ℤ
 gain_of final side None = pos 0
 gain_of final side (Some contract) = gain_by side contract.side (final contract)

@@ -1,5 +1,6 @@
 -- The par contracts, and their list.
-use Rattle.std.specs.Prelude.{◌≡◌, ◌⊎◌, ◌↔◌, ℕ, ◌<◌, ℤ, ◌≤ℤ◌, List, map, AllPairs, Contains, Some, if◌then◌else◌, nat_lt}
+use Rattle.std.specs.Prelude.{◌≡◌, ◌⊎◌, ◌↔◌, ℕ, ◌<◌, ℤ, ◌≤ℤ◌, List, map, AllPairs, Contains, Some, if◌then◌else◌}
+use Rattle.std.specs.Prelude.{nat_lt}
 use Rattle.cards.specs.declared.seats.Seat.{Seat}
 use Rattle.cards.specs.declared.seats.Side.{Side}
 use Rattle.cards.specs.declared.seats.Side.TheVariants.{NorthSouth, EastWest}
@@ -8,7 +9,7 @@ use Rattle.cards.specs.Seats.{other_side}
 use Rattle.scoring.specs.declared.bids.Bid.{Bid}
 use Rattle.scoring.specs.declared.bids.Level.{Level}
 use Rattle.scoring.specs.Bids.{Supersedes, level_number}
-use Rattle.par.specs.declared.boards.VulnerableSides.{VulnerableSides}
+use Rattle.scoring.specs.declared.vulnerable_sides.VulnerableSides.{VulnerableSides}
 use Rattle.par.specs.declared.contracts.Contract.{Contract}
 use Rattle.par.specs.declared.contracts.Declarers.{Declarers}
 use Rattle.par.specs.declared.contracts.Declarers.TheVariants.{Either, Only}
@@ -38,7 +39,7 @@ StandsLower final par contract =
     (level : Level) × (level_number level < level_number contract.bid.level)
     × Stands final par (at_level contract level)
 
--- A par contract: of those of a side in a denomination the lowest.
+-- A par contract stands, and no lower contract of the side in the denomination does.
 pub record IsParContract (final : Contract → ℤ) (par : ℤ) (contract : Contract) : Type 0 where
   pub stands : Stands final par contract
   pub lowest : StandsLower final par contract → ⊥
@@ -69,7 +70,8 @@ as_printed tricks contract =
     }
 
 -- The list has exactly the par contracts for this par, in their order.
-pub record AreParContracts (tricks : Seat → Trump → ℕ) (vulnerable : VulnerableSides) (par : ℤ) (list : List ParContract) : Type 0 where
+pub record AreParContracts
+    (tricks : Seat → Trump → ℕ) (vulnerable : VulnerableSides) (par : ℤ) (list : List ParContract) : Type 0 where
   pub contracts : List Contract
   pub exactly :
       (contract : Contract) →

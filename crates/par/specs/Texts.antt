@@ -1,4 +1,4 @@
--- The texts of par, as `EW 110`, and of the par contracts, as `NS 3NT+2, W 4S, EW 5Cx-1`.
+-- The texts of par, as `EW 110`, and of the par contracts, as `E 5Hx-1, EW 5Cx-1`.
 use Rattle.std.specs.Prelude.{ℕ, zero, suc, List, [], ◌∷◌, ◌++◌, codes, ℤ, pos, negsuc, unsigned_abs}
 use Rattle.std.specs.List.{flat_map}
 use Rattle.std.specs.Fmt.{decimal}

@@ -1,40 +1,12 @@
-//! What par depends on, beside the dealer: the tricks of a board's twenty entries, and which sides are vulnerable.
+//! The tricks of a board's twenty entries.
 
 ghost use Rattle.std.specs.Prelude.{◌≡◌, ◌<◌, slice_index};
 ghost use Rattle.cards.specs.Orders.{trump_number};
 ghost use Rattle.cards.specs.declared.seats.Seat.{Seat};
 ghost use Rattle.cards.specs.declared.suits.Trump.{Trump};
-ghost use Rattle.par.specs.Boards.{tricks_in, vulnerability_of};
+ghost use Rattle.par.specs.Boards.{tricks_in};
 
-use cards::{Seat, Side, Suit, Trump};
-use scoring::Vulnerability;
-
-/// Which sides are vulnerable on a board (Law 2).
-#[derive(Clone, Copy, Debug, PartialEq, Eq)]
-pub enum VulnerableSides {
-    /// Neither side.
-    Neither,
-    /// North and South alone.
-    NorthSouth,
-    /// East and West alone.
-    EastWest,
-    /// Both sides.
-    Both,
-}
-
-impl VulnerableSides {
-    /// Whether the side is one of them.
-    pub fn vulnerability(self, side: Side) -> Vulnerability
-        ensures { result ≡ vulnerability_of self side }
-    {
-        match (self, side) {
-            (VulnerableSides::Both, _)
-            | (VulnerableSides::NorthSouth, Side::NorthSouth)
-            | (VulnerableSides::EastWest, Side::EastWest) => Vulnerability::Vulnerable,
-            _ => Vulnerability::NotVulnerable,
-        }
-    }
-}
+use cards::{Seat, Suit, Trump};
 
 /// How many tricks each declarer takes in each denomination, 0 to 13.
 #[derive(Clone, Copy, Debug, PartialEq, Eq)]

@@ -2,7 +2,7 @@
 //!
 //! The bidding is a game of two sides ([`par_of`]). The sides call in turn, the dealer's side first. A side accepts the
 //! last contract, or bids higher; before the first bid it may pass. The final score of a contract is that of Law 77
-//! with the tricks of the side's better hand in the denomination, doubled if it fails. How the four hands of a side's
+//! with the tricks of the side's better hand in the denomination, doubled if it fails. How the four hands of a real
 //! auction get there is left open.
 #![tactic(auto)]
 
@@ -13,7 +13,7 @@ mod listing;
 mod texts;
 mod values;
 
-pub use boards::{Tricks, VulnerableSides};
+pub use boards::Tricks;
 pub use contracts::{Contract, Declarers, ParContract};
 pub use laws::{par_has_contracts, par_is_unique};
 pub use listing::par_contracts;

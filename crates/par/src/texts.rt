@@ -4,14 +4,15 @@ ghost use Rattle.std.specs.Prelude.{◌≡◌, ◌++◌};
 ghost use Rattle.std.specs.Fmt.{decimal};
 ghost use Rattle.std.specs.List.{flat_map};
 ghost use Rattle.cards.specs.Devices.{Writes};
-ghost use Rattle.par.specs.Texts.{gaining_side, score_text, declarers_text, bid_text, doubling_text, outcome_text, contract_text, next_text, contracts_text};
+ghost use Rattle.par.specs.Texts.{gaining_side, score_text, declarers_text, bid_text, doubling_text, outcome_text};
+ghost use Rattle.par.specs.Texts.{contract_text, next_text, contracts_text};
 
 use crate::contracts::{Declarers, ParContract};
 use cards::{DeviceFault, Side, Sink, write_all, write_number};
 use scoring::{Bid, Doubling, Outcome};
 
-/// Writes the side that gains and what it gains, as `EW 110`; `NS 0` if par is 0. After a fault a beginning of the text
-/// has gone out. Takes no memory.
+/// Writes the side that gains and what it gains, as `EW 110`; `NS 0` if par is 0. After a fault the sink has taken a
+/// beginning of the text. Takes no memory.
 pub fn write_score<S: Sink>(sink: &mut S, par: i32) -> Result<(), DeviceFault>
     ensures { Writes (S.state sink.old) (S.state sink.new) (score_text par) result }
 {
@@ -31,8 +32,8 @@ fn gaining_side(par: i32) -> Side
     }
 }
 
-/// Writes the contracts with `, ` between two, as `NS 3NT+2, W 4S, EW 5Cx-1`; `Pass` if there are none. After a fault a
-/// beginning of the text has gone out. Takes no memory.
+/// Writes the contracts with `, ` between two, as `E 5Hx-1, EW 5Cx-1`; `Pass` if there are none. After a fault the sink
+/// has taken a beginning of the text. Takes no memory.
 pub fn write_contracts<S: Sink>(sink: &mut S, contracts: &[ParContract]) -> Result<(), DeviceFault>
     ensures { Writes (S.state sink.old) (S.state sink.new) (contracts_text contracts.now) result }
 {

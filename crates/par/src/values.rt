@@ -2,13 +2,14 @@
 
 ghost use Rattle.std.specs.Prelude.{◌≡◌, ◌<◌, ◌^◌, unsigned_abs};
 ghost use Rattle.par.specs.Boards.{tricks_in};
-ghost use Rattle.par.specs.FinalScores.{first_hand, second_hand, most_tricks, final_doubling, final_outcome, final_score};
+ghost use Rattle.par.specs.FinalScores.{first_hand, second_hand, most_tricks, final_doubling, final_outcome};
+ghost use Rattle.par.specs.FinalScores.{final_score};
 ghost use Rattle.par.specs.Par.{IsPar};
 
-use crate::boards::{Tricks, VulnerableSides};
+use crate::boards::Tricks;
 use crate::contracts::Contract;
 use cards::{Seat, Side, Trump};
-use scoring::{Bid, Doubling, Outcome, outcome_of, score_of};
+use scoring::{Bid, Doubling, Outcome, VulnerableSides, outcome_of, score_of};
 
 /// The two hands of a side.
 pub(crate) fn hands(side: Side) -> (Seat, Seat)

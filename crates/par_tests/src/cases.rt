@@ -1,10 +1,9 @@
 //! What a line asks for, and the answer.
 
+use crate::conditions::{answer_conditions, answer_first};
 use cards::{Buffer, DeviceFault, Seat, Trump, write_all};
-use par::{
-    ParContract, Tricks, VulnerableSides, par_contracts, par_of, write_contracts, write_score,
-};
-use scoring::{Bid, Doubling, Level, Vulnerability, score_of};
+use par::{ParContract, Tricks, par_contracts, par_of, write_contracts, write_score};
+use scoring::{Bid, Doubling, Level, Vulnerability, VulnerableSides, score_of};
 use std::alloc::{AllocError, Global};
 
 /// Room for the texts of a board.
@@ -23,6 +22,8 @@ pub fn answer_case(alloc: Global, case: &str, out: &mut String) -> Result<(), Al
             write!(out, "{score}")
         }
         "par" => answer_par(alloc, case, out),
+        "conditions" => answer_conditions(alloc, case, out),
+        "first" => answer_first(alloc, case, out),
         _ => out.push_str("no such kind"),
     }
 }

@@ -1,9 +1,10 @@
-//! Prints the lines of its input, each with its score or its par below it.
+//! Prints the lines of its input, each with its answer below it.
 //!
 //! It passes over a line of the input that has an answer, so the file with the answers is an input too.
 #![tactic(auto)]
 
 mod cases;
+mod conditions;
 
 use cases::answer_case;
 use std::io;

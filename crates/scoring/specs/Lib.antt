@@ -1,3 +1,4 @@
 pub mod Bids
 pub mod Scores
+pub mod VulnerableSides
 pub mod Laws

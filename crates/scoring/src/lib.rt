@@ -1,4 +1,5 @@
-//! Bids (Law 18) and the score of a contract (Law 77 of the Laws of Duplicate Bridge 2017).
+//! Bids (Law 18), the score of a contract (Law 77 of the Laws of Duplicate Bridge 2017), and which sides of a board are
+//! vulnerable (Law 2).
 //!
 //! [`score_of`] is the score of declarer's side for any bid and any number of tricks, undoubled or doubled. Law 77's
 //! column of redoubled contracts is left out: two sides that see all cards double only a contract that fails, and
@@ -8,7 +9,9 @@
 mod bids;
 mod laws;
 mod scores;
+mod vulnerable_sides;
 
 pub use bids::{Bid, Level};
 pub use laws::{bids_are_in_order, made_contracts_gain};
 pub use scores::{Doubling, Outcome, Vulnerability, outcome_of, score_of};
+pub use vulnerable_sides::VulnerableSides;

@@ -1,0 +1,5 @@
+pub mod Cycle
+pub mod Named
+pub mod LinesTaken
+pub mod GamesTaken
+pub mod BoardGames

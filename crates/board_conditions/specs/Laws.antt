@@ -1,0 +1,29 @@
+-- What holds of every text.
+use Rattle.std.specs.Prelude.{◌≡◌, ℕ, List, map, length, Ok}
+use Rattle.pbn_deals.specs.declared.boards.Board.{Board}
+use Rattle.pbn_deals.specs.Pieces.{Line, HasLines}
+use Rattle.pbn_deals.specs.Reading.{TextAnswers}
+use Rattle.board_conditions.specs.declared.conditions.Conditions.{Conditions}
+use Rattle.board_conditions.specs.Games.{name_in, conditions_of, board_games, HasConditions}
+
+-- a text has one list of conditions
+pub record HasOneList (text : List ℕ) : Type 0 where
+  pub list : List Conditions
+  pub has : HasConditions text list
+  pub one : (other : List Conditions) → HasConditions text other → other ≡ list
+
+abbrev pub TextsHaveOneList : Type 0
+TextsHaveOneList = (text : List ℕ) → HasOneList text
+
+-- the boards are those of the games with a Deal tag, in their order, and so are the conditions
+pub record AreOfBoards (text : List ℕ) (boards : List Board) (list : List Conditions) : Type 0 where
+  pub lines : List Line
+  pub read : HasLines text lines
+  pub names : map (λ board. board.name) boards ≡ map name_in (board_games lines)
+  pub conditions : list ≡ map conditions_of (board_games lines)
+  pub as_many : length list ≡ length boards
+
+abbrev pub BoardsHaveConditions : Type 0
+BoardsHaveConditions =
+    (text : List ℕ) (boards : List Board) (list : List Conditions) →
+    TextAnswers text (Ok boards) → HasConditions text list → AreOfBoards text boards list

@@ -1,0 +1,5 @@
+pub mod Numbers
+pub mod Words
+pub mod Games
+pub mod Values
+pub mod Laws

@@ -1,0 +1,148 @@
+//! A game of a text, as it is read.
+
+ghost use Rattle.std.specs.Prelude.{◌≡◌, ◌≤◌, ◌∷◌, ◌++◌, [], ℕ, List, All};
+ghost use Rattle.std.specs.Option.{option_copied};
+ghost use Rattle.pbn_deals.specs.Pieces as seen;
+ghost use Rattle.pbn_deals.specs.Pieces.{Pair};
+ghost use Rattle.board_conditions.specs.Games.{first_named};
+
+use crate::conditions::{Conditions, settled_dealer, settled_vulnerability};
+use crate::numbers::number_of;
+use pbn_deals::{LineStart, Piece, first_piece, is_same_name, line_start};
+
+/// A game of a text, as far as it was read: the values of the first tag pairs that have these names.
+#[derive(Clone, Copy)]
+pub(crate) struct GameText<'a> {
+    /// The name of the board.
+    pub(crate) board: Option<&'a [u8]>,
+    /// Its deal.
+    pub(crate) deal: Option<&'a [u8]>,
+    /// Its dealer.
+    pub(crate) dealer: Option<&'a [u8]>,
+    /// Its vulnerability.
+    pub(crate) vulnerable: Option<&'a [u8]>,
+    /// Whether a brace comment is open.
+    pub(crate) is_open: bool,
+    /// The text after the lines that were read.
+    pub(crate) rest: &'a [u8],
+}
+
+/// The first value of a name, given in capitals, after one tag pair more.
+fn first_of<'a>(
+    capitals: &[u8],
+    before: Option<&'a [u8]>,
+    name: &[u8],
+    value: &'a [u8],
+) -> Option<&'a [u8]>
+    requires { All (λ capital. capital ≤ 90) capitals.now }
+    ensures { (pieces : List seen.Piece) (bytes : List ℕ) → option_copied before.entry ≡ first_named capitals.now pieces
+        → option_copied result ≡ first_named capitals.now (pieces ++ Pair name.now value.entry.now bytes ∷ []) }
+{
+    if before.is_none() && is_same_name(capitals, name) {
+        Some(value)
+    } else {
+        before
+    }
+}
+
+impl<'a> GameText<'a> {
+    ghost use Rattle.std.specs.Prelude.{◌≡◌, ◌≢◌, ◌++◌, [], false, List, Bool, MatchOption, is_some};
+    ghost use Rattle.pbn_deals.specs.Pieces.{HasPieces, Kind, Line, LineIs};
+    ghost use Rattle.pbn_deals.specs.FirstPieces.{ArePieces, opens_comment};
+    ghost use Rattle.board_conditions.specs.Games.{pieces_of, game_pieces, conditions_of};
+    ghost use Rattle.board_conditions.specs.Values.{AreValues, EndsOrAdds};
+
+    /// The game at the beginning of a text, of which nothing was read.
+    pub(crate) fn new(text: &'a [u8]) -> GameText<'a>
+        ensures values { AreValues [] false result }
+        ensures rest { result.rest ≡ text.entry }
+    {
+        GameText {
+            board: None,
+            deal: None,
+            dealer: None,
+            vulnerable: None,
+            is_open: false,
+            rest: text,
+        }
+    }
+
+    /// With one piece more.
+    fn with(self, piece: Piece<'a>) -> GameText<'a>
+        ensures { (before pieces : List seen.Piece) → AreValues before false self.entry → ArePieces piece.entry pieces
+            → AreValues (before ++ pieces) (opens_comment piece.entry) result }
+    {
+        match piece {
+            Piece::Pair { name, value, .. } => GameText {
+                board: first_of(b"BOARD", self.board, name, value),
+                deal: first_of(b"DEAL", self.deal, name, value),
+                dealer: first_of(b"DEALER", self.dealer, name, value),
+                vulnerable: first_of(b"VULNERABLE", self.vulnerable, name, value),
+                is_open: false,
+                ..self
+            },
+            Piece::OpenComment(_) => GameText {
+                is_open: true,
+                ..self
+            },
+            Piece::Blanks(_) | Piece::Comment(_) | Piece::Data(_) | Piece::NoPair(_) => self,
+        }
+    }
+
+    /// With the pieces of a line from one of its places outside comments on.
+    fn with_pieces(self, line: &'a [u8]) -> GameText<'a>
+        ensures { (pieces more : List seen.Piece) (is_open : Bool) → AreValues pieces false self.entry
+            → HasPieces false line.now more is_open → AreValues (pieces ++ more) is_open result }
+    {
+        let mut game = self;
+        let mut rest = line;
+        let mut in_data = false;
+        while let Some((piece, after)) = first_piece(in_data, rest) {
+            in_data = piece.is_data() | in_data;
+            game = game.with(piece);
+            rest = after;
+        }
+        game
+    }
+
+    /// With one line more, unless the line ends the game.
+    pub(crate) fn with_line(self, line: &'a [u8]) -> Option<GameText<'a>>
+        ensures { (pieces : List seen.Piece) (kind : Kind) (last : Bool)
+            → AreValues pieces self.entry.is_open self.entry
+            → LineIs self.entry.is_open line.now kind last → EndsOrAdds pieces kind last result }
+    {
+        match line_start(self.is_open, line) {
+            LineStart::Gap => None,
+            LineStart::Escaped | LineStart::InComment => Some(self),
+            LineStart::OfGame { rest, .. } => {
+                let game = GameText {
+                    is_open: false,
+                    ..self
+                };
+                Some(game.with_pieces(rest))
+            }
+        }
+    }
+
+    /// Whether the game has a Deal tag.
+    pub(crate) fn has_deal(self) -> bool
+        ensures { result ≡ is_some self.entry.deal }
+    {
+        self.deal.is_some()
+    }
+
+    /// The conditions of the game.
+    pub(crate) fn conditions(self) -> Conditions
+        ensures { (game : List Line) (is_open : Bool) → AreValues (game_pieces game) is_open self.entry
+            → result ≡ conditions_of game }
+    {
+        let number = match self.board {
+            Some(name) => number_of(name),
+            None => 0,
+        };
+        Conditions {
+            dealer: settled_dealer(self.dealer, number),
+            vulnerable: settled_vulnerability(self.vulnerable, number),
+        }
+    }
+}

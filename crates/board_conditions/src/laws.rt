@@ -1,0 +1,13 @@
+//! Laws about the conditions of boards. Each is a function that does nothing: its contract is the law.
+
+ghost use Rattle.board_conditions.specs.Laws.{BoardsHaveConditions, TextsHaveOneList};
+
+/// A text has one list of conditions.
+pub fn conditions_are_unique()
+    ensures { TextsHaveOneList }
+{}
+
+/// The conditions of a text are those of its boards, one for each, in their order.
+pub fn boards_have_conditions()
+    ensures { BoardsHaveConditions }
+{}
