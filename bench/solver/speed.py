@@ -26,7 +26,6 @@ CRATES = (
     "certificate_graph",
     "checker",
     "pattern_store",
-    "search_state",
     "partition_solver",
 )
 TRUMPS = ("NT", "S", "H", "D", "C")

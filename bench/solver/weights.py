@@ -4,7 +4,7 @@ of a seed.
 
 Usage: bench/solver/weights.py [BOARDS [SEED [FILE]]], by default 20 boards of seed 1 and the weights of the crate. FILE
 has 1,408 whole numbers: those of `ONE`, `MODEST`, `EAGER` and `ALL`, in the order in which `weights.rt` of
-`search_state` has them. Whatever the weights, the numbers of tricks are the same; what changes is how many cards are
+`partition_solver` has them. Whatever the weights, the numbers of tricks are the same; what changes is how many cards are
 tried. The four declarers of a denomination share what is remembered, and the writing of graphs is not counted. It
 copies the crates into a folder of its own, and proves and builds `partition_solver` there as a program, with
 weights.rt.txt for its main file. Boards that measure should not be boards that a set was tuned on.
@@ -20,7 +20,7 @@ from pathlib import Path
 
 ROOT = Path(__file__).resolve().parent.parent.parent
 HERE = Path(__file__).resolve().parent
-CRATES = ("cards", "patterns", "pattern_step", "certificate_graph", "pattern_store", "search_state", "partition_solver")
+CRATES = ("cards", "patterns", "pattern_step", "certificate_graph", "pattern_store", "partition_solver")
 COUNT = 1408
 
 
@@ -53,7 +53,7 @@ def build(folder, boards, seed, numbers):
     (crate / "src" / "main.rt").write_text(
         text.replace("@MODULES@", modules).replace("@COUNT@", str(boards)).replace("@HANDS@", hands)
     )
-    weights = folder / "crates" / "search_state" / "src" / "weights.rt"
+    weights = folder / "crates" / "partition_solver" / "src" / "weights.rt"
     if numbers:
         weights.write_text(with_weights(weights.read_text(), numbers))
     kept = [line for line in (ROOT / "crates.txt").read_text().splitlines() if line.split(":")[0] in CRATES]

@@ -15,3 +15,5 @@ pub mod Laws
 pub mod Readings
 pub mod Outcomes
 pub mod Suits
+pub mod Solvers
+pub mod Bundles

@@ -8,6 +8,8 @@
 #![tactic(auto)]
 
 mod answers;
+mod bundle_answers;
+mod bundles;
 mod checks;
 mod children;
 mod cursors;
@@ -27,13 +29,14 @@ mod places;
 mod row_writing;
 mod rows;
 mod scanning;
+mod solvers;
 mod tree_reading;
 mod trees;
 mod versions;
 mod writing;
 
 pub use answers::Answer;
-pub use cards::OutOfMemory;
+pub use bundles::{Bundle, Claim};
 pub use children::Child;
 pub use faults::{GraphFault, TextFault};
 pub use graphs::Graph;
@@ -42,5 +45,6 @@ pub use laws::{equal_versions_are_one, graphs_are_read_back, one_answer, one_gra
 pub use nodes::Node;
 pub use places::{Branches, Children, Place, PlaceView};
 pub use rows::Token;
+pub use solvers::Solver;
 pub use trees::Tree;
 pub use versions::Version;

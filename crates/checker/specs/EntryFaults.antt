@@ -1,4 +1,4 @@
--- The first fault of the graphs that are to show a value.
+-- The first fault of the graphs that have to show a value.
 use Rattle.std.specs.Prelude.{◌≡◌, ◌≢◌, ℕ, ◌-◌, ◌<◌, ◌≤◌, None, Some, ◌⊎◌, Result, MatchResult}
 use Rattle.cards.specs.declared.suits.Trump.{Trump}
 use Rattle.cards.specs.declared.seats.Seat.{Seat}
@@ -30,12 +30,12 @@ abbrev pub HasRootFault : RootedShape → Deal → Seat → ℕ → PartFault �
 HasRootFault rooted deal leader need fault =
     (root : nodes.Node) × (root_of rooted ≡ Some root) × IsRootFault root deal leader need fault
 
--- the fault is that of a node, which counts where there is a root
+-- the fault is the fault of a node; it counts if there is a root
 abbrev pub IsNodesFault : RootedShape → PartFault → Type 0
 IsNodesFault rooted fault =
     (rooted.root ≢ None) × (of_node : NodeFault) × (fault ≡ Node of_node) × IsGraphFault rooted.graph of_node
 
--- the first fault of a graph that is to show that the side wins so many tricks
+-- the first fault of a graph that has to show that the side wins `need` tricks
 abbrev pub IsPartFault : RootedShape → Deal → Seat → Trump → Side → ℕ → PartFault → Type 0
 IsPartFault rooted deal leader trump side need =
     IfWrong ((0 < need) × (root_of rooted ≡ None)) RootMissing

@@ -1,4 +1,4 @@
--- The numbers and the names of faults, and what is printed of them.
+-- The numbers and the names of faults, and their printed texts.
 use Rattle.std.specs.Prelude.{ℕ, List, [], ◌∷◌, ◌++◌, codes, Option, None, Some}
 use Rattle.std.specs.Fmt.{decimal}
 use Rattle.certificate_graph.specs.declared.faults.TextFault.{TextFault}
@@ -55,7 +55,7 @@ part_fault_name RootNeed = codes "RootNeed"
 part_fault_name RootPattern = codes "RootPattern"
 part_fault_name (Node fault) = codes "Node"
 
--- ---- the texts that are printed
+-- ---- the printed texts
 -- `n Name`
 abbrev pub step_fault_text : StepFault → List ℕ
 step_fault_text fault = numbered (step_fault_number fault) (step_fault_name fault)
@@ -64,7 +64,7 @@ step_fault_text fault = numbered (step_fault_number fault) (step_fault_name faul
 abbrev pub node_fault_text : NodeFault → List ℕ
 node_fault_text fault = decimal fault.number ++ 32 ∷ step_fault_text fault.fault
 
--- the node, after the name of a fault that is one of a node
+-- the node, after the name of a fault that names one
 abbrev pub after_part : PartFault → List ℕ
 after_part (Node fault) = 32 ∷ node_fault_text fault
 after_part _ = []
@@ -73,13 +73,13 @@ after_part _ = []
 abbrev pub part_fault_text : PartFault → List ℕ
 part_fault_text fault = numbered (part_fault_number fault) (part_fault_name fault) ++ after_part fault
 
--- after whose graph is at fault
+-- the side whose graph is at fault, before the fault
 abbrev pub entry_fault_text : EntryFault → List ℕ
 entry_fault_text (Declarer fault) = codes "declarer " ++ part_fault_text fault
 entry_fault_text (Defenders fault) = codes "defenders " ++ part_fault_text fault
 entry_fault_text KTooLarge = codes "9 KTooLarge"
 
--- the line that is named, if one is
+-- the line that is named, if there is one
 abbrev pub after_text : Option ℕ → List ℕ
 after_text None = []
 after_text (Some line) = codes " line " ++ decimal line

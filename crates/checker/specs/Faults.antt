@@ -15,36 +15,36 @@ use Rattle.checker.specs.Places.{HasBranch, HasBranchOf, LeadsTo}
 use Rattle.checker.specs.Steps.{player_after, IsOwnTurn, IsOpponentsTurn, MayComeNext, IsAnswered, ListsWinners}
 use Rattle.checker.specs.Steps.{need_after, CoversRest, IsRightAfter}
 
--- this fault where this is wrong, and else what follows
+-- the fault is `name` if `wrong` holds, otherwise it is in `rest`
 abbrev pub IfWrong : {F : Type 0} → Type 0 → F → (F → Type 0) → F → Type 0
 IfWrong wrong name rest fault = (wrong × (fault ≡ name)) ⊎ ((wrong → ⊥) × rest fault)
 
 abbrev pub NoFault : {F : Type 0} → F → Type 0
 NoFault fault = ⊥
 
--- ---- what may be wrong
--- a legal card is not answered: it has no branch and, in version 2, isn't excused by one of a higher card either
+-- ---- the things that may be wrong
+-- a legal card is not answered: it has no branch and, in version 2, no branch of a higher card excuses it
 abbrev pub LacksBranch : Version → Node → List PatCard → Branches → Type 0
 LacksBranch version node cards branches =
     (card : PatCard) × MayComeNext node cards card
     × (IsAnswered version node.pattern (player_after node cards) branches card → ⊥)
 
--- a branch is of no legal card
+-- a branch has a card that is not legal
 abbrev pub HasWrongBranch : Node → List PatCard → Branches → Type 0
 HasWrongBranch node cards branches = (card : PatCard) × HasBranchOf branches card × (MayComeNext node cards card → ⊥)
 
--- the node that is named has another seat to lead
+-- in the node that is named another seat leads
 abbrev pub HasWrongLead : GraphShape → Child → Type 0
 HasWrongLead graph child =
     (next : Node) × (slice_get graph.nodes child.number ≡ Some next) × (next.lead ≢ child.winner)
 
--- the node that is named needs less than is still needed
+-- the node that is named needs fewer tricks than are still needed
 abbrev pub NeedsTooLittle : GraphShape → Node → Child → Type 0
 NeedsTooLittle graph node child =
     (next : Node) × (slice_get graph.nodes child.number ≡ Some next)
     × (next.need < need_after graph.side node.need child.winner)
 
--- the pattern of the node that is named doesn't cover what is left
+-- the pattern of the node that is named doesn't cover the rest
 abbrev pub FailsToCover : GraphShape → Node → List PatCard → Child → Type 0
 FailsToCover graph node cards child =
     (next : Node) × (slice_get graph.nodes child.number ≡ Some next)
@@ -62,7 +62,7 @@ IsReplyFault version side node cards branches =
     (IfWrong (LacksBranch version node cards branches) BranchMissing
     (IfWrong (HasWrongBranch node cards branches) BranchExtra NoFault))
 
--- the first of the children that has a fault
+-- the fault of the first child that has one
 abbrev pub IsChildrenFault : GraphShape → Node → List PatCard → List Child → StepFault → Type 0
 IsChildrenFault graph node cards [] = NoFault
 IsChildrenFault graph node cards (child ∷ rest) =
@@ -78,7 +78,7 @@ IsLeafFault graph node cards children =
     (IsChildrenFault graph node cards children))
 
 -- ---- the first fault of a tree
--- all is right from this place on, which these cards led to
+-- all is right from this place on, to which these cards led
 abbrev pub HoldsFrom : GraphShape → Node → List PatCard → TrickTree → Type 0
 HoldsFrom graph node cards tree =
     (more : List PatCard) (place : TrickTree) → LeadsTo tree more place → IsRightAfter graph node (cards ++ more) place
@@ -89,7 +89,7 @@ HoldAmong graph node cards branches =
     (card : PatCard) (below : TrickTree) → HasBranch branches card below
     → HoldsFrom graph node (cards ++ card ∷ []) below
 
--- A place's own fault comes before those below it, and those of a branch before those of the next.
+-- A place's own fault comes before the faults below it, and the faults of a branch before those of the next.
 abbrev mutual
   pub IsFirstFault : GraphShape → Node → List PatCard → TrickTree → StepFault → Type 0
   IsFirstFault graph node cards (Own card tree) fault =
@@ -107,7 +107,7 @@ abbrev mutual
       ⊎ (HoldsFrom graph node (cards ++ card ∷ []) tree × IsFirstFaultAmong graph node cards rest fault)
 
 -- ---- the first fault of a graph
--- the fault is that of the least node that has one
+-- the fault is the fault of the least node that has one
 pub record IsGraphFault (graph : GraphShape) (fault : NodeFault) : Type 0 where
   pub node : Node
   pub there : slice_get graph.nodes fault.number ≡ Some node
@@ -116,7 +116,7 @@ pub record IsGraphFault (graph : GraphShape) (fault : NodeFault) : Type 0 where
       (number : ℕ) (earlier : Node) → number < fault.number → slice_get graph.nodes number ≡ Some earlier
       → HoldsFrom graph earlier [] earlier.tree
 
--- what is told of the node with a number: no fault where its step holds, else the first of its tree
+-- the answer for the node with a number: no fault if its step holds, otherwise the first fault of its tree
 abbrev pub NodeTells : GraphShape → ℕ → Option NodeFault → Type 0
 NodeTells graph number told = MatchOption told
     ((node : Node) → slice_get graph.nodes number ≡ Some node → HoldsFrom graph node [] node.tree)

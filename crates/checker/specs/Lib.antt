@@ -9,4 +9,6 @@ pub mod Soundness
 pub mod EntryFaults
 pub mod FaultWords
 pub mod Verdicts
+pub mod Judging
 pub mod CardSets
+pub mod Pairs

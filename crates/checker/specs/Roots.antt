@@ -3,7 +3,7 @@ use Rattle.std.specs.Prelude.{ℕ, List, [], ◌∷◌, Option, None, Some, slic
 use Rattle.certificate_graph.specs.declared.nodes.Node.{Node}
 use Rattle.certificate_graph.specs.Graphs.{GraphShape}
 
--- a graph, and the number of its root, the node read as its first; without one it is read as a graph without nodes
+-- a graph, and the number of its root, the node read as its first; without a root it is read as a graph without nodes
 pub record RootedShape : Type 0 where
   pub graph : GraphShape
   pub root : Option ℕ
@@ -12,11 +12,11 @@ abbrev pub first_number : List Node → Option ℕ
 first_number [] = None
 first_number (node ∷ rest) = Some 0
 
--- what a text says: the root of its graph is node 0, or none where there are no nodes
+-- the graph of a text: its root is node 0, or none if there are no nodes
 abbrev pub from_first : GraphShape → RootedShape
 from_first graph = record { graph = graph; root = first_number graph.nodes }
 
--- the node of this number, if there is one
+-- the node with this number, if there is one
 abbrev pub node_at : List Node → Option ℕ → Option Node
 node_at nodes None = None
 node_at nodes (Some number) = slice_get nodes number

@@ -1,4 +1,4 @@
--- The verdict on two texts that are to be those of two graphs.
+-- The verdict on two texts that have to be the texts of two graphs.
 use Rattle.std.specs.Prelude.{ℕ, List, Result, Ok, Err}
 use Rattle.cards.specs.declared.suits.Trump.{Trump}
 use Rattle.cards.specs.declared.seats.Seat.{Seat}
@@ -12,7 +12,7 @@ use Rattle.checker.specs.declared.entries.Shown.{Shown}
 use Rattle.checker.specs.Roots.{from_first}
 use Rattle.checker.specs.EntryFaults.{EntryAnswers}
 
--- the texts are those of two graphs, and this is the answer for them
+-- these are the texts of two graphs, and this is the answer for the graphs
 pub record GraphsAnswer (deal : Deal) (declarer : Seat) (trump : Trump) (tricks : ℕ)
     (declarer_text defenders_text : List ℕ)
     (answer : Result Shown EntryFault) : Type 0 where
@@ -22,8 +22,7 @@ pub record GraphsAnswer (deal : Deal) (declarer : Seat) (trump : Trump) (tricks 
   pub defenders_read : TextAnswers defenders_text (Ok defenders)
   pub answers : EntryAnswers deal declarer trump tricks (from_first declarers) (from_first defenders) answer
 
--- The verdict: the fault of the first text that has one, that of declarer's side first, and else the answer for the
--- graphs.
+-- The verdict: the fault of the first text that has one, declarer's first, otherwise the answer for the graphs.
 abbrev pub IsVerdict : Deal → Seat → Trump → ℕ → List ℕ → List ℕ → Result Shown HandFault → Type 0
 IsVerdict deal declarer trump tricks declarer_text defenders_text (Ok shown) =
     GraphsAnswer deal declarer trump tricks declarer_text defenders_text (Ok shown)

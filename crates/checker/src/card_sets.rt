@@ -1,13 +1,13 @@
-//! The turns of the opponents by sets of cards, each in a word.
+//! The turns of the opponents by sets of cards. Each set is one word.
 //!
-//! A card has a bit: a suit has sixteen, those of spades the lowest, and in it the top in place 0 has the lowest bit,
-//! the others follow, and the low cards have the highest. A seat's legal cards are one word then, the cards of the
-//! branches another, and what a step asks of each card is asked of all at once. A branch is of no legal card where the
-//! second word has a bit that the first lacks. A legal card without a branch is excused, in version 2, where its bit
-//! follows that of another legal top: this one has a branch, or follows one in its turn, and the first of them, which
-//! follows none, has one. Between them each place is the seat's, so they are a run.
+//! Each card has a bit. A suit has sixteen, the spades the lowest. In a suit the top in place 0 has the lowest bit, the
+//! other tops follow, and the low cards have the highest. So a seat's legal cards are one word, the cards of the
+//! branches another, and one operation asks for all cards what a step asks for each. If the second word has a bit that
+//! the first lacks, a branch has a card that is not legal. In version 2 a legal card without a branch is excused if its
+//! bit follows the bit of another legal top. That top has a branch or follows a legal top itself, and the first of
+//! them, which follows none, has a branch. Each place between them is the seat's, so they are a run.
 //!
-//! The sets only say yes. Where they don't, the cards are looked at one by one ([`crate::turns`]).
+//! The sets can only say yes. If they don't, the cards are tried one by one ([`crate::turns`]).
 
 ghost use Rattle.std.specs.Prelude.{◌≡◌, ◌↔◌, ◌^◌, ℕ};
 ghost use Rattle.std.specs.Bool.{OnTrue};
@@ -24,19 +24,19 @@ use certificate_graph::{Branches, Version};
 use pattern_step::PatCard;
 use patterns::{Pattern, SuitWord};
 
-/// How many bits a suit has.
+/// The number of bits of a suit.
 const SUIT_BITS: usize = 16;
 
 /// The bit of the low cards in a suit.
 const LOW: usize = 15;
 
-/// The greatest place that has a bit, after those of all tops that a pattern has.
+/// The last place of a top with a bit, above all tops that a pattern has. Tops of later places share its bit.
 const LAST_PLACE: u8 = 14;
 
-/// The tops of all suits.
+/// The bits of the tops of all suits.
 const TOPS: u64 = 0x1fff_1fff_1fff_1fff;
 
-/// The bit of a card.
+/// Returns the number with the bit of a card alone.
 fn bit_of(card: PatCard) -> u64
     ensures { result ≡ 2 ^ place_in_set card }
 {
@@ -48,7 +48,7 @@ fn bit_of(card: PatCard) -> u64
     }
 }
 
-/// The cards of the branches.
+/// Returns the set of the cards of the branches.
 fn branch_set(branches: &Branches<'_>) -> u64
     ensures { (bit : ℕ) → (bit_at result bit ≡ 1) ↔ HasBranchIn branches.now bit }
 {
@@ -61,11 +61,11 @@ fn branch_set(branches: &Branches<'_>) -> u64
     set
 }
 
-/// The seat's cards of a suit, in its sixteen bits.
+/// Returns the seat's cards of a suit, in its sixteen bits.
 fn suit_set(held: SuitWord, seat: Seat) -> u16
     ensures { SuitSetOf held seat result }
 {
-    // at most 13, so no place has the bit of the low cards
+    // There are at most 13 owners, so no place has the bit of the low cards.
     let _count = held.owner_count();
     let mut places = held.places_of(seat);
     let mut set = 0;
@@ -79,7 +79,7 @@ fn suit_set(held: SuitWord, seat: Seat) -> u16
     set
 }
 
-/// The seat's cards of a suit of the pattern. Where it has none, no place is looked at.
+/// Returns the seat's cards of a suit of the pattern. If it has none, no place is looked at.
 fn suit_held(pattern: &Pattern, suit: Suit, seat: Seat) -> u16
     ensures { SuitSetOf (suit_of pattern.now suit) seat result }
 {
@@ -91,7 +91,7 @@ fn suit_held(pattern: &Pattern, suit: Suit, seat: Seat) -> u16
     suit_set(held, seat)
 }
 
-/// The seat's cards.
+/// Returns the set of all cards of the seat.
 fn held_set(pattern: &Pattern, seat: Seat) -> u64
     ensures { (card : PatCard) → (bit_at result (place_in_set card) ≡ 1) ↔ HasCard pattern.now seat card }
 {
@@ -102,7 +102,7 @@ fn held_set(pattern: &Pattern, seat: Seat) -> u64
         + (u64::from(suit_held(pattern, Suit::Clubs, seat)) << (3 * SUIT_BITS))
 }
 
-/// The seat's legal cards: those of the suit led, if it has any, else all.
+/// Returns the set of the seat's legal cards: the cards of the suit led if it has any, otherwise all.
 fn legal_set(pattern: &Pattern, seat: Seat, led: Option<Suit>) -> u64
     ensures { (card : PatCard) → (bit_at result (place_in_set card) ≡ 1) ↔ IsLegal pattern.now seat led card }
 {
@@ -116,7 +116,7 @@ fn legal_set(pattern: &Pattern, seat: Seat, led: Option<Suit>) -> u64
     u64::from(suit_set(pattern.suit(suit), seat)) << (SUIT_BITS * suit.number())
 }
 
-/// Whether the sets say that the branches answer the legal cards of the seat, and are of no others.
+/// Returns whether the sets show that the branches answer the seat's legal cards, and have no others.
 pub(crate) fn answer_by_sets(
     version: Version,
     pattern: &Pattern,

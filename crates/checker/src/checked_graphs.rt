@@ -1,4 +1,4 @@
-//! Graphs with what their check found.
+//! Graphs with the result of their check.
 
 ghost use Rattle.std.specs.Prelude.{◌≡◌, MatchResult};
 ghost use Rattle.checker.specs.Steps.{StepsHold};
@@ -12,12 +12,11 @@ use std::marker::Model;
 use std::sync::Arc;
 use std::thread::Threads;
 
-/// From so many nodes on several threads gain something.
+/// From this number of nodes on several threads gain something.
 const WIDE: usize = 2_048;
 
-/// A graph, and what [`check_graph`] found of it: one check serves all that is shown by the graph's nodes, and whoever
-/// holds the value, in any thread, knows that it was made. To contracts it is the graph alone, from which the verdict
-/// follows.
+/// A graph with the result of [`check_graph`]. One check serves all claims of the graph's nodes, and every holder of
+/// the value, in any thread, knows that it was made. Contracts see the graph alone, from which the verdict follows.
 #[derive(Drop)]
 pub struct CheckedGraph {
     graph: Arc<Graph>,
@@ -51,8 +50,8 @@ impl CheckedGraph {
         CheckedGraph { graph, verdict }
     }
 
-    /// Checks the graph, once, with as many threads as there are processors where it has 2,048 nodes or more and is not
-    /// refused memory for it.
+    /// Checks the graph once. If it has 2,048 nodes or more, as many threads as there are processors check it, unless
+    /// memory runs out for them.
     pub fn of_wide(graph: Arc<Graph>, rt: &(impl Threads + Sync)) -> CheckedGraph
         ensures { result ≡ graph.value }
     {
@@ -65,14 +64,14 @@ impl CheckedGraph {
         }
     }
 
-    /// The graph that was checked.
+    /// Returns the graph that was checked.
     pub fn graph(&self) -> &Graph
         ensures { result.now ≡ self.now }
     {
         &self.graph
     }
 
-    /// What was found: that all steps hold, else the first fault. It looks at no node.
+    /// Returns `Ok` if all steps hold, otherwise the first fault. It looks at no node.
     pub fn verdict(&self) -> Result<(), NodeFault>
         ensures { MatchResult result (λ _. StepsHold self.now) (IsGraphFault self.now) }
     {

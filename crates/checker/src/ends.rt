@@ -1,4 +1,4 @@
-//! The end of a trick: who may have won it, and the nodes that go on.
+//! The end of a trick: the seats that may have won it, and the nodes that go on.
 
 ghost use Rattle.std.specs.Prelude.{◌≡◌, ◌<◌, ◌≤◌, ◌≢◌, ◌↔◌, ◌^◌, IsTrue, MatchResult, All, List, length, [], ◌∷◌};
 ghost use Rattle.std.specs.Int.{bit_at};
@@ -19,7 +19,7 @@ use certificate_graph::{Child, Children, Graph, Node, Version};
 use pattern_step::{PatCard, SeatSet, rest, winners};
 use patterns::{Pattern, Rest};
 
-/// What is still needed when this seat has won the trick.
+/// Returns how many tricks are still needed if this seat has won the trick.
 fn need_after(side: Side, need: u8, winner: Seat) -> u8
     ensures { result ≡ need_after side need winner }
 {
@@ -30,7 +30,7 @@ fn need_after(side: Side, need: u8, winner: Seat) -> u8
     }
 }
 
-/// The seats that are listed, a bit each, that of North lowest.
+/// Returns the seats that are listed, one bit each, North's the lowest.
 fn seats_listed(children: &Children<'_>) -> u8
     ensures below { result < 2 ^ 4 }
     ensures bits { (seat : Seat) → (bit_at result (seat_number seat) ≡ 1) ↔ IsListed children.now seat }
@@ -44,14 +44,14 @@ fn seats_listed(children: &Children<'_>) -> u8
     seats
 }
 
-/// Whether the seat is one of the winners, and something is needed when it has won.
+/// Returns whether the seat is one of the winners, and a trick is still needed if it has won.
 fn goes_on(side: Side, need: u8, winners: SeatSet, seat: Seat) -> bool
     ensures { IsTrue result ↔ (IsTrue (is_in winners seat) × (0 < need_after side need seat)) }
 {
     winners.contains(seat) && need_after(side, need, seat) > 0
 }
 
-/// The winners that have to go on, a bit each, that of North lowest.
+/// Returns the winners for which a node has to go on, one bit each, North's the lowest.
 fn seats_going_on(side: Side, need: u8, winners: SeatSet) -> u8
     ensures below { result < 2 ^ 4 }
     ensures bits { (seat : Seat) → (bit_at result (seat_number seat) ≡ 1)
@@ -63,7 +63,7 @@ fn seats_going_on(side: Side, need: u8, winners: SeatSet) -> u8
         + (u8::from(goes_on(side, need, winners, Seat::West)) << 3)
 }
 
-/// Whether the seats listed are those that may win and have to go on.
+/// Returns whether the listed seats are those that may win and leave tricks needed.
 fn lists_winners(graph: &Graph, node: &Node, trick: &[PatCard; 4], children: &Children<'_>) -> bool
     ensures { IsTrue result ↔ ListsWinners graph.now node.now trick.now children.now }
 {
@@ -71,8 +71,8 @@ fn lists_winners(graph: &Graph, node: &Node, trick: &[PatCard; 4], children: &Ch
     seats_listed(children) == seats_going_on(graph.side(), node.need, winners)
 }
 
-/// Whether the pattern covers what is left, as the version reads it. Completed it is covered by all that cover it as it
-/// is, so it is completed only for the others.
+/// Returns whether the pattern covers the rest, as the version reads it. A pattern that covers a rest covers it
+/// completed too, so the rest is completed only for the other patterns.
 fn covers(version: Version, pattern: &Pattern, left: &Rest) -> bool
     ensures { IsTrue result ↔ Covers pattern.now (rest_read version left.now) }
 {
@@ -85,7 +85,7 @@ fn covers(version: Version, pattern: &Pattern, left: &Rest) -> bool
     }
 }
 
-/// Checks that the node named goes on from what four cards leave.
+/// Checks that the named node goes on from the rest that four cards leave.
 fn check_child(graph: &Graph, node: &Node, left: &Rest, child: Child) -> Result<(), StepFault>
     requires named { child.number < length graph.now.nodes }
     ensures { (trick : List PatCard) → IsLeft node.now.pattern node.now.lead trick left.now → MatchResult result
@@ -127,7 +127,7 @@ fn check_children(
     Ok(())
 }
 
-/// Checks that the trick ends here, and that the children are the right ones.
+/// Checks that the trick ends here, and that the children are right.
 pub(crate) fn check_leaf(
     graph: &Graph,
     node: &Node,

@@ -1,4 +1,4 @@
-//! What two graphs show of a contract on a layout.
+//! The value of a contract on a layout, shown by two graphs.
 
 ghost use Rattle.std.specs.Prelude.{◌≡◌};
 ghost use Rattle.strategies.specs.Values.{IsValue};
@@ -15,7 +15,7 @@ use cards::{Layout, Seat, Trump};
 use certificate_graph::Graph;
 use std::marker::Model;
 
-/// What was shown: that declarer takes so many tricks, no more and no fewer, where both sides play best.
+/// A contract on a layout, and the tricks that declarer takes, no more and no fewer, if both sides play best.
 #[derive(Clone, Copy, Debug, PartialEq)]
 pub struct Shown {
     /// The four hands.
@@ -28,9 +28,9 @@ pub struct Shown {
     pub k: u8,
 }
 
-/// The proof that two graphs showed something, so that it is the double-dummy value: declarer's side has a strategy
-/// that wins so many tricks against every defence, and the defenders have one that wins the others against every play.
-/// [`check_entry`] and [`check_claim`] alone make one.
+/// The proof that two graphs showed a value, so that it is the double-dummy value: declarer's side has a strategy that
+/// wins `k` tricks against every defence, and the defenders have one that wins the others against every play. Only
+/// [`check_entry`] and [`check_claim`] make one.
 #[derive(Clone, Copy, Debug, PartialEq)]
 pub struct Proven {
     shown: Shown,
@@ -50,14 +50,15 @@ impl Model for Proven {
 }
 
 impl Proven {
-    /// What was shown.
+    /// Returns the contract, the layout and the tricks.
     pub fn shown(&self) -> Shown
         ensures { result ≡ self.now }
     {
         self.shown
     }
 
-    /// What every proof keeps: the double-dummy value, and that some graphs showed it. It does nothing.
+    /// Its contract says what every proof keeps: the tricks are the double-dummy value, and some graphs showed it. It
+    /// does nothing.
     pub fn invariant(&self)
         ensures value { IsValue self.now.layout self.now.declarer self.now.trump self.now.k }
         ensures shown { IsShown self.now }
@@ -66,9 +67,9 @@ impl Proven {
     }
 }
 
-/// Checks that the two graphs show that declarer's side takes just k tricks: the first that it can win them, the second
-/// that the defenders can win the others, each from its node 0. Else the answer is the first fault:
-/// [`EntryFault::KTooLarge`] where k exceeds the cards of a hand, then that of the first graph, then that of the
+/// Checks that the two graphs show that declarer's side takes just k tricks: the first that declarer's side can win
+/// them, the second that the defenders can win the others, each from its node 0. Otherwise it returns the first fault:
+/// [`EntryFault::KTooLarge`] if k exceeds the cards of a hand, then the fault of the first graph, then the fault of the
 /// second. Takes no memory.
 pub fn check_entry(
     layout: &Layout,
@@ -85,9 +86,9 @@ pub fn check_entry(
     check_both(layout, declarer, trump, k, &declarers, &defenders)
 }
 
-/// The same of graphs that were checked before, each from the root that it comes with: a root that is not below the
-/// count of nodes is missing. Looks at no tree: where a graph has a root, what its check found stands for all nodes.
-/// Takes no memory.
+/// Checks the same for graphs that were checked before, each from its own root. A root that is not below the count of
+/// nodes is missing. It looks at no tree: if a graph has a root, the result of its check counts for all nodes. Takes no
+/// memory.
 pub fn check_claim(
     layout: &Layout,
     declarer: Seat,
@@ -102,7 +103,7 @@ pub fn check_claim(
     check_both(layout, declarer, trump, claimed.k, &declarers, &defenders)
 }
 
-/// Both entrances: what the graphs show, whether they were checked before or not.
+/// Checks what the graphs show, whether they were checked before or not.
 fn check_both(
     layout: &Layout,
     declarer: Seat,

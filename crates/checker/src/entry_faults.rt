@@ -7,12 +7,12 @@ use crate::faults::NodeFault;
 use std::error::Error;
 use std::fmt;
 
-/// Why a graph doesn't show that its side wins the tricks that it is to win. Its root is the node that is read as its
-/// first: node 0 of a whole graph, which without nodes has none. It is printed as its number and its name, a node's
-/// fault before that of its step: `7 RootPattern`, `8 Node 12 2 BranchMissing`.
+/// Why a graph doesn't show that its side wins the tricks that it has to win. Its root is the node that is read as its
+/// first: node 0 of a whole graph, or none if there are no nodes. The fault is printed as its number and its name, the
+/// fault of a node before the fault of its step: `7 RootPattern`, `8 Node 12 2 BranchMissing`.
 #[derive(Clone, Copy, Debug, PartialEq, Eq)]
 pub enum PartFault {
-    /// Tricks are to be won, and there is no root, or no node of its number.
+    /// Tricks are to be won, and there is no root, or no node with its number.
     RootMissing,
     /// No tricks are to be won, and there is a root.
     RootNeedless,
@@ -20,30 +20,30 @@ pub enum PartFault {
     RootTrump,
     /// The graph is of the other side.
     RootSide,
-    /// The root has another seat to lead.
+    /// Another seat leads in the root.
     RootLead,
-    /// The root has another need.
+    /// The root needs another number of tricks.
     RootNeed,
     /// The layout does not match the pattern of the root.
     RootPattern,
-    /// The step of a node doesn't hold; of any node, where there is a root.
+    /// The step of a node doesn't hold. If there is a root, the steps of all nodes count.
     Node(NodeFault),
 }
 
-/// Why two graphs don't show the value of a contract on a layout. It is printed after whose graph is at fault:
-/// `declarer 7 RootPattern`, `9 KTooLarge`.
+/// Why two graphs don't show the value of a contract on a layout. The name of the side whose graph is at fault is
+/// printed first: `declarer 7 RootPattern`, `9 KTooLarge`.
 #[derive(Clone, Copy, Debug, PartialEq, Eq)]
 pub enum EntryFault {
     /// The graph of declarer's side is at fault.
     Declarer(PartFault),
     /// The graph of the defenders is at fault.
     Defenders(PartFault),
-    /// There are to be more tricks than cards in a hand.
+    /// The claim has more tricks than a hand has cards.
     KTooLarge,
 }
 
 impl PartFault {
-    /// The printed number, 1 to 8.
+    /// Returns the printed number, 1 to 8.
     pub fn number(&self) -> u8
         ensures { result ≡ part_fault_number self.now }
     {
@@ -59,7 +59,7 @@ impl PartFault {
         }
     }
 
-    /// The printed name.
+    /// Returns the printed name.
     pub fn name(&self) -> &'static str
         ensures { result.now ≡ part_fault_name self.now }
     {

@@ -13,21 +13,22 @@ pub enum StepFault {
     CardNotLegal,
     /// A legal card of the opponents has no branch.
     BranchMissing,
-    /// A branch is of a card that is not legal.
+    /// A branch has a card that is not legal.
     BranchExtra,
-    /// The seats that are listed after a trick are not those that may win it and have to go on.
+    /// The seats that are listed after a trick are not those that may win it and leave tricks needed.
     LeafWinners,
-    /// A node that goes on has another seat to lead.
+    /// In a node that goes on another seat leads.
     ChildLead,
-    /// A node that goes on needs less than is still needed.
+    /// A node that goes on needs fewer tricks than are still needed.
     ChildNeed,
-    /// The pattern of a node that goes on does not cover what is left.
+    /// The pattern of a node that goes on does not cover the rest.
     ChildPattern,
-    /// Another thing stands in the tree than belongs there: a card of the side, the opponents' cards, or the end.
+    /// The tree has something else in this place than a card of the side, the opponents' cards or the end, whichever
+    /// belongs there.
     TreeShape,
 }
 
-/// A node whose step doesn't hold, and why. It is printed after the number of the node: `12 2 BranchMissing`.
+/// A node whose step doesn't hold, and the reason. The number of the node is printed first: `12 2 BranchMissing`.
 #[derive(Clone, Copy, Debug, PartialEq, Eq)]
 pub struct NodeFault {
     /// The number of the node, from 0.
@@ -37,7 +38,7 @@ pub struct NodeFault {
 }
 
 impl StepFault {
-    /// The printed number, 1 to 8.
+    /// Returns the printed number, 1 to 8.
     pub fn number(&self) -> u8
         ensures { result ≡ step_fault_number self.now }
     {
@@ -53,7 +54,7 @@ impl StepFault {
         }
     }
 
-    /// The printed name.
+    /// Returns the printed name.
     pub fn name(&self) -> &'static str
         ensures { result.now ≡ step_fault_name self.now }
     {

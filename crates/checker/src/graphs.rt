@@ -1,4 +1,4 @@
-//! Whether a graph is right.
+//! The check of a graph.
 
 ghost use Rattle.std.specs.Prelude.{[], MatchResult, length, ◌<◌};
 ghost use Rattle.certificate_graph.specs.Graphs.{NamesBelow};
@@ -20,7 +20,7 @@ fn check_node(graph: &Graph, node: &Node) -> Result<(), StepFault>
     check_place(graph, node, &Played::none(), &node.tree.root())
 }
 
-/// The fault of the node with this number, if its step does not hold.
+/// Returns the fault of the node with this number, if its step does not hold.
 pub(crate) fn fault_of(graph: &Graph, number: usize) -> Option<NodeFault>
     requires { number < length graph.now.nodes }
     ensures { NodeTells graph.now number result }
@@ -36,8 +36,8 @@ pub(crate) fn fault_of(graph: &Graph, number: usize) -> Option<NodeFault>
     }
 }
 
-/// Checks that the steps of all nodes hold. Else the answer is the first fault: of the least node that has one, the
-/// first that is met where its tree is read from the front.
+/// Checks that the steps of all nodes hold. Otherwise it returns the first fault: the fault of the least node that has
+/// one, the first in its tree when the tree is read from the front.
 pub fn check_graph(graph: &Graph) -> Result<(), NodeFault>
     ensures { MatchResult result (λ _. StepsHold graph.now) (IsGraphFault graph.now) }
 {

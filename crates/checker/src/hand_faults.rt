@@ -1,4 +1,4 @@
-//! Why what was handed in shows nothing.
+//! Why texts that were handed in show nothing.
 
 ghost use Rattle.std.specs.Prelude.{Some};
 ghost use Rattle.checker.specs.FaultWords.{text_fault_text, hand_fault_text};
@@ -8,15 +8,15 @@ use certificate_graph::TextFault;
 use std::error::Error;
 use std::fmt;
 
-/// Why two texts show nothing of a board. A text's fault is printed after whose text it is, and before its line:
-/// `declarer 10 Text 2 NodeForm line 5`.
+/// Why two texts show nothing for a board. The fault of a text is printed after the name of the side whose text it is,
+/// and before its line: `declarer 10 Text 2 NodeForm line 5`.
 #[derive(Clone, Copy, Debug, PartialEq, Eq)]
 pub enum HandFault {
-    /// The graphs don't show what they are to show.
+    /// The graphs don't show their claim.
     Entry(EntryFault),
-    /// The text for declarer's side is not that of a graph.
+    /// The text for declarer's side is not the text of a graph.
     DeclarerText(TextFault),
-    /// The text for the defenders is not that of a graph.
+    /// The text for the defenders is not the text of a graph.
     DefendersText(TextFault),
     /// The board has no deal.
     NoDeal,
@@ -37,7 +37,7 @@ impl fmt::Display for HandFault {
 
 impl Error for HandFault {}
 
-/// What is printed of a text that is not that of a graph: the fault, and the line that it names.
+/// The printed words for a text that is not the text of a graph: the fault, and the line that it names.
 #[derive(Drop)]
 struct TextWords<'a>(&'a TextFault);
 

@@ -1,9 +1,9 @@
 //! Whether certificates are right.
 //!
-//! A graph is right where the step of each of its nodes holds: one trick on the node's pattern, with the side's choice
-//! at its turns and all that the opponents may play at theirs, and nodes that go on from each end that still needs
-//! tricks. One check of a graph serves all that its nodes claim. Nothing here plays a card of a deal or searches, and
-//! only `judge` takes memory.
+//! A graph is right if the step of each of its nodes holds: one trick on the node's pattern, with the side's choice at
+//! its turns, all cards that the opponents may play at theirs, and nodes that go on from each end that still needs
+//! tricks. One check of a graph serves all claims of its nodes. `CheckedPair` has both graphs of a bundle, each checked
+//! once. Nothing here plays a card of a deal or searches. Only `judge` and `CheckedPair` take memory.
 #![tactic(auto)]
 
 mod card_sets;
@@ -17,6 +17,7 @@ mod graphs;
 mod hand_faults;
 mod judging;
 mod laws;
+mod pairs;
 mod parts;
 mod played;
 mod soundness;
@@ -25,7 +26,6 @@ mod walks;
 mod wide;
 mod witnesses;
 
-pub use cards::OutOfMemory;
 pub use checked_graphs::CheckedGraph;
 pub use claims::{Claimed, Rooted};
 pub use entries::{Proven, Shown, check_claim, check_entry};
@@ -33,11 +33,12 @@ pub use entry_faults::{EntryFault, PartFault};
 pub use faults::{NodeFault, StepFault};
 pub use graphs::check_graph;
 pub use hand_faults::HandFault;
-pub use judging::{Verdict, judge};
+pub use judging::{Accepted, Texts, Verdict, judge, judge_graphs};
 pub use laws::{
     extracts_hold, graph_has_one_first_fault, graphs_have_one_answer, lines_lead_to_places,
     no_fault_where_steps_hold, place_has_one_first_fault, places_are_on_lines,
     steps_hold_as_version_two, texts_have_one_verdict,
 };
+pub use pairs::CheckedPair;
 pub use soundness::{entries_are_sound, graphs_are_sound, one_step_is_sound};
 pub use wide::check_graph_wide;

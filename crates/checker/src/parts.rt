@@ -1,4 +1,4 @@
-//! What one graph shows of a layout.
+//! The check of one graph against its claim for a layout.
 
 ghost use Rattle.std.specs.Prelude.{◌≡◌, MatchResult};
 ghost use Rattle.std.specs.Option.{option_copied};
@@ -12,7 +12,7 @@ use crate::witnesses::Witness;
 use cards::{Layout, Seat, Side, Trump};
 use certificate_graph::Node;
 
-/// What a graph is to show: that the side wins so many tricks of the layout, with this seat to lead.
+/// The claim that a graph has to show: the side wins `need` tricks of the layout, with this seat to lead.
 #[derive(Drop)]
 pub(crate) struct RootClaim<'a> {
     pub(crate) layout: &'a Layout,
@@ -22,7 +22,7 @@ pub(crate) struct RootClaim<'a> {
     pub(crate) need: u8,
 }
 
-/// Checks that the node claims what is to be shown.
+/// Checks that the node claims this.
 fn check_root(root: &Node, claim: &RootClaim<'_>) -> Result<(), PartFault>
     ensures { MatchResult result
         (λ _. IsRootOf root.now claim.now.layout.now claim.now.leader claim.now.need)
@@ -40,14 +40,14 @@ fn check_root(root: &Node, claim: &RootClaim<'_>) -> Result<(), PartFault>
     Ok(())
 }
 
-/// The node of this number, if there is one.
+/// Returns the node with this number, if there is one.
 fn node_at(nodes: &[Node], number: Option<u32>) -> Option<&Node>
     ensures { option_copied result ≡ node_at nodes.now number }
 {
     nodes.get(number? as usize)
 }
 
-/// Checks that the graph shows what it is to show, else tells its first fault.
+/// Checks that the graph shows its claim, and otherwise returns its first fault.
 pub(crate) fn check_part(witness: &Witness<'_>, claim: &RootClaim<'_>) -> Result<(), PartFault>
     ensures { MatchResult result
         (λ _. Shows (seen_as witness.now) claim.now.layout.now claim.now.leader claim.now.trump claim.now.side

@@ -26,7 +26,7 @@ impl Model for Played {
 }
 
 impl Played {
-    /// No cards.
+    /// Makes a trick without cards.
     pub(crate) fn none() -> Played
         ensures { result ≡ [] }
     {
@@ -36,7 +36,7 @@ impl Played {
         }
     }
 
-    /// These cards and one more.
+    /// Returns these cards and one more.
     pub(crate) fn with(&self, card: PatCard) -> Played
         requires { length self.now < 4 }
         ensures { result ≡ self.now ++ card ∷ [] }
@@ -49,14 +49,14 @@ impl Played {
         }
     }
 
-    /// How many cards there are.
+    /// Returns how many cards there are.
     pub(crate) fn count(&self) -> usize
         ensures { result ≡ length self.now }
     {
         self.count
     }
 
-    /// The suit led, where a card was.
+    /// Returns the suit led, if a card was played.
     pub(crate) fn led(&self) -> Option<Suit>
         ensures { result ≡ suit_led_by self.now }
     {
@@ -67,7 +67,7 @@ impl Played {
         }
     }
 
-    /// The four cards of a whole trick.
+    /// Returns the four cards of a whole trick, if there are four.
     pub(crate) fn whole(&self) -> Option<&[PatCard; 4]>
         ensures { MatchOption result (length self.now ≢ 4) (λ cards. (cards.now ≡ self.now) × (length self.now ≡ 4)) }
     {

@@ -1,21 +1,22 @@
-//! What certificates are worth in play. Each is a function that does nothing: its contract is the law.
+//! The worth of certificates in play. Each law is a function that does nothing: its contract is the law.
 
 ghost use Rattle.checker.specs.Soundness.{OneStepIsSound, GraphsAreSound, EntriesAreSound};
 
-/// One trick. Take a node whose step holds. If each node that its leaves name keeps its claim, that the side wins what
-/// it needs from every layout that matches its pattern, with its seat to lead, then this node keeps its claim too.
+/// One trick. Take a node whose step holds. If each node that its leaves name keeps its claim, this node keeps its
+/// claim too: from every layout that matches its pattern, with its seat to lead, the side wins the tricks that it
+/// needs.
 pub fn one_step_is_sound()
     ensures { OneStepIsSound }
 {}
 
-/// All tricks. Where the steps of a graph hold, as [`crate::check_graph`] says, each of its nodes keeps its claim. Each
-/// trick leaves a card less in each hand, so a circle of nodes shows nothing.
+/// All tricks. If the steps of a graph hold, as [`crate::check_graph`] says, each of its nodes keeps its claim. Each
+/// trick leaves one card fewer in each hand, so a circle of nodes shows nothing.
 pub fn graphs_are_sound()
     ensures { GraphsAreSound }
 {}
 
-/// Both sides. What two graphs show of a contract on a layout, as [`crate::check_entry`] says, is its double-dummy
-/// value: declarer's side has a strategy that wins so many tricks against every defence, and the defenders have one
+/// Both sides. The tricks that two graphs show for a contract on a layout, as [`crate::check_entry`] says, are its
+/// double-dummy value: declarer's side has a strategy that wins them against every defence, and the defenders have one
 /// that wins the others against every play.
 pub fn entries_are_sound()
     ensures { EntriesAreSound }

@@ -1,4 +1,4 @@
-//! The turns of a trick: who plays, and which cards belong there.
+//! The turns of a trick: the seat that plays, and the cards that belong there.
 
 ghost use Rattle.std.specs.Prelude.{◌≡◌, ◌<◌, ◌↔◌, IsTrue, MatchBool, MatchResult, Contains, length};
 ghost use Rattle.cards.specs.Seats.{seat_in_place};
@@ -17,7 +17,7 @@ use certificate_graph::{Branches, Node, Version};
 use pattern_step::{PatCard, is_legal, legal};
 use patterns::Pattern;
 
-/// The seat that plays after these cards.
+/// Returns the seat that plays after these cards.
 fn player_after(node: &Node, played: &Played) -> Seat
     requires { length played.now < 4 }
     ensures { result ≡ player_after node.now played.now }
@@ -25,7 +25,7 @@ fn player_after(node: &Node, played: &Played) -> Seat
     Seat::ALL[(node.lead.number() + played.count()) % 4]
 }
 
-/// Whether the card is legal after these cards.
+/// Returns whether the card is legal after these cards.
 fn may_come_next(node: &Node, played: &Played, card: PatCard) -> bool
     requires { length played.now < 4 }
     ensures { IsTrue result ↔ MayComeNext node.now played.now card }
@@ -38,14 +38,14 @@ fn may_come_next(node: &Node, played: &Played, card: PatCard) -> bool
     )
 }
 
-/// Whether the trick goes on and the side plays.
+/// Returns whether the trick goes on and the side plays.
 fn is_own_turn(side: Side, node: &Node, played: &Played) -> bool
     ensures { IsTrue result ↔ IsOwnTurn side node.now played.now }
 {
     played.count() < 4 && player_after(node, played).side() == side
 }
 
-/// Whether the trick goes on and the opponents play.
+/// Returns whether the trick goes on and the opponents play.
 fn is_opponents_turn(side: Side, node: &Node, played: &Played) -> bool
     ensures { IsTrue result ↔ IsOpponentsTurn side node.now played.now }
 {
@@ -72,7 +72,7 @@ pub(crate) fn check_own(
     Ok(())
 }
 
-/// Whether there is a branch of the card.
+/// Returns whether there is a branch for the card.
 fn has_branch(branches: &Branches<'_>, card: PatCard) -> bool
     ensures { IsTrue result ↔ HasBranchOf branches.now card }
 {
@@ -82,7 +82,7 @@ fn has_branch(branches: &Branches<'_>, card: PatCard) -> bool
     }
 }
 
-/// Whether there is a branch of a higher card than the top in this place, in a run of the seat.
+/// Returns whether there is a branch for a higher card than the top in this place, in a run of the seat.
 fn has_higher(pattern: &Pattern, seat: Seat, branches: &Branches<'_>, suit: Suit, place: u8) -> bool
     ensures { IsTrue result ↔ HasHigher pattern.now seat branches.now (Top suit place) }
 {
@@ -94,7 +94,7 @@ fn has_higher(pattern: &Pattern, seat: Seat, branches: &Branches<'_>, suit: Suit
         && (has_branch(branches, above) || has_higher(pattern, seat, branches, suit, place - 1))
 }
 
-/// Whether there is a branch of a higher card than this one, in a run of the seat.
+/// Returns whether there is a branch for a higher card than this one, in a run of the seat.
 fn is_excused(pattern: &Pattern, seat: Seat, branches: &Branches<'_>, card: PatCard) -> bool
     ensures { IsTrue result ↔ HasHigher pattern.now seat branches.now card }
 {
@@ -104,7 +104,7 @@ fn is_excused(pattern: &Pattern, seat: Seat, branches: &Branches<'_>, card: PatC
     }
 }
 
-/// Whether the branches answer a card of the seat.
+/// Returns whether the branches answer a card of the seat.
 fn is_answered(
     version: Version,
     pattern: &Pattern,
@@ -123,7 +123,7 @@ fn is_answered(
     }
 }
 
-/// Whether the branches answer each of the cards of the seat.
+/// Returns whether the branches answer each of the cards of the seat.
 fn are_answered(
     version: Version,
     pattern: &Pattern,
@@ -143,7 +143,7 @@ fn are_answered(
     true
 }
 
-/// Whether all branches are of legal cards.
+/// Returns whether all branches have legal cards.
 fn are_legal(node: &Node, played: &Played, branches: &Branches<'_>) -> bool
     requires { length played.now < 4 }
     ensures { MatchBool result
@@ -158,7 +158,7 @@ fn are_legal(node: &Node, played: &Played, branches: &Branches<'_>) -> bool
     }
 }
 
-/// Checks that the branches belong here: that they answer the legal cards of the opponents, and are of no others.
+/// Checks that the branches belong here: they answer the legal cards of the opponents, and have no others.
 pub(crate) fn check_reply(
     version: Version,
     side: Side,

@@ -13,7 +13,7 @@ use crate::played::Played;
 use crate::turns::{check_own, check_reply};
 use certificate_graph::{Branches, Graph, Node, Place, PlaceView};
 
-/// Checks a place of the tree, which these cards led to, and then all below it.
+/// Checks a place of the tree, to which these cards led, and then everything below it.
 #[cycle(walk)]
 pub(crate) fn check_place(
     graph: &Graph,
@@ -40,7 +40,7 @@ pub(crate) fn check_place(
     }
 }
 
-/// Checks what stands below each of the branches, one after another.
+/// Checks the trees below the branches, one after another.
 #[cycle(walk)]
 fn check_branches(
     graph: &Graph,

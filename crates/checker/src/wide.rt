@@ -1,4 +1,4 @@
-//! Whether a graph is right, by several threads.
+//! The check of a graph by several threads.
 
 ghost use Rattle.std.specs.Prelude.{◌≡◌, ◌<◌, IfOk, MatchResult, length};
 ghost use Rattle.std.specs.Option.{is_some};
@@ -12,9 +12,9 @@ use certificate_graph::Graph;
 use rayon::prelude::*;
 use std::thread::Threads;
 
-/// Checks that the steps of all nodes hold, as [`check_graph`](crate::check_graph) does, with as many threads as there
-/// are processors where the graph has 2,048 nodes or more. The answer is the same, to the fault. All nodes are looked
-/// at, also after one that has a fault. Nothing asks for memory today, so that it is never refused.
+/// Checks that the steps of all nodes hold, as [`check_graph`](crate::check_graph) does. If the graph has 2,048 nodes
+/// or more, as many threads as there are processors check it. The answer is the same, to the fault. All nodes are
+/// looked at, also after one that has a fault. Nothing asks for memory today, so it never runs out.
 pub fn check_graph_wide(
     graph: &Graph,
     rt: &(impl Threads + Sync),
@@ -24,7 +24,7 @@ pub fn check_graph_wide(
     Ok(first_fault(graph, rt))
 }
 
-/// The fault of the least node that has one.
+/// Returns the fault of the least node that has one.
 fn first_fault(graph: &Graph, rt: &(impl Threads + Sync)) -> Result<(), NodeFault>
     ensures { MatchResult result (λ _. StepsHold graph.now) (IsGraphFault graph.now) }
 {

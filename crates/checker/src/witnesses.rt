@@ -1,4 +1,4 @@
-//! Graphs that are to show something, checked or not.
+//! Graphs that have to show a claim, checked before or not.
 
 ghost use Rattle.std.specs.Prelude.{◌≡◌, MatchResult};
 ghost use Rattle.checker.specs.Steps.{StepsHold};
@@ -10,17 +10,17 @@ use crate::faults::NodeFault;
 use crate::graphs::check_graph;
 use certificate_graph::Graph;
 
-/// A graph that is to show something.
+/// A graph that has to show a claim.
 #[derive(Drop)]
 pub(crate) enum Witness<'a> {
-    /// By its node 0; its steps are still to be checked.
+    /// A whole graph, read from its node 0. Its steps are still to be checked.
     Whole(&'a Graph),
-    /// By the root that it comes with; its steps were checked.
+    /// A graph with its root. Its steps were checked.
     At(&'a Rooted),
 }
 
 impl<'a> Witness<'a> {
-    /// The graph that is shown, whether it was checked or not.
+    /// Returns the graph, whether it was checked or not.
     pub(crate) fn graph(&self) -> &Graph
         ensures { result.now ≡ (seen_as self.now).graph }
     {
@@ -30,7 +30,7 @@ impl<'a> Witness<'a> {
         }
     }
 
-    /// The number of the node that is read as the first.
+    /// Returns the number of the node that is read as the first.
     pub(crate) fn root(&self) -> Option<u32>
         ensures { result ≡ (seen_as self.now).root }
     {
@@ -41,7 +41,7 @@ impl<'a> Witness<'a> {
         }
     }
 
-    /// Whether all steps hold, else the first fault.
+    /// Returns `Ok` if all steps hold, otherwise the first fault.
     pub(crate) fn verdict(&self) -> Result<(), NodeFault>
         ensures { MatchResult result
             (λ _. StepsHold (seen_as self.now).graph)

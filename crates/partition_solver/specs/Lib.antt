@@ -1,1 +1,3 @@
-pub mod Answers
+pub mod Cards
+pub mod Seats
+pub mod Tricks

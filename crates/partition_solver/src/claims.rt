@@ -1,12 +1,12 @@
 //! What a call claims: the tricks of each declarer, and the roots of both graphs that are to show them.
 
-use crate::bundles::{Bundle, Claim};
 use crate::graph_writing::write_graph;
 use crate::plans::TrickStart;
+use crate::positions::Holdings;
 use crate::search::Search;
 use arrayvec::ArrayVec;
 use cards::{Seat, Side, Trump};
-use search_state::positions::Holdings;
+use certificate_graph::{Bundle, Claim};
 
 /// Where play starts for the declarers of a denomination, each once. A root's number is its place: a graph begins with
 /// them.

@@ -3,11 +3,11 @@
 use crate::pattern_tricks::{PatternStart, word_of};
 use crate::plans::{Plan, PlannedChild, TrickStart};
 use crate::search::Search;
+use crate::words::Lengths;
 use cards::{Seat, Side, Trump};
 use certificate_graph::{Child, Graph, Node, Token, Tree, Version};
 use pattern_store::Record;
 use patterns::Pattern;
-use search_state::words::Lengths;
 use std::alloc::{AllocError, Global};
 use std::sync::Arc;
 

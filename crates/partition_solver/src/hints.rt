@@ -1,9 +1,9 @@
 //! Cards that succeeded before where the cards near them were the same: they are tried first.
 
+use crate::moves::card_at;
+use crate::positions::{Trick, seat_to_left};
 use crate::starts::Start;
-use search_state::moves::card_at;
-use search_state::positions::{Trick, seat_to_left};
-use search_state::words::{CardSet, MIXER};
+use crate::words::{CardSet, MIXER};
 use std::alloc::{AllocError, Global};
 
 /// There are 2 to this power of places.

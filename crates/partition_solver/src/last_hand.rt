@@ -1,12 +1,12 @@
 //! What is known before the last hand plays.
 
+use crate::moves::{HandRuns, card_at};
+use crate::positions::{Trick, one_of, seat_to_left};
+use crate::relevant_cards::{needs_fewer, relevant_after};
 use crate::search::Search;
 use crate::starts::{Found, Start, side_of};
+use crate::words::{CardSet, Lengths, MOST_CARDS, suit_of};
 use pattern_store::List;
-use search_state::moves::{HandRuns, card_at};
-use search_state::positions::{Trick, one_of, seat_to_left};
-use search_state::relevant_cards::{needs_fewer, relevant_after};
-use search_state::words::{CardSet, Lengths, MOST_CARDS, suit_of};
 
 /// What is remembered of the rest for the side of the last hand, after a card of it.
 #[derive(Clone, Copy)]

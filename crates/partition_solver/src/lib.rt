@@ -5,22 +5,28 @@
 //! it returns, whatever the layout, the budget and the memory. `docs/SOLVER.md` tells the algorithm.
 #![tactic(auto)]
 
-mod answers;
-mod bundles;
 mod claims;
+mod deals;
+mod followers;
 mod graph_writing;
 mod hints;
 mod last_hand;
+mod leads;
 mod leaves;
 mod memory;
+mod moves;
+mod order;
 mod pattern_tricks;
 mod plans;
+mod positions;
+mod relevant_cards;
 mod remembering;
 mod search;
 mod solving;
 mod starts;
 mod turns;
 mod values;
+mod weights;
+mod words;
 
-pub use bundles::{Bundle, Claim};
-pub use solving::{Partition, Solver};
+pub use solving::Partition;

@@ -1,14 +1,14 @@
 //! A trick played on a remembered pattern, with the cards of a position that it stands for. In each suit those down to
 //! the lowest whose owner is named are tops; the others are low cards, of which none beats another.
 
-use pattern_store::{Owners, Record};
-use search_state::deals::{CardsLeft, DealTables};
-use search_state::positions::seat_to_left;
-use search_state::relevant_cards::LOW;
-use search_state::words::{
+use crate::deals::{CardsLeft, DealTables};
+use crate::positions::seat_to_left;
+use crate::relevant_cards::LOW;
+use crate::words::{
     CardSet, Lengths, PACK, SUIT, below, below_lowest, highest, lowest, lowest_of_each, start_of,
     suit_of,
 };
+use pattern_store::{Owners, Record};
 
 /// The lowest bit of each suit.
 const LOWEST: u64 = 0x0001_0001_0001_0001;

@@ -3,10 +3,10 @@
 use crate::pattern_tricks::{PatternStart, PatternTrick};
 use crate::search::Search;
 use crate::starts::{side_at, side_of};
+use crate::words::{CardSet, Lengths, SUIT, highest};
 use cards::{Side, Suit};
 use certificate_graph::Token;
 use pattern_step::PatCard;
-use search_state::words::{CardSet, Lengths, SUIT, highest};
 use std::alloc::{AllocError, Global};
 
 /// How many cards a trick has.

@@ -1,11 +1,11 @@
 //! What a search knows of the start of a trick, and what it remembers of it.
 
+use crate::deals::CardsLeft;
+use crate::relevant_cards::{depths_of, named_card, without_lone};
 use crate::search::Search;
 use crate::starts::{Found, Start, other_side, side_at};
+use crate::words::CardSet;
 use pattern_store::{List, Record};
-use search_state::deals::CardsLeft;
-use search_state::relevant_cards::{depths_of, named_card, without_lone};
-use search_state::words::CardSet;
 
 impl Search {
     /// What is remembered of the start of a trick for a side, if anything is.

@@ -1,15 +1,15 @@
 //! The search: whether North and South can win so many of the tricks left. Each hand's turn is a function; what is held
 //! is changed before a call, and put back after it.
 
+use crate::deals::DealTables;
 use crate::hints::{FEW_TRICKS, Hints, lead_key};
+use crate::moves::{HandRuns, Moves};
+use crate::positions::{Holdings, Trick, seat_to_left};
+use crate::relevant_cards::{needs_fewer, relevant_after};
 use crate::starts::{Found, Start, other_side, side_of, trick_for};
+use crate::words::{MOST_CARDS, below};
 use cards::{Layout, Trump};
 use pattern_store::Records;
-use search_state::deals::DealTables;
-use search_state::moves::{HandRuns, Moves};
-use search_state::positions::{Holdings, Trick, seat_to_left};
-use search_state::relevant_cards::{needs_fewer, relevant_after};
-use search_state::words::{MOST_CARDS, below};
 use std::alloc::{AllocError, Global};
 
 /// With how many tricks left other possible winners are searched.
@@ -35,6 +35,43 @@ pub(crate) struct Search {
     pub leads: Hints,
     /// The cards of second and third hands that did.
     pub follows: Hints,
+}
+
+/// The turn of the second or of the third hand: the hand's number clockwise from the leader, the function that names
+/// the next card to try, and the function of the hand after it. Both are written out, so that no call has to ask which
+/// hand plays.
+macro_rules! middle_turn {
+    ($search:ident, $tricks:ident, $start:ident, $trick:ident, $hand:literal, $next:ident, $then:ident) => {{
+        let seat = seat_to_left($start.leader, $hand);
+        let mover = side_of(seat);
+        let before = $search.held.before(seat);
+        let runs = HandRuns::of($trick.legal(before.hand), $start.left);
+        let mut moves = Moves::of(&runs);
+        let key = $search.hint_key($tricks, $start, seat, runs, $trick);
+        let mut first = $search.sure_follow(key, runs, $trick);
+        let mut answer = Found::unless_one_succeeds(other_side(mover));
+        for _ in 0..MOST_CARDS {
+            let next = match first {
+                Some(_) => first,
+                None => $search.$next($tricks, $start, $trick, runs, &mut moves),
+            };
+            let Some(tried) = next else {
+                break;
+            };
+            first = None;
+            $search.spend();
+            let after = $trick.after(seat, tried.card, $search.deal.trumps);
+            $search.held.play(seat, tried.card);
+            let found = $search.$then($tricks, $start, &after);
+            $search.held.put_back(seat, before);
+            if $search.stopped || found.side == mover {
+                return $search.succeeded(key, tried.card, found);
+            }
+            answer = answer.with_failed(tried, found);
+            moves.skip(tried, found.relevant);
+        }
+        answer
+    }};
 }
 
 impl Search {
@@ -134,69 +171,13 @@ impl Search {
     /// The second hand's turn.
     #[cycle(searching)]
     fn second(&mut self, tricks: u32, start: &Start, trick: &Trick) -> Found {
-        let seat = seat_to_left(start.leader, 1);
-        let mover = side_of(seat);
-        let before = self.held.before(seat);
-        let runs = HandRuns::of(trick.legal(before.hand), start.left);
-        let mut moves = Moves::of(&runs);
-        let key = self.hint_key(tricks, start, seat, runs, trick);
-        let mut first = self.sure_follow(key, runs, trick);
-        let mut answer = Found::unless_one_succeeds(other_side(mover));
-        for _ in 0..MOST_CARDS {
-            let next = match first {
-                Some(_) => first,
-                None => self.next_second(tricks, start, trick, runs, &mut moves),
-            };
-            let Some(tried) = next else {
-                break;
-            };
-            first = None;
-            self.spend();
-            let after = trick.after(seat, tried.card, self.deal.trumps);
-            self.held.play(seat, tried.card);
-            let found = self.third(tricks, start, &after);
-            self.held.put_back(seat, before);
-            if self.stopped || found.side == mover {
-                return self.succeeded(key, tried.card, found);
-            }
-            answer = answer.with_failed(tried, found);
-            moves.skip(tried, found.relevant);
-        }
-        answer
+        middle_turn!(self, tricks, start, trick, 1, next_second, third)
     }
 
     /// The third hand's turn.
     #[cycle(searching)]
     fn third(&mut self, tricks: u32, start: &Start, trick: &Trick) -> Found {
-        let seat = seat_to_left(start.leader, 2);
-        let mover = side_of(seat);
-        let before = self.held.before(seat);
-        let runs = HandRuns::of(trick.legal(before.hand), start.left);
-        let mut moves = Moves::of(&runs);
-        let key = self.hint_key(tricks, start, seat, runs, trick);
-        let mut first = self.sure_follow(key, runs, trick);
-        let mut answer = Found::unless_one_succeeds(other_side(mover));
-        for _ in 0..MOST_CARDS {
-            let next = match first {
-                Some(_) => first,
-                None => self.next_third(tricks, start, trick, runs, &mut moves),
-            };
-            let Some(tried) = next else {
-                break;
-            };
-            first = None;
-            self.spend();
-            let after = trick.after(seat, tried.card, self.deal.trumps);
-            self.held.play(seat, tried.card);
-            let found = self.last(tricks, start, &after);
-            self.held.put_back(seat, before);
-            if self.stopped || found.side == mover {
-                return self.succeeded(key, tried.card, found);
-            }
-            answer = answer.with_failed(tried, found);
-            moves.skip(tried, found.relevant);
-        }
-        answer
+        middle_turn!(self, tricks, start, trick, 2, next_third, last)
     }
 
     /// The last hand's turn: a card that is known to succeed, else all are tried.

@@ -1,9 +1,9 @@
 //! The start of a trick, and what a search answers.
 
+use crate::moves::Move;
+use crate::relevant_cards::whole_runs;
+use crate::words::CardSet;
 use cards::Side;
-use search_state::moves::Move;
-use search_state::relevant_cards::whole_runs;
-use search_state::words::CardSet;
 
 /// More tricks than a hand has.
 const NO_BOUND: u32 = 14;

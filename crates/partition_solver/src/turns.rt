@@ -1,11 +1,11 @@
 //! Which card of a turn is tried first.
 
 use crate::hints::{FEW_TRICKS, follow_key, lead_key};
+use crate::moves::{HandRuns, Move, Moves};
+use crate::positions::{Trick, Turn, Wants, seat_to_left};
 use crate::search::Search;
 use crate::starts::{Found, Start, side_of};
-use search_state::moves::{HandRuns, Move, Moves};
-use search_state::positions::{Trick, Turn, Wants, seat_to_left};
-use search_state::words::CardSet;
+use crate::words::CardSet;
 
 impl Search {
     /// The turn of the hand so many places to the left of the leader.

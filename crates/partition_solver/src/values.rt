@@ -1,10 +1,10 @@
 //! How many tricks a side can win: a first guess, and questions up and down from there.
 
+use crate::deals::CardsLeft;
+use crate::positions::Holdings;
 use crate::search::Search;
 use crate::starts::{OURS, Start};
-use search_state::deals::CardsLeft;
-use search_state::positions::Holdings;
-use search_state::words::{CardSet, MOST_CARDS};
+use crate::words::{CardSet, MOST_CARDS};
 
 /// How many cards a set has.
 fn count_of(cards: CardSet) -> i32 {

@@ -1,5 +1,5 @@
--- A history of play: the cards in the order in which they were played. It is cut into fours from the front; the
--- leader leads the first four, and the winner of each four leads the next (Law 44G).
+-- A history of play: the cards in the order in which they were played. It is cut into fours from the front. The leader
+-- leads the first four, and the winner of each four leads the next (Law 44G).
 use Rattle.std.specs.Prelude.{ℕ, ◌+◌, List, [], ◌∷◌, length, Option, None, Some, if◌then◌else◌}
 use Rattle.cards.specs.declared.suits.Suit.{Suit}
 use Rattle.cards.specs.declared.suits.Trump.{Trump}
@@ -11,7 +11,7 @@ use Rattle.cards.specs.Deal.{Deal}
 use Rattle.play_rules.specs.Tricks.{Trick}
 use Rattle.play_rules.specs.Winners.{winner_of}
 
--- what play begins with: the layout, the seat that leads, and the trump
+-- the beginning of play: the layout, the seat that leads, and the trump
 pub record Opening : Type 0 where
   pub deal : Deal
   pub leader : Seat
@@ -20,7 +20,7 @@ pub record Opening : Type 0 where
 abbrev pub trick_made : Card → Card → Card → Card → Trick
 trick_made a b c d = record { first = a; second = b; third = c; fourth = d }
 
--- the cards of the trick in progress: what is left when the fours are cut off
+-- the cards of the trick in progress: the rest after the fours are cut off
 unfoldable pub trick_of : List Card → List Card
 trick_of [] = []
 trick_of (a ∷ []) = a ∷ []
@@ -37,7 +37,7 @@ leader_after trump leader (a ∷ b ∷ c ∷ []) = leader
 leader_after trump leader (a ∷ b ∷ c ∷ d ∷ rest) =
     leader_after trump (winner_of trump leader (trick_made a b c d)) rest
 
--- the seat to play: as many places from the leader of the trick in progress as it has cards
+-- the seat to play: from the leader of the trick in progress as many places clockwise as it has cards
 abbrev pub turn_after : Trump → Seat → List Card → Seat
 turn_after trump leader history = seat_in_place (leader_after trump leader history) (length (trick_of history))
 

@@ -1,4 +1,4 @@
--- What a player may play of the cards that are left, over a trick in progress.
+-- The cards that a player may play to a trick in progress, of the cards that are left.
 use Rattle.std.specs.Prelude.{◌≡◌, ◌≢◌, ℕ, ◌<◌, ⊤, List, Contains, Option, None, Some}
 use Rattle.cards.specs.declared.suits.Suit.{Suit}
 use Rattle.cards.specs.declared.seats.Seat.{Seat}
@@ -16,7 +16,7 @@ pub record MayBePlayed (left : Deal) (player : Seat) (trick : List Card) (card :
   pub held : holder_of left card ≡ Some player
   pub follows : (led : Suit) → suit_of_first trick ≡ Some led → HoldsSuit left player led → card.suit ≡ led
 
--- the suit led, if the player has a card of it
+-- the suit was led, and the player has a card of it
 pub record IsToBeFollowed (left : Deal) (player : Seat) (trick : List Card) (suit : Suit) : Type 0 where
   pub led : suit_of_first trick ≡ Some suit
   pub held : HoldsSuit left player suit
@@ -35,13 +35,13 @@ abbrev pub Follows : Option Suit → Card → Type 0
 Follows None card = ⊤
 Follows (Some suit) card = card.suit ≡ suit
 
--- the card is another suit's than the one that has to be followed
+-- the card is of another suit than the one that has to be followed
 pub record Revokes (left : Deal) (player : Seat) (trick : List Card) (card : Card) : Type 0 where
   pub suit : Suit
   pub to_be_followed : IsToBeFollowed left player trick suit
   pub other : card.suit ≢ suit
 
--- these are the cards that may be played, as far as this place of the list of all cards
+-- these are the cards that may be played among the first `place` cards of the list of all cards
 pub record AreListedTo (left : Deal) (player : Seat) (trick : List Card) (place : ℕ) (cards : List Card) : Type 0 where
   pub legal : (card : Card) → Contains cards card → MayBePlayed left player trick card
   pub before : (card : Card) → Contains cards card → listed_place card < place

@@ -6,7 +6,7 @@ use Rattle.cards.specs.declared.pack.Card.{Card}
 use Rattle.cards.specs.Deal.{Deal, holder_of, size_of}
 use Rattle.play_rules.specs.History.{Opening, turn_after, suit_led}
 
--- the card was dealt to the seat and not yet played
+-- the card was dealt to the seat and has not been played
 pub record StillHolds (deal : Deal) (history : List Card) (seat : Seat) (card : Card) : Type 0 where
   pub dealt : holder_of deal card ≡ Some seat
   pub unplayed : Contains history card → ⊥
@@ -36,7 +36,7 @@ IsLegalAfter opening history (card ∷ cards) =
 abbrev pub IsLegalHistory : Opening → List Card → Type 0
 IsLegalHistory opening history = IsLegalAfter opening [] history
 
--- how many cards are played in all
+-- how many cards there are to play in all
 abbrev pub cards_in_play : Opening → ℕ
 cards_in_play opening = 4 * size_of opening.deal
 

@@ -1,4 +1,4 @@
--- What a table keeps beside the history, so that no call goes through it again.
+-- The values that a table keeps beside the history, so that no call goes through it again.
 use Rattle.std.specs.Prelude.{◌≡◌, ℕ, List, length, Option}
 use Rattle.cards.specs.declared.seats.Seat.{Seat}
 use Rattle.cards.specs.declared.seats.Side.TheVariants.{NorthSouth, EastWest}
@@ -17,7 +17,7 @@ pub record Summary : Type 0 where
   pub north_south : ℕ
   pub east_west : ℕ
 
--- they do follow from it
+-- these parts follow from the position
 pub record Summarizes (position : Position) (s : Summary) : Type 0 where
   pub reached : IsReached position
   pub left_is : s.left ≡ left_of position.opening.deal position.history

@@ -1,4 +1,4 @@
--- One trick of four cards, and which of them wins it (Law 44E and 44F).
+-- One trick of four cards, and the card that wins it (Law 44E and 44F).
 use Rattle.std.specs.Prelude.{◌≡◌, ℕ, zero, suc, ◌≤◌}
 use Rattle.cards.specs.declared.suits.Suit.{Suit}
 use Rattle.cards.specs.declared.suits.Trump.{Trump}
@@ -31,7 +31,7 @@ pub record IsHighest (trick : Trick) (suit : Suit) (place : ℕ) : Type 0 where
 abbrev pub HasSuit : Trick → Suit → Type 0
 HasSuit trick suit = (place : ℕ) × ((card_in_place trick place).suit ≡ suit)
 
--- Who wins: a trick with a trump in it is won by the highest trump, and any other by the highest card of the suit led.
+-- The card in this place wins: the highest trump if one was played, otherwise the highest card of the suit led.
 abbrev pub WinsAt : Trump → Trick → ℕ → Type 0
 WinsAt trump.Nt trick place = IsHighest trick trick.first.suit place
 WinsAt (trump.Suit suit) trick place =

@@ -13,7 +13,7 @@ use Rattle.play_rules.specs.Tricks.{Trick}
 abbrev pub is_of : Suit → Card → Bool
 is_of suit card = suit_number card.suit == suit_number suit
 
--- the suit that decides a trick: trump where one was played, else the suit led
+-- the suit that decides a trick: trump if one was played, otherwise the suit led
 abbrev pub deciding_suit : Trump → Trick → Suit
 deciding_suit trump.Nt trick = trick.first.suit
 deciding_suit (trump.Suit suit) trick =
@@ -21,7 +21,7 @@ deciding_suit (trump.Suit suit) trick =
     then suit
     else trick.first.suit
 
--- how high a card stands in the suit: 0 for a card of another suit
+-- how high a card is in the suit: 0 for a card of another suit
 abbrev pub height : Suit → Card → ℕ
 height suit card = if is_of suit card then rank_number card.rank + 1 else 0
 

@@ -2,13 +2,13 @@
 
 use thiserror::Error;
 
-/// Why a card cannot be played: `Over` where it applies, else the first of the others.
+/// Why a card cannot be played. `Over` comes before the others, and `NotHeld` before `MustFollow`.
 #[derive(Clone, Copy, Debug, PartialEq, Eq, Error)]
 pub enum PlayFault {
-    /// The seat to play does not hold the card, or no longer.
+    /// The seat to play does not hold the card, or holds it no longer.
     #[error("the card is not in the hand of the player")]
     NotHeld,
-    /// The player holds a card of the suit led, and this card is of another (Law 44C).
+    /// The player holds a card of the suit led, and this card is of another suit (Law 44C).
     #[error("the suit led must be followed")]
     MustFollow,
     /// All the cards were played.

@@ -1,4 +1,4 @@
-//! Who holds what is left, and which of it may be played.
+//! The cards that are left, their holders, and which of them may be played.
 
 ghost use Rattle.std.specs.Prelude.{◌≡◌, ◌<◌, ◌≤◌, Some, MatchBool};
 ghost use Rattle.cards.specs.Deal.{holder_of, count_of};
@@ -8,8 +8,8 @@ ghost use Rattle.play_rules.specs.Holdings.{HoldsSuit, IsSuitToFollow, Follows, 
 use arrayvec::ArrayVec;
 use cards::{Card, Layout, Rank, Seat, Suit};
 
-/// Who holds each card of the layout, by the card's number.
-pub(crate) fn holders(layout: &Layout) -> [Option<Seat>; 52]
+/// Returns the holder of each card of the layout, by the card's number.
+pub fn holders(layout: &Layout) -> [Option<Seat>; 52]
     ensures { result ≡ layout.now }
 {
     let mut holders = [None; 52];
@@ -20,14 +20,14 @@ pub(crate) fn holders(layout: &Layout) -> [Option<Seat>; 52]
     holders
 }
 
-/// Whether the card is one of the player's cards that are left.
+/// Returns whether the card is one of the player's cards that are left.
 pub(crate) fn is_held(left: &[Option<Seat>; 52], player: Seat, card: Card) -> bool
     ensures { MatchBool result (holder_of left.now card ≡ Some player) (holder_of left.now card ≡ Some player → ⊥) }
 {
     left[card.number()] == Some(player)
 }
 
-/// Whether the player has a card of the suit left.
+/// Returns whether the player has a card of the suit left.
 fn has_suit(left: &[Option<Seat>; 52], player: Seat, suit: Suit) -> bool
     ensures { MatchBool result (HoldsSuit left.now player suit) (HoldsSuit left.now player suit → ⊥) }
 {
@@ -46,7 +46,7 @@ fn has_suit(left: &[Option<Seat>; 52], player: Seat, suit: Suit) -> bool
     false
 }
 
-/// The suit led, if the player has a card of it left.
+/// Returns the suit led, if the player has a card of it left.
 fn suit_to_follow(left: &[Option<Seat>; 52], player: Seat, trick: &[Card]) -> Option<Suit>
     ensures { IsSuitToFollow left.now player trick.now result }
 {
@@ -56,7 +56,7 @@ fn suit_to_follow(left: &[Option<Seat>; 52], player: Seat, trick: &[Card]) -> Op
     }
 }
 
-/// Whether the card is of the suit, if there is one.
+/// Returns whether the card is of the suit, or there is none.
 fn follows(suit: Option<Suit>, card: Card) -> bool
     ensures { MatchBool result (Follows suit card) (Follows suit card → ⊥) }
 {
@@ -66,14 +66,14 @@ fn follows(suit: Option<Suit>, card: Card) -> bool
     }
 }
 
-/// Whether the player would fail to follow suit with the card.
+/// Returns whether the player would fail to follow suit with the card.
 pub(crate) fn revokes(left: &[Option<Seat>; 52], player: Seat, trick: &[Card], card: Card) -> bool
     ensures { MatchBool result (Revokes left.now player trick.now card) (Revokes left.now player trick.now card → ⊥) }
 {
     !follows(suit_to_follow(left, player, trick), card)
 }
 
-/// The player's cards that are left and may be played to the trick, by suit and ranks falling.
+/// Returns the player's cards that are left and may be played to the trick, by suit and with ranks falling.
 pub(crate) fn legal_cards(
     left: &[Option<Seat>; 52],
     player: Seat,
@@ -93,7 +93,7 @@ pub(crate) fn legal_cards(
     cards
 }
 
-/// The card in this place, where suits are listed in their order and ranks falling.
+/// Returns the card in this place of the list of all cards, by suit and with ranks falling.
 fn card_listed(place: usize) -> Card
     requires { place < 52 }
     ensures { listed_place result ≡ place }
@@ -104,7 +104,7 @@ fn card_listed(place: usize) -> Card
     }
 }
 
-/// Whether the card is left to the player, and of the suit that has to be followed if there is one.
+/// Returns whether the player still has the card, and it is of the suit that has to be followed, if there is one.
 fn is_playable(left: &[Option<Seat>; 52], player: Seat, suit: Option<Suit>, card: Card) -> bool
     ensures { MatchBool result
         ((holder_of left.now card ≡ Some player) × Follows suit card)

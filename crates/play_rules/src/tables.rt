@@ -14,10 +14,10 @@ use cards::{Card, Layout, Seat, Side, Trump};
 use std::alloc::AllocError;
 use std::marker::Model;
 
-/// A layout in play: what play began with, and the cards played since.
+/// A layout in play: the opening, and the cards played since.
 ///
-/// The history is always legal. What can be known from it (the cards left, the trick in progress, the turn, the
-/// tricks won) is kept beside it, so that no call goes through it again.
+/// The history is always legal. The cards left, the trick in progress, the turn and the tricks won follow from it. They
+/// are kept beside it, so that no call goes through it again.
 #[derive(Debug, Drop)]
 pub struct Table {
     layout: Layout,
@@ -56,7 +56,7 @@ impl Model for Table {
 }
 
 impl Table {
-    /// A table before the opening lead, which the leader makes (Law 41A: the seat at declarer's left).
+    /// Makes a table before the opening lead, which the leader makes (Law 41A: the seat at declarer's left).
     pub fn new(layout: Layout, leader: Seat, trump: Trump) -> Table
         ensures opening { result.opening ≡ record { deal = layout; leader = leader; trump = trump } }
         ensures history { result.history ≡ [] }
@@ -77,7 +77,7 @@ impl Table {
         }
     }
 
-    /// The seat whose turn it is, or `None` where all the cards were played (Law 44B and 44G).
+    /// Returns the seat whose turn it is, or `None` if all the cards were played (Law 44B and 44G).
     pub fn turn(&self) -> Option<Seat>
         ensures turn { result ≡ turn_of self.now }
         ensures reached { IsReached self.now }
@@ -89,15 +89,15 @@ impl Table {
         }
     }
 
-    /// The cards that the seat to play may play (Law 44A, 44C and 44D), by suit in the order of [`Suit::ALL`] and
-    /// ranks falling; none where all the cards were played.
+    /// Returns the cards that the seat to play may play (Law 44A, 44C and 44D), by suit in the order of [`Suit::ALL`]
+    /// and with ranks falling. The list is empty if all the cards were played.
     pub fn legal(&self) -> ArrayVec<Card, 13>
         ensures legal { AreLegalCards self.now result.items }
     {
         legal_cards(&self.left, self.player, self.trick.as_slice())
     }
 
-    /// How many tricks the side has won so far.
+    /// Returns how many tricks the side has won so far.
     pub fn tricks(&self, side: Side) -> u8
         ensures { result ≡ tricks_of side self.now.opening.trump self.now.opening.leader self.now.history }
     {
@@ -107,8 +107,8 @@ impl Table {
         }
     }
 
-    /// Plays the card for the seat whose turn it is, or refuses it: `Over` where all is played, else `NotHeld` (Law
-    /// 44A), else `MustFollow` (Law 44C). After a refusal the table is as before.
+    /// Plays the card for the seat whose turn it is, or refuses it: with `Over` if all is played, otherwise with
+    /// `NotHeld` (Law 44A) or with `MustFollow` (Law 44C). After a refusal the table is as before.
     pub fn play(&mut self, card: Card) -> Result<(), PlayFault>
         ensures cases { PlaysOrRefuses self.old card result }
         ensures ok { OnOk result (self.new ≡ with_card self.old card) }
@@ -127,7 +127,7 @@ impl Table {
         Ok(())
     }
 
-    /// The table after a card that may be played.
+    /// Returns the table after a card that may be played.
     pub fn after(&self, card: Card) -> Table
         requires unfinished { IsUnfinished self.now.opening self.now.history }
         requires legal { CanPlay self.now.opening self.now.history card }
@@ -138,7 +138,7 @@ impl Table {
         table
     }
 
-    /// A table in the same position.
+    /// Returns a table in the same position.
     fn copy(&self) -> Table
         ensures { result ≡ self.now }
     {
@@ -156,7 +156,7 @@ impl Table {
         }
     }
 
-    /// Whether all the cards were played.
+    /// Returns whether all the cards were played.
     fn is_over(&self) -> bool
         ensures { MatchBool result
             (length self.now.history ≡ cards_in_play self.now.opening)
@@ -165,7 +165,7 @@ impl Table {
         self.history.len() == 4 * self.layout.len()
     }
 
-    /// Puts a legal card down, and counts the trick where it ends one.
+    /// Puts a legal card down, and counts the trick if the card ends one.
     fn push(&mut self, card: Card)
         requires unfinished { IsUnfinished self.old.opening self.old.history }
         requires legal { CanPlay self.old.opening self.old.history card }
@@ -202,7 +202,7 @@ impl Clone for Table {
 
     ghost is_infallible = { λ _. Unit {0} };
 
-    /// A table in the same position. It takes no memory, and so cannot fail.
+    /// Returns a table in the same position. It takes no memory, so it cannot fail.
     fn clone(&self) -> Result<Table, AllocError> {
         Ok(self.copy())
     }

@@ -1,4 +1,4 @@
-//! Who wins a trick (Law 44E and 44F).
+//! The winner of a trick (Law 44E and 44F).
 
 ghost use Rattle.std.specs.Prelude.{◌≡◌, ℕ, ◌≤◌, ◌||◌};
 ghost use Rattle.cards.specs.Seats.{seat_in_place};
@@ -8,9 +8,9 @@ ghost use Rattle.play_rules.specs.History.{trick_made};
 
 use cards::{Card, Seat, Suit, Trump};
 
-/// The seat that wins the trick of these four cards, which were played clockwise from the leader: the seat of
-/// the highest trump where one was played, else that of the highest card of the suit led. Of a card that stands
-/// there twice, the first counts.
+/// Returns the seat that wins the trick of these four cards, which were played clockwise from the leader: the seat of
+/// the highest trump if one was played, otherwise the seat of the highest card of the suit led. If a card is there
+/// twice, the first counts.
 pub fn winner(
     trump: Trump,
     leader: Seat,
@@ -35,7 +35,7 @@ pub fn winner(
     seat_at(leader, place)
 }
 
-/// The first place of four with the greatest height.
+/// Returns the first of four places that has the greatest height.
 fn place_of_greatest(first: usize, second: usize, third: usize, fourth: usize) -> usize
     ensures place { result ≡ highest_place first second third fourth }
     ensures within { result ≤ 3 }
@@ -52,7 +52,7 @@ fn place_of_greatest(first: usize, second: usize, third: usize, fourth: usize) -
     }
 }
 
-/// The seat that is this many places clockwise.
+/// Returns the seat that is this many places clockwise from the leader.
 fn seat_at(leader: Seat, place: usize) -> Seat
     requires { place ≤ 3 }
     ensures { result ≡ seat_in_place leader place }
@@ -65,21 +65,21 @@ fn seat_at(leader: Seat, place: usize) -> Seat
     }
 }
 
-/// Whether the card is of the suit.
+/// Returns whether the card is of the suit.
 fn is_of(suit: Suit, card: Card) -> bool
     ensures { result ≡ is_of suit card }
 {
     card.suit == suit
 }
 
-/// Whether one of the cards is of the suit.
+/// Returns whether one of the cards is of the suit.
 fn are_of(suit: Suit, first: Card, second: Card, third: Card, fourth: Card) -> bool
     ensures { result ≡ (is_of suit first || (is_of suit second || (is_of suit third || is_of suit fourth))) }
 {
     is_of(suit, first) || is_of(suit, second) || is_of(suit, third) || is_of(suit, fourth)
 }
 
-/// The suit whose highest card wins.
+/// Returns the suit whose highest card wins.
 fn deciding(trump: Trump, first: Card, second: Card, third: Card, fourth: Card) -> Suit
     ensures { result ≡ deciding_suit trump (trick_made first second third fourth) }
 {
@@ -89,7 +89,7 @@ fn deciding(trump: Trump, first: Card, second: Card, third: Card, fourth: Card) 
     }
 }
 
-/// How high the card stands in the suit, 0 where it is of another.
+/// Returns how high the card is in the suit, or 0 if it is of another suit.
 fn height_in(suit: Suit, card: Card) -> usize
     ensures { result ≡ height suit card }
 {

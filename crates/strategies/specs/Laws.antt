@@ -1,4 +1,4 @@
--- What follows from the definitions of a strategy and of "can win", for every layout.
+-- Laws of strategies and of "can win", for every layout.
 use Rattle.std.specs.Prelude.{◌≡◌, ℕ, ◌+◌, ◌-◌, ◌≤◌, ◌↔◌, List, [], ◌∷◌, ◌++◌}
 use Rattle.cards.specs.declared.suits.Trump.{Trump}
 use Rattle.cards.specs.declared.seats.Seat.{Seat}
@@ -12,22 +12,22 @@ use Rattle.play_rules.specs.Legal.{CanPlay, IsLegalHistory, IsPlay, IsUnfinished
 use Rattle.strategies.specs.Strategies.{CanWin, IsTurnOf}
 use Rattle.strategies.specs.Values.{opening_of, opening_after, IsValue, IsPlainValue}
 
--- after some legal card
+-- after some legal card the side can still win this many tricks
 abbrev pub CanWinAfterSome : Opening → Side → ℕ → List Card → Type 0
 CanWinAfterSome opening side tricks history =
     (card : Card) × CanPlay opening history card × CanWin opening side tricks (history ++ card ∷ [])
 
--- after each legal card
+-- after each legal card the side can still win this many tricks
 abbrev pub CanWinAfterEach : Opening → Side → ℕ → List Card → Type 0
 CanWinAfterEach opening side tricks history =
     (card : Card) → CanPlay opening history card → CanWin opening side tricks (history ++ card ∷ [])
 
--- from what is left, so many as it has not won
+-- from the layout that is left the side can win the tricks that it has not won yet
 abbrev pub CanWinTheRest : Opening → Side → ℕ → List Card → Type 0
 CanWinTheRest opening side tricks history =
     CanWin (opening_after opening history) side (tricks - tricks_of side opening.trump opening.leader history) []
 
--- at its own turn a side can win what it can win after some legal card
+-- at its own turn a side can win exactly the tricks that it can win after some legal card
 abbrev pub WinsByOwnCard : Type 0
 WinsByOwnCard =
     (opening : Opening) (side : Side) (tricks : ℕ) (history : List Card)
@@ -35,7 +35,7 @@ WinsByOwnCard =
     → IsTurnOf opening side history
     → CanWin opening side tricks history ↔ CanWinAfterSome opening side tricks history
 
--- at a turn of the opponents a side can win what it can win after each legal card
+-- at a turn of the opponents a side can win exactly the tricks that it can win after each legal card
 abbrev pub WinsAgainstEachCard : Type 0
 WinsAgainstEachCard =
     (opening : Opening) (side : Side) (tricks : ℕ) (history : List Card)
@@ -43,7 +43,8 @@ WinsAgainstEachCard =
     → (IsTurnOf opening side history → ⊥)
     → CanWin opening side tricks history ↔ CanWinAfterEach opening side tricks history
 
--- after whole tricks, with cards left, what is left is a layout, and a side can win what it lacks from there
+-- after whole tricks, with cards left, the cards left are a layout, and a side can win the tricks that it lacks from
+-- there
 abbrev pub WinsTheRest : Type 0
 WinsTheRest =
     (opening : Opening) (side : Side) (tricks : ℕ) (history : List Card)
@@ -52,11 +53,11 @@ WinsTheRest =
     → IsLayout (opening_after opening history).deal
     × (CanWin opening side tricks history ↔ CanWinTheRest opening side tricks history)
 
--- from every layout each side can win 0
+-- from every layout each side can win 0 tricks
 abbrev pub WinsNothing : Type 0
 WinsNothing = (opening : Opening) (side : Side) → IsLayout opening.deal → CanWin opening side 0 []
 
--- tricks that were won can be won
+-- a side can win the tricks that it has won
 abbrev pub WinsWhatIsWon : Type 0
 WinsWhatIsWon =
     (opening : Opening) (side : Side) (tricks : ℕ) (history : List Card)
@@ -64,7 +65,7 @@ WinsWhatIsWon =
     → tricks ≤ tricks_of side opening.trump opening.leader history
     → CanWin opening side tricks history
 
--- who can win this many tricks can win fewer
+-- a side that can win this many tricks can win fewer
 abbrev pub WinsFewer : Type 0
 WinsFewer =
     (opening : Opening) (side : Side) (tricks fewer : ℕ) (history : List Card)
@@ -92,18 +93,18 @@ HasOneValue =
     (deal : Deal) (declarer : Seat) (trump : Trump) (one other : ℕ)
     → IsLayout deal → IsValue deal declarer trump one → IsValue deal declarer trump other → one ≡ other
 
--- and so has an ending, from the side of North and South
+-- an ending has one value for North and South
 abbrev pub HasOnePlainValue : Type 0
 HasOnePlainValue =
     (opening : Opening) (one other : ℕ)
     → IsLayout opening.deal → IsPlainValue opening one → IsPlainValue opening other → one ≡ other
 
--- how many of all the tricks North and South have, where this side has so many
+-- the tricks of North and South, if this side has `tricks` of all
 abbrev pub north_south_of : Side → ℕ → ℕ → ℕ
 north_south_of NorthSouth all tricks = tricks
 north_south_of EastWest all tricks = all - tricks
 
--- the value from the side of North and South is the double-dummy value, or what it leaves of the tricks
+-- the plain value is the double-dummy value if North or South declares, otherwise the number of the other tricks
 abbrev pub PlainValueIsValue : Type 0
 PlainValueIsValue =
     (deal : Deal) (declarer : Seat) (trump : Trump) (tricks plain : ℕ)

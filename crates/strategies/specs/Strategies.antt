@@ -1,5 +1,5 @@
--- Strategies, and what a side can win. A strategy is a finite map from whole histories to cards; nothing here knows of
--- positions, of a search or of a best move.
+-- Strategies, and the tricks that a side can win. A strategy is a finite map from whole histories to cards. Nothing
+-- here knows of positions, of a search or of a best move.
 use Rattle.std.specs.Prelude.{◌≡◌, ◌==◌, ◌&&◌, ℕ, ◌≤◌, Bool, true, false, List}
 use Rattle.std.specs.Prelude.{[], ◌∷◌, ◌++◌, Option, None, Some, if◌then◌else◌}
 use Rattle.cards.specs.declared.seats.Side.{Side}
@@ -9,12 +9,12 @@ use Rattle.cards.specs.Seats.{side_of}
 use Rattle.play_rules.specs.History.{Opening, tricks_of}
 use Rattle.play_rules.specs.Legal.{CanPlay, IsLegalHistory, IsPlay, IsUnfinished, seat_to_play}
 
--- what a strategy plays after one history
+-- an entry of a strategy: the card to play after one history
 pub record Choice : Type 0 where
   pub history : List Card
   pub card : Card
 
--- a strategy; of two entries for one history the first counts
+-- a strategy; if two entries have the same history, the first counts
 abbrev pub Strategy : Type 0
 Strategy = List Choice
 
@@ -25,7 +25,7 @@ is_same_history (first ∷ rest) (first' ∷ rest') =
     (card_number first == card_number first') && is_same_history rest rest'
 is_same_history _ _ = false
 
--- the strategy's card after a history, where it has an entry
+-- the strategy's card after a history, if it has an entry
 abbrev pub choice_of : Strategy → List Card → Option Card
 choice_of [] history = None
 choice_of (choice ∷ rest) history =
@@ -61,7 +61,7 @@ HasTricksIn opening side tricks strategy history =
     (cards : List Card) → IsPlay opening (history ++ cards) → FollowsAfter opening side strategy history cards
     → tricks ≤ tricks_of side opening.trump opening.leader (history ++ cards)
 
--- The side can win this many tricks after the history, those in it counted.
+-- The side can win this many tricks after the history, including the tricks in it.
 pub record CanWin (opening : Opening) (side : Side) (tricks : ℕ) (history : List Card) : Type 0 where
   pub strategy : Strategy
   pub lawful : IsLawfulAfter opening side strategy history

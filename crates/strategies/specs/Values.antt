@@ -26,7 +26,7 @@ pub record IsPlainValue (opening : Opening) (tricks : ℕ) : Type 0 where
   pub north_south : CanWin opening NorthSouth tricks []
   pub east_west : CanWin opening EastWest (size_of opening.deal - tricks) []
 
--- what is still to be played after whole tricks: the layout left, the last winner leading
+-- the opening of the rest after whole tricks: the layout that is left, with the last winner to lead
 abbrev pub opening_after : Opening → List Card → Opening
 opening_after opening history =
     record {

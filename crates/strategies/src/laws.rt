@@ -4,18 +4,18 @@ ghost use Rattle.strategies.specs.Laws.{WinsByOwnCard, WinsAgainstEachCard, Wins
 ghost use Rattle.strategies.specs.Laws.{WinsWhatIsWon, WinsFewer, ShareTheTricks, WinNoMoreThanAll};
 ghost use Rattle.strategies.specs.Laws.{HasOneValue, HasOnePlainValue, PlainValueIsValue};
 
-/// At its own turn a side can win k tricks exactly where it can after some legal card.
+/// At its own turn a side can win k tricks exactly if it can after some legal card.
 pub fn wins_by_own_card()
     ensures { WinsByOwnCard }
 {}
 
-/// At a turn of the opponents a side can win k tricks exactly where it can after each legal card.
+/// At a turn of the opponents a side can win k tricks exactly if it can after each legal card.
 pub fn wins_against_each_card()
     ensures { WinsAgainstEachCard }
 {}
 
-/// After whole tricks, with cards left, a side can win k tricks exactly where it can win what it lacks of them from
-/// the layout left, the last winner leading.
+/// After whole tricks, with cards left, a side can win k tricks exactly if it can win the tricks that it lacks from the
+/// layout that is left, with the last winner to lead.
 pub fn wins_the_rest()
     ensures { WinsTheRest }
 {}
@@ -25,7 +25,7 @@ pub fn each_side_wins_nothing()
     ensures { WinsNothing }
 {}
 
-/// After every legal history a side can win the tricks that it has won.
+/// After every legal history a side can win the tricks that it has won already.
 pub fn wins_what_is_won()
     ensures { WinsWhatIsWon }
 {}
@@ -50,14 +50,13 @@ pub fn value_is_unique()
     ensures { HasOneValue }
 {}
 
-/// An ending has one value, from the side of North and South: no number but the one that [`crate::plain_value`]
-/// answers.
+/// An ending has one value for North and South, the number that [`crate::plain_value`] answers.
 pub fn plain_value_is_unique()
     ensures { HasOnePlainValue }
 {}
 
-/// Of the tricks of a contract's double-dummy value the value from the side of North and South is the same number where
-/// one of them declares, and else the number of the others.
+/// The plain value of a contract's deal is its double-dummy value if North or South declares. Otherwise it is the
+/// number of the other tricks.
 pub fn plain_value_is_value()
     ensures { PlainValueIsValue }
 {}

@@ -1,8 +1,8 @@
 //! What a side can win, and a plain search that finds it for short endings.
 //!
-//! A strategy is a finite map from whole histories of play to cards. A side can win a number of tricks where it has a
+//! A strategy is a finite map from whole histories of play to cards. A side can win a number of tricks if it has a
 //! strategy that names a legal card at each of its turns and wins that many in every play that follows it. The
-//! definitions know of no position, search or best move; the laws here make them usable.
+//! definitions know of no position, search or best move. The laws here make them usable.
 #![tactic(auto)]
 
 mod laws;

@@ -1,4 +1,4 @@
-//! A plain search, for endings of at most four cards a hand.
+//! A plain search, for endings of at most four cards per hand.
 
 ghost use Rattle.std.specs.Prelude.{◌≡◌, ◌+◌, ◌-◌, ◌≤◌, ◌↔◌, IsOk, IfOk, MatchBool};
 ghost use Rattle.cards.specs.Deal.{size_of};
@@ -10,16 +10,16 @@ use cards::{Layout, Seat, Side, Trump};
 use play_rules::Table;
 use thiserror::Error;
 
-/// How many cards a hand may have: every line of play is tried.
+/// The most cards that a hand may have, since every line of play is tried.
 const LARGEST: usize = 4;
 
-/// The layout has more than 4 cards a hand.
+/// The refusal of a layout with more than 4 cards per hand.
 #[derive(Clone, Copy, Debug, PartialEq, Eq, Error)]
 #[error("more than 4 cards a hand")]
 pub struct TooLarge;
 
-/// How many tricks North and South can win where this seat leads, while East and West can win the others. `TooLarge`
-/// exactly where a hand has more than 4 cards. Takes no memory.
+/// Returns how many tricks North and South can win if this seat leads; East and West can win the others. Returns
+/// `TooLarge` exactly if a hand has more than 4 cards. Takes no memory.
 pub fn plain_value(layout: &Layout, leader: Seat, trump: Trump) -> Result<u8, TooLarge>
     ensures value { IfOk result (IsPlainValue (record { deal = layout.now; leader = leader; trump = trump })) }
     ensures too_large { IsOk result ↔ (size_of layout.now ≤ 4) }
@@ -38,8 +38,8 @@ pub fn plain_value(layout: &Layout, leader: Seat, trump: Trump) -> Result<u8, To
     Ok(size)
 }
 
-/// Whether North and South can win this many tricks, those won so far counted; where they can't, East and West can
-/// win more than the rest of them.
+/// Returns whether North and South can win this many tricks, including those won so far. If they can't, East and West
+/// can win more than the others.
 fn can_take(table: &Table, size: u8, wanted: u8) -> bool
     requires { size ≡ size_of table.now.opening.deal }
     ensures { MatchBool result

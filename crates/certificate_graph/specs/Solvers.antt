@@ -1,0 +1,10 @@
+-- What a solver may find.
+use Rattle.std.specs.Prelude.{ℕ, List, Option}
+use Rattle.cards.specs.Deal.{Deal}
+use Rattle.cards.specs.declared.seats.Seat.{Seat}
+use Rattle.cards.specs.declared.suits.Trump.{Trump}
+use Rattle.certificate_graph.specs.declared.bundles.Bundle.{Bundle}
+
+-- what a solver may find for a deal, declarers and a denomination within a budget
+abbrev pub MayFind : Type 1
+MayFind = Deal → List Seat → Trump → ℕ → Option Bundle → Type 0

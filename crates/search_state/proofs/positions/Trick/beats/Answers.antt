@@ -1,5 +1,0 @@
-use Rattle.search_state.proofs.TrickLaws.{takes-Decides}
-use Rattle.search_state.proofs.positions.Trick.beats.Goals as goal
-
-pub returns : goal.returns
-returns c = λ bit is lies. takes-Decides c.args.self.now c.args.trumps c.args.card bit is lies
