@@ -11,7 +11,7 @@ use Rattle.std.proofs.lemmas.List.Folds.{find-append}
 use Rattle.cards.specs.declared.seats.Seat.{Seat}
 use Rattle.cards.specs.declared.suits.Trump.{Trump}
 use Rattle.cards.specs.Deal.{Deal}
-use Rattle.partition_solver.specs.declared.bundles.Claim.{Claim}
+use Rattle.certificate_graph.specs.declared.bundles.Claim.{Claim}
 use Rattle.checker.specs.declared.entries.Shown.{Shown}
 use Rattle.pbn_deals.specs.declared.boards.Board.{Board}
 use Rattle.lease_book.specs.declared.entries.Entry.{Entry}

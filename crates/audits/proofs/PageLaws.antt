@@ -1,10 +1,11 @@
 -- The page after an audit of the text's boards.
 use Rattle.std.proofs.Common.{◌≡◌, ℕ, List, length, sym, ◌∙◌, ap, subst}
 use Rattle.cards.specs.Devices.{Device, Adds, AddsBeginning}
+use Rattle.streams.specs.RunStreams.{devices}
 use Rattle.lease_book.specs.Books.{Ledger}
 use Rattle.lease_book.specs.Histories.{Terms}
 use Rattle.tables.specs.declared.sheets.Report.{Report}
-use Rattle.tables.specs.BookResults.{book_results}
+use Rattle.lease_book.specs.BookResults.{book_results}
 use Rattle.tables.specs.TablesText.{complete_count}
 use Rattle.tournaments.specs.Making.{PageFact}
 use Rattle.evidence.specs.Wholes.{Whole}
@@ -15,7 +16,7 @@ use Rattle.audits.specs.Audits.{IsAudit, AuditsText, FillsFromEvidence, BeginsFr
 module _ (is_page : PageFact) (source source' : Device) (evidence evidence' : Whole) (text : List ℕ) (book : Ledger) (damage : Damage)
     (made : AuditsText source source' evidence evidence' text book damage) (sink sink' : Device) (page : List ℕ) (is : is_page text made.boards book.events page) where
   pub fills : (report : Report) → Adds sink sink' page → report.boards ≡ length book.terms.boards → report.complete ≡ complete_count book.terms.boards (book_results book.terms.boards book.events)
-      → FillsFromEvidence is_page source source' evidence evidence' sink sink' report book damage
+      → FillsFromEvidence is_page (devices source sink) (devices source' sink') evidence evidence' report book damage
   fills report written boards_are complete_are =
       let audits = made.audits in
       record {
@@ -36,7 +37,7 @@ module _ (is_page : PageFact) (source source' : Device) (evidence evidence' : Wh
         };
       }
 
-  pub begins_page : AddsBeginning sink sink' page → BeginsFromEvidence is_page source source' evidence evidence' sink sink'
+  pub begins_page : AddsBeginning sink sink' page → BeginsFromEvidence is_page (devices source sink) (devices source' sink') evidence evidence'
   begins_page written =
       let audits = made.audits in
       record {

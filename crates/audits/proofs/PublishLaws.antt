@@ -17,7 +17,7 @@ use Rattle.lease_book.specs.declared.entries.Entry.{Entry}
 use Rattle.lease_book.specs.declared.events.Grant.{Grant}
 use Rattle.lease_book.specs.declared.events.Asked.{Asked}
 use Rattle.lease_book.specs.declared.events.Asked.TheVariants.{Lease, Expire, GiveUp, HandIn}
-use Rattle.lease_book.specs.declared.events.Evidence.TheVariants.{Shows}
+use Rattle.lease_book.specs.declared.events.HandedIn.TheVariants.{Shows}
 use Rattle.lease_book.specs.declared.events.Reply.{Reply}
 use Rattle.lease_book.specs.declared.events.Reply.TheVariants.{Given, Nothing, OtherEntry, AlreadyPublished, Published}
 use Rattle.lease_book.specs.declared.events.Event.{Event}

@@ -8,7 +8,7 @@ use Rattle.cards.specs.declared.seats.Side.TheVariants.{NorthSouth, EastWest}
 use Rattle.cards.specs.declared.suits.Trump.{Trump}
 use Rattle.cards.specs.Deal.{Deal}
 use Rattle.cards.specs.Seats.{side_of, other_side}
-use Rattle.partition_solver.specs.declared.bundles.Claim.{Claim}
+use Rattle.certificate_graph.specs.declared.bundles.Claim.{Claim}
 use Rattle.certificate_graph.specs.Graphs.{GraphShape}
 use Rattle.checker.specs.declared.claims.Claimed.{Claimed}
 use Rattle.checker.specs.declared.entries.Shown.{Shown}
@@ -21,8 +21,8 @@ use Rattle.pbn_deals.specs.declared.boards.Board.{Board}
 use Rattle.lease_book.specs.declared.entries.Entry.{Entry}
 use Rattle.lease_book.specs.Histories.{deal_of}
 use Rattle.evidence.specs.Sections.{SectionShape}
-use Rattle.bundle_checks.specs.declared.pairs.CheckedPair.{CheckedPair}
-use Rattle.bundle_checks.specs.Pairs.{graph_in, IsClaimedOf}
+use Rattle.checker.specs.declared.pairs.CheckedPair.{CheckedPair}
+use Rattle.checker.specs.Pairs.{graph_in, IsClaimedOf}
 use Rattle.audits.specs.Shown.{graph_of, IsClaimShown, ShowsFor, ShowsNothing, FirstShows, NoneShow, ShowsTricks}
 use Rattle.audits.specs.Firsts.{AreShownBy}
 use Rattle.std.proofs.lemmas.Option.{same_Some}

@@ -5,6 +5,7 @@ use Rattle.cards.specs.Devices.{Device, one_more}
 use Rattle.pbn_deals.specs.declared.boards.Board.{Board}
 use Rattle.pbn_deals.specs.Reading.{TextAnswers}
 use Rattle.streams.specs.Inputs.{IsReadToEnd, Loses}
+use Rattle.streams.specs.RunStreams.{Devices}
 use Rattle.streams.specs.declared.inputs.InputFault.{InputFault}
 use Rattle.streams.specs.declared.inputs.InputFault.TheVariants as stops
 use Rattle.lease_book.specs.declared.events.Event.{Event}
@@ -79,29 +80,27 @@ AuditsOrHalts source source' evidence evidence' (Err fault) = IsHalted source so
 
 -- ---- the page
 -- the evidence was read to its end, and the page was written after the audit of its sections
-pub record FillsFromEvidence (is_page : PageFact) (source source' : Device) (evidence evidence' : Whole)
-    (sink sink' : Device) (report : Report) (book : Ledger) (damage : Damage)
+pub record FillsFromEvidence (is_page : PageFact) (old new : Devices) (evidence evidence' : Whole) (report : Report)
+    (book : Ledger) (damage : Damage)
     : Type 0 where
   pub parts : List Part
   pub read : ReadsAll evidence evidence' parts damage
-  pub page : FillsPage (IsAudit (sections_of parts)) is_page 1 1 source source' sink sink' report book
+  pub page : FillsPage (IsAudit (sections_of parts)) is_page 1 1 old new report book
 
 -- a beginning of it was, before the sink failed
-pub record BeginsFromEvidence (is_page : PageFact) (source source' : Device) (evidence evidence' : Whole)
-    (sink sink' : Device)
-    : Type 0 where
+pub record BeginsFromEvidence (is_page : PageFact) (old new : Devices) (evidence evidence' : Whole) : Type 0 where
   pub parts : List Part
   pub damage : Damage
   pub read : ReadsAll evidence evidence' parts damage
-  pub page : BeginsPage (IsAudit (sections_of parts)) is_page 1 1 source source' sink sink'
+  pub page : BeginsPage (IsAudit (sections_of parts)) is_page 1 1 old new
 
 -- What was answered, what both sources have given and what the sink has got. With all refusals but that of a sink that
 -- failed nothing was written.
-abbrev pub AuditsTables : PageFact → Device → Device → Whole → Whole → Device → Device
+abbrev pub AuditsTables : PageFact → Devices → Devices → Whole → Whole
     → Result (Report × Ledger × Damage) AuditFault → Type 0
-AuditsTables is_page source source' evidence evidence' sink sink' (Ok (report, book, damage)) =
-    FillsFromEvidence is_page source source' evidence evidence' sink sink' report book damage
-AuditsTables is_page source source' evidence evidence' sink sink' (Err (Page Write)) =
-    BeginsFromEvidence is_page source source' evidence evidence' sink sink'
-AuditsTables is_page source source' evidence evidence' sink sink' (Err fault) =
-    IsHalted source source' evidence evidence' fault × (sink' ≡ sink)
+AuditsTables is_page old new evidence evidence' (Ok (report, book, damage)) =
+    FillsFromEvidence is_page old new evidence evidence' report book damage
+AuditsTables is_page old new evidence evidence' (Err (Page Write)) =
+    BeginsFromEvidence is_page old new evidence evidence'
+AuditsTables is_page old new evidence evidence' (Err fault) =
+    IsHalted old.source new.source evidence evidence' fault × (new.sink ≡ old.sink)

@@ -4,7 +4,7 @@ use Rattle.std.specs.Prelude.{All, Contains, Bool, MatchOption, slice_index_or, 
 use Rattle.std.specs.List.{find}
 use Rattle.std.specs.Option.{option_or}
 use Rattle.cards.specs.declared.suits.Trump.{Trump}
-use Rattle.partition_solver.specs.declared.bundles.Claim.{Claim}
+use Rattle.certificate_graph.specs.declared.bundles.Claim.{Claim}
 use Rattle.checker.specs.declared.entries.Shown.{Shown}
 use Rattle.pbn_deals.specs.declared.boards.Board.{Board}
 use Rattle.lease_book.specs.declared.entries.Entry.{Entry}

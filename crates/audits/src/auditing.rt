@@ -4,6 +4,7 @@ ghost use Rattle.std.specs.Prelude.{◌≡◌};
 ghost use Rattle.lease_book.specs.Books.{AreBoards};
 ghost use Rattle.tournaments.specs.Pages.{IsTablesPage};
 ghost use Rattle.tournaments.specs.WholePages.{IsWholePage};
+ghost use Rattle.streams.specs.RunStreams.{devices};
 ghost use Rattle.audits.specs.Audits.{AuditsOrStops, AuditsOrHalts, AuditsTables};
 
 use crate::faults::AuditFault;
@@ -12,12 +13,12 @@ use crate::publishing::publish_firsts;
 use crate::reading::read_firsts;
 use cards::{Sink, Source};
 use evidence::{Damage, Sections};
-use lease_book::{Book, is_true_history};
+use lease_book::{Book, is_true_history, write_tables};
 use pbn_deals::Board;
 use std::alloc::Global;
 use std::thread::Threads;
 use streams::{InputFault, read_all};
-use tables::{Report, write_tables};
+use tables::Report;
 use tournaments::{MakeFault, open_book, tables_are_read, take_boards, whole_pages_are_read};
 use whole_texts::{one_is_written, write_whole};
 
@@ -84,8 +85,8 @@ pub fn audit_tables<R: Threads + Sync, I: Source, E: Source, O: Sink>(
     evidence: &mut Sections<E>,
     output: &mut O,
 ) -> Result<(Report, Book, Damage), AuditFault>
-    ensures { AuditsTables IsTablesPage (I.state input.old) (I.state input.new) evidence.old evidence.new
-        (O.state output.old) (O.state output.new) result }
+    ensures { AuditsTables IsTablesPage (devices (I.state input.old) (O.state output.old))
+        (devices (I.state input.new) (O.state output.new)) evidence.old evidence.new result }
 {
     let (_, book, damage) = audit_text(rt, alloc, input, evidence)?;
     tables_are_read();
@@ -105,8 +106,8 @@ pub fn audit_whole<R: Threads + Sync, I: Source, E: Source, O: Sink>(
     evidence: &mut Sections<E>,
     output: &mut O,
 ) -> Result<(Report, Book, Damage), AuditFault>
-    ensures { AuditsTables IsWholePage (I.state input.old) (I.state input.new) evidence.old evidence.new
-        (O.state output.old) (O.state output.new) result }
+    ensures { AuditsTables IsWholePage (devices (I.state input.old) (O.state output.old))
+        (devices (I.state input.new) (O.state output.new)) evidence.old evidence.new result }
 {
     let (text, book, damage) = audit_text(rt, alloc, input, evidence)?;
     one_is_written();

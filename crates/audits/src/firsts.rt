@@ -13,11 +13,11 @@ ghost use Rattle.audits.specs.Firsts.{HasPlaces, AllKnown, AddsProofs};
 ghost use Rattle.audits.specs.Batches.{Judges, Grows, NotesPiece, NotesSome};
 
 use crate::judging::Judged;
-use cards::Trump;
-use checker::{OutOfMemory, Proven};
+use cards::{OutOfMemory, Trump};
+use certificate_graph::Claim;
+use checker::Proven;
 use evidence::Damage;
 use lease_book::{ENTRIES, Entry};
-use partition_solver::Claim;
 use pbn_deals::Board;
 use std::alloc::Global;
 use std::marker::Model;

@@ -8,8 +8,8 @@ ghost use Rattle.audits.specs.Batches.{Judges, JudgesSection};
 
 use crate::boards::board_with;
 use crate::firsts::FirstProofs;
-use bundle_checks::CheckedPair;
-use checker::{OutOfMemory, Proven, check_claim, graphs_have_one_answer};
+use cards::OutOfMemory;
+use checker::{CheckedPair, Proven, check_claim, graphs_have_one_answer};
 use evidence::{Part, Piece, Section};
 use pbn_deals::Board;
 use rayon::prelude::*;

@@ -12,7 +12,7 @@ ghost use Rattle.audits.specs.Shows.{ShowsSections};
 ghost use Rattle.evidence.specs.Sections.{SectionShape};
 
 use crate::firsts::FirstProofs;
-use checker::OutOfMemory;
+use cards::OutOfMemory;
 use lease_book::{Book, Grant, Reply};
 use std::alloc::Global;
 

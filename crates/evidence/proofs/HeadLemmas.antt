@@ -14,12 +14,12 @@ use Rattle.pbn_deals.specs.DealValue.{full}
 use Rattle.pbn_deals.specs.LayoutValue.{SaysLayout}
 use Rattle.pbn_deals.specs.declared.faults.PbnFault.{PbnFault}
 use Rattle.pbn_deals.proofs.OneLayout.{one_layout}
-use Rattle.tables.specs.DealText.{deal_text}
-use Rattle.tables.proofs.Dealt.{held_of, IsDealOf-held_of}
-use Rattle.tables.proofs.DealWords.{deal-named, deal-one_line}
-use Rattle.tables.proofs.DealsBack.{same_held}
+use Rattle.pbn_deals.specs.DealText.{deal_text}
+use Rattle.pbn_deals.proofs.Dealt.{held_of, IsDealOf-held_of}
+use Rattle.pbn_deals.proofs.DealWords.{deal-named, deal-one_line}
+use Rattle.pbn_deals.proofs.DealsBack.{same_held}
 use Rattle.certificate_graph.proofs.OneSpelling.{tails, one_seat}
-use Rattle.partition_solver.specs.declared.bundles.Claim.{Claim}
+use Rattle.certificate_graph.specs.declared.bundles.Claim.{Claim}
 use Rattle.evidence.specs.Sections.{IsRoot, IsClaim, AreClaims}
 use Rattle.evidence.specs.SectionTexts.{title, root_text, claim_line, claim_lines, deal_line, count_line}
 use Rattle.evidence.specs.Readings.{LacksClaim, FindsClaim, NamesNoSeat, AllClaims}

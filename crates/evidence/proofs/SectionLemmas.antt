@@ -10,10 +10,10 @@ use Rattle.cards.specs.Deal.{Deal}
 use Rattle.certificate_graph.specs.Graphs.{GraphShape, IsGraph}
 use Rattle.certificate_graph.specs.Texts.{trump_text}
 use Rattle.pbn_deals.specs.Reading.{Lacks}
-use Rattle.tables.specs.DealText.{deal_text}
-use Rattle.tables.proofs.DealWords.{deal-one_line}
+use Rattle.pbn_deals.specs.DealText.{deal_text}
+use Rattle.pbn_deals.proofs.DealWords.{deal-one_line}
 use Rattle.certificate_graph.proofs.OneSpelling.{heads, one_suit}
-use Rattle.partition_solver.specs.declared.bundles.Claim.{Claim}
+use Rattle.certificate_graph.specs.declared.bundles.Claim.{Claim}
 use Rattle.evidence.specs.Sections.{SectionShape, IsSection}
 use Rattle.evidence.specs.SectionTexts.{title, head_text, deal_line, count_line, claim_line, claim_lines, graphs_text, section_text}
 use Rattle.evidence.specs.Laws.{NoTextHasTwoSections, SectionsAreReadBack}

@@ -12,9 +12,9 @@ use Rattle.cards.specs.Pack.{trump_letters}
 use Rattle.certificate_graph.specs.Graphs.{GraphShape, IsGraph}
 use Rattle.certificate_graph.specs.Texts.{graph_text, trump_text}
 use Rattle.pbn_deals.specs.Reading.{Lacks}
-use Rattle.tables.specs.DealText.{deal_text}
-use Rattle.tables.proofs.DealWords.{deal-one_line}
-use Rattle.partition_solver.specs.declared.bundles.Claim.{Claim}
+use Rattle.pbn_deals.specs.DealText.{deal_text}
+use Rattle.pbn_deals.proofs.DealWords.{deal-one_line}
+use Rattle.certificate_graph.specs.declared.bundles.Claim.{Claim}
 use Rattle.evidence.specs.Sections.{SectionShape, IsSection, IsClaim}
 use Rattle.evidence.specs.SectionTexts.{title, root_text, claim_line, claim_lines, deal_line, count_line, graphs_text, section_text}
 use Rattle.evidence.specs.Readings.{AllClaims}

@@ -6,7 +6,7 @@ use Rattle.cards.specs.declared.suits.Trump.{Trump}
 use Rattle.cards.specs.Seats.{seat_letter}
 use Rattle.cards.specs.Deal.{Deal}
 use Rattle.certificate_graph.specs.Texts.{trump_text}
-use Rattle.partition_solver.specs.declared.bundles.Claim.{Claim}
+use Rattle.certificate_graph.specs.declared.bundles.Claim.{Claim}
 use Rattle.evidence.specs.SectionTexts.{root_text, claim_line, claim_lines, title, deal_line, count_line, head_text}
 use Rattle.evidence.proofs.HeadLemmas.{claim-cut}
 

@@ -3,7 +3,7 @@ use Rattle.std.specs.Prelude.{◌≡◌, ◌≢◌, ℕ, List, [], ◌∷◌, �
 use Rattle.std.specs.Fmt.{decimal}
 use Rattle.cards.specs.declared.seats.Seat.{Seat}
 use Rattle.cards.specs.Seats.{seat_letter}
-use Rattle.partition_solver.specs.declared.bundles.Claim.{Claim}
+use Rattle.certificate_graph.specs.declared.bundles.Claim.{Claim}
 use Rattle.evidence.specs.declared.head_reading.Head.{Head}
 use Rattle.evidence.specs.declared.head_reading.ClaimWords.{ClaimWords}
 use Rattle.evidence.specs.Sections.{SectionShape, IsClaim}

@@ -8,8 +8,8 @@ use Rattle.cards.specs.Seats.{seat_letter}
 use Rattle.cards.specs.Deal.{Deal}
 use Rattle.certificate_graph.specs.Graphs.{GraphShape}
 use Rattle.certificate_graph.specs.Texts.{trump_text, graph_text}
-use Rattle.tables.specs.DealText.{deal_text}
-use Rattle.partition_solver.specs.declared.bundles.Claim.{Claim}
+use Rattle.pbn_deals.specs.DealText.{deal_text}
+use Rattle.certificate_graph.specs.declared.bundles.Claim.{Claim}
 use Rattle.evidence.specs.Sections.{SectionShape, IsSection}
 
 -- the first line, which tells the form

@@ -8,9 +8,9 @@ use Rattle.cards.specs.declared.suits.Trump.{Trump}
 use Rattle.cards.specs.Seats.{seat_number}
 use Rattle.cards.specs.Deal.{Deal, IsLayout}
 use Rattle.certificate_graph.specs.Graphs.{GraphShape, IsGraph, greatest_count}
-use Rattle.partition_solver.specs.Answers.{claim_for}
-use Rattle.partition_solver.specs.declared.bundles.Bundle.{Bundle}
-use Rattle.partition_solver.specs.declared.bundles.Claim.{Claim}
+use Rattle.certificate_graph.specs.Bundles.{claim_for}
+use Rattle.certificate_graph.specs.declared.bundles.Bundle.{Bundle}
+use Rattle.certificate_graph.specs.declared.bundles.Claim.{Claim}
 
 pub record SectionShape : Type 0 where
   pub deal : Deal

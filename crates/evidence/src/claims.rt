@@ -2,12 +2,12 @@
 
 ghost use Rattle.std.specs.Prelude.{◌≡◌, ◌↔◌, ◌++◌, ◌+◌, ◌<◌, ◌≤◌, length, IsTrue};
 ghost use Rattle.std.specs.Prelude.{option_to_list};
-ghost use Rattle.partition_solver.specs.Answers.{claim_for};
+ghost use Rattle.certificate_graph.specs.Bundles.{claim_for};
 ghost use Rattle.evidence.specs.Sections.{IsRoot, IsClaim, AreClaims, claims_in_order};
 
 use arrayvec::ArrayVec;
 use cards::Seat;
-use partition_solver::{Bundle, Claim};
+use certificate_graph::{Bundle, Claim};
 
 /// How many tricks a side wins at the most.
 const MOST_TRICKS: u8 = 13;

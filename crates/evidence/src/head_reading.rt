@@ -4,9 +4,9 @@
 ghost use Rattle.std.specs.Prelude.{◌≡◌, ◌≢◌, ◌+◌, ◌≤◌, ◌++◌, ℕ, List, length, MatchOption};
 ghost use Rattle.cards.specs.declared.suits.Trump.{Trump};
 ghost use Rattle.cards.specs.Deal.{Deal};
-ghost use Rattle.tables.specs.DealText.{deal_text};
+ghost use Rattle.pbn_deals.specs.DealText.{deal_text};
 ghost use Rattle.certificate_graph.specs.Texts.{trump_text};
-ghost use Rattle.partition_solver.specs.declared.bundles.Claim.{Claim};
+ghost use Rattle.certificate_graph.specs.declared.bundles.Claim.{Claim};
 ghost use Rattle.evidence.specs.Sections.{SectionShape};
 ghost use Rattle.evidence.specs.SectionTexts.{title, deal_line, claim_lines, IsTextOf};
 ghost use Rattle.evidence.specs.Readings.{LacksClaim, FindsClaim, NamesNoSeat, AllClaims, IsHeadOf, FindsWords};
@@ -15,8 +15,7 @@ ghost use Rattle.evidence.specs.Readings.{LacksWords, SaysWords};
 use crate::words::{cut_at, root_of, seat_of, tricks_of, trump_of};
 use arrayvec::ArrayVec;
 use cards::{Layout, Trump};
-use certificate_graph::after_prefix;
-use partition_solver::Claim;
+use certificate_graph::{Claim, after_prefix};
 use pbn_deals::read_layout;
 
 /// What stands before the graphs of a section.

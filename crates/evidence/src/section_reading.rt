@@ -8,8 +8,7 @@ use crate::head_reading::read_head;
 use crate::section_writing::head_bytes;
 use crate::sections::Section;
 use cards::OutOfMemory;
-use certificate_graph::after_prefix;
-use partition_solver::Bundle;
+use certificate_graph::{Bundle, after_prefix};
 use std::alloc::Global;
 
 /// The section whose text it is; none where it is the text of none. Fails only where memory runs out.

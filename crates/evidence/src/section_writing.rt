@@ -14,10 +14,9 @@ use crate::claims::claims_in_order;
 use crate::sections::{Contents, Section};
 use crate::vec_sinks::VecSink;
 use cards::{DeviceFault, Layout, OutOfMemory, Seat, Sink, Trump, write_all, write_number};
-use certificate_graph::Graph;
-use partition_solver::{Bundle, Claim};
+use certificate_graph::{Bundle, Claim, Graph};
+use pbn_deals::write_layout;
 use std::alloc::Global;
-use tables::write_layout;
 
 /// Writes a number and a byte.
 fn write_counted<S: Sink>(sink: &mut S, number: u64, end: u8) -> Result<(), DeviceFault>

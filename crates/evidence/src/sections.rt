@@ -6,8 +6,7 @@ ghost use Rattle.evidence.specs.Sections.{IsSection, IsGraphOf, MakesSection};
 
 use crate::claims::are_claims;
 use cards::{Layout, Side, Trump};
-use certificate_graph::Graph;
-use partition_solver::{Bundle, Claim};
+use certificate_graph::{Bundle, Claim, Graph};
 use std::marker::Model;
 
 /// What was found of a layout in one denomination: one to four claims, at most one for a declarer and in the order

@@ -1,14 +1,10 @@
 -- What is opened as a file of evidence.
 use Rattle.std.specs.Prelude.{◌≡◌, ℕ, ◌+◌, ◌-◌, ◌^◌, Bool, true, false, ◌||◌, List, [], ◌∷◌, nat_eq, min, ◌⊎◌}
 use Rattle.std.specs.Prelude.{Option, Some, IfSome, if◌then◌else◌}
-use Rattle.std.specs.declared.io.ErrorKind.{ErrorKind}
-use Rattle.std.specs.declared.io.ErrorKind.TheVariants as kind
 use Rattle.std.specs.Io.KnownBytes.{Consumes}
 use Rattle.std.specs.Io.Take.{take_limit}
 use Rattle.evidence_solvers.specs.declared.access.Access.{Access}
 use Rattle.evidence_solvers.specs.declared.access.Access.TheVariants.{ReadAndAdd, ReadOnly}
-use Rattle.evidence_solvers.specs.declared.faults.CannotOpen.{CannotOpen}
-use Rattle.evidence_solvers.specs.declared.faults.CannotOpen.TheVariants.{Missing, Denied, NotAFile, Refused}
 use Rattle.evidence_solvers.specs.declared.opening.Opened.{Opened}
 use Rattle.evidence_solvers.specs.Tails.{EndsLastLine}
 
@@ -16,15 +12,6 @@ use Rattle.evidence_solvers.specs.Tails.{EndsLastLine}
 abbrev pub is_read_only : Access → Bool
 is_read_only ReadAndAdd = false
 is_read_only ReadOnly = true
-
--- why a file can't be opened, by what the system says
-abbrev pub why_of : ErrorKind → CannotOpen
-why_of kind.NotFound = Missing
-why_of kind.NotADirectory = Missing
-why_of kind.PermissionDenied = Denied
-why_of kind.ReadOnlyFilesystem = Denied
-why_of kind.IsADirectory = NotAFile
-why_of _ = Refused
 
 -- the last of so many bytes of a file was read: the file stood at that byte before, as far as it tells its place
 pub record ReadsLast {F : Type 0} (place : F → Option ℕ) (remaining : F → Option (List ℕ)) (old new : F)

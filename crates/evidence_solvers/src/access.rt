@@ -1,10 +1,7 @@
 //! How a file can be used that was opened.
 
 ghost use Rattle.std.specs.Prelude.{◌≡◌};
-ghost use Rattle.evidence_solvers.specs.Opening.{is_read_only, why_of};
-
-use crate::faults::CannotOpen;
-use std::io::ErrorKind;
+ghost use Rattle.evidence_solvers.specs.Opening.{is_read_only};
 
 /// How a file of evidence can be used.
 #[derive(Clone, Copy, Debug, PartialEq, Eq)]
@@ -24,17 +21,5 @@ impl Access {
             Access::ReadAndAdd => false,
             Access::ReadOnly => true,
         }
-    }
-}
-
-/// Why a file can't be opened, by what the system says.
-pub fn why_of(kind: ErrorKind) -> CannotOpen
-    ensures { result ≡ why_of kind }
-{
-    match kind {
-        ErrorKind::NotFound | ErrorKind::NotADirectory => CannotOpen::Missing,
-        ErrorKind::PermissionDenied | ErrorKind::ReadOnlyFilesystem => CannotOpen::Denied,
-        ErrorKind::IsADirectory => CannotOpen::NotAFile,
-        _ => CannotOpen::Refused,
     }
 }

@@ -4,8 +4,8 @@ ghost use Rattle.std.specs.Prelude.{◌≡◌};
 ghost use Rattle.evidence_solvers.specs.Added.{IsAdded, IsKeptAs, AreTextsToKeep};
 ghost use Rattle.evidence_solvers.specs.Tails.{AddsText, tail_contents};
 
+use crate::held::Held;
 use crate::tails::{Closed, Tail};
-use crate::told::Told;
 use cards::OutOfMemory;
 use std::fs::OpenFile;
 use std::io::Write;
@@ -14,12 +14,12 @@ use std::marker::{Model, PhantomData};
 /// The end of a file. The type `T` names what the file held; since then only whole texts of sections were added, or a
 /// beginning of them if a write has failed.
 #[derive(Drop)]
-pub(crate) struct NamedTail<F: Write, T: Told> {
+pub(crate) struct NamedTail<F: Write, T: Held> {
     tail: Tail<F>,
     of: PhantomData<T>,
 }
 
-impl<F: Write, T: Told> Model for NamedTail<F, T> {
+impl<F: Write, T: Held> Model for NamedTail<F, T> {
     ghost use Rattle.evidence_solvers.specs.declared.tails.Tail.{Tail};
     ghost use Rattle.evidence_solvers.specs.Added.{IsAdded};
 
@@ -27,13 +27,13 @@ impl<F: Write, T: Told> Model for NamedTail<F, T> {
 
     ghost view = { λ named. named.tail };
 
-    ghost invariant = { λ named. IsAdded T.told (F.contents named.tail.file) named.tail.has_failed };
+    ghost invariant = { λ named. IsAdded T.held (F.contents named.tail.file) named.tail.has_failed };
 }
 
-impl<F: Write + OpenFile, T: Told> NamedTail<F, T> {
+impl<F: Write + OpenFile, T: Held> NamedTail<F, T> {
     /// The end of a file to which no section was added yet.
     pub(crate) fn new(tail: Tail<F>) -> NamedTail<F, T>
-        requires { tail_contents F.contents tail ≡ T.told }
+        requires { tail_contents F.contents tail ≡ T.held }
     {
         NamedTail {
             tail,
@@ -45,17 +45,17 @@ impl<F: Write + OpenFile, T: Told> NamedTail<F, T> {
     pub(crate) fn add(&mut self, text: Result<Option<Vec<u8>>, OutOfMemory>, now: u64)
         requires { AreTextsToKeep text }
         ensures text { AddsText F.contents self.old self.new text }
-        ensures before { IsAdded T.told (tail_contents F.contents self.old) self.old.has_failed }
-        ensures after { IsAdded T.told (tail_contents F.contents self.new) self.new.has_failed }
+        ensures before { IsAdded T.held (tail_contents F.contents self.old) self.old.has_failed }
+        ensures after { IsAdded T.held (tail_contents F.contents self.new) self.new.has_failed }
     {
         self.tail.add(text, now);
     }
 }
 
-impl<F: Write + OpenFile + Drop, T: Told> NamedTail<F, T> {
+impl<F: Write + OpenFile + Drop, T: Held> NamedTail<F, T> {
     /// Syncs the file, and says whether it lacks a section.
     pub(crate) fn close(self) -> Closed<F>
-        ensures { IsKeptAs T.told (F.contents result.file) result.kept }
+        ensures { IsKeptAs T.held (F.contents result.file) result.kept }
     {
         let NamedTail { tail, .. } = self;
         tail.close()

@@ -8,12 +8,12 @@ ghost use Rattle.evidence_solvers.specs.Added.{IsKeptAs, WasAdded};
 ghost use Rattle.evidence_solvers.specs.Tails.{tail_contents};
 
 use crate::added::NamedTail;
+use crate::held::Held;
 use crate::tails::{Closed, Tail};
 use crate::texts::kept_text;
-use crate::told::Told;
 use cards::{Layout, Seat, Trump};
-use lease_desk::Clock;
-use partition_solver::{Bundle, Solver};
+use certificate_graph::{Bundle, Solver};
+use lease_book::Clock;
 use std::alloc::{AllocError, Global};
 use std::fs::OpenFile;
 use std::io::Write;
@@ -23,14 +23,14 @@ use std::sync::{Mutex, Wait};
 /// answer on unchanged. Its clock counts seconds. Several threads may call it at once: while one writes, the others
 /// wait. The type `T` names what the file held before.
 #[derive(Drop)]
-pub struct Keeping<'a, 'b, R, C, P, F: Write, T: Told> {
+pub struct Keeping<'a, 'b, R, C, P, F: Write, T: Held> {
     rt: &'a R,
     clock: &'b C,
     solver: &'b P,
     tail: Mutex<NamedTail<F, T>>,
 }
 
-impl<'a, 'b, R: Wait, C: Clock, P: Solver, F: Write + OpenFile, T: Told> Keeping<
+impl<'a, 'b, R: Wait, C: Clock, P: Solver, F: Write + OpenFile, T: Held> Keeping<
     'a,
     'b,
     R,
@@ -46,7 +46,7 @@ impl<'a, 'b, R: Wait, C: Clock, P: Solver, F: Write + OpenFile, T: Told> Keeping
         solver: &'b P,
         tail: Tail<F>,
     ) -> Keeping<'a, 'b, R, C, P, F, T>
-        requires { tail_contents F.contents tail ≡ T.told }
+        requires { tail_contents F.contents tail ≡ T.held }
         ensures { result.solver.now ≡ solver.now }
     {
         Keeping {
@@ -59,7 +59,7 @@ impl<'a, 'b, R: Wait, C: Clock, P: Solver, F: Write + OpenFile, T: Told> Keeping
 
     /// Adds an answer.
     fn keep(&self, alloc: Global, layout: &Layout, trump: Trump, bundle: &Bundle)
-        ensures { WasAdded T.told F.contents (kept_of layout.now trump bundle.now) }
+        ensures { WasAdded T.held F.contents (kept_of layout.now trump bundle.now) }
     {
         let text = kept_text(alloc, layout, trump, bundle);
         let now = self.clock.now();
@@ -68,10 +68,10 @@ impl<'a, 'b, R: Wait, C: Clock, P: Solver, F: Write + OpenFile, T: Told> Keeping
     }
 }
 
-impl<R, C, P, F: Write + OpenFile + Drop, T: Told> Keeping<'_, '_, R, C, P, F, T> {
+impl<R, C, P, F: Write + OpenFile + Drop, T: Held> Keeping<'_, '_, R, C, P, F, T> {
     /// Syncs the file, hands it back, and says whether it lacks answers.
     pub fn close(self) -> Closed<F>
-        ensures { IsKeptAs T.told (F.contents result.file) result.kept }
+        ensures { IsKeptAs T.held (F.contents result.file) result.kept }
     {
         let Keeping {
             rt: _,
@@ -83,7 +83,7 @@ impl<R, C, P, F: Write + OpenFile + Drop, T: Told> Keeping<'_, '_, R, C, P, F, T
     }
 }
 
-impl<R: Wait, C: Clock, P: Solver, F: Write + OpenFile, T: Told> Solver
+impl<R: Wait, C: Clock, P: Solver, F: Write + OpenFile, T: Held> Solver
     for Keeping<'_, '_, R, C, P, F, T> {
     ghost may_find = { λ keeping. P.may_find keeping.solver.now };
 
@@ -98,7 +98,7 @@ impl<R: Wait, C: Clock, P: Solver, F: Write + OpenFile, T: Told> Solver
         ensures found { P.may_find self.now.solver.now layout.now declarers.now trump budget
             (option_flatten (result_ok result)) }
         ensures kept { MatchOption (option_flatten (result_ok result)) ⊤
-            (λ bundle. WasAdded T.told F.contents (kept_of layout.now trump bundle)) }
+            (λ bundle. WasAdded T.held F.contents (kept_of layout.now trump bundle)) }
     {
         let found = self.solver.solve(alloc, layout, declarers, trump, budget);
         if let Ok(Some(bundle)) = &found {

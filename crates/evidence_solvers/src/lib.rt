@@ -7,17 +7,17 @@
 mod access;
 mod added;
 mod faults;
+mod held;
 mod keeping;
 mod laws;
 mod opening;
 mod tails;
 mod texts;
-mod told;
 
-pub use access::{Access, why_of};
-pub use faults::{CannotOpen, KeepFault};
+pub use access::Access;
+pub use faults::KeepFault;
+pub use held::Held;
 pub use keeping::Keeping;
 pub use laws::added_sections_are_parts;
 pub use opening::{Opened, open_evidence};
 pub use tails::{Closed, Tail};
-pub use told::Told;

@@ -1,15 +1,16 @@
 //! A file of evidence, opened.
 
 ghost use Rattle.std.specs.Prelude.{◌≡◌, true, false, IfOk, SomeIff};
-ghost use Rattle.std.specs.Fs.{asks_read, asks_append, asks_create, asks_create_new, asks_truncate, file_type, IsFile, metadata_len};
+ghost use Rattle.std.specs.Fs.{asks_read, asks_append, asks_create, asks_create_new, asks_truncate, file_type};
+ghost use Rattle.std.specs.Fs.{IsFile, metadata_len};
 ghost use Rattle.evidence_solvers.specs.Opening.{IsLineEnd, IsOpened};
 
-use crate::access::{Access, why_of};
-use crate::faults::CannotOpen;
+use crate::access::Access;
 use crate::tails::Tail;
 use std::fs::{Files, Metadata, OpenFile, OpenOptions};
 use std::io;
 use std::io::{Read, Seek, SeekFrom, Take};
+use streams::{CannotOpen, why_of};
 
 /// A file of evidence, opened twice.
 #[derive(Drop)]

@@ -5,8 +5,8 @@ ghost use Rattle.evidence.specs.Sections.{kept_of};
 ghost use Rattle.evidence_solvers.specs.Kept.{IsKeptText};
 
 use cards::{Layout, OutOfMemory, Trump};
+use certificate_graph::Bundle;
 use evidence::bundle_bytes;
-use partition_solver::Bundle;
 use std::alloc::Global;
 
 /// The most bytes that the text of a section may have, so that it can be read again: 512 MiB.

@@ -22,7 +22,7 @@ use Rattle.farm.specs.declared.posts.Posts.{Posts}
 use Rattle.farm.specs.declared.relays.Relays.{Relays}
 use Rattle.farm.specs.declared.relays.RelayEnds.{RelayEnds}
 use Rattle.lease_book.specs.Moments.{MayTell}
-use Rattle.partition_solver.specs.Answers.{MayFind}
+use Rattle.certificate_graph.specs.Solvers.{MayFind}
 use Rattle.farm.specs.Working.{IsNew, IsOnDuty}
 use Rattle.farm.specs.Requests.{EndsIdle}
 use Rattle.farm.specs.Flows.{given, settled, of_found, of_claim, all_found, all_claimed}

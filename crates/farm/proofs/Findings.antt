@@ -9,10 +9,10 @@ use Rattle.lease_book.specs.Histories.{Terms}
 use Rattle.lease_desk.specs.declared.receipts.Receipt.{Receipt}
 use Rattle.lease_desk.specs.Desks.{receipts_in}
 use Rattle.farm_relay.specs.Relays.{put_by, taken_by}
-use Rattle.partition_solver.specs.declared.bundles.Bundle.{Bundle}
-use Rattle.partition_solver.specs.Answers.{MayFind}
-use Rattle.bundle_checks.specs.declared.pairs.CheckedPair.{CheckedPair}
-use Rattle.bundle_checks.specs.Pairs.{IsPairOf}
+use Rattle.certificate_graph.specs.declared.bundles.Bundle.{Bundle}
+use Rattle.certificate_graph.specs.Solvers.{MayFind}
+use Rattle.checker.specs.declared.pairs.CheckedPair.{CheckedPair}
+use Rattle.checker.specs.Pairs.{IsPairOf}
 use Rattle.farm.specs.declared.tasks.Task.{Task}
 use Rattle.farm.specs.declared.tasks.FoundBundle.{FoundBundle}
 use Rattle.farm.specs.declared.tasks.CheckedClaim.{CheckedClaim}
@@ -76,14 +76,7 @@ given_more before after tasks more task is given next =
       each = subst (λ (l : List Task). All (WasGiven after) l) (sym is) (All-push (WasGiven after) tasks task still.each (next_given before after task next));
     }
 
--- the tasks of a group and the others are given
-pub group_given : (receipts : List Receipt) (tasks group : List Task) → group ≡ group_of tasks → AreGiven receipts tasks → AreGiven receipts group
-group_given receipts tasks group is given = subst (λ (l : List Task). AreGiven receipts l) (sym is) (of tasks given)
-  where
-    of : (tasks : List Task) → AreGiven receipts tasks → AreGiven receipts (group_of tasks)
-    of [] given = given
-    of (first ∷ rest) given = record { each = All-filter (is_with first) (WasGiven receipts) (first ∷ rest) given.each }
-
+-- the tasks of no group are given
 pub others_given : (receipts : List Receipt) (tasks others : List Task) → others ≡ others_of tasks → AreGiven receipts tasks → AreGiven receipts others
 others_given receipts tasks others is given = subst (λ (l : List Task). AreGiven receipts l) (sym is) (of tasks given)
   where
@@ -96,8 +89,8 @@ module _ (may_find : MayFind) (deals : List (Option Deal)) (budget : ℕ) where
   -- what was found under receipts is found under later ones
   found_still : (before after : List Receipt) → Continues before after → (message : FoundBundle) → IsFoundUnder may_find deals budget before message → IsFoundUnder may_find deals budget after message
   found_still before after on message is = record {
-    group = is.group;
-    given = given_on before after is.group on is.given;
+    tasks = is.tasks;
+    given = given_on before after is.tasks on is.given;
     answers = is.answers;
   }
 
@@ -106,16 +99,16 @@ module _ (may_find : MayFind) (deals : List (Option Deal)) (budget : ℕ) where
       All-weaker (IsFoundUnder may_find deals budget before) (IsFoundUnder may_find deals budget after) (found_still before after on) messages all
 
   -- one message more is found
-  found_more : (before after : List Receipt) (group : List Task) (old new : List FoundBundle) → Continues before after → AreGiven before group → PutsFound may_find deals budget group old new → All (IsFoundUnder may_find deals budget before) old → All (IsFoundUnder may_find deals budget after) new
-  found_more before after group old new on given puts all =
+  found_more : (before after : List Receipt) (tasks : List Task) (old new : List FoundBundle) → Continues before after → AreGiven before tasks → PutsFound may_find deals budget (group_of tasks) old new → All (IsFoundUnder may_find deals budget before) old → All (IsFoundUnder may_find deals budget after) new
+  found_more before after tasks old new on given puts all =
       let Of : FoundBundle → Type 0 = IsFoundUnder may_find deals budget after in
       let still : All Of old = all_found_still before after on old all in
       ⊎_elim
       (λ (none : new ≡ old). subst (λ (l : List FoundBundle). All Of l) (sym none) still)
       (λ one.
       let last : Of one.0 = record {
-        group = group;
-        given = given_on before after group on given;
+        tasks = tasks;
+        given = given_on before after tasks on given;
         answers = one.1;
       } in
       subst (λ (l : List FoundBundle). All Of l) (sym one.2) (All-push Of old one.0 still last))
@@ -138,10 +131,12 @@ module _ {S G C : Type 0} (may_find : S → MayFind) (crew : Crew S G C) where
       }
 
   -- one message more was put, or none was
-  pub finds_more : (group : List Task) (old new : SolverPost) → Continues (receipts_in old.chair) (receipts_in new.chair) → AreGiven (receipts_in old.chair) group → PutsOne may_find crew group old new → FindsOwn may_find crew old → FindsOwn may_find crew new
-  finds_more group old new on given puts finds = record {
-    each = found_more (may_find crew.means.solver.now) crew.deals.now crew.settings.budget (receipts_in old.chair) (receipts_in new.chair) group (put_by old.found) (put_by new.found) on given puts finds.each;
-  }
+  pub finds_more : (tasks group : List Task) (old new : SolverPost) → group ≡ group_of tasks → Continues (receipts_in old.chair) (receipts_in new.chair) → AreGiven (receipts_in old.chair) tasks → PutsOne may_find crew group old new → FindsOwn may_find crew old → FindsOwn may_find crew new
+  finds_more tasks group old new is on given puts finds =
+      let puts' = subst (λ (l : List Task). PutsOne may_find crew l old new) is puts in
+      record {
+        each = found_more (may_find crew.means.solver.now) crew.deals.now crew.settings.budget (receipts_in old.chair) (receipts_in new.chair) tasks (put_by old.found) (put_by new.found) on given puts' finds.each;
+      }
 
 -- ---- claims to clerks
 module _ (bundle : Bundle) (pair : CheckedPair) where

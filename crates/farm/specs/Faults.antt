@@ -1,4 +1,4 @@
--- The number and the name of the fault of a farm, and what is printed of it; when each comes.
+-- The number, the name and the printed text of a farm's fault, and when each fault comes.
 use Rattle.std.specs.Prelude.{◌≡◌, ℕ, ◌<◌, List, [], ◌∷◌, ◌++◌, codes, length, ⊤}
 use Rattle.std.specs.Fmt.{decimal}
 use Rattle.pbn_deals.specs.declared.boards.Board.{Board}
@@ -21,7 +21,7 @@ fault_name OutOfMemory = codes "OutOfMemory"
 fault_name NoThread = codes "NoThread"
 fault_name (Book fault) = codes "Book"
 
--- of a book its own number and name
+-- the number and the name that follow for the fault of a book
 abbrev pub after_name : FarmFault → List ℕ
 after_name OutOfMemory = []
 after_name NoThread = []
@@ -31,24 +31,24 @@ after_name (Book fault) = 32 ∷ books.fault_text fault
 abbrev pub fault_text : FarmFault → List ℕ
 fault_text fault = decimal (fault_number fault) ++ 32 ∷ (fault_name fault ++ after_name fault)
 
--- there is no book for too many boards alone
+-- the book is at fault only if there are too many boards
 abbrev pub IsFaultOf : List Board → FarmFault → Type 0
 IsFaultOf boards OutOfMemory = ⊤
 IsFaultOf boards NoThread = ⊤
 IsFaultOf boards (Book fault) = (fault ≡ TooManyBoards) × (4096 < length boards)
 
--- why work on a book ends before its time: its boards are never the reason
+-- work on a book ends early for memory or for a thread, never for its boards
 abbrev pub IsHalt : FarmFault → Type 0
 IsHalt OutOfMemory = ⊤
 IsHalt NoThread = ⊤
 IsHalt (Book fault) = ⊥
 
--- why threads were not started
+-- the halt if threads were not started
 abbrev pub start_halt : StartFault → Halt
 start_halt starts.OutOfMemory = halts.OutOfMemory
 start_halt starts.NoThread = halts.NoThread
 
--- why a run ended before its time
+-- the fault if a run ended early
 abbrev pub halt_fault : Halt → FarmFault
 halt_fault halts.OutOfMemory = OutOfMemory
 halt_fault halts.NoThread = NoThread

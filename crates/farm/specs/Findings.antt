@@ -3,24 +3,25 @@ use Rattle.std.specs.Prelude.{◌≡◌, ◌⊎◌, ℕ, List, [], ◌∷◌, �
 use Rattle.std.specs.Option.{option_flatten}
 use Rattle.cards.specs.Deal.{Deal}
 use Rattle.cards.specs.declared.suits.Trump.{Trump}
-use Rattle.partition_solver.specs.declared.bundles.Bundle.{Bundle}
-use Rattle.partition_solver.specs.declared.bundles.Claim.{Claim}
-use Rattle.partition_solver.specs.Answers.{MayFind, claim_for}
+use Rattle.certificate_graph.specs.declared.bundles.Bundle.{Bundle}
+use Rattle.certificate_graph.specs.declared.bundles.Claim.{Claim}
+use Rattle.certificate_graph.specs.Bundles.{claim_for}
+use Rattle.certificate_graph.specs.Solvers.{MayFind}
 use Rattle.farm.specs.declared.tasks.Task.{Task}
 use Rattle.farm.specs.declared.tasks.FoundBundle.{FoundBundle}
 use Rattle.farm.specs.declared.tasks.CheckedClaim.{CheckedClaim}
-use Rattle.bundle_checks.specs.declared.pairs.CheckedPair.{CheckedPair}
-use Rattle.bundle_checks.specs.Pairs.{IsPairOf, IsClaimedOf}
+use Rattle.checker.specs.declared.pairs.CheckedPair.{CheckedPair}
+use Rattle.checker.specs.Pairs.{IsPairOf, IsClaimedOf}
 use Rattle.lease_desk.specs.declared.receipts.Receipt.{Receipt}
-use Rattle.farm.specs.Groups.{declarers_in, is_claimed}
+use Rattle.farm.specs.Groups.{group_of, declarers_in, is_claimed}
 use Rattle.farm.specs.Requests.{AreGiven}
 
--- what a solver may find for leases of one denomination on a deal; without a deal it finds nothing
+-- the solver may find this for leases of one denomination on a deal; without a deal it finds nothing
 abbrev pub IsFoundOn : MayFind → ℕ → List Task → Trump → Option Deal → Option Bundle → Type 0
 IsFoundOn may_find budget group trump None found = found ≡ None
 IsFoundOn may_find budget group trump (Some deal) found = may_find deal (declarers_in group) trump budget found
 
--- what it may find on the deal of the leases' board, for their declarers and denomination, within the budget
+-- the solver may find this on the deal of the leases' board, for their declarers and denomination, within the budget
 abbrev pub IsFoundFor : MayFind → List (Option Deal) → ℕ → List Task → Option Bundle → Type 0
 IsFoundFor may_find deals budget [] found = found ≡ None
 IsFoundFor may_find deals budget (first ∷ group) found =
@@ -39,13 +40,14 @@ module _ (may_find : MayFind) (deals : List (Option Deal)) (budget : ℕ) where
   PutsFound group before after =
       (after ≡ before) ⊎ ((message : FoundBundle) × IsFoundIn group message × (after ≡ before ++ message ∷ []))
 
-  -- a message for a group of leases that these receipts show as given
+  -- A message for leases of one board and denomination: those that one search serves together with the first of some
+  -- leases that these receipts show as given.
   pub record IsFoundUnder (receipts : List Receipt) (message : FoundBundle) : Type 0 where
-    pub group : List Task
-    pub given : AreGiven receipts group
-    pub answers : IsFoundIn group message
+    pub tasks : List Task
+    pub given : AreGiven receipts tasks
+    pub answers : IsFoundIn (group_of tasks) message
 
--- the claim for a lease: the first that the bundle has for its declarer
+-- the claim for a lease: the first claim that the bundle has for its declarer
 pub record IsClaimFor (bundle : Bundle) (pair : CheckedPair) (task : Task) (checked : CheckedClaim) : Type 0 where
   pub claim : Claim
   pub first : claim_for bundle.claims.items task.entry.declarer ≡ Some claim
@@ -66,7 +68,7 @@ AreClaimsFor bundle pair (task ∷ tasks) claims =
     ⊎ ((checked : CheckedClaim) × (rest : List CheckedClaim) × (claims ≡ checked ∷ rest)
     × IsClaimFor bundle pair task checked × AreClaimsFor bundle pair tasks rest)
 
--- claims for leases of a message were put, on the checked graphs of its bundle, or none was
+-- claims for leases of a message were put, on the checked graphs of its bundle, or no claim was
 abbrev pub PutsClaims : FoundBundle → List CheckedClaim → List CheckedClaim → Type 0
 PutsClaims message before after =
     (after ≡ before)

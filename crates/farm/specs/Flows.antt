@@ -1,4 +1,4 @@
--- What becomes of leases on their way from receipts through messages to receipts.
+-- The way of leases from receipts through messages to receipts, by their weights.
 use Rattle.std.specs.Prelude.{◌≡◌, ℕ, ◌+◌, ◌≤◌, List, sum_by}
 use Rattle.lease_desk.specs.declared.receipts.Receipt.{Receipt}
 use Rattle.lease_desk.specs.Desks.{receipts_in}
@@ -12,7 +12,7 @@ use Rattle.farm.specs.declared.posts.ClerkPost.{ClerkPost}
 use Rattle.lease_book.specs.Settling.{given_by, settled_by}
 
 module _ (weight : ℕ → ℕ) where
-  -- the leases that receipts tell of as given, and as settled
+  -- the leases that receipts show as given, and those that they show as settled
   abbrev pub given : List Receipt → ℕ
   given receipts = sum_by (λ receipt. given_by weight receipt.event.asked receipt.event.reply) receipts
 
@@ -38,19 +38,20 @@ module _ (weight : ℕ → ℕ) where
   abbrev pub all_claimed : List CheckedClaim → ℕ
   all_claimed claims = sum_by of_claim claims
 
-  -- From receipts to later ones of a solver: what it settled since and has in hand is what it had and was given since.
+  -- Between earlier and later receipts of a solver: the leases that it settled since then and has in hand are those
+  -- that it had and those that it was given since then.
   abbrev pub Moves : List Receipt → List Receipt → ℕ → ℕ → Type 0
   Moves old new had has = settled new + has + given old ≡ settled old + had + given new
 
-  -- all that a solver was given it settled or put
+  -- a solver settled or put all the leases that it was given
   abbrev pub SettlesOwn : SolverPost → Type 0
   SettlesOwn post = settled (receipts_in post.chair) + all_found (put_by post.found) ≡ given (receipts_in post.chair)
 
-  -- the claims that a checker put are for leases of what it took, each for another
+  -- the claims that a checker put are for leases of the messages that it took, each for another lease
   abbrev pub ClaimsOwn : CheckerPost → Type 0
   ClaimsOwn post = all_claimed (put_by post.claims) ≤ all_found (taken_by post.found)
 
-  -- all that a clerk settled are the leases of the claims that it took, beside what it was given
+  -- a clerk settled just the leases of the claims that it took, beside those that it was given
   abbrev pub SettlesClaims : ClerkPost → Type 0
   SettlesClaims post =
       settled (receipts_in post.chair) ≡ given (receipts_in post.chair) + all_claimed (taken_by post.claims)

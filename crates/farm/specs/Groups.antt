@@ -1,4 +1,4 @@
--- Which leases one search serves, and for whom.
+-- The leases that one search serves, and their declarers.
 use Rattle.std.specs.Prelude.{ℕ, ◌+◌, Bool, true, false, not, ◌&&◌, List, [], ◌∷◌, ◌++◌, filter, is_some, nat_eq}
 use Rattle.std.specs.List.{list_any}
 use Rattle.cards.specs.declared.seats.Seat.{Seat}
@@ -8,8 +8,8 @@ use Rattle.cards.specs.declared.suits.Trump.TheVariants as trumps
 use Rattle.cards.specs.Pack.{suit_number}
 use Rattle.cards.specs.Seats.{seat_number}
 use Rattle.lease_book.specs.declared.entries.Entry.{Entry}
-use Rattle.partition_solver.specs.declared.bundles.Bundle.{Bundle}
-use Rattle.partition_solver.specs.Answers.{claim_for}
+use Rattle.certificate_graph.specs.declared.bundles.Bundle.{Bundle}
+use Rattle.certificate_graph.specs.Bundles.{claim_for}
 use Rattle.farm.specs.declared.tasks.Task.{Task}
 
 -- the place of a denomination: no-trump, spades, hearts, diamonds, clubs
@@ -34,7 +34,7 @@ abbrev pub others_of : List Task → List Task
 others_of [] = []
 others_of (first ∷ rest) = filter (λ task. not (is_with first task)) (first ∷ rest)
 
--- whether something is claimed for the declarer of a lease
+-- whether the bundle has a claim for the declarer of a lease
 abbrev pub is_claimed : Bundle → Task → Bool
 is_claimed bundle task = is_some (claim_for bundle.claims.items task.entry.declarer)
 
@@ -46,7 +46,7 @@ is_declared_in group declarer = list_any (λ task. nat_eq (seat_number task.entr
 abbrev pub declarers_in : List Task → List Seat
 declarers_in group = filter (is_declared_in group) (North ∷ East ∷ South ∷ West ∷ [])
 
--- a list with one item more at its end, or as it was
+-- a list with one more item at its end, or unchanged
 abbrev pub kept_with : {X : Type 0} → Bool → X → List X → List X
 kept_with true item items = items ++ item ∷ []
 kept_with false item items = items

@@ -1,4 +1,4 @@
--- What is known of a post before and after the work.
+-- The facts about a post before and after the work.
 use Rattle.std.specs.Prelude.{◌≡◌, ℕ, ◌+◌, true, List, [], ◌++◌, All, map, length}
 use Rattle.lease_desk.specs.declared.chairs.Chair.{Chair}
 use Rattle.lease_desk.specs.declared.desk.Desk.{Desk}
@@ -14,7 +14,7 @@ use Rattle.farm.specs.declared.posts.Posts.{Posts}
 use Rattle.farm.specs.declared.relays.RelayEnds.{RelayEnds}
 use Rattle.lease_book.specs.Histories.{Terms}
 use Rattle.lease_book.specs.Moments.{MayTell}
-use Rattle.partition_solver.specs.Answers.{MayFind}
+use Rattle.certificate_graph.specs.Solvers.{MayFind}
 use Rattle.farm.specs.Working.{IsNew, StaysOnDuty}
 use Rattle.farm.specs.Requests.{AreHandedIn, EndsIdle}
 use Rattle.farm.specs.Findings.{PutsFound, IsFoundUnder, IsClaimUnder}
@@ -51,7 +51,7 @@ module _ {S G C : Type 0} (may_find : S → MayFind) (crew : Crew S G C) where
 pub record ClaimsTaken (post : CheckerPost) : Type 0 where
   pub each : All (IsClaimUnder (taken_by post.found)) (put_by post.claims)
 
--- the claims that a clerk took since were handed in, in their order, and nothing else was asked
+-- the claims that a clerk took since then were handed in, in their order, and it made no other request
 pub record HandsInTaken (terms : Terms) (old new : ClerkPost) : Type 0 where
   pub claims : List CheckedClaim
   pub taken : taken_by new.claims ≡ taken_by old.claims ++ claims
@@ -73,7 +73,7 @@ abbrev pub LeavesClerk : ClerkPost → ClerkPost → Type 0
 LeavesClerk old new = marks_of new.claims ≡ marks_of old.claims + 1
 
 module _ {S G C : Type 0} (may_tell : C → MayTell) (crew : Crew S G C) where
-  -- the same chair, and the same end of the same relay
+  -- the post has the same chair, and the same end of the same relay
   pub record StaysSolver (old new : SolverPost) : Type 0 where
     pub chair : StaysOnDuty may_tell crew old.chair new.chair
     pub found : PutsAtSame old.found new.found
@@ -91,14 +91,14 @@ module _ {S G C : Type 0} (may_tell : C → MayTell) (crew : Crew S G C) where
 
 module _ {S G C : Type 0} (may_tell : C → MayTell) (may_find : S → MayFind) (crew : Crew S G C) where
   -- A solver works until no entry is open and no lease has run out. It puts or settles the leases that it is given, and
-  -- each message is one that it may find for them.
+  -- each message is one that the solver may find for them.
   pub record HasSolved (old new : SolverPost) : Type 0 where
     pub stays : StaysSolver may_tell crew old new
     pub idle : EndsIdle (receipts_in new.chair)
     pub leases : (weight : ℕ → ℕ) → SettlesOwn weight new
     pub finds : FindsOwn may_find crew new
 
--- the same ends of the same relays
+-- the post has the same ends of the same relays
 pub record StaysChecker (old new : CheckerPost) : Type 0 where
   pub found : TakesAtSame old.found new.found
   pub claims : PutsAtSame old.claims new.claims

@@ -1,4 +1,4 @@
--- The relays of a run, and what went through them.
+-- The relays of a run, and the messages that went through them.
 use Rattle.std.specs.Prelude.{◌≡◌, true, List}
 use Rattle.farm_relay.specs.Relays.{IsOpened, AreAllOf, IsNothingLost, AreMarksPut, is_ended}
 use Rattle.asked.specs.declared.settings.Settings.{Settings}
@@ -7,7 +7,7 @@ use Rattle.farm.specs.declared.tasks.CheckedClaim.{CheckedClaim}
 use Rattle.farm.specs.declared.relays.Relays.{Relays}
 use Rattle.farm.specs.declared.relays.RelayEnds.{RelayEnds}
 
--- relays of 64 places that were opened with these ends, through which nothing went yet
+-- relays of 64 places that were opened with these ends; nothing has gone through them
 pub record AreOpened (settings : Settings) (relays : Relays) (ends : RelayEnds) : Type 0 where
   pub found : IsOpened 64 settings.solvers settings.checkers relays.found ends.finds.items ends.found.items
   pub claims : IsOpened 64 settings.checkers settings.checkers relays.claims ends.claims.items ends.heard.items
@@ -17,8 +17,8 @@ pub record AreAllEndsOf (relays : Relays) (ends : RelayEnds) : Type 0 where
   pub found : AreAllOf relays.found ends.finds.items ends.found.items
   pub claims : AreAllOf relays.claims ends.claims.items ends.heard.items
 
--- Nothing that these ends put was lost: each message that solvers put was taken by a checker or was left, each claim
--- that checkers put was taken by a clerk or was left.
+-- Nothing that these ends put was lost: each message that solvers put was taken by a checker or is left, and each claim
+-- that checkers put was taken by a clerk or is left.
 pub record IsRelayed (ends : RelayEnds) : Type 0 where
   pub unchecked : List FoundBundle
   pub unheard : List CheckedClaim

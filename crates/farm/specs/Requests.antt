@@ -1,4 +1,4 @@
--- What a worker is told at the desk: its chair has one receipt more.
+-- The requests of a worker at the desk. Each adds one receipt to its chair.
 use Rattle.std.specs.Prelude.{◌≡◌, ℕ, Bool, not, List, [], ◌∷◌, ◌++◌, Option, None, Some, All, Contains, nat_eq}
 use Rattle.lease_book.specs.declared.events.Asked.{Asked}
 use Rattle.lease_book.specs.declared.events.Asked.TheVariants.{Lease, Expire, GiveUp}
@@ -15,7 +15,7 @@ abbrev pub Hears : Asked → Reply → List Receipt → List Receipt → Type 0
 Hears asked reply before after =
     (place : ℕ) × (after ≡ before ++ record { place = place; event = record { asked = asked; reply = reply } } ∷ [])
 
--- a lease was asked for: the task is the one that was given, and there is none where no entry was open
+-- a lease was asked for: the task is the lease that was given, or there is none if no entry was open
 abbrev pub IsNextTask : List Receipt → List Receipt → Option Task → Type 0
 IsNextTask before after None = (now : ℕ) × Hears (Lease now) Nothing before after
 IsNextTask before after (Some task) =
@@ -32,7 +32,7 @@ WasGiven receipts task =
 pub record AreGiven (receipts : List Receipt) (tasks : List Task) : Type 0 where
   pub each : All (WasGiven receipts) tasks
 
--- the receipts are those that there were before, and later ones
+-- the receipts begin with the earlier ones
 abbrev pub Continues : List Receipt → List Receipt → Type 0
 Continues before after = (later : List Receipt) × (after ≡ before ++ later)
 
@@ -50,7 +50,7 @@ abbrev pub HandsIn : Terms → CheckedClaim → List Receipt → List Receipt �
 HandsIn terms claim before after =
     (told : Receipt) × IsHandedIn terms before after claim.task.lease claim.task.entry claim.claimed told
 
--- claims were handed in, one after another, and nothing else was asked
+-- claims were handed in, one after another, and no other request was made
 abbrev pub AreHandedIn : Terms → List CheckedClaim → List Receipt → List Receipt → Type 0
 AreHandedIn terms [] before after = after ≡ before
 AreHandedIn terms (claim ∷ claims) before after =

@@ -1,4 +1,4 @@
--- What a run adds to the history of a book.
+-- The events that a run adds to the history of a book.
 use Rattle.std.specs.Prelude.{◌≡◌, ℕ, List, ◌++◌, All}
 use Rattle.lease_book.specs.declared.events.Asked.TheVariants.{GiveUp}
 use Rattle.lease_book.specs.declared.events.Event.{Event}
@@ -20,8 +20,8 @@ pub record TakesBack (old new : Ledger) : Type 0 where
   pub given_up : All IsGiveUp later
   pub settled : AreSettledOnce old.events → AreSettledOnce new.events
 
--- Threads worked at the book until one was told that no entry is open. The clock told the moments, and no lease was
--- settled twice.
+-- Threads worked at the book until the desk answered that no entry is open. The clock told the moments, and no lease
+-- was settled twice.
 pub record IsRound (may_tell : MayTell) (old new : Ledger) : Type 0 where
   pub terms_are : new.terms ≡ old.terms
   pub later : List Event
@@ -38,7 +38,7 @@ pub record GoesOn (may_tell : MayTell) (old new : Ledger) : Type 0 where
   pub timed : AreTimed may_tell later
   pub settled : AreSettledOnce old.events → AreSettledOnce new.events
 
--- It goes on until each entry is done. The history is true, and a request was answered that no entry is open.
+-- The history goes on until each entry is done. It is true, and one request was answered that no entry is open.
 pub record Finishes (may_tell : MayTell) (old new : Ledger) : Type 0 where
   pub on : GoesOn may_tell old new
   pub history : IsTrueHistory new.terms new.events

@@ -1,4 +1,4 @@
--- The threads of a run, and what became of their posts and chairs.
+-- The threads of a round, and the outcome for their posts and chairs.
 use Rattle.std.specs.Prelude.{◌≡◌, ℕ, ◌≤◌, List, [], All, Contains, map, sum_by}
 use Rattle.lease_desk.specs.declared.chairs.Chair.{Chair}
 use Rattle.lease_desk.specs.declared.desk.Desk.{Desk}
@@ -62,8 +62,8 @@ pub record HaveEnded (solves : SolverPost → SolverPost → Type 0) (checks : C
   pub clerks : AreBeside settles before.clerks.items after.clerks.items
 
 module _ {S G C : Type 0} where
-  -- The chairs that come back: the same ones, at the same desk. One of them saw that no entry was open and no lease had
-  -- run out. What they settled together they were given.
+  -- The chairs that come back are the same ones, at the same desk. One of them saw that no entry was open and no lease
+  -- had run out. Together they settled leases that they were given.
   pub record HaveWorked (may_tell : C → MayTell) (crew : Crew S G C) (before after : List Chair) : Type 0 where
     pub duty : All (IsOnDuty may_tell crew) after
     pub numbers : map number_of after ≡ map number_of before

@@ -10,9 +10,9 @@ use Rattle.lease_book.specs.TrueHistories.{IsTrueHistory, IsGivenOut}
 use Rattle.lease_book.specs.Done.{IsDone}
 use Rattle.lease_book.specs.Settling.{AreSettledOnce}
 
--- A run over these terms: the history is true, and all entries were given out until each was done: no lease is held,
+-- A run over these terms: the history is true, and all entries were given out until each was done. So no lease is held,
 -- and each entry whose board has a deal has a number, or was leased as often as it may be. No lease was settled twice,
--- and the moments are those that the clock told.
+-- and the clock told the moments.
 pub record IsRun (may_tell : MayTell) (terms : Terms) (events : List Event) : Type 0 where
   pub history : IsTrueHistory terms events
   pub given_out : IsGivenOut events

@@ -1,4 +1,4 @@
--- What is known of the chair of a thread.
+-- The facts about the chair of a thread.
 use Rattle.std.specs.Prelude.{◌≡◌, [], All}
 use Rattle.lease_desk.specs.declared.chairs.Chair.{Chair}
 use Rattle.lease_desk.specs.declared.desk.Desk.{Desk}
@@ -17,11 +17,11 @@ pub record IsWorker (may_tell : MayTell) (desk : Desk) (chair : Chair) : Type 0 
   pub timed : All (λ receipt. IsTimed may_tell receipt.event.asked) (receipts_in chair)
 
 module _ {S G C : Type 0} (may_tell : C → MayTell) (crew : Crew S G C) where
-  -- the chair is one at the crew's desk, with the crew's clock
+  -- the chair belongs to the crew's desk, with the crew's clock
   abbrev pub IsOnDuty : Chair → Type 0
   IsOnDuty chair = IsWorker (may_tell crew.means.clock.now) crew.desk.now chair
 
-  -- the chair still is, under its number
+  -- the chair stays on duty, under its number
   pub record StaysOnDuty (old new : Chair) : Type 0 where
     pub duty : IsOnDuty new
     pub number : number_of new ≡ number_of old

@@ -10,8 +10,9 @@ use crate::crews::Crew;
 use crate::requests::next_task;
 use crate::signals::Leasing;
 use crate::tasks::{Task, Tasks};
-use lease_book::OutOfMemory;
-use lease_desk::{Chair, Clock};
+use cards::OutOfMemory;
+use lease_book::Clock;
+use lease_desk::Chair;
 use std::sync::Wait;
 
 /// Leases more entries after the first, until the batch is full or no entry is open.

@@ -9,15 +9,15 @@ ghost use Rattle.farm.specs.Posts.{StaysChecker, ClaimsTaken};
 use crate::crews::Crew;
 use crate::posts::CheckerPost;
 use crate::tasks::{CheckedClaim, FoundBundle, Task};
-use bundle_checks::CheckedPair;
+use certificate_graph::Bundle;
+use checker::CheckedPair;
 use farm_relay::Putter;
-use lease_desk::Gate;
-use partition_solver::Bundle;
+use lease_book::Gate;
 use std::alloc::AllocError;
 use std::sync::Wait;
 use std::thread::Threads;
 
-/// Puts the claim for a lease, if there is one. A claim that is handed back is dropped, and its lease stays held.
+/// Puts the claim for a lease, if there is one. A claim that the relay hands back is dropped, and its lease stays held.
 fn put_claim<R: Wait>(
     rt: &R,
     bundle: &Bundle,
@@ -40,7 +40,7 @@ fn put_claim<R: Wait>(
     Ok(())
 }
 
-/// Checks the graphs of a message, and puts its claims. The gate is told of each lease before.
+/// Checks the graphs of a message, and puts its claims. Before that it calls the gate for each lease.
 fn check_found<S, G: Gate, C, R: Threads + Wait + Sync>(
     rt: &R,
     crew: &Crew<'_, S, G, C>,
@@ -63,8 +63,8 @@ fn check_found<S, G: Gate, C, R: Threads + Wait + Sync>(
     Ok(())
 }
 
-/// Takes messages until an end mark comes, checks their graphs, and puts their claims. If memory runs out at a message,
-/// its other claims are dropped, and their leases stay held.
+/// Takes messages until an end mark comes, checks their graphs, and puts their claims. If memory runs out for a
+/// message, its remaining claims are dropped, and their leases stay held.
 pub(crate) fn check_all<S, G: Gate, C, R: Threads + Wait + Sync>(
     rt: &R,
     crew: &Crew<'_, S, G, C>,

@@ -11,12 +11,13 @@ ghost use Rattle.farm.specs.Flows.{SettlesClaims};
 use crate::crews::Crew;
 use crate::posts::ClerkPost;
 use crate::tasks::CheckedClaim;
+use cards::OutOfMemory;
 use farm_relay::Taker;
-use lease_book::OutOfMemory;
-use lease_desk::{Chair, Clock, Gate};
+use lease_book::{Clock, Gate};
+use lease_desk::Chair;
 use std::sync::Wait;
 
-/// Hands a claim in. The gate is told of the reply.
+/// Hands in a claim, and calls the gate with the reply.
 fn hand_in<S, G: Gate, C: Clock, R: Wait>(
     rt: &R,
     crew: &Crew<'_, S, G, C>,
@@ -41,7 +42,7 @@ fn hand_in<S, G: Gate, C: Clock, R: Wait>(
     Ok(())
 }
 
-/// Takes claims and hands each in, until an end mark comes or memory has run out.
+/// Takes claims and hands each in, until an end mark comes or memory runs out.
 fn hand_in_all<S, G: Gate, C: Clock, R: Wait>(
     rt: &R,
     crew: &Crew<'_, S, G, C>,
@@ -76,7 +77,7 @@ fn take_rest<R: Wait>(rt: &R, claims: &mut Taker<CheckedClaim>)
     }
 }
 
-/// Takes claims until an end mark comes, and hands each in. Once memory has run out it only takes them, so that no
+/// Takes claims until an end mark comes, and hands each in. After memory has run out it only takes them, so that no
 /// checker waits for room.
 pub(crate) fn settle_all<S, G: Gate, C: Clock, R: Wait>(
     rt: &R,

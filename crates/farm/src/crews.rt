@@ -1,4 +1,4 @@
-//! What the threads of a round work with.
+//! The things that all threads of a round share.
 
 use crate::means::Means;
 use crate::signals::Signals;
@@ -7,7 +7,7 @@ use cards::Layout;
 use lease_desk::Desk;
 use std::alloc::Global;
 
-/// What the threads of a round work with.
+/// The things that all threads of a round share.
 pub(crate) struct Crew<'a, S, G, C> {
     pub(crate) alloc: Global,
     pub(crate) desk: &'a Desk,

@@ -1,5 +1,5 @@
-//! The work of solvers, of checkers and of clerks, each at its post. Even if the work fails, a thread finishes what it
-//! puts into, and takes until an end mark comes.
+//! The work of solvers, of checkers and of clerks, each at its post. Even if its work fails, a thread finishes the
+//! relay that it puts into, and empties the relay that it takes from until an end mark comes.
 
 use crate::checking::check_all;
 use crate::clerks::settle_all;
@@ -7,9 +7,9 @@ use crate::crews::Crew;
 use crate::halts::Halt;
 use crate::posts::{CheckerPost, ClerkPost, SolverPost};
 use crate::solving::solve_all;
+use certificate_graph::Solver;
 use farm_threads::Work;
-use lease_desk::{Clock, Gate};
-use partition_solver::Solver;
+use lease_book::{Clock, Gate};
 use std::sync::Wait;
 use std::thread::Threads;
 

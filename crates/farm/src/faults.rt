@@ -22,7 +22,7 @@ pub enum FarmFault {
 }
 
 impl FarmFault {
-    /// The printed number.
+    /// Returns the printed number.
     pub fn number(&self) -> u8
         ensures { result ≡ fault_number self.now }
     {
@@ -33,7 +33,7 @@ impl FarmFault {
         }
     }
 
-    /// The printed name.
+    /// Returns the printed name.
     pub fn name(&self) -> &'static str
         ensures { result.now ≡ fault_name self.now }
     {
@@ -45,7 +45,8 @@ impl FarmFault {
     }
 }
 
-/// The number and the name; that of a book has the book's own after them, as in `3 Book 1 TooManyBoards`.
+/// Writes the number and the name. The fault of a book has its own number and name after them, as in
+/// `3 Book 1 TooManyBoards`.
 impl fmt::Display for FarmFault {
     ghost output = { λ fault. Some (fault_text fault) };
 

@@ -1,4 +1,4 @@
-//! Leases that one search serves: those of a board in a denomination.
+//! The leases that one search serves: those of one board in one denomination.
 
 ghost use Rattle.std.specs.Prelude.{◌≡◌, ◌+◌, ◌-◌, ◌<◌, ◌≤◌, ℕ, not, filter, length};
 ghost use Rattle.farm.specs.Flows.{of_tasks};
@@ -8,10 +8,10 @@ ghost use Rattle.farm.specs.Groups.{group_of, others_of, declarers_in, kept_with
 use crate::tasks::{Task, Tasks};
 use arrayvec::ArrayVec;
 use cards::{Seat, Trump};
+use certificate_graph::Bundle;
 use lease_book::Entry;
-use partition_solver::Bundle;
 
-/// The place of a denomination in [`Trump::ALL`], from 0.
+/// Returns the place of a denomination in [`Trump::ALL`], from 0.
 fn trump_place(trump: Trump) -> usize
     ensures place { result ≡ trump_place trump }
     ensures below { result < 5 }
@@ -22,14 +22,14 @@ fn trump_place(trump: Trump) -> usize
     }
 }
 
-/// Whether one search serves both: the board and the denomination are the same.
+/// Returns whether one search serves both entries: the board and the denomination are the same.
 fn is_same_search(one: Entry, other: Entry) -> bool
     ensures { result ≡ is_same_search one other }
 {
     one.board == other.board && trump_place(one.trump) == trump_place(other.trump)
 }
 
-/// Adds a lease to one of two lists, which have room.
+/// Adds a lease to the group if it is chosen, otherwise to the others. Both lists have room.
 fn add(chosen: bool, group: &mut Tasks, others: &mut Tasks, task: Task)
     requires { length group.old.items + length others.old.items < 20 }
     ensures group { group.new.items ≡ kept_with chosen task group.old.items }
@@ -42,7 +42,7 @@ fn add(chosen: bool, group: &mut Tasks, others: &mut Tasks, task: Task)
     }
 }
 
-/// The leases that one search serves with the first of a batch, and the others, each in their order.
+/// Returns the leases that one search serves together with the first of a batch, and the others, each in their order.
 pub(crate) fn first_group(batch: &Tasks) -> (Tasks, Tasks)
     ensures group { result.0.items ≡ group_of batch.now.items }
     ensures others { result.1.items ≡ others_of batch.now.items }
@@ -63,7 +63,7 @@ pub(crate) fn first_group(batch: &Tasks) -> (Tasks, Tasks)
     (group, others)
 }
 
-/// Whether one of the leases is for this declarer.
+/// Returns whether one of the leases is for this declarer.
 fn is_declared(group: &Tasks, declarer: Seat) -> bool
     ensures { result ≡ is_declared_in group.now.items declarer }
 {
@@ -73,7 +73,7 @@ fn is_declared(group: &Tasks, declarer: Seat) -> bool
         .any(|task| task.entry.declarer.number() == declarer.number())
 }
 
-/// The declarers of the leases, each once, in the order of the seats.
+/// Returns the declarers of the leases, each once, in the order of the seats.
 pub(crate) fn declarers_of(group: &Tasks) -> ArrayVec<Seat, 4>
     ensures { result.items ≡ declarers_in group.now.items }
 {
@@ -86,7 +86,7 @@ pub(crate) fn declarers_of(group: &Tasks) -> ArrayVec<Seat, 4>
     declarers
 }
 
-/// The leases for whose declarers something is claimed, and the others, each in their order.
+/// Returns the leases for whose declarers the bundle has a claim, and the others, each in their order.
 pub(crate) fn by_claims(group: &Tasks, bundle: &Bundle) -> (Tasks, Tasks)
     ensures claimed { result.0.items ≡ filter (is_claimed bundle.now) group.now.items }
     ensures others { result.1.items ≡ filter (λ task. not (is_claimed bundle.now task)) group.now.items }

@@ -4,8 +4,8 @@ ghost use Rattle.std.specs.Prelude.{◌≡◌};
 ghost use Rattle.farm.specs.declared.halts.Halt.TheVariants as halts;
 ghost use Rattle.farm.specs.Faults.{start_halt};
 
+use cards::OutOfMemory;
 use farm_threads::StartFault;
-use lease_book::OutOfMemory;
 use std::alloc::{AllocError, AllocFailed};
 
 /// Why a run ends before its time.

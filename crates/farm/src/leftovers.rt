@@ -4,9 +4,10 @@ ghost use Rattle.std.specs.Prelude.{◌≡◌, ◌<◌, ◌*◌, length, OnOk};
 ghost use Rattle.lease_book.specs.Settling.{settles, is_settled};
 ghost use Rattle.farm.specs.Rounds.{TakesBack};
 
-use lease_book::{Asked, Book, Event, OutOfMemory};
+use cards::OutOfMemory;
+use lease_book::{Asked, Book, Event};
 
-/// Whether an event gives the lease up, or hands something in under it.
+/// Returns whether an event gives the lease up, or hands something in under it.
 fn settles(event: &Event, lease: u64) -> bool
     ensures { result ≡ settles lease event.now.asked }
 {
@@ -17,14 +18,14 @@ fn settles(event: &Event, lease: u64) -> bool
     }
 }
 
-/// Whether one of the events does.
+/// Returns whether one of the events settles the lease.
 fn is_settled(events: &[Event], lease: u64) -> bool
     ensures { result ≡ is_settled lease events.now }
 {
     events.iter().any(|event| settles(event, lease))
 }
 
-/// Gives up the lease that is held of the entry in a place, unless it was settled.
+/// Gives up the lease that is held for the entry in this place, unless it was settled.
 fn take_back(book: &mut Book, place: usize) -> Result<(), OutOfMemory>
     requires { place < 20 * length book.old.terms.boards }
     ensures { OnOk result (TakesBack book.old book.new) }

@@ -1,9 +1,9 @@
 //! A lease book that threads work through.
 //!
 //! [`run_farm`] works through a list of boards in rounds. In a round a desk is open. Solvers lease entries from it,
-//! batch by batch, and look for what shows their results; checkers check the graphs that were found, each once; clerks
-//! hand in what is claimed of them. Each has a thread of its own. When all have ended, the desk is closed, and another
-//! round begins if an entry is open. Nothing is asked of the solver, of the gate or of the clock.
+//! batch by batch, and search for certificates of their results. Checkers check each graph once, and clerks hand in the
+//! claims. Each has a thread of its own. When all have ended, the desk is closed, and another round begins if an entry
+//! is open. The solver, the gate and the clock may answer anything.
 #![tactic(auto)]
 
 mod batches;
@@ -31,6 +31,6 @@ mod telling;
 
 pub use asked::{Settings, SettingsFault};
 pub use faults::FarmFault;
-pub use lease_desk::Clock;
+pub use lease_book::Clock;
 pub use means::Means;
 pub use rounds::{resume_farm, run_farm};

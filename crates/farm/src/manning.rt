@@ -11,7 +11,7 @@ use lease_desk::Chair;
 use std::alloc::{AllocError, Global};
 use std::collections::VecDeque;
 
-/// The posts of solvers, at the first of the chairs.
+/// Makes the posts of solvers, at the first of the chairs.
 fn solver_posts(
     alloc: Global,
     chairs: &mut VecDeque<Chair>,
@@ -32,7 +32,7 @@ fn solver_posts(
     Ok(posts)
 }
 
-/// The posts of checkers.
+/// Makes the posts of checkers.
 fn checker_posts(
     alloc: Global,
     found: Vec<Taker<FoundBundle>>,
@@ -56,7 +56,7 @@ fn checker_posts(
     Ok(posts)
 }
 
-/// The posts of clerks, at all these chairs.
+/// Makes the posts of clerks, at all these chairs.
 fn clerk_posts(
     alloc: Global,
     chairs: VecDeque<Chair>,
@@ -77,7 +77,7 @@ fn clerk_posts(
     Ok(posts)
 }
 
-/// The chairs and the ends of solvers' posts.
+/// Returns the chairs and the ends of solvers' posts.
 fn solvers_apart(
     alloc: Global,
     posts: Vec<SolverPost>,
@@ -94,7 +94,7 @@ fn solvers_apart(
     Ok((chairs, finds))
 }
 
-/// The ends of checkers' posts.
+/// Returns the ends of checkers' posts.
 fn checkers_apart(
     alloc: Global,
     posts: Vec<CheckerPost>,
@@ -111,7 +111,7 @@ fn checkers_apart(
     Ok((found, claims))
 }
 
-/// The chairs and the ends of clerks' posts.
+/// Returns the chairs and the ends of clerks' posts.
 fn clerks_apart(
     alloc: Global,
     posts: Vec<ClerkPost>,
@@ -129,7 +129,7 @@ fn clerks_apart(
 }
 
 impl Posts {
-    /// Posts with these chairs and ends, the solvers' at the first of the chairs.
+    /// Makes posts with these chairs and ends, the solvers' at the first of the chairs.
     pub(crate) fn of(
         alloc: Global,
         chairs: Vec<Chair>,
@@ -155,7 +155,7 @@ impl Posts {
         })
     }
 
-    /// The chairs, the solvers' first, and the ends.
+    /// Returns the chairs, the solvers' first, and the ends.
     pub(crate) fn apart(self, alloc: Global) -> Result<(Vec<Chair>, RelayEnds), AllocError>
         ensures { IfOk result (λ apart. AreManned apart.0.items apart.1 self) }
     {

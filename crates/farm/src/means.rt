@@ -1,15 +1,15 @@
-//! What a run is given to work with.
+//! The solver, the gate and the clock of a run.
 
 use std::alloc::AllocError;
 
-/// What a run is given to work with. Nothing is asked of any of them.
+/// The solver, the gate and the clock of a run. They may answer anything.
 #[derive(Drop)]
 pub struct Means<'a, S, G, C> {
-    /// What looks for answers.
+    /// Searches for answers.
     pub solver: &'a S,
-    /// What is told of the work.
+    /// Is called for each step of the work.
     pub gate: &'a G,
-    /// What tells the time.
+    /// Says what time it is.
     pub clock: &'a C,
 }
 

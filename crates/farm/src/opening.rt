@@ -11,14 +11,14 @@ use lease_book::{Book, BookFault};
 use pbn_deals::Board;
 use std::alloc::{AllocError, Global};
 
-/// The deals of boards, by their numbers.
+/// Returns the deals of boards, by their numbers.
 pub(crate) fn deals_of(alloc: Global, boards: &[Board]) -> Result<Vec<Option<Layout>>, AllocError>
     ensures { IfOk result (λ deals. deals.items ≡ map (λ board. board.deal) boards.now) }
 {
     boards.iter().map(|board| board.deal).collect(alloc)
 }
 
-/// A new book over the boards, with the settings' term and tries.
+/// Makes a new book over the boards, with the settings' term and tries.
 pub(crate) fn open_book(
     alloc: Global,
     boards: Vec<Board>,

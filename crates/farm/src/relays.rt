@@ -1,26 +1,27 @@
-//! The relays of a run, and their ends.
+//! The relays of a round, and their ends.
 
 ghost use Rattle.std.specs.Prelude.{OnOk, IfOk};
 ghost use Rattle.farm.specs.Relaying.{AreOpened, AreAllEndsOf, IsRelayed, AreAllMarksPut};
 
 use crate::tasks::{CheckedClaim, FoundBundle};
 use asked::Settings;
-use farm_relay::{OutOfMemory, Putter, Relay, Taker};
+use cards::OutOfMemory;
+use farm_relay::{Putter, Relay, Taker};
 use std::alloc::Global;
 use std::sync::Wait;
 
-/// How many messages may be on their way to the checkers, and how many claims to the clerks: at least as many as either
-/// are, so that there is room for an end mark each.
+/// The places of each relay: at least the most checkers and the most clerks, so that there is room for one end mark
+/// each.
 const PLACES: usize = 64;
 
-/// The relay from the solvers to the checkers, and that from the checkers to the clerks.
+/// The relay from the solvers to the checkers, and the relay from the checkers to the clerks.
 #[derive(Drop)]
 pub(crate) struct Relays {
     pub(crate) found: Relay<FoundBundle>,
     pub(crate) claims: Relay<CheckedClaim>,
 }
 
-/// Ends of the relays: a solver puts what it finds, a checker takes it and puts claims, a clerk takes these.
+/// Ends of the relays. A solver puts answers, a checker takes answers and puts claims, a clerk takes claims.
 #[derive(Drop)]
 pub(crate) struct RelayEnds {
     pub(crate) finds: Vec<Putter<FoundBundle>>,
@@ -30,7 +31,8 @@ pub(crate) struct RelayEnds {
 }
 
 impl Relays {
-    /// Two relays with an end for each solver, two for each checker, and one for each of as many clerks.
+    /// Opens two relays with an end for each solver, two for each checker, and one for each clerk. There are as many
+    /// clerks as checkers.
     pub(crate) fn open(
         alloc: Global,
         settings: Settings,

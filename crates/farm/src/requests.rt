@@ -1,4 +1,4 @@
-//! What a solver asks at the desk.
+//! The requests of a solver at the desk.
 
 ghost use Rattle.std.specs.Prelude.{IfOk, OnOk};
 ghost use Rattle.lease_desk.specs.Desks.{receipts_in};
@@ -8,8 +8,9 @@ ghost use Rattle.farm.specs.Requests.{IsNextTask, FreesLeases, GivesUp};
 use crate::crews::Crew;
 use crate::signals::Leasing;
 use crate::tasks::Task;
-use lease_book::{OutOfMemory, Reply};
-use lease_desk::{Chair, Clock};
+use cards::OutOfMemory;
+use lease_book::{Clock, Reply};
+use lease_desk::Chair;
 use std::sync::Wait;
 
 /// Asks for a lease at the clock's moment. There is none if no entry is open.
@@ -30,7 +31,7 @@ pub(crate) fn next_task<S, G, C: Clock, R: Wait>(
     }
 }
 
-/// Frees the leases that have run out at the clock's moment, and says whether there was one.
+/// Frees the leases that have run out at the clock's moment, and returns whether there was one.
 pub(crate) fn frees_a_lease<S, G, C: Clock, R: Wait>(
     rt: &R,
     crew: &Crew<'_, S, G, C>,

@@ -1,4 +1,4 @@
-//! The run of a farm: round after round, until all is done.
+//! The run of a farm: round after round, until all work is done.
 
 ghost use Rattle.std.specs.Prelude.{◌≡◌, IfOk, IfErr};
 ghost use Rattle.farm.specs.declared.faults.FarmFault.TheVariants as faults;
@@ -16,16 +16,15 @@ use crate::running::work_round;
 use crate::telling::tell_published;
 use asked::Settings;
 use cards::Layout;
-use lease_book::{Book, first_boards, is_true_history};
-use lease_desk::{Clock, Gate};
-use partition_solver::Solver;
+use certificate_graph::Solver;
+use lease_book::{Book, Clock, Gate, first_boards, is_true_history};
 use pbn_deals::Board;
 use std::alloc::Global;
 use std::sync::Wait;
 use std::thread::Threads;
 
-/// Works on a book, round after round, until no lease is held and no entry is open. After each round the leases are
-/// given up that it left behind.
+/// Works on a book, round after round, until no lease is held and no entry is open. After each round it gives up the
+/// leases that the round left behind.
 fn work_through<S: Solver + Sync, G: Gate + Sync, C: Clock + Sync, R: Threads + Wait + Sync>(
     rt: &R,
     alloc: Global,
@@ -48,14 +47,15 @@ fn work_through<S: Solver + Sync, G: Gate + Sync, C: Clock + Sync, R: Threads + 
     unreachable!()
 }
 
-/// Has threads work through a book, whatever its history, and hands it out when no lease is held and each entry whose
+/// Has threads work through a book, whatever its history. Returns the book when no lease is held and each entry whose
 /// board has a deal has a number, or was leased as often as it may be.
 ///
-/// The threads work in rounds, which [`Settings`] size. In a round solvers lease entries until none is open, and what
-/// they find is checked and handed in. When all threads have ended, nothing is on its way any more: leases that were
-/// left behind are given up, and another round begins if an entry is open, as one whose claim was refused at last.
+/// The threads work in rounds, whose sizes are in [`Settings`]. In a round solvers lease entries until none is open,
+/// and their answers are checked and handed in. When all threads have ended, nothing is on its way any more. Leases
+/// that were left behind are given up, and another round begins if an entry is open, such as one whose claim was
+/// refused at the end.
 ///
-/// The gate is told of the numbers that the book has published before the first round.
+/// The gate is called for the numbers that the book has published before the first round.
 pub fn resume_farm<S: Solver + Sync, G: Gate + Sync, C: Clock + Sync, R: Threads + Wait + Sync>(
     rt: &R,
     alloc: Global,

@@ -14,10 +14,10 @@ use crate::signals::Signals;
 use crate::started::{Started, end_all, join_all, start_all};
 use asked::Settings;
 use cards::Layout;
+use certificate_graph::Solver;
 use farm_threads::Work;
-use lease_book::Book;
-use lease_desk::{Chair, Clock, Closed, Desk, Gate};
-use partition_solver::Solver;
+use lease_book::{Book, Clock, Gate};
+use lease_desk::{Chair, Closed, Desk};
 use std::alloc::Global;
 use std::sync::Wait;
 use std::thread;
@@ -92,7 +92,7 @@ fn work_at<
     )
 }
 
-/// The same, where one does all three kinds of work.
+/// Works at all posts as [`work_at`] does, if one value does all three kinds of work.
 fn work_as<
     W: Work<SolverPost, Halt> + Work<CheckerPost, Halt> + Work<ClerkPost, Halt> + Sync,
     R: Threads + Wait + Sync,
@@ -108,7 +108,7 @@ fn work_as<
     work_at(rt, staff, staff, staff, signals, opened)
 }
 
-/// Relays, and posts at these chairs with all their ends, the solvers' at the first of the chairs.
+/// Opens relays, and posts at these chairs with all ends of the relays. The solvers' posts are at the first chairs.
 fn open_posts<S, G, C>(
     crew: &Crew<'_, S, G, C>,
     chairs: Vec<Chair>,
@@ -123,7 +123,7 @@ fn open_posts<S, G, C>(
     Ok((relays, posts))
 }
 
-/// Works at all chairs, the solvers' first, and hands them back.
+/// Works at all chairs, the solvers' first, and returns them.
 fn work_all<S: Solver + Sync, G: Gate + Sync, C: Clock + Sync, R: Threads + Wait + Sync>(
     rt: &R,
     crew: &Crew<'_, S, G, C>,
@@ -140,15 +140,15 @@ fn work_all<S: Solver + Sync, G: Gate + Sync, C: Clock + Sync, R: Threads + Wait
     Ok(chairs)
 }
 
-/// Opens a desk over the book, has as many solvers and checkers work as the settings say, and as many clerks as
-/// checkers, each in a thread of its own, and hands the book out when all have ended.
+/// Opens a desk over the book. As many solvers and checkers work as the settings say, and as many clerks as checkers,
+/// each in a thread of its own. Returns the book when all have ended.
 ///
-/// A solver leases a batch of entries, while no other does, each at the clock's moment. For those of a board and
-/// denomination it tells the gate of each lease, has the solver look for what shows their results, once, and puts it
-/// for the checkers, or gives the leases up for which nothing is claimed. Where no entry is open it has the leases
-/// freed that have run out, and ends where there is none. A checker tells the gate of the leases, checks both graphs,
-/// and puts each claim for the clerks. A clerk hands in one claim after another, of which the desk tells the gate. What
-/// memory is refused to on the way is dropped, and its leases stay.
+/// A solver leases a batch of entries while no other solver leases, each at the clock's moment. For the entries of one
+/// board and denomination it calls the gate for each lease, asks for an answer once, and puts it for the checkers. It
+/// gives up the leases without a claim. If no entry is open it frees the leases that have run out, and ends if there is
+/// none. A checker calls the gate for the leases, checks both graphs, and puts each claim for the clerks. A clerk hands
+/// in one claim after another, and the desk calls the gate. If memory runs out for a message, it is dropped and its
+/// leases stay held.
 pub(crate) fn work_round<
     S: Solver + Sync,
     G: Gate + Sync,

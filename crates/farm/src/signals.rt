@@ -1,19 +1,19 @@
-//! What the threads of a round tell each other beside the desk.
+//! The signals between the threads of a round, beside the desk.
 
 ghost use Rattle.std.specs.Prelude.{◌≡◌, true, false};
 ghost use Rattle.std.specs.Sync.Mutex.{mutex_guard_value};
 
 use std::sync::{Mutex, MutexGuard, Wait};
 
-/// What the threads of a round tell each other beside the desk.
+/// The signals between the threads of a round, beside the desk.
 #[derive(Drop)]
 pub(crate) struct Signals {
     /// Whether the round was stopped, so that no solver leases any more. A solver keeps it locked while it leases a
-    /// batch, so that two solvers never divide the entries of a denomination between them.
+    /// batch, so two solvers never divide the entries of a denomination between them.
     stopped: Mutex<bool>,
 }
 
-/// The right to lease entries. The round was not stopped, and no other solver leases meanwhile.
+/// The right to lease entries. The round was not stopped, and no other solver leases at the same time.
 #[derive(Drop)]
 pub(crate) struct Leasing<'a> {
     stopped: MutexGuard<'a, bool>,
@@ -35,14 +35,14 @@ fn show(stopped: MutexGuard<'_, bool>) -> Stopped
 }
 
 impl Signals {
-    /// The signals of a round that goes on.
+    /// Makes the signals of a round that goes on.
     pub(crate) fn new() -> Signals {
         Signals {
             stopped: Mutex::new(false),
         }
     }
 
-    /// Waits until no other solver leases. There is no right to lease once the round was stopped.
+    /// Waits until no other solver leases. Returns no right to lease after the round was stopped.
     pub(crate) fn leasing<R: Wait>(&self, rt: &R) -> Option<Leasing<'_>> {
         let stopped = self.stopped.lock(rt);
         if *stopped {

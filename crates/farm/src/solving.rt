@@ -16,13 +16,14 @@ use crate::halts::Halt;
 use crate::posts::SolverPost;
 use crate::requests::{frees_a_lease, give_up, next_task};
 use crate::tasks::{FoundBundle, Tasks};
-use lease_book::OutOfMemory;
-use lease_desk::{Chair, Clock, Gate};
-use partition_solver::{Bundle, Solver};
+use cards::OutOfMemory;
+use certificate_graph::{Bundle, Solver};
+use lease_book::{Clock, Gate};
+use lease_desk::Chair;
 use std::sync::Wait;
 
-/// Looks for an answer to leases of a board and denomination. There is none if the solver has no answer within the
-/// budget, or no memory.
+/// Asks for an answer to leases of one board and denomination. There is none if the solver finds nothing within the
+/// budget, or has no memory.
 fn found_for<S: Solver, G, C>(crew: &Crew<'_, S, G, C>, group: &Tasks) -> Option<Bundle>
     ensures { IsFoundFor (S.may_find crew.now.means.solver.now) crew.now.deals.now crew.now.settings.budget
         group.now.items result }
@@ -62,8 +63,8 @@ fn give_up_all<S, G, C: Clock, R: Wait>(
     Ok(())
 }
 
-/// Works on leases of a board and denomination. It tells the gate of each lease, asks the solver once, and puts the
-/// answer for the checkers. It gives up the leases that nothing is claimed for, and all if the answer is handed back.
+/// Works on leases of one board and denomination. It calls the gate for each lease, asks the solver once, and puts the
+/// answer for the checkers. It gives up the leases without a claim, and all if the relay hands the answer back.
 fn work_on<S: Solver, G: Gate, C: Clock, R: Wait>(
     rt: &R,
     crew: &Crew<'_, S, G, C>,

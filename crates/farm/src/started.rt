@@ -32,7 +32,7 @@ impl<A: Work<SolverPost, Halt>, B: Work<CheckerPost, Halt>, D: Work<ClerkPost, H
     B,
     D,
 > {
-    /// Room for a thread at each post.
+    /// Makes room for a thread at each post.
     pub(crate) fn new(posts: &Posts) -> Result<Started<A, B, D>, AllocError>
         ensures { IfOk result IsEmpty }
     {
@@ -45,7 +45,7 @@ impl<A: Work<SolverPost, Halt>, B: Work<CheckerPost, Halt>, D: Work<ClerkPost, H
     }
 }
 
-/// Starts a thread at each post: first the checkers, then the solvers, last the clerks. On a fault the posts that have
+/// Starts a thread at each post: first the checkers, then the solvers, then the clerks. On a fault the posts that have
 /// no thread are dropped.
 pub(crate) fn start_all<
     's,
@@ -104,9 +104,9 @@ pub(crate) fn join_all<
     })
 }
 
-/// Waits for the threads that were started, if not all were. No solver leases any more. When nobody is left who puts
-/// into a relay, each of its takers gets an end mark. A message that nobody takes is handed back. So no thread waits
-/// for ever.
+/// Waits for the threads that were started, if not all were. No solver leases any more. When nobody is left to put into
+/// a relay, each of its takers gets an end mark. A message that nobody takes is handed back. So no thread waits for
+/// ever.
 pub(crate) fn end_all<
     A: Work<SolverPost, Halt>,
     B: Work<CheckerPost, Halt>,

@@ -1,12 +1,12 @@
-//! What goes from the desk to a solver, from there to a checker, and on to a clerk.
+//! The values that pass from the desk to a solver, to a checker, and to a clerk.
 
 use arrayvec::ArrayVec;
 use cards::{Seat, Trump};
+use certificate_graph::Bundle;
 use checker::Claimed;
 use lease_book::Entry;
-use partition_solver::Bundle;
 
-/// How many leases a solver has at a time at most: those of a board.
+/// The most leases that a solver has at a time: the entries of one board.
 pub(crate) const MOST_LEASES: usize = 20;
 
 /// An entry that was leased.
@@ -17,7 +17,7 @@ pub(crate) struct Task {
 }
 
 impl Default for Task {
-    /// What an empty place of a list holds.
+    /// Makes the value of an empty place of a list.
     fn default() -> Task {
         Task {
             lease: 0,
@@ -33,7 +33,7 @@ impl Default for Task {
 /// Entries that a solver has leased, in the order of their leases.
 pub(crate) type Tasks = ArrayVec<Task, MOST_LEASES>;
 
-/// What a solver found for entries of one board and denomination. It has a claim for each.
+/// An answer of the solver for entries of one board and denomination. It has a claim for each.
 #[derive(Drop)]
 pub(crate) struct FoundBundle {
     pub(crate) tasks: Tasks,

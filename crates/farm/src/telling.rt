@@ -1,10 +1,9 @@
-//! What a book has published before a farm works on it.
+//! The calls of the gate for numbers that a book has published before a farm works on it.
 
 use cards::{Seat, Trump};
-use lease_book::{Book, Entry, Reply};
-use lease_desk::Gate;
+use lease_book::{Book, Entry, Gate, Reply};
 
-/// Tells the gate of each number that is published for a board.
+/// Calls the gate for each number that is published for a board.
 fn tell_board<G: Gate>(book: &Book, board: usize, gate: &G) {
     for declarer in Seat::ALL {
         for trump in Trump::ALL {
@@ -20,8 +19,8 @@ fn tell_board<G: Gate>(book: &Book, board: usize, gate: &G) {
     }
 }
 
-/// Tells the gate of each number that a book has published, once for all boards that share a deal. For each board there
-/// is the number of the first that has its deal.
+/// Calls the gate for each number that a book has published, once for all boards that share a deal. `firsts` has for
+/// each board the number of the first board with its deal.
 pub(crate) fn tell_published<G: Gate>(book: &Book, firsts: &[usize], gate: &G) {
     for (board, first) in firsts.iter().enumerate() {
         if *first == board {

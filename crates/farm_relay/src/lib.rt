@@ -13,7 +13,6 @@ mod sending;
 mod takers;
 mod tallies;
 
-pub use cards::OutOfMemory;
 pub use putters::Putter;
 pub use relays::Relay;
 pub use takers::Taker;

@@ -9,8 +9,8 @@ use Rattle.std.proofs.lemmas.List.Folds.{find-append}
 use Rattle.pbn_deals.specs.declared.boards.Board.{Board}
 use Rattle.lease_book.specs.declared.entries.Entry.{Entry}
 use Rattle.lease_book.specs.declared.events.Grant.{Grant}
-use Rattle.lease_book.specs.declared.events.Evidence.{Evidence}
-use Rattle.lease_book.specs.declared.events.Evidence.TheVariants.{Shows, Faulty}
+use Rattle.lease_book.specs.declared.events.HandedIn.{HandedIn}
+use Rattle.lease_book.specs.declared.events.HandedIn.TheVariants.{Shows, Faulty}
 use Rattle.lease_book.specs.declared.events.Asked.TheVariants.{Lease, Expire, GiveUp, HandIn}
 use Rattle.lease_book.specs.declared.events.Reply.{Reply}
 use Rattle.lease_book.specs.declared.events.Reply.TheVariants.{Given, Nothing, Freed, OtherEntry, AlreadyPublished}
@@ -58,19 +58,19 @@ module _ (terms : Terms) (before : List Event) (now lease : ℕ) (entry : Entry)
       ap (λ (o : Option ℕ). is_some o) (published_push (are_twins terms.boards entry) before (record { asked = Lease now; reply = Given lease entry deadline }) ∙ option_or_none (published_in terms.boards before entry))
       ∙ unpublished_is (published_in terms.boards before entry) (and_parts first_board no_number second.0).1
 
-  counts : (evidence : Evidence) → is_evidence_for terms.boards entry evidence ≡ true → hand_in_reply terms given (grant_of given lease) entry evidence ≡ evidence_reply evidence
+  counts : (evidence : HandedIn) → is_evidence_for terms.boards entry evidence ≡ true → hand_in_reply terms given (grant_of given lease) entry evidence ≡ evidence_reply evidence
   counts evidence for_it =
       ap (λ o. hand_in_reply terms given o entry evidence) found
       ∙ ap (λ b. cond b (cond (is_some (published_in terms.boards given entry)) AlreadyPublished (evidence_reply evidence)) OtherEntry)
       (and_from (is_same_entry entry entry) (is_evidence_for terms.boards entry evidence) (eq-eqb (place_of entry) (place_of entry) refl) for_it)
       ∙ ap (λ b. cond b AlreadyPublished (evidence_reply evidence)) unpublished
 
-  left_by : (evidence : Evidence) → filter (is_left_by (record { asked = HandIn lease entry evidence; reply = evidence_reply evidence })) (grant ∷ []) ++ cons_option (given_as (evidence_reply evidence)) [] ≡ []
+  left_by : (evidence : HandedIn) → filter (is_left_by (record { asked = HandIn lease entry evidence; reply = evidence_reply evidence })) (grant ∷ []) ++ cons_option (given_as (evidence_reply evidence)) [] ≡ []
   left_by (Shows shown) = ap (λ b. cond (not b) (grant ∷ []) [] ++ []) (eq-eqb (place_of entry) (place_of entry) refl)
   left_by (Faulty fault) = ap (λ b. cond (not b) (grant ∷ []) [] ++ []) (eq-eqb lease lease refl)
 
   -- what is handed in for its entry frees it
-  pub free_after_hand_in : (evidence : Evidence) (reply : Reply) → is_evidence_for terms.boards entry evidence ≡ true → IsReply terms given (HandIn lease entry evidence) reply
+  pub free_after_hand_in : (evidence : HandedIn) (reply : Reply) → is_evidence_for terms.boards entry evidence ≡ true → IsReply terms given (HandIn lease entry evidence) reply
       → held_after (given ++ record { asked = HandIn lease entry evidence; reply = reply } ∷ []) ≡ []
   free_after_hand_in evidence reply for_it is =
       let event : Reply → Event = λ r. record { asked = HandIn lease entry evidence; reply = r } in

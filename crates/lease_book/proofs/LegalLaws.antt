@@ -10,8 +10,8 @@ use Rattle.std.proofs.lemmas.Option.{none-some, same_Some}
 use Rattle.pbn_deals.specs.declared.boards.Board.{Board}
 use Rattle.lease_book.specs.declared.entries.Entry.{Entry}
 use Rattle.lease_book.specs.declared.events.Grant.{Grant}
-use Rattle.lease_book.specs.declared.events.Evidence.{Evidence}
-use Rattle.lease_book.specs.declared.events.Evidence.TheVariants.{Shows, Faulty}
+use Rattle.lease_book.specs.declared.events.HandedIn.{HandedIn}
+use Rattle.lease_book.specs.declared.events.HandedIn.TheVariants.{Shows, Faulty}
 use Rattle.lease_book.specs.declared.events.Asked.{Asked}
 use Rattle.lease_book.specs.declared.events.Asked.TheVariants.{Lease, Expire, GiveUp, HandIn}
 use Rattle.lease_book.specs.declared.events.Reply.{Reply}
@@ -63,7 +63,7 @@ give_up_gives_none true true = refl
 give_up_gives_none true false = refl
 give_up_gives_none false held = refl
 
-hand_in_gives_none : (right published : Bool) (evidence : Evidence) → given_as (cond right (cond published AlreadyPublished (evidence_reply evidence)) OtherEntry) ≡ None
+hand_in_gives_none : (right published : Bool) (evidence : HandedIn) → given_as (cond right (cond published AlreadyPublished (evidence_reply evidence)) OtherEntry) ≡ None
 hand_in_gives_none true true evidence = refl
 hand_in_gives_none true false (Shows shown) = refl
 hand_in_gives_none true false (Faulty fault) = refl

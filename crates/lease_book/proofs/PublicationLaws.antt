@@ -9,8 +9,8 @@ use Rattle.cards.specs.Deal.{Deal}
 use Rattle.pbn_deals.specs.declared.boards.Board.{Board}
 use Rattle.lease_book.specs.declared.entries.Entry.{Entry}
 use Rattle.lease_book.specs.declared.events.Grant.{Grant}
-use Rattle.lease_book.specs.declared.events.Evidence.{Evidence}
-use Rattle.lease_book.specs.declared.events.Evidence.TheVariants.{Shows, Faulty}
+use Rattle.lease_book.specs.declared.events.HandedIn.{HandedIn}
+use Rattle.lease_book.specs.declared.events.HandedIn.TheVariants.{Shows, Faulty}
 use Rattle.lease_book.specs.declared.events.Asked.{Asked}
 use Rattle.lease_book.specs.declared.events.Asked.TheVariants.{Lease, Expire, GiveUp, HandIn}
 use Rattle.lease_book.specs.declared.events.Reply.{Reply}
@@ -72,7 +72,7 @@ published_on boards events entry k h =
 
 -- ---- the first good hand-in
 -- where nothing is published yet, a hand-in publishes the number that is good
-counts_first : (terms : Terms) (before : List Event) (entry : Entry) (own : Option Grant) (evidence : Evidence)
+counts_first : (terms : Terms) (before : List Event) (entry : Entry) (own : Option Grant) (evidence : HandedIn)
     → ((grant : Grant) → own ≡ Some grant → is_same_entry grant.entry entry ≡ true → is_some (published_in terms.boards before entry) ≡ false)
     → published_as (place_of entry) entry (hand_in_reply terms before own entry evidence) ≡ good_under terms.boards entry own evidence
 counts_first terms before entry None evidence none = refl

@@ -10,8 +10,8 @@ use Rattle.pbn_deals.specs.declared.boards.Board.{Board}
 use Rattle.checker.specs.declared.entries.Shown.{Shown}
 use Rattle.lease_book.specs.declared.entries.Entry.{Entry}
 use Rattle.lease_book.specs.declared.events.Grant.{Grant}
-use Rattle.lease_book.specs.declared.events.Evidence.{Evidence}
-use Rattle.lease_book.specs.declared.events.Evidence.TheVariants.{Shows, Faulty}
+use Rattle.lease_book.specs.declared.events.HandedIn.{HandedIn}
+use Rattle.lease_book.specs.declared.events.HandedIn.TheVariants.{Shows, Faulty}
 use Rattle.lease_book.specs.declared.events.Reply.{Reply}
 use Rattle.lease_book.specs.declared.events.Reply.TheVariants.{Given}
 use Rattle.lease_book.specs.declared.events.Event.{Event}
@@ -36,7 +36,7 @@ use Rattle.lease_book.proofs.FirstGoodLaws.{first_at, first_from}
 
 -- ---- one hand-in
 -- what is good under a lease
-record IsGoodUnder (boards : List Board) (entry : Entry) (own : Option Grant) (evidence : Evidence) (k : ℕ) : Type 0 where
+record IsGoodUnder (boards : List Board) (entry : Entry) (own : Option Grant) (evidence : HandedIn) (k : ℕ) : Type 0 where
   grant : Grant
   shown : Shown
   deal : Deal
@@ -50,7 +50,7 @@ has_deal : (o : Option Deal) (entry : Entry) (shown : Shown) → is_shown_for o 
 has_deal None entry shown h = absurd (both_ways false refl h)
 has_deal (Some deal) entry shown h = (deal, refl)
 
-good_told : (boards : List Board) (entry : Entry) (own : Option Grant) (evidence : Evidence) (k : ℕ) → good_under boards entry own evidence ≡ Some k → IsGoodUnder boards entry own evidence k
+good_told : (boards : List Board) (entry : Entry) (own : Option Grant) (evidence : HandedIn) (k : ℕ) → good_under boards entry own evidence ≡ Some k → IsGoodUnder boards entry own evidence k
 good_told boards entry None evidence k h = absurd (none-some k h)
 good_told boards entry (Some grant) (Faulty fault) k h = absurd (none-some k h)
 good_told boards entry (Some grant) (Shows shown) k h =
@@ -84,10 +84,10 @@ good_under_own boards entry own grant deal k under same on =
     (ap (λ (o : Option Deal). is_shown_for o entry shown) on ∙ shown_for deal entry k))
 
 -- a verdict that shows something shows the number that was handed in, by the texts
-judged_shows : (o : Option Deal) (deal : Deal) (entry : Entry) (k : ℕ) (declarer defenders : List ℕ) (evidence : Evidence) (shown : Shown) → o ≡ Some deal → evidence ≡ Shows shown → IsJudged o entry k declarer defenders evidence
+judged_shows : (o : Option Deal) (deal : Deal) (entry : Entry) (k : ℕ) (declarer defenders : List ℕ) (evidence : HandedIn) (shown : Shown) → o ≡ Some deal → evidence ≡ Shows shown → IsJudged o entry k declarer defenders evidence
     → (shown.k ≡ k) × TextsShow deal entry.declarer entry.trump k declarer defenders
 judged_shows o deal entry k declarer defenders evidence shown on is judged =
-    let verdict = subst (λ (x : Evidence). IsJudged (Some deal) entry k declarer defenders x) is (subst (λ (x : Option Deal). IsJudged x entry k declarer defenders evidence) on judged) in (
+    let verdict = subst (λ (x : HandedIn). IsJudged (Some deal) entry k declarer defenders x) is (subst (λ (x : Option Deal). IsJudged x entry k declarer defenders evidence) on judged) in (
       ap (λ (x : Shown). x.k) verdict.answers.0,
       record {
         declarers = verdict.declarers;
@@ -99,7 +99,7 @@ judged_shows o deal entry k declarer defenders evidence shown on is judged =
     )
 
 -- texts that show the number get a verdict that does
-shows_judged : (deal : Deal) (entry : Entry) (k : ℕ) (declarer defenders : List ℕ) (evidence : Evidence) → TextsShow deal entry.declarer entry.trump k declarer defenders → IsJudged (Some deal) entry k declarer defenders evidence
+shows_judged : (deal : Deal) (entry : Entry) (k : ℕ) (declarer defenders : List ℕ) (evidence : HandedIn) → TextsShow deal entry.declarer entry.trump k declarer defenders → IsJudged (Some deal) entry k declarer defenders evidence
     → evidence ≡ Shows (record { layout = deal; declarer = entry.declarer; trump = entry.trump; k = k })
 shows_judged deal entry k declarer defenders (Shows shown) texts verdict = ap (λ (x : Shown). Shows x) verdict.answers.0
 shows_judged deal entry k declarer defenders (Faulty fault) texts verdict = absurd (no_verdict_fault deal entry.declarer entry.trump k declarer defenders fault texts verdict)

@@ -14,8 +14,8 @@ use Rattle.checker.specs.declared.entries.Shown.{Shown}
 use Rattle.checker.specs.declared.hand_faults.HandFault.{HandFault}
 use Rattle.lease_book.specs.declared.entries.Entry.{Entry}
 use Rattle.lease_book.specs.declared.events.Grant.{Grant}
-use Rattle.lease_book.specs.declared.events.Evidence.{Evidence}
-use Rattle.lease_book.specs.declared.events.Evidence.TheVariants.{Shows, Faulty}
+use Rattle.lease_book.specs.declared.events.HandedIn.{HandedIn}
+use Rattle.lease_book.specs.declared.events.HandedIn.TheVariants.{Shows, Faulty}
 use Rattle.lease_book.specs.declared.events.Asked.TheVariants.{HandIn}
 use Rattle.lease_book.specs.declared.events.Reply.{Reply}
 use Rattle.lease_book.specs.declared.events.Reply.TheVariants.{UnknownLease, OtherEntry, AlreadyPublished, BadCertificate, Published}
@@ -51,20 +51,20 @@ proven_as entry deal k o shown proven h e same =
     (subst (λ (s : Shown). IsProven s) (shown_as entry deal shown (ap (λ (d : Option Deal). is_shown_for d entry shown) (sym e) ∙ h)) proven)
 
 module _ (terms : Terms) (events : List Event) (leases : List Grant) (slots : List Slot) (kept : IsKept terms events leases slots) where
-  pub unknown_hand_in : (lease : ℕ) (entry : Entry) (evidence : Evidence) → find (is_numbered lease) leases ≡ None → UnknownLease ≡ hand_in_reply terms events (grant_of events lease) entry evidence
+  pub unknown_hand_in : (lease : ℕ) (entry : Entry) (evidence : HandedIn) → find (is_numbered lease) leases ≡ None → UnknownLease ≡ hand_in_reply terms events (grant_of events lease) entry evidence
   unknown_hand_in lease entry evidence none = sym (ap (λ o. hand_in_reply terms events o entry evidence) (grant_is terms events leases slots kept lease None none))
 
-  known : (lease : ℕ) (entry : Entry) (evidence : Evidence) (own : Grant) (one other : Bool) → find (is_numbered lease) leases ≡ Some own → (is_same_entry own.entry entry && is_evidence_for terms.boards entry evidence) ≡ one → is_some (published_in terms.boards events entry) ≡ other
+  known : (lease : ℕ) (entry : Entry) (evidence : HandedIn) (own : Grant) (one other : Bool) → find (is_numbered lease) leases ≡ Some own → (is_same_entry own.entry entry && is_evidence_for terms.boards entry evidence) ≡ one → is_some (published_in terms.boards events entry) ≡ other
       → hand_in_reply terms events (grant_of events lease) entry evidence ≡ cond one (cond other AlreadyPublished (evidence_reply evidence)) OtherEntry
   known lease entry evidence own one other given e p =
       ap (λ o. hand_in_reply terms events o entry evidence) (grant_is terms events leases slots kept lease (Some own) given)
       ∙ ap (λ b. cond b (cond (is_some (published_in terms.boards events entry)) AlreadyPublished (evidence_reply evidence)) OtherEntry) e
       ∙ ap (λ b. cond one (cond b AlreadyPublished (evidence_reply evidence)) OtherEntry) p
 
-  pub other_entry : (lease : ℕ) (entry : Entry) (evidence : Evidence) (own : Grant) → find (is_numbered lease) leases ≡ Some own → is_same_entry own.entry entry ≡ false → OtherEntry ≡ hand_in_reply terms events (grant_of events lease) entry evidence
+  pub other_entry : (lease : ℕ) (entry : Entry) (evidence : HandedIn) (own : Grant) → find (is_numbered lease) leases ≡ Some own → is_same_entry own.entry entry ≡ false → OtherEntry ≡ hand_in_reply terms events (grant_of events lease) entry evidence
   other_entry lease entry evidence own given e = sym (known lease entry evidence own false (is_some (published_in terms.boards events entry)) given (and_left (is_same_entry own.entry entry) (is_evidence_for terms.boards entry evidence) e) refl)
 
-  pub other_evidence : (lease : ℕ) (entry : Entry) (evidence : Evidence) (own : Grant) → find (is_numbered lease) leases ≡ Some own → is_evidence_for terms.boards entry evidence ≡ false → OtherEntry ≡ hand_in_reply terms events (grant_of events lease) entry evidence
+  pub other_evidence : (lease : ℕ) (entry : Entry) (evidence : HandedIn) (own : Grant) → find (is_numbered lease) leases ≡ Some own → is_evidence_for terms.boards entry evidence ≡ false → OtherEntry ≡ hand_in_reply terms events (grant_of events lease) entry evidence
   other_evidence lease entry evidence own given e = sym (known lease entry evidence own false (is_some (published_in terms.boards events entry)) given (and_right (is_same_entry own.entry entry) (is_evidence_for terms.boards entry evidence) e) refl)
 
   slot_number : (lease : ℕ) (d : Slot) (entry : Entry) (own : Grant) → find (is_numbered lease) leases ≡ Some own → is_same_entry own.entry entry ≡ true → place_of own.entry < length slots → (get_or slots (place_of own.entry) d).published ≡ published_in terms.boards events entry
@@ -73,14 +73,14 @@ module _ (terms : Terms) (events : List Event) (leases : List Grant) (slots : Li
       ∙ ap (λ n. published_at n events) (eqb-true (place_of own.entry) (place_of entry) same)
       ∙ sym (published_own terms events entry kept.legal (named_first terms events lease own entry kept.legal (grant_is terms events leases slots kept lease (Some own) given) same))
 
-  pub counts : (lease : ℕ) (d : Slot) (entry : Entry) (evidence : Evidence) (own : Grant) (other : Bool) → find (is_numbered lease) leases ≡ Some own → is_same_entry own.entry entry ≡ true → is_evidence_for terms.boards entry evidence ≡ true → place_of own.entry < length slots
+  pub counts : (lease : ℕ) (d : Slot) (entry : Entry) (evidence : HandedIn) (own : Grant) (other : Bool) → find (is_numbered lease) leases ≡ Some own → is_same_entry own.entry entry ≡ true → is_evidence_for terms.boards entry evidence ≡ true → place_of own.entry < length slots
       → is_some (get_or slots (place_of own.entry) d).published ≡ other → hand_in_reply terms events (grant_of events lease) entry evidence ≡ cond other AlreadyPublished (evidence_reply evidence)
   counts lease d entry evidence own other given same e l p =
       known lease entry evidence own true other given (and_from (is_same_entry own.entry entry) (is_evidence_for terms.boards entry evidence) same e)
       (ap (λ (o : Option ℕ). is_some o) (sym (slot_number lease d entry own given same l)) ∙ p)
 
   -- a refusal leaves all
-  pub kept_refused : (lease : ℕ) (entry : Entry) (evidence : Evidence) (reply : Reply) → given_as reply ≡ None → ((grant : Grant) → is_freed_by_hand_in grant lease entry reply ≡ false) → ((place : ℕ) → published_as place entry reply ≡ None)
+  pub kept_refused : (lease : ℕ) (entry : Entry) (evidence : HandedIn) (reply : Reply) → given_as reply ≡ None → ((grant : Grant) → is_freed_by_hand_in grant lease entry reply ≡ false) → ((place : ℕ) → published_as place entry reply ≡ None)
       → reply ≡ hand_in_reply terms events (grant_of events lease) entry evidence → IsKept terms (events ++ record { asked = HandIn lease entry evidence; reply = reply } ∷ []) leases slots
   kept_refused lease entry evidence reply none frees_none publishes_none is =
       let event : Event = record { asked = HandIn lease entry evidence; reply = reply } in
@@ -160,36 +160,36 @@ module _ (terms : Terms) (events : List Event) (leases : List Grant) (slots : Li
           (λ grant h. ne_eqb (place_of grant.entry) (place_of entry) (λ x. ne (sym (holder_found terms events leases slots kept place c grant m h).1 ∙ (x ∙ sym here)))))
           (cases_eq place (place_of own.entry))
 
-  pub shows_reply : (lease : ℕ) (d : Slot) (entry : Entry) (evidence : Evidence) (shown : Shown) (own : Grant) → evidence ≡ Shows shown → find (is_numbered lease) leases ≡ Some own → is_same_entry own.entry entry ≡ true → is_evidence_for terms.boards entry evidence ≡ true → place_of own.entry < length slots
+  pub shows_reply : (lease : ℕ) (d : Slot) (entry : Entry) (evidence : HandedIn) (shown : Shown) (own : Grant) → evidence ≡ Shows shown → find (is_numbered lease) leases ≡ Some own → is_same_entry own.entry entry ≡ true → is_evidence_for terms.boards entry evidence ≡ true → place_of own.entry < length slots
       → is_some (get_or slots (place_of own.entry) d).published ≡ false → Published shown.k ≡ hand_in_reply terms events (grant_of events lease) entry evidence
   shows_reply lease d entry evidence shown own is given same e l unpublished =
       sym (counts lease d entry evidence own false given same e l unpublished ∙ ap evidence_reply is)
 
-  pub faulty_reply : (lease : ℕ) (d : Slot) (entry : Entry) (evidence : Evidence) (fault : HandFault) (own : Grant) → evidence ≡ Faulty fault → find (is_numbered lease) leases ≡ Some own → is_same_entry own.entry entry ≡ true → is_evidence_for terms.boards entry evidence ≡ true → place_of own.entry < length slots
+  pub faulty_reply : (lease : ℕ) (d : Slot) (entry : Entry) (evidence : HandedIn) (fault : HandFault) (own : Grant) → evidence ≡ Faulty fault → find (is_numbered lease) leases ≡ Some own → is_same_entry own.entry entry ≡ true → is_evidence_for terms.boards entry evidence ≡ true → place_of own.entry < length slots
       → is_some (get_or slots (place_of own.entry) d).published ≡ false → BadCertificate fault ≡ hand_in_reply terms events (grant_of events lease) entry evidence
   faulty_reply lease d entry evidence fault own is given same e l unpublished =
       sym (counts lease d entry evidence own false given same e l unpublished ∙ ap evidence_reply is)
 
-  pub kept_shows : (lease : ℕ) (d : Slot) (entry : Entry) (evidence : Evidence) (shown : Shown) (own : Grant) → evidence ≡ Shows shown → IsProvenEvidence evidence → find (is_numbered lease) leases ≡ Some own → is_same_entry own.entry entry ≡ true → is_evidence_for terms.boards entry evidence ≡ true → place_of own.entry < length slots
+  pub kept_shows : (lease : ℕ) (d : Slot) (entry : Entry) (evidence : HandedIn) (shown : Shown) (own : Grant) → evidence ≡ Shows shown → IsProvenEvidence evidence → find (is_numbered lease) leases ≡ Some own → is_same_entry own.entry entry ≡ true → is_evidence_for terms.boards entry evidence ≡ true → place_of own.entry < length slots
       → is_some (get_or slots (place_of own.entry) d).published ≡ false
       → IsKept terms (events ++ record { asked = HandIn lease entry evidence; reply = Published shown.k } ∷ []) leases
       (set slots (place_of own.entry) (record { published = Some shown.k; holder = None; left = (get_or slots (place_of own.entry) d).left }))
   kept_shows lease d entry evidence shown own is proven given same e l unpublished =
       let after = set slots (place_of own.entry) (record { published = Some shown.k; holder = None; left = (get_or slots (place_of own.entry) d).left }) in
-      subst (λ (x : Evidence). IsKept terms (events ++ record { asked = HandIn lease entry x; reply = Published shown.k } ∷ []) leases after) (sym is)
-      (kept_published lease d entry shown own (subst (λ (x : Evidence). IsProvenEvidence x) is proven) same (ap (is_evidence_for terms.boards entry) (sym is) ∙ e) l unpublished
+      subst (λ (x : HandedIn). IsKept terms (events ++ record { asked = HandIn lease entry x; reply = Published shown.k } ∷ []) leases after) (sym is)
+      (kept_published lease d entry shown own (subst (λ (x : HandedIn). IsProvenEvidence x) is proven) same (ap (is_evidence_for terms.boards entry) (sym is) ∙ e) l unpublished
       (shows_reply lease d entry (Shows shown) shown own refl given same (ap (is_evidence_for terms.boards entry) (sym is) ∙ e) l unpublished))
 
-  pub kept_shows_nothing : (lease : ℕ) (d : Slot) (entry : Entry) (evidence : Evidence) (fault : HandFault) (own : Grant) → evidence ≡ Faulty fault → find (is_numbered lease) leases ≡ Some own → is_same_entry own.entry entry ≡ true → is_evidence_for terms.boards entry evidence ≡ true → place_of own.entry < length slots
+  pub kept_shows_nothing : (lease : ℕ) (d : Slot) (entry : Entry) (evidence : HandedIn) (fault : HandFault) (own : Grant) → evidence ≡ Faulty fault → find (is_numbered lease) leases ≡ Some own → is_same_entry own.entry entry ≡ true → is_evidence_for terms.boards entry evidence ≡ true → place_of own.entry < length slots
       → is_some (get_or slots (place_of own.entry) d).published ≡ false
       → IsKept terms (events ++ record { asked = HandIn lease entry evidence; reply = BadCertificate fault } ∷ []) leases (set slots (place_of own.entry) (freed_of lease (get_or slots (place_of own.entry) d)))
   kept_shows_nothing lease d entry evidence fault own is given same e l unpublished =
       let after = set slots (place_of own.entry) (freed_of lease (get_or slots (place_of own.entry) d)) in
-      subst (λ (x : Evidence). IsKept terms (events ++ record { asked = HandIn lease entry x; reply = BadCertificate fault } ∷ []) leases after) (sym is)
+      subst (λ (x : HandedIn). IsKept terms (events ++ record { asked = HandIn lease entry x; reply = BadCertificate fault } ∷ []) leases after) (sym is)
       (kept_faulty lease d entry fault own given l
       (faulty_reply lease d entry (Faulty fault) fault own refl given same (ap (is_evidence_for terms.boards entry) (sym is) ∙ e) l unpublished))
 
-  pub published_reply : (lease : ℕ) (d : Slot) (entry : Entry) (evidence : Evidence) (own : Grant) → find (is_numbered lease) leases ≡ Some own → is_same_entry own.entry entry ≡ true → is_evidence_for terms.boards entry evidence ≡ true → place_of own.entry < length slots
+  pub published_reply : (lease : ℕ) (d : Slot) (entry : Entry) (evidence : HandedIn) (own : Grant) → find (is_numbered lease) leases ≡ Some own → is_same_entry own.entry entry ≡ true → is_evidence_for terms.boards entry evidence ≡ true → place_of own.entry < length slots
       → is_some (get_or slots (place_of own.entry) d).published ≡ true → AlreadyPublished ≡ hand_in_reply terms events (grant_of events lease) entry evidence
   published_reply lease d entry evidence own given same e l published = sym (counts lease d entry evidence own true given same e l published)
 

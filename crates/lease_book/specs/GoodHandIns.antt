@@ -4,8 +4,8 @@ use Rattle.std.specs.Option.{option_or}
 use Rattle.pbn_deals.specs.declared.boards.Board.{Board}
 use Rattle.lease_book.specs.declared.entries.Entry.{Entry}
 use Rattle.lease_book.specs.declared.events.Grant.{Grant}
-use Rattle.lease_book.specs.declared.events.Evidence.{Evidence}
-use Rattle.lease_book.specs.declared.events.Evidence.TheVariants.{Shows, Faulty}
+use Rattle.lease_book.specs.declared.events.HandedIn.{HandedIn}
+use Rattle.lease_book.specs.declared.events.HandedIn.TheVariants.{Shows, Faulty}
 use Rattle.lease_book.specs.declared.events.Asked.{Asked}
 use Rattle.lease_book.specs.declared.events.Asked.TheVariants.{Lease, Expire, GiveUp, HandIn}
 use Rattle.lease_book.specs.declared.events.Event.{Event}
@@ -15,7 +15,7 @@ use Rattle.lease_book.specs.Histories.{Terms, grant_of}
 use Rattle.lease_book.specs.Replies.{is_shown_for}
 
 -- the number that is shown for an entry under a lease, if the lease was given for it
-abbrev pub good_under : List Board → Entry → Option Grant → Evidence → Option ℕ
+abbrev pub good_under : List Board → Entry → Option Grant → HandedIn → Option ℕ
 good_under boards entry None evidence = None
 good_under boards entry (Some grant) (Faulty fault) = None
 good_under boards entry (Some grant) (Shows shown) =

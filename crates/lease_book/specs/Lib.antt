@@ -6,6 +6,7 @@ pub mod Histories
 pub mod Replies
 pub mod Slots
 pub mod Books
+pub mod BookResults
 pub mod Keeping
 pub mod GoodHandIns
 pub mod Laws

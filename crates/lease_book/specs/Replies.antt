@@ -6,8 +6,8 @@ use Rattle.pbn_deals.specs.declared.boards.Board.{Board}
 use Rattle.checker.specs.declared.entries.Shown.{Shown}
 use Rattle.lease_book.specs.declared.entries.Entry.{Entry}
 use Rattle.lease_book.specs.declared.events.Grant.{Grant}
-use Rattle.lease_book.specs.declared.events.Evidence.{Evidence}
-use Rattle.lease_book.specs.declared.events.Evidence.TheVariants.{Shows, Faulty}
+use Rattle.lease_book.specs.declared.events.HandedIn.{HandedIn}
+use Rattle.lease_book.specs.declared.events.HandedIn.TheVariants.{Shows, Faulty}
 use Rattle.lease_book.specs.declared.events.Asked.{Asked}
 use Rattle.lease_book.specs.declared.events.Asked.TheVariants.{Lease, Expire, GiveUp, HandIn}
 use Rattle.lease_book.specs.declared.events.Reply.{Reply}
@@ -44,17 +44,17 @@ is_shown_for (Some deal) entry shown =
     && nat_eq (contract_place entry.declarer entry.trump) (contract_place shown.declarer shown.trump)
 
 -- whether what was handed in can be for the entry
-abbrev pub is_evidence_for : List Board → Entry → Evidence → Bool
+abbrev pub is_evidence_for : List Board → Entry → HandedIn → Bool
 is_evidence_for boards entry (Shows shown) = is_shown_for (deal_of boards entry.board) entry shown
 is_evidence_for boards entry (Faulty fault) = true
 
-abbrev pub evidence_reply : Evidence → Reply
+abbrev pub evidence_reply : HandedIn → Reply
 evidence_reply (Shows shown) = Published shown.k
 evidence_reply (Faulty fault) = BadCertificate fault
 
 -- the first that applies: no such lease; another entry; published before, or a twin of it; then what was handed in
 -- counts
-abbrev pub hand_in_reply : Terms → List Event → Option Grant → Entry → Evidence → Reply
+abbrev pub hand_in_reply : Terms → List Event → Option Grant → Entry → HandedIn → Reply
 hand_in_reply terms before None entry evidence = UnknownLease
 hand_in_reply terms before (Some grant) entry evidence =
     if is_same_entry grant.entry entry && is_evidence_for terms.boards entry evidence

@@ -5,8 +5,8 @@ use Rattle.pbn_deals.specs.declared.boards.Board.{Board}
 use Rattle.checker.specs.declared.hand_faults.HandFault.TheVariants.{NoDeal}
 use Rattle.checker.specs.Verdicts.{IsVerdict}
 use Rattle.lease_book.specs.declared.entries.Entry.{Entry}
-use Rattle.lease_book.specs.declared.events.Evidence.{Evidence}
-use Rattle.lease_book.specs.declared.events.Evidence.TheVariants.{Shows, Faulty}
+use Rattle.lease_book.specs.declared.events.HandedIn.{HandedIn}
+use Rattle.lease_book.specs.declared.events.HandedIn.TheVariants.{Shows, Faulty}
 use Rattle.lease_book.specs.declared.events.Asked.{Asked}
 use Rattle.lease_book.specs.declared.events.Asked.TheVariants.{Lease, Expire, GiveUp, HandIn}
 use Rattle.lease_book.specs.declared.events.Reply.{Reply}
@@ -17,7 +17,7 @@ use Rattle.lease_book.specs.Histories.{deal_of}
 use Rattle.lease_book.specs.Books.{Ledger, IsAnswered}
 
 -- what is found in the texts that are handed in for an entry: what the verdict on its board's deal shows, if it has one
-abbrev pub IsJudged : Option Deal → Entry → ℕ → List ℕ → List ℕ → Evidence → Type 0
+abbrev pub IsJudged : Option Deal → Entry → ℕ → List ℕ → List ℕ → HandedIn → Type 0
 IsJudged None entry k declarer defenders evidence = evidence ≡ Faulty NoDeal
 IsJudged (Some deal) entry k declarer defenders (Shows shown) =
     IsVerdict deal entry.declarer entry.trump k declarer defenders (Ok shown)
@@ -30,7 +30,7 @@ IsAskedBy boards (request.Lease now) asked = asked ≡ Lease now
 IsAskedBy boards (request.Expire now) asked = asked ≡ Expire now
 IsAskedBy boards (request.GiveUp lease) asked = asked ≡ GiveUp lease
 IsAskedBy boards (request.HandIn lease entry k declarer defenders) asked =
-    (evidence : Evidence) × IsJudged (deal_of boards entry.board) entry k declarer defenders evidence
+    (evidence : HandedIn) × IsJudged (deal_of boards entry.board) entry k declarer defenders evidence
     × (asked ≡ HandIn lease entry evidence)
 
 -- the events are those of the requests, one for each, in their order

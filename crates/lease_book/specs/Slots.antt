@@ -1,5 +1,6 @@
 -- What a book keeps of each entry, in the order of their places.
-use Rattle.std.specs.Prelude.{◌≡◌, ℕ, ◌/◌, ◌<◌, ◌≤◌, Bool, true, false, ◌&&◌, List, Option, None, Some, is_none, is_some}
+use Rattle.std.specs.Prelude.{◌≡◌, ℕ, ◌/◌, ◌<◌, ◌≤◌, Bool, true, false, ◌&&◌, List, Option, None, Some, is_none}
+use Rattle.std.specs.Prelude.{is_some}
 use Rattle.std.specs.Prelude.{if◌then◌else◌, nat_eq, nat_lt, slice_index_or, length}
 use Rattle.due_rows.specs.Moments.{is_due}
 use Rattle.lease_book.specs.declared.events.Grant.{Grant}

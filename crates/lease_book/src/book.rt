@@ -19,11 +19,11 @@ ghost use Rattle.lease_book.specs.declared.events.Reply.TheVariants.{GaveUp, Not
 
 use crate::boards::Boards;
 use crate::entries::{Entry, contract_place};
-use crate::events::{Asked, Event, Evidence, Grant, Reply, add, make_room};
+use crate::events::{Asked, Event, Grant, HandedIn, Reply, add, make_room};
 use crate::faults::BookFault;
 use crate::slots::{Slot, Slots};
-use cards::Layout;
-use checker::{OutOfMemory, Shown, Verdict};
+use cards::{Layout, OutOfMemory};
+use checker::{Shown, Verdict};
 use pbn_deals::{Board, MOST_BOARDS};
 use std::alloc::Global;
 use std::marker::Model;
@@ -91,7 +91,7 @@ fn take_back(slots: &mut Slots, place: usize, lease: u64) -> Reply
 }
 
 /// What a verdict has shown.
-fn evidence_of(verdict: &Verdict) -> Evidence
+fn evidence_of(verdict: &Verdict) -> HandedIn
     ensures same { result ≡ evidence_of verdict.now }
     ensures proven { IsProvenEvidence result }
 {
@@ -100,22 +100,22 @@ fn evidence_of(verdict: &Verdict) -> Evidence
             proven.invariant();
             let shown = proven.shown();
             let _at_most_13 = shown.layout.len();
-            Evidence::Shows(shown)
+            HandedIn::Shows(shown)
         }
-        Err(fault) => Evidence::Faulty(*fault),
+        Err(fault) => HandedIn::Faulty(*fault),
     }
 }
 
 /// Whether what was handed in can be for the entry.
-fn is_evidence_for(boards: &[Board], entry: &Entry, evidence: &Evidence) -> bool
+fn is_evidence_for(boards: &[Board], entry: &Entry, evidence: &HandedIn) -> bool
     ensures { result ≡ is_evidence_for boards.now entry.now evidence.now }
 {
     match evidence {
-        Evidence::Shows(shown) => match boards.get(entry.board) {
+        HandedIn::Shows(shown) => match boards.get(entry.board) {
             Some(board) => is_shown_for(&board.deal, entry, shown),
             None => false,
         },
-        Evidence::Faulty(_) => true,
+        HandedIn::Faulty(_) => true,
     }
 }
 
@@ -343,11 +343,11 @@ impl Book {
             return Ok(add(&mut self.events, asked, Reply::AlreadyPublished));
         }
         match evidence {
-            Evidence::Shows(shown) => {
+            HandedIn::Shows(shown) => {
                 self.slots.set(place, slot.with_number(shown.k));
                 Ok(add(&mut self.events, asked, Reply::Published(shown.k)))
             }
-            Evidence::Faulty(fault) => {
+            HandedIn::Faulty(fault) => {
                 let _held = take_back(&mut self.slots, place, lease);
                 Ok(add(&mut self.events, asked, Reply::BadCertificate(fault)))
             }

@@ -3,7 +3,8 @@
 ghost use Rattle.std.specs.Prelude.{◌≡◌, ◌+◌, ◌<◌, ◌≤◌, ◌++◌, ◌∷◌, [], OnOk, vec_len, vec_capacity};
 
 use crate::entries::Entry;
-use checker::{HandFault, OutOfMemory, Shown};
+use cards::OutOfMemory;
+use checker::{HandFault, Shown};
 
 /// A lease that was given.
 #[derive(Clone, Copy, Debug, PartialEq)]
@@ -18,7 +19,7 @@ pub struct Grant {
 
 /// What was handed in.
 #[derive(Clone, Copy, Debug, PartialEq)]
-pub enum Evidence {
+pub enum HandedIn {
     /// It shows this: a layout, a declarer, a denomination and the tricks of declarer's side.
     Shows(Shown),
     /// It shows nothing, for this fault.
@@ -50,7 +51,7 @@ pub enum Asked {
         /// The entry that it is meant for.
         entry: Entry,
         /// What was handed in.
-        evidence: Evidence,
+        evidence: HandedIn,
     },
 }
 

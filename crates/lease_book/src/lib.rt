@@ -2,32 +2,37 @@
 //!
 //! A [`Book`] gives out leases of entries, and keeps the history of all that it was asked and what it replied. Each
 //! reply is the one that the history before it names (`specs/Histories.antt`), and a published number is that of a
-//! proof on the board's deal.
+//! proof on the board's deal. [`write_tables`] writes the tables of the boards with the published numbers.
 #![tactic(auto)]
 
 mod boards;
 mod book;
+mod clocks;
 mod entries;
 mod events;
 mod faults;
+mod gates;
 mod holders;
 mod laws;
 mod replays;
 mod replies;
 mod requests;
+mod sheets;
 mod slots;
 mod true_histories;
 
 pub use boards::{deal_on, first_boards};
 pub use book::Book;
-pub use checker::OutOfMemory;
+pub use clocks::Clock;
 pub use entries::{ENTRIES, Entry};
-pub use events::{Asked, Event, Evidence, Grant, Reply};
+pub use events::{Asked, Event, Grant, HandedIn, Reply};
 pub use faults::BookFault;
+pub use gates::Gate;
 pub use laws::{
     finds_least_twin, gives_few_leases, leases_least_twins, may_give_up_unsettled, names_one_reply,
     nothing_is_left, publishes_first_good, publishes_once,
 };
 pub use replays::replay;
 pub use requests::{GraphText, Request};
+pub use sheets::write_tables;
 pub use true_histories::is_true_history;

@@ -13,7 +13,8 @@ use crate::entries::Entry;
 use crate::events::Reply;
 use crate::faults::BookFault;
 use crate::requests::{GraphText, Request};
-use checker::{OutOfMemory, Verdict, judge};
+use cards::OutOfMemory;
+use checker::{Texts, Verdict, judge};
 use pbn_deals::Board;
 use std::alloc::Global;
 
@@ -35,8 +36,10 @@ fn verdict_on(
         entry.declarer,
         entry.trump,
         k,
-        declarer.as_bytes(),
-        defenders.as_bytes(),
+        Texts {
+            declarers: declarer.as_bytes(),
+            defenders: defenders.as_bytes(),
+        },
     )
 }
 

@@ -10,8 +10,8 @@ use Rattle.lease_book.specs.declared.entries.Entry.{Entry}
 use Rattle.lease_book.specs.declared.events.Asked.{Asked}
 use Rattle.lease_book.specs.declared.events.Asked.TheVariants.{HandIn}
 use Rattle.lease_book.specs.declared.events.Event.{Event}
-use Rattle.lease_book.specs.declared.events.Evidence.{Evidence}
-use Rattle.lease_book.specs.declared.events.Evidence.TheVariants.{Shows, Faulty}
+use Rattle.lease_book.specs.declared.events.HandedIn.{HandedIn}
+use Rattle.lease_book.specs.declared.events.HandedIn.TheVariants.{Shows, Faulty}
 use Rattle.lease_book.specs.declared.events.Grant.{Grant}
 use Rattle.lease_book.specs.declared.events.Reply.TheVariants.{Published, AlreadyPublished, OtherEntry}
 use Rattle.lease_book.specs.Entries.{is_same_entry}
@@ -19,7 +19,7 @@ use Rattle.lease_book.specs.Histories.{Terms, grant_of, published_in, deal_of}
 use Rattle.lease_book.specs.Proofs.{IsProven, evidence_of}
 use Rattle.lease_book.specs.Replies.{is_evidence_for, evidence_reply, hand_in_reply}
 use Rattle.lease_desk.specs.declared.receipts.Receipt.{Receipt}
-use Rattle.lease_desk.specs.declared.views.Page.{Page}
+use Rattle.lease_desk.specs.declared.views.SeenMessage.{SeenMessage}
 use Rattle.lease_desk.specs.declared.views.View.{View}
 use Rattle.lease_desk.specs.Receipts.{IsBefore}
 use Rattle.lease_desk.specs.Views.{sitter}
@@ -28,7 +28,7 @@ use Rattle.lease_desk.specs.Desks.{IsNamed, IsTold}
 use Rattle.lease_desk.specs.Entries.{IsAttended}
 use Rattle.lease_desk.specs.HandIns.{IsValueOf, IsHandedIn}
 
-pub told_by : (v w : View) (opening : Page) (number : ℕ) (before after : List Receipt) (asked : Asked) (told : Receipt) → v ≡ sitter (Some opening) number before → after ≡ before ++ told ∷ [] → IsAttended v w asked told → IsTold opening.book.terms before after asked told
+pub told_by : (v w : View) (opening : SeenMessage) (number : ℕ) (before after : List Receipt) (asked : Asked) (told : Receipt) → v ≡ sitter (Some opening) number before → after ≡ before ++ told ∷ [] → IsAttended v w asked told → IsTold opening.book.terms before after asked told
 told_by v w opening number before after asked told knows added attended = record {
   asked_is = attended.asked_is;
   named = subst (λ (l : List Receipt). IsNamed opening.book.terms l asked told) (ap (λ (u : View). u.receipts) knows) (attended.named opening (ap (λ (u : View). u.opening) knows));
@@ -37,21 +37,21 @@ told_by v w opening number before after asked told knows added attended = record
 }
 
 -- what a published number was shown by
-pub record IsShownAs (evidence : Evidence) (k : ℕ) : Type 0 where
+pub record IsShownAs (evidence : HandedIn) (k : ℕ) : Type 0 where
   pub shown : Shown
   pub shows : evidence ≡ Shows shown
   pub tricks : shown.k ≡ k
 
-shown_in : (evidence : Evidence) (k : ℕ) → evidence_reply evidence ≡ Published k → IsShownAs evidence k
+shown_in : (evidence : HandedIn) (k : ℕ) → evidence_reply evidence ≡ Published k → IsShownAs evidence k
 shown_in (Shows shown) k e = record { shown = shown; shows = refl; tricks = cc }
 shown_in (Faulty fault) k e = cc
 
-shown_if : (fits done : Bool) (evidence : Evidence) (k : ℕ) → cond fits (cond done AlreadyPublished (evidence_reply evidence)) OtherEntry ≡ Published k → IsShownAs evidence k
+shown_if : (fits done : Bool) (evidence : HandedIn) (k : ℕ) → cond fits (cond done AlreadyPublished (evidence_reply evidence)) OtherEntry ≡ Published k → IsShownAs evidence k
 shown_if true true evidence k e = cc
 shown_if true false evidence k e = shown_in evidence k e
 shown_if false done evidence k e = cc
 
-pub shown_by : (terms : Terms) (events : List Event) (grant : Option Grant) (entry : Entry) (evidence : Evidence) (k : ℕ) → hand_in_reply terms events grant entry evidence ≡ Published k → IsShownAs evidence k
+pub shown_by : (terms : Terms) (events : List Event) (grant : Option Grant) (entry : Entry) (evidence : HandedIn) (k : ℕ) → hand_in_reply terms events grant entry evidence ≡ Published k → IsShownAs evidence k
 shown_by terms events None entry evidence k e = cc
 shown_by terms events (Some grant) entry evidence k e =
     shown_if (is_same_entry grant.entry entry && is_evidence_for terms.boards entry evidence) (is_some (published_in terms.boards events entry)) evidence k e

@@ -8,7 +8,7 @@ use Rattle.std.proofs.lemmas.List.Sums.{sum_by-cons}
 use Rattle.lease_book.specs.declared.events.Event.{Event}
 use Rattle.lease_desk.specs.declared.chairs.Chair.{Chair}
 use Rattle.lease_desk.specs.declared.receipts.Receipt.{Receipt}
-use Rattle.lease_desk.specs.declared.views.Page.{Page}
+use Rattle.lease_desk.specs.declared.views.SeenMessage.{SeenMessage}
 use Rattle.lease_desk.specs.Receipts.{receipt, keep, receipts_from, Stands, is_for}
 use Rattle.lease_desk.specs.Views.{receipts_on, history_on}
 use Rattle.lease_desk.specs.Rule.{AreBelow}
@@ -21,7 +21,7 @@ use Rattle.lease_book.specs.Replies.{IsLegal}
 
 -- each receipt stands at its place
 
-pub all_stand : (page : Page) (chairs : List Chair) → All (IsCompared page) chairs → All (λ chair. All (Stands (history_on page)) (receipts_in chair)) chairs
+pub all_stand : (page : SeenMessage) (chairs : List Chair) → All (IsCompared page) chairs → All (λ chair. All (Stands (history_on page)) (receipts_in chair)) chairs
 all_stand page chairs compared k d within =
     let chair : Chair = get_or chairs k d in
     subst (λ (l : List Receipt). All (Stands (history_on page)) l) (sym (compared k d within)) (stand_from (history_on page) (number_of chair) page.before page.makers page.book.events refl)
@@ -139,7 +139,7 @@ once_from place count numbers all from (maker ∷ makers) (event ∷ events) lat
     (λ later. once_from place count numbers all (from + 1) makers events later (omega arith) (omega arith) listed.1)
 
 -- the chairs' own receipts, where they were compared with the last page
-by_number : (measure : List Receipt → ℕ) (page : Page) (chairs : List Chair) → All (IsCompared page) chairs → sum_by (λ chair. measure (receipts_in chair)) chairs ≡ over measure (length page.before) page.makers page.book.events (map number_of chairs)
+by_number : (measure : List Receipt → ℕ) (page : SeenMessage) (chairs : List Chair) → All (IsCompared page) chairs → sum_by (λ chair. measure (receipts_in chair)) chairs ≡ over measure (length page.before) page.makers page.book.events (map number_of chairs)
 unfolding over
 by_number measure page [] compared = refl
 by_number measure page (chair ∷ chairs) compared =
@@ -152,10 +152,10 @@ numbers_shown : (chairs : List Chair) → map (λ (s : ℕ × List Receipt). s.0
 numbers_shown [] = refl
 numbers_shown (chair ∷ chairs) = ap (λ (l : List ℕ). number_of chair ∷ l) (numbers_shown chairs)
 
-pub closed_desk : (terms : Terms) (start : List Event) (count : ℕ) (chairs closed : List Chair) (book : Ledger) (opening : Page) → opening.book.terms ≡ terms → opening.before ≡ start → opening.chairs ≡ count → AreAll count (map number_of chairs) → IsCollected (Some opening) chairs closed book → IsLegal book.terms book.events
+pub closed_desk : (terms : Terms) (start : List Event) (count : ℕ) (chairs closed : List Chair) (book : Ledger) (opening : SeenMessage) → opening.book.terms ≡ terms → opening.before ≡ start → opening.chairs ≡ count → AreAll count (map number_of chairs) → IsCollected (Some opening) chairs closed book → IsLegal book.terms book.events
     → IsClosed terms start chairs book closed
 closed_desk terms start count chairs closed book opening terms_are start_is count_are all collected legal =
-    let page : Page = collected.page in
+    let page : SeenMessage = collected.page in
     let of = collected.of opening refl in
     let events_are : book.events ≡ history_on page = collected.events_are in
     let own_terms : book.terms ≡ terms = collected.terms_are ∙ sym of.terms ∙ terms_are in

@@ -2,7 +2,7 @@
 use Rattle.std.proofs.Common.{◌≡◌, ◌<◌, true, List, All, length, map, get_or, Option, refl, sym, ap, ◌∙◌}
 use Rattle.crossbeam_channel.specs.Claims.{view}
 use Rattle.lease_desk.specs.declared.messages.Message.{Message}
-use Rattle.lease_desk.specs.declared.views.Page.{Page}
+use Rattle.lease_desk.specs.declared.views.SeenMessage.{SeenMessage}
 use Rattle.lease_desk.specs.declared.views.Hand.TheVariants.{Before, Empty, Holds}
 use Rattle.lease_desk.specs.declared.views.View.{View}
 use Rattle.lease_desk.specs.declared.ends.DeskEnds.{DeskEnds}
@@ -13,16 +13,16 @@ use Rattle.lease_desk.specs.Desks.{IsChairAt, shown_of}
 use Rattle.lease_desk.specs.Closing.{IsCollected, IsCompared}
 use Rattle.lease_desk.proofs.PageLaws.{whole_history}
 
-pub sits_empty : (ends : DeskEnds) (opening : Option Page) (chair : Chair) → IsChairAt ends opening chair → (view chair.pass).hand ≡ Before → ⊥
+pub sits_empty : (ends : DeskEnds) (opening : Option SeenMessage) (chair : Chair) → IsChairAt ends opening chair → (view chair.pass).hand ≡ Before → ⊥
 sits_empty ends opening chair is e =
     let both : Before ≡ Empty = sym e ∙ ap (λ (v : View). v.hand) is.knows in cc
 
-pub collected : (ends : DeskEnds) (opening : Option Page) (chairs after closed : List Chair) (first : Chair) (own spare : View) (message : Message) → All (IsChairAt ends opening) chairs → 0 < length chairs → own ≡ spared (view (get_or chairs 0 first).pass) → Took true own message spare
+pub collected : (ends : DeskEnds) (opening : Option SeenMessage) (chairs after closed : List Chair) (first : Chair) (own spare : View) (message : Message) → All (IsChairAt ends opening) chairs → 0 < length chairs → own ≡ spared (view (get_or chairs 0 first).pass) → Took true own message spare
     → map shown_of after ≡ map shown_of chairs → map shown_of closed ≡ map shown_of after
-    → ((last : Page) → spare.hand ≡ Holds true last → All (IsCompared last) closed)
+    → ((last : SeenMessage) → spare.hand ≡ Holds true last → All (IsCompared last) closed)
     → IsCollected opening chairs closed message.book
 collected ends opening chairs after closed first own spare message each some is took before same compared =
-    let page : Page = page_of message in
+    let page : SeenMessage = page_of message in
     let knows = (each 0 first some).knows in
     let opening_is : own.opening ≡ opening = ap (λ (v : View). v.opening) is ∙ ap (λ (v : View). v.opening) knows in
     record {

@@ -7,7 +7,7 @@ use lib.ListN.{get_elem?}
 use Rattle.crossbeam_channel.specs.Fifo.{Pushes, Pops, Forks, Merges, Learns}
 use Rattle.lease_book.specs.declared.events.Event.{Event}
 use Rattle.lease_desk.specs.declared.messages.Message.{Message}
-use Rattle.lease_desk.specs.declared.views.Page.{Page}
+use Rattle.lease_desk.specs.declared.views.SeenMessage.{SeenMessage}
 use Rattle.lease_desk.specs.declared.views.Hand.TheVariants.{Before, Empty, Holds}
 use Rattle.lease_desk.specs.declared.views.View.{View}
 use Rattle.lease_desk.specs.Views.{page_of, page_with, receipts_on, unopened, usher, blank, holding}
@@ -36,10 +36,10 @@ begins = inl (refl, refl)
 pub silent : (pass : ℕ) (v : View) → Learns IsKept pass v (Silent v)
 silent pass v items views kept at = tt
 
-opened_fits : (page : Page) (made : ℕ) → made ≡ 0 → Fits page within (λ _. 0) 0 made 0 (usher (Some page) 0)
+opened_fits : (page : SeenMessage) (made : ℕ) → made ≡ 0 → Fits page within (λ _. 0) 0 made 0 (usher (Some page) 0)
 opened_fits page made is = record {
   in_hand = refl;
-  opened = λ opening e. let same : page ≡ opening = cc in record { terms = ap (λ (p : Page). p.book.terms) (sym same); before = ap (λ (p : Page). p.before) (sym same); chairs = ap (λ (p : Page). p.chairs) (sym same) };
+  opened = λ opening e. let same : page ≡ opening = cc in record { terms = ap (λ (p : SeenMessage). p.book.terms) (sym same); before = ap (λ (p : SeenMessage). p.before) (sym same); chairs = ap (λ (p : SeenMessage). p.chairs) (sym same) };
   chair = λ k e. cc;
   ushers = λ n e. (refl, (let zero_is : 0 ≡ n = cc in sym zero_is ∙ sym is));
   told = λ last e. cc;
@@ -47,7 +47,7 @@ opened_fits page made is = record {
 
 pub opens : (n pass : ℕ) (message : Message) → message.makers.items ≡ [] → Pushes IsKept n pass unopened message (Opens unopened message)
 opens n pass message nobody items views room (inl before) at =
-    let page : Page = page_of message in
+    let page : SeenMessage = page_of message in
     let only = only_view pass unopened (subst (λ (l : List View). get_elem? l pass ≡ some unopened) before.1 at) in
     let after : set views pass (usher (Some page) 0) ≡ usher (Some page) 0 ∷ [] = λ i. set (before.1 i) (only.0 i) (usher (Some page) 0) in (
       usher (Some page) 0,
@@ -67,7 +67,7 @@ opens n pass message nobody items views room (inl before) at =
       refl,
     )
   where
-    first_view : (page : Page) (p : ℕ) (v : View) → get_elem? (usher (Some page) 0 ∷ []) p ≡ some v → (p ≡ 0) × (usher (Some page) 0 ≡ v)
+    first_view : (page : SeenMessage) (p : ℕ) (v : View) → get_elem? (usher (Some page) 0 ∷ []) p ≡ some v → (p ≡ 0) × (usher (Some page) 0 ≡ v)
     first_view page zero v e = (refl, some-injective (usher (Some page) 0) v e)
     first_view page (suc p) v e = absurd (some-ne-none v (sym e))
 opens n pass message nobody items views room (inr open') at =
@@ -77,7 +77,7 @@ nothing_in : (message : Message) (items : List Message) → message ∷ items �
 nothing_in message items e = cc
 
 -- one pass changes, and the rest stays
-module _ (page : Page) (at : Where) (seats : ℕ → ℕ) (ushers made : ℕ) (views : List View) (pass : ℕ) (v : View) (fits : (p : ℕ) (u : View) → get_elem? views p ≡ some u → Fits page at seats ushers made p u) (there : get_elem? views pass ≡ some v) where
+module _ (page : SeenMessage) (at : Where) (seats : ℕ → ℕ) (ushers made : ℕ) (views : List View) (pass : ℕ) (v : View) (fits : (p : ℕ) (u : View) → get_elem? views p ≡ some u → Fits page at seats ushers made p u) (there : get_elem? views pass ≡ some v) where
   -- what a taken message leaves of what another knows
   still_fits : (final : Bool) → at ≡ within → (p : ℕ) (u : View) → p ≢ pass → get_elem? views p ≡ some u → Fits page (out final pass) seats ushers made p u
   still_fits final inside p u apart e =
@@ -90,7 +90,7 @@ module _ (page : Page) (at : Where) (seats : ℕ → ℕ) (ushers made : ℕ) (v
         told = λ last e'. absurd (subst IsFinal inside (f.told last e').1);
       }
 
-  taker_fits : (final : Bool) (taken : Page) → at ≡ within → taken ≡ page → Fits page (out final pass) seats ushers made pass (holding final taken v)
+  taker_fits : (final : Bool) (taken : SeenMessage) → at ≡ within → taken ≡ page → Fits page (out final pass) seats ushers made pass (holding final taken v)
   taker_fits final taken inside same =
       let f = fits pass v there in
       record {
@@ -101,7 +101,7 @@ module _ (page : Page) (at : Where) (seats : ℕ → ℕ) (ushers made : ℕ) (v
         told = λ last e'. absurd (subst IsFinal inside (f.told last e').1);
       }
 
-  learned : (taken : Page) → taken ≡ page → length page.makers ≡ length page.book.events → AreBelow made page.makers → made ≤ page.chairs → Learned v taken
+  learned : (taken : SeenMessage) → taken ≡ page → length page.makers ≡ length page.book.events → AreBelow made page.makers → made ≤ page.chairs → Learned v taken
   learned taken same even listed bound =
       let f = fits pass v there in
       subst (Learned v) (sym same) (record {
@@ -115,7 +115,7 @@ takes_from : (final : Bool) (pass : ℕ) (v : View) (x : Message) (items : List 
     → (w : View) × IsKept items (set views pass w) × Took final v x w
 takes_from final pass v x items views (out f holder) open' at_is lies there = absurd (nothing_in x items lies)
 takes_from final pass v x items views within open' at_is lies there =
-    let page : Page = open'.page in
+    let page : SeenMessage = open'.page in
     let is_x : x ≡ lies.0 = let e : x ∷ items ≡ lies.0 ∷ [] = lies.1 in cc in
     let none : items ≡ [] = let e : x ∷ items ≡ lies.0 ∷ [] = lies.1 in cc in
     let same : page_of x ≡ page = ap page_of is_x ∙ lies.2 in
@@ -145,19 +145,19 @@ takes final pass v knows x items views kept there =
     takes_from final pass v x items views open'.at open' refl open'.lies there
 
 -- what is given back follows what was taken: the same, or one event more, which is listed under the giver's number
-pub record Follows (held page : Page) (number : ℕ) : Type 0 where
+pub record Follows (held page : SeenMessage) (number : ℕ) : Type 0 where
   pub of : IsOf held page
   pub even : length held.makers ≡ length held.book.events → length page.makers ≡ length page.book.events
   pub listed : (bound : ℕ) → number < bound → AreBelow bound held.makers → AreBelow bound page.makers
   pub others : (k : ℕ) → k ≢ number → length held.makers ≡ length held.book.events → receipts_on held k ≡ receipts_on page k
 
-pub follows_same : (held page : Page) (number : ℕ) → page ≡ held → Follows held page number
+pub follows_same : (held page : SeenMessage) (number : ℕ) → page ≡ held → Follows held page number
 follows_same held page number same =
-    subst (λ (p : Page). Follows held p number) (sym same) (record { of = record { terms = refl; before = refl; chairs = refl }; even = λ e. e; listed = λ bound below' b. b; others = λ k apart even. refl })
+    subst (λ (p : SeenMessage). Follows held p number) (sym same) (record { of = record { terms = refl; before = refl; chairs = refl }; even = λ e. e; listed = λ bound below' b. b; others = λ k apart even. refl })
 
-pub follows_event : (held page : Page) (number : ℕ) (event : Event) → page ≡ page_with held number event → Follows held page number
+pub follows_event : (held page : SeenMessage) (number : ℕ) (event : Event) → page ≡ page_with held number event → Follows held page number
 follows_event held page number event same =
-    subst (λ (p : Page). Follows held p number) (sym same) (record {
+    subst (λ (p : SeenMessage). Follows held p number) (sym same) (record {
       of = record { terms = refl; before = refl; chairs = refl };
       even = λ e. omega (arith, length-append held.makers (number ∷ []), length-append held.book.events (event ∷ []));
       listed = λ bound below' b. below_push bound number held.makers below' b;
@@ -167,16 +167,16 @@ follows_event held page number event same =
 other_chair : (seats : ℕ → ℕ) (k number p pass : ℕ) → seats k ≡ p → seats number ≡ pass → p ≢ pass → k ≢ number
 other_chair seats k number p pass mine his apart e = apart (sym mine ∙ ap seats e ∙ his)
 
-gives_from : (n pass : ℕ) (v : View) (held : Page) (number : ℕ) (x : Message) (items : List Message) (views : List View) (open' : IsOpen items views) → IsHolder false held open'.at pass open'.page → v.number ≡ Some number → v.made ≡ None → Follows held (page_of x) number → get_elem? views pass ≡ some v
+gives_from : (n pass : ℕ) (v : View) (held : SeenMessage) (number : ℕ) (x : Message) (items : List Message) (views : List View) (open' : IsOpen items views) → IsHolder false held open'.at pass open'.page → v.number ≡ Some number → v.made ≡ None → Follows held (page_of x) number → get_elem? views pass ≡ some v
     → (w : View) × IsKept (items ++ x ∷ []) (set views pass w) × Gave v x w
 gives_from n pass v held number x items views open' holder is_number is_none follows there =
-    let page : Page = page_of x in
+    let page : SeenMessage = page_of x in
     let mine = open'.fits pass v there in
     let my_chair = mine.chair number is_number in
     let none : items ≡ [] = subst (λ (at : Where). Lies at items open'.page) holder.at_is open'.lies in
-    let even : length held.makers ≡ length held.book.events = subst (λ (p : Page). length p.makers ≡ length p.book.events) (sym holder.page_is) open'.even in
-    let listed : AreBelow open'.made held.makers = subst (λ (p : Page). AreBelow open'.made p.makers) (sym holder.page_is) open'.listed in
-    let of : IsOf open'.page page = subst (λ (p : Page). IsOf p page) holder.page_is follows.of in
+    let even : length held.makers ≡ length held.book.events = subst (λ (p : SeenMessage). length p.makers ≡ length p.book.events) (sym holder.page_is) open'.even in
+    let listed : AreBelow open'.made held.makers = subst (λ (p : SeenMessage). AreBelow open'.made p.makers) (sym holder.page_is) open'.listed in
+    let of : IsOf open'.page page = subst (λ (p : SeenMessage). IsOf p page) holder.page_is follows.of in
     let not_final : IsFinal open'.at → ⊥ = λ f. subst IsFinal holder.at_is f in
     let w : View = gave v page in (
       w,
@@ -199,7 +199,7 @@ gives_from n pass v held number x items views open' holder is_number is_none fol
               opened = λ opening e'. let o = f.opened opening e' in record { terms = o.terms ∙ of.terms; before = o.before ∙ of.before; chairs = o.chairs ∙ of.chairs };
               chair = λ k e'.
                   let c = f.chair k e' in
-                  (c.0, c.1, c.2 ∙ ap (λ (p' : Page). receipts_on p' k) (sym holder.page_is) ∙ follows.others k (other_chair open'.seats k number p pass c.0 my_chair.0 apart) even);
+                  (c.0, c.1, c.2 ∙ ap (λ (p' : SeenMessage). receipts_on p' k) (sym holder.page_is) ∙ follows.others k (other_chair open'.seats k number p pass c.0 my_chair.0 apart) even);
               ushers = f.ushers;
               told = λ last e'. absurd (not_final (f.told last e').1);
             })
@@ -216,7 +216,7 @@ gives_from n pass v held number x items views open' holder is_number is_none fol
       refl,
     )
 
-pub gives : (n pass : ℕ) (v : View) (held : Page) (number : ℕ) (x : Message) → v.hand ≡ Holds false held → v.number ≡ Some number → v.made ≡ None → Follows held (page_of x) number → Pushes IsKept n pass v x (Gave v x)
+pub gives : (n pass : ℕ) (v : View) (held : SeenMessage) (number : ℕ) (x : Message) → v.hand ≡ Holds false held → v.number ≡ Some number → v.made ≡ None → Follows held (page_of x) number → Pushes IsKept n pass v x (Gave v x)
 gives n pass v held number x has is_number is_none follows items views room kept there =
     let open' = is_open items views pass v (λ e. let both : Before ≡ Holds false held = sym e ∙ has in cc) there kept in
     let mine = open'.fits pass v there in
@@ -264,7 +264,7 @@ spares pass v knows items views kept there =
       told = λ last e. cc;
     }))
 
-pub tells : (pass : ℕ) (v : View) (held : Page) → v.hand ≡ Holds true held → Forks IsKept pass v v (told_of v)
+pub tells : (pass : ℕ) (v : View) (held : SeenMessage) → v.hand ≡ Holds true held → Forks IsKept pass v v (told_of v)
 tells pass v held has items views kept there =
     let open' = is_open items views pass v (λ e. let both : Before ≡ Holds true held = sym e ∙ has in cc) there kept in
     let mine = open'.fits pass v there in
@@ -291,7 +291,7 @@ seats_new : (seats : ℕ → ℕ) (made pass : ℕ) → seats_with seats made pa
 unfolding seats_with
 seats_new seats made pass = ap (λ b. cond b pass (seats made)) (eq-eqb made made refl)
 
-pub seats : (pass : ℕ) (opening : Page) (made : ℕ) → made < opening.chairs → Forks IsKept pass (usher (Some opening) made) (ushering (usher (Some opening) made)) (seated (usher (Some opening) made))
+pub seats : (pass : ℕ) (opening : SeenMessage) (made : ℕ) → made < opening.chairs → Forks IsKept pass (usher (Some opening) made) (ushering (usher (Some opening) made)) (seated (usher (Some opening) made))
 seats pass opening made room items views kept there =
     let v : View = usher (Some opening) made in
     let left : View = ushering v in
@@ -351,7 +351,7 @@ seats pass opening made room items views kept there =
     among_more within few many le among = tt
     among_more (out final holder) few many le among = omega arith
 
-pub seats_as : (pass : ℕ) (v : View) (opening : Option Page) (made chairs : ℕ) → v ≡ usher opening made → HasChairs opening chairs → made < chairs → Forks IsKept pass v (ushering v) (seated v)
+pub seats_as : (pass : ℕ) (v : View) (opening : Option SeenMessage) (made chairs : ℕ) → v ≡ usher opening made → HasChairs opening chairs → made < chairs → Forks IsKept pass v (ushering v) (seated v)
 seats_as pass v None made chairs is has room = absurd has
 seats_as pass v (Some opening) made chairs is has room = subst (λ (u : View). Forks IsKept pass u (ushering u) (seated u)) (sym is) (seats pass opening made (omega (arith, has)))
 
@@ -389,7 +389,7 @@ pub compares : (pass : ℕ) (v : View) → (v.hand ≡ Before → ⊥) → Learn
 compares pass v knows items views kept there k last is_number told =
     let open' = is_open items views pass v knows there kept in
     let mine = open'.fits pass v there in
-    (mine.chair k is_number).2 ∙ ap (λ (p : Page). receipts_on p k) (sym (mine.told last told).0)
+    (mine.chair k is_number).2 ∙ ap (λ (p : SeenMessage). receipts_on p k) (sym (mine.told last told).0)
 
 pub opens_as : (n pass : ℕ) (v : View) (message first : Message) → v ≡ unopened → message ≡ first → first.makers.items ≡ [] → Pushes IsKept n pass v message (Opens v message)
 opens_as n pass v message first is same nobody =

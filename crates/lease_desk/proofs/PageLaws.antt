@@ -4,7 +4,7 @@ use Rattle.std.proofs.lemmas.List.{take_all, drop_all, length_push, take-append-
 use Rattle.lease_book.specs.declared.events.Event.{Event}
 use Rattle.lease_book.specs.Books.{Ledger}
 use Rattle.lease_desk.specs.declared.messages.Message.{Message}
-use Rattle.lease_desk.specs.declared.views.Page.{Page}
+use Rattle.lease_desk.specs.declared.views.SeenMessage.{SeenMessage}
 use Rattle.lease_desk.specs.Views.{earlier_in, page_of, page_with, history_on}
 
 -- where no chair has made an event, the history is that of the opening
@@ -16,7 +16,7 @@ none_later message nobody =
 pub whole_history : (message : Message) → history_on (page_of message) ≡ message.book.events
 whole_history message = take-append-drop (earlier_in message) message.book.events
 
-page : List Event → List Event → Ledger → List ℕ → ℕ → Page
+page : List Event → List Event → Ledger → List ℕ → ℕ → SeenMessage
 page before later book makers chairs =
     record { before = before; book = record { terms = book.terms; events = later }; makers = makers; chairs = chairs }
 

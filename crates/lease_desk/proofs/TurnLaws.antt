@@ -6,7 +6,7 @@ use Rattle.lease_book.specs.Histories.{Terms}
 use Rattle.lease_book.specs.Replies.{IsReply, IsLegal}
 use Rattle.lease_desk.specs.declared.messages.Message.{Message}
 use Rattle.lease_desk.specs.declared.receipts.Receipt.{Receipt}
-use Rattle.lease_desk.specs.declared.views.Page.{Page}
+use Rattle.lease_desk.specs.declared.views.SeenMessage.{SeenMessage}
 use Rattle.lease_desk.specs.declared.views.Hand.{Hand}
 use Rattle.lease_desk.specs.declared.views.Hand.TheVariants.{Empty}
 use Rattle.lease_desk.specs.declared.views.View.{View}
@@ -17,7 +17,7 @@ use Rattle.lease_desk.specs.Entries.{IsEntered, IsAttended}
 use Rattle.lease_desk.proofs.ReceiptLaws.{from_own, before_end, stand_from}
 
 module _ (v w : View) (message : Message) (number : ℕ) (took : Took false v message w) (number_is : v.number ≡ Some number) where
-  may : (page : Page) → v.made ≡ None → (page ≡ page_of message) ⊎ ((event : Event) × (page ≡ page_with (page_of message) number event)) → MayGive w page
+  may : (page : SeenMessage) → v.made ≡ None → (page ≡ page_of message) ⊎ ((event : Event) × (page ≡ page_with (page_of message) number event)) → MayGive w page
   may page no_usher next = record {
     held = page_of message;
     number = number;
@@ -27,32 +27,32 @@ module _ (v w : View) (message : Message) (number : ℕ) (took : Took false v me
     next = next;
   }
 
-  pub may_entered : (page : Page) (asked : Asked) (told : Receipt) → v.made ≡ None → IsEntered (page_of message) page number asked told → MayGive w page
+  pub may_entered : (page : SeenMessage) (asked : Asked) (told : Receipt) → v.made ≡ None → IsEntered (page_of message) page number asked told → MayGive w page
   may_entered page asked told no_usher entered = may page no_usher (inr (told.event, entered.page_is))
 
-  pub may_same : (page : Page) → v.made ≡ None → page ≡ page_of message → MayGive w page
+  pub may_same : (page : SeenMessage) → v.made ≡ None → page ≡ page_of message → MayGive w page
   may_same page no_usher same = may page no_usher (inl same)
 
   -- what a chair knows once the message is given back
-  given : (page : Page) (u : View) (receipts : List Receipt) → v.hand ≡ Empty → u ≡ gave w page → receipts_on page number ≡ receipts
+  given : (page : SeenMessage) (u : View) (receipts : List Receipt) → v.hand ≡ Empty → u ≡ gave w page → receipts_on page number ≡ receipts
       → u ≡ record { number = v.number; receipts = receipts; made = v.made; opening = v.opening; hand = v.hand; told = v.told }
   given page u receipts empty back are =
       let told_is : receipts_told v.number page v.receipts ≡ receipts = ap (λ (o : Option ℕ). receipts_told o page v.receipts) number_is ∙ are in
       back ∙ ap (λ (x : View). gave x page) took.holds
       ∙ ap (λ (y : List Receipt × Hand). record { number = v.number; receipts = y.0; made = v.made; opening = v.opening; hand = y.1; told = v.told }) (λ i. (told_is i, sym empty i))
 
-  pub given_same : (page : Page) (u : View) → v.hand ≡ Empty → u ≡ gave w page → page ≡ page_of message → u ≡ v
+  pub given_same : (page : SeenMessage) (u : View) → v.hand ≡ Empty → u ≡ gave w page → page ≡ page_of message → u ≡ v
   given_same page u empty back same =
-      given page u v.receipts empty back (ap (λ (p : Page). receipts_on p number) same ∙ sym (took.learned.chair number number_is))
+      given page u v.receipts empty back (ap (λ (p : SeenMessage). receipts_on p number) same ∙ sym (took.learned.chair number number_is))
 
-  pub attended : (page : Page) (u : View) (asked : Asked) (told : Receipt) → v.hand ≡ Empty → u ≡ gave w page → IsEntered (page_of message) page number asked told → IsAttended v u asked told
+  pub attended : (page : SeenMessage) (u : View) (asked : Asked) (told : Receipt) → v.hand ≡ Empty → u ≡ gave w page → IsEntered (page_of message) page number asked told → IsAttended v u asked told
   attended page u asked told empty back entered =
-      let old : Page = page_of message in
+      let old : SeenMessage = page_of message in
       let before : v.receipts ≡ receipts_on old number = took.learned.chair number number_is in
       let long = length-append old.before old.book.events in
       let at : length old.before + length old.book.events ≡ told.place = omega (arith, entered.place_is) in
       let after : receipts_on page number ≡ v.receipts ++ told ∷ [] =
-      ap (λ (p : Page). receipts_on p number) entered.page_is
+      ap (λ (p : SeenMessage). receipts_on p number) entered.page_is
       ∙ from_own number (length old.before) old.makers old.book.events told.event took.learned.even
       ∙ ap (λ (y : List Receipt × ℕ). y.0 ++ receipt y.1 told.event ∷ []) (λ i. (sym before i, at i)) in
       record {

@@ -3,7 +3,7 @@ use Rattle.std.specs.Prelude.{◌≡◌, List, All, Option, Some, length, map}
 use Rattle.crossbeam_channel.specs.Claims.{view, IsSeatAt}
 use Rattle.crossbeam_channel.specs.Ends.{sends_on}
 use Rattle.lease_book.specs.Books.{Ledger}
-use Rattle.lease_desk.specs.declared.views.Page.{Page}
+use Rattle.lease_desk.specs.declared.views.SeenMessage.{SeenMessage}
 use Rattle.lease_desk.specs.declared.views.Hand.TheVariants.{Empty}
 use Rattle.lease_desk.specs.declared.ends.DeskEnds.{DeskEnds}
 use Rattle.lease_desk.specs.declared.chairs.Chair.{Chair}
@@ -13,7 +13,7 @@ use Rattle.lease_desk.specs.Desks.{IsChairAt, number_of, receipts_in, shown_of}
 
 -- the chairs are of one channel and one opening
 pub record AreSeatedAt (ends : DeskEnds) (chairs : List Chair) : Type 0 where
-  pub opening : Option Page
+  pub opening : Option SeenMessage
   pub each : All (IsChairAt ends opening) chairs
 
 -- the chair's pass is one of this channel, has nothing in hand, and knows what the chair keeps
@@ -24,15 +24,15 @@ pub record IsSitting (ends : DeskEnds) (chair : Chair) : Type 0 where
   pub receipts : (view chair.pass).receipts ≡ chair.receipts.items
 
 -- the chair's receipts are those on the last page
-abbrev pub IsCompared : Page → Chair → Type 0
+abbrev pub IsCompared : SeenMessage → Chair → Type 0
 IsCompared last chair = receipts_in chair ≡ receipts_on last (number_of chair)
 
 -- the last page, with which all receipts were compared
-pub record IsCollected (opening : Option Page) (chairs closed : List Chair) (book : Ledger) : Type 0 where
-  pub page : Page
+pub record IsCollected (opening : Option SeenMessage) (chairs closed : List Chair) (book : Ledger) : Type 0 where
+  pub page : SeenMessage
   pub terms_are : book.terms ≡ page.book.terms
   pub events_are : book.events ≡ history_on page
-  pub of : (first : Page) → opening ≡ Some first → IsOf first page
+  pub of : (first : SeenMessage) → opening ≡ Some first → IsOf first page
   pub even : length page.makers ≡ length page.book.events
   pub listed : AreBelow page.chairs page.makers
   pub same : map shown_of closed ≡ map shown_of chairs

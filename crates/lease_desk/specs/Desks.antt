@@ -9,7 +9,7 @@ use Rattle.lease_book.specs.Histories.{Terms}
 use Rattle.lease_book.specs.Books.{Ledger}
 use Rattle.lease_book.specs.Replies.{IsReply, IsLegal}
 use Rattle.lease_desk.specs.declared.receipts.Receipt.{Receipt}
-use Rattle.lease_desk.specs.declared.views.Page.{Page}
+use Rattle.lease_desk.specs.declared.views.SeenMessage.{SeenMessage}
 use Rattle.lease_desk.specs.declared.ends.DeskEnds.{DeskEnds}
 use Rattle.lease_desk.specs.declared.chairs.Chair.{Chair}
 use Rattle.lease_desk.specs.declared.desk.Desk.{Desk}
@@ -34,7 +34,7 @@ abbrev pub start_of : Desk → List Event
 start_of desk = desk.start.value.events
 
 -- the page with which the desk was opened
-abbrev pub opening_of : Desk → Page
+abbrev pub opening_of : Desk → SeenMessage
 opening_of desk =
     record {
       before = start_of desk;
@@ -44,7 +44,7 @@ opening_of desk =
     }
 
 -- the chair's pass is one of this channel, and knows the opening and what the chair keeps
-pub record IsChairAt (ends : DeskEnds) (opening : Option Page) (chair : Chair) : Type 0 where
+pub record IsChairAt (ends : DeskEnds) (opening : Option SeenMessage) (chair : Chair) : Type 0 where
   pub seat : IsSeatAt (sends_on ends.sender) chair.pass
   pub knows : view chair.pass ≡ sitter opening chair.number chair.receipts.items
 

@@ -3,14 +3,14 @@ use Rattle.std.specs.Prelude.{◌≡◌, ℕ, [], ◌∷◌, ◌++◌, All, Some
 use Rattle.lease_book.specs.declared.events.Asked.{Asked}
 use Rattle.lease_book.specs.Replies.{IsReply, IsLegal}
 use Rattle.lease_desk.specs.declared.receipts.Receipt.{Receipt}
-use Rattle.lease_desk.specs.declared.views.Page.{Page}
+use Rattle.lease_desk.specs.declared.views.SeenMessage.{SeenMessage}
 use Rattle.lease_desk.specs.declared.views.View.{View}
 use Rattle.lease_desk.specs.Receipts.{IsBefore}
 use Rattle.lease_desk.specs.Views.{page_with, history_on}
 use Rattle.lease_desk.specs.Desks.{IsNamed}
 
 -- a chair has entered its request, with the reply that the page names
-pub record IsEntered (old new : Page) (number : ℕ) (asked : Asked) (told : Receipt) : Type 0 where
+pub record IsEntered (old new : SeenMessage) (number : ℕ) (asked : Asked) (told : Receipt) : Type 0 where
   pub asked_is : told.event.asked ≡ asked
   pub legal : IsLegal old.book.terms (history_on old)
   pub place_is : told.place ≡ length (history_on old)
@@ -31,6 +31,6 @@ with_receipt v told = record {
 -- what a call leaves in a chair's pass
 pub record IsAttended (v w : View) (asked : Asked) (told : Receipt) : Type 0 where
   pub asked_is : told.event.asked ≡ asked
-  pub named : (opening : Page) → v.opening ≡ Some opening → IsNamed opening.book.terms v.receipts asked told
+  pub named : (opening : SeenMessage) → v.opening ≡ Some opening → IsNamed opening.book.terms v.receipts asked told
   pub knows : w ≡ with_receipt v told
   pub later : All (IsBefore told.place) v.receipts

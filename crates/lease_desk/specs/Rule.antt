@@ -4,7 +4,7 @@ use Rattle.std.specs.Prelude.{◌≡◌, ℕ, ◌<◌, ◌≤◌, ◌⊎◌, Boo
 use mathlib.Core.Option.{some}
 use lib.ListN.{get_elem?}
 use Rattle.lease_desk.specs.declared.messages.Message.{Message}
-use Rattle.lease_desk.specs.declared.views.Page.{Page}
+use Rattle.lease_desk.specs.declared.views.SeenMessage.{SeenMessage}
 use Rattle.lease_desk.specs.declared.views.Hand.{Hand}
 use Rattle.lease_desk.specs.declared.views.Hand.TheVariants.{Empty, Holds}
 use Rattle.lease_desk.specs.declared.views.View.{View}
@@ -21,16 +21,16 @@ AreBelow bound [] = Unit {0}
 AreBelow bound (number ∷ numbers) = (number < bound) × AreBelow bound numbers
 
 -- the channel holds the message, or nothing where the message is out
-abbrev pub Lies : Where → List Message → Page → Type 0
+abbrev pub Lies : Where → List Message → SeenMessage → Type 0
 Lies within items page = (message : Message) × (items ≡ message ∷ []) × (page_of message ≡ page)
 Lies (out final holder) items page = items ≡ []
 
-abbrev pub hand_if : Bool → Bool → Page → Hand
+abbrev pub hand_if : Bool → Bool → SeenMessage → Hand
 hand_if true final page = Holds final page
 hand_if false final page = Empty
 
 -- what a pass has in hand
-abbrev pub hand_at : Where → ℕ → Page → Hand
+abbrev pub hand_at : Where → ℕ → SeenMessage → Hand
 hand_at within pass page = Empty
 hand_at (out final holder) pass page = hand_if (nat_eq holder pass) final page
 
@@ -45,22 +45,22 @@ IsFinal (out true holder) = Unit {0}
 IsFinal (out false holder) = ⊥
 
 -- a desk that was opened so has come to this page
-pub record IsOf (opening page : Page) : Type 0 where
+pub record IsOf (opening page : SeenMessage) : Type 0 where
   pub terms : opening.book.terms ≡ page.book.terms
   pub before : opening.before ≡ page.before
   pub chairs : opening.chairs ≡ page.chairs
 
 -- what one pass knows is so
-pub record Fits (page : Page) (at : Where) (seats : ℕ → ℕ) (usher made pass : ℕ) (v : View) : Type 0 where
+pub record Fits (page : SeenMessage) (at : Where) (seats : ℕ → ℕ) (usher made pass : ℕ) (v : View) : Type 0 where
   pub in_hand : v.hand ≡ hand_at at pass page
-  pub opened : (opening : Page) → v.opening ≡ Some opening → IsOf opening page
+  pub opened : (opening : SeenMessage) → v.opening ≡ Some opening → IsOf opening page
   pub chair : (k : ℕ) → v.number ≡ Some k → (seats k ≡ pass) × (k < made) × (v.receipts ≡ receipts_on page k)
   pub ushers : (n : ℕ) → v.made ≡ Some n → (pass ≡ usher) × (n ≡ made)
-  pub told : (last : Page) → v.told ≡ Some last → (last ≡ page) × IsFinal at
+  pub told : (last : SeenMessage) → v.told ≡ Some last → (last ≡ page) × IsFinal at
 
 -- an open desk
 pub record IsOpen (items : List Message) (views : List View) : Type 0 where
-  pub page : Page
+  pub page : SeenMessage
   pub at : Where
   pub seats : ℕ → ℕ
   pub usher : ℕ

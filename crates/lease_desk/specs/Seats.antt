@@ -3,7 +3,7 @@ use Rattle.std.specs.Prelude.{◌≡◌, ℕ, ◌+◌, ◌⊎◌, Bool, false, L
 use Rattle.lease_book.specs.declared.events.Event.{Event}
 use Rattle.lease_desk.specs.declared.messages.Message.{Message}
 use Rattle.lease_desk.specs.declared.receipts.Receipt.{Receipt}
-use Rattle.lease_desk.specs.declared.views.Page.{Page}
+use Rattle.lease_desk.specs.declared.views.SeenMessage.{SeenMessage}
 use Rattle.lease_desk.specs.declared.views.View.{View}
 use Rattle.lease_desk.specs.declared.views.Hand.{Hand}
 use Rattle.lease_desk.specs.declared.views.Hand.TheVariants.{Before, Empty, Holds}
@@ -15,9 +15,9 @@ abbrev pub Opens : View → Message → View → Type 0
 Opens v message w = w ≡ usher (Some (page_of message)) 0
 
 -- what a pass that takes the message learns
-pub record Learned (v : View) (page : Page) : Type 0 where
+pub record Learned (v : View) (page : SeenMessage) : Type 0 where
   pub even : length page.makers ≡ length page.book.events
-  pub opened : (opening : Page) → v.opening ≡ Some opening → IsOf opening page
+  pub opened : (opening : SeenMessage) → v.opening ≡ Some opening → IsOf opening page
   pub chair : (k : ℕ) → v.number ≡ Some k → v.receipts ≡ receipts_on page k
   pub listed : AreBelow page.chairs page.makers
 
@@ -27,8 +27,8 @@ pub record Took (final : Bool) (v : View) (message : Message) (w : View) : Type 
   pub learned : Learned v (page_of message)
 
 -- What may be given back: the page in hand, or that page with one more event, under the giver's number.
-pub record MayGive (v : View) (page : Page) : Type 0 where
-  pub held : Page
+pub record MayGive (v : View) (page : SeenMessage) : Type 0 where
+  pub held : SeenMessage
   pub number : ℕ
   pub has : v.hand ≡ Holds false held
   pub number_is : v.number ≡ Some number
@@ -36,12 +36,12 @@ pub record MayGive (v : View) (page : Page) : Type 0 where
   pub next : (page ≡ held) ⊎ ((event : Event) × (page ≡ page_with held number event))
 
 -- the receipts on a page of the chair of this number; those before where there is no chair
-abbrev pub receipts_told : Option ℕ → Page → List Receipt → List Receipt
+abbrev pub receipts_told : Option ℕ → SeenMessage → List Receipt → List Receipt
 receipts_told None page before = before
 receipts_told (Some k) page before = receipts_on page k
 
 -- the message is given back
-abbrev pub gave : View → Page → View
+abbrev pub gave : View → SeenMessage → View
 gave v page =
     record {
       number = v.number;
@@ -74,7 +74,7 @@ abbrev pub seated : View → View
 seated v = record { number = v.made; receipts = []; made = None; opening = v.opening; hand = Empty; told = None }
 
 -- the desk has so many chairs
-abbrev pub HasChairs : Option Page → ℕ → Type 0
+abbrev pub HasChairs : Option SeenMessage → ℕ → Type 0
 HasChairs None chairs = ⊥
 HasChairs (Some opening) chairs = opening.chairs ≡ chairs
 
@@ -83,7 +83,7 @@ abbrev pub spared : View → View
 spared v = record { number = None; receipts = []; made = None; opening = v.opening; hand = Empty; told = None }
 
 -- a pass that tells the page in hand
-abbrev pub page_in : Hand → Option Page
+abbrev pub page_in : Hand → Option SeenMessage
 page_in Before = None
 page_in Empty = None
 page_in (Holds final page) = Some page
@@ -104,7 +104,7 @@ heard v w = record {
 
 -- a chair's receipts are those on the last page, where it was told the page
 abbrev pub Compared : View → List Message → Type 0
-Compared v items = (k : ℕ) (last : Page) → v.number ≡ Some k → v.told ≡ Some last → v.receipts ≡ receipts_on last k
+Compared v items = (k : ℕ) (last : SeenMessage) → v.number ≡ Some k → v.told ≡ Some last → v.receipts ≡ receipts_on last k
 
 abbrev pub Silent : View → List Message → Type 0
 Silent v items = Unit {0}

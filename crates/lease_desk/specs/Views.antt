@@ -3,7 +3,7 @@ use Rattle.std.specs.Prelude.{ℕ, ◌-◌, Bool, List, [], ◌∷◌, ◌++◌,
 use Rattle.lease_book.specs.declared.events.Event.{Event}
 use Rattle.lease_desk.specs.declared.messages.Message.{Message}
 use Rattle.lease_desk.specs.declared.receipts.Receipt.{Receipt}
-use Rattle.lease_desk.specs.declared.views.Page.{Page}
+use Rattle.lease_desk.specs.declared.views.SeenMessage.{SeenMessage}
 use Rattle.lease_desk.specs.declared.views.View.{View}
 use Rattle.lease_desk.specs.declared.views.Hand.TheVariants.{Before, Empty, Holds}
 use Rattle.lease_desk.specs.Receipts.{receipts_from}
@@ -12,7 +12,7 @@ use Rattle.lease_desk.specs.Receipts.{receipts_from}
 abbrev pub earlier_in : Message → ℕ
 earlier_in message = length message.book.events - length message.makers.items
 
-abbrev pub page_of : Message → Page
+abbrev pub page_of : Message → SeenMessage
 page_of message =
     record {
       before = take (earlier_in message) message.book.events;
@@ -22,11 +22,11 @@ page_of message =
     }
 
 -- the whole history on a page: the events before the opening, and those since
-abbrev pub history_on : Page → List Event
+abbrev pub history_on : SeenMessage → List Event
 history_on page = page.before ++ page.book.events
 
 -- the page after a chair made an event
-abbrev pub page_with : Page → ℕ → Event → Page
+abbrev pub page_with : SeenMessage → ℕ → Event → SeenMessage
 page_with page chair event =
     record {
       before = page.before;
@@ -36,7 +36,7 @@ page_with page chair event =
     }
 
 -- the receipts of a chair on a page
-abbrev pub receipts_on : Page → ℕ → List Receipt
+abbrev pub receipts_on : SeenMessage → ℕ → List Receipt
 receipts_on page chair = receipts_from chair (length page.before) page.makers page.book.events
 
 -- the pass that opens the channel, before it sends
@@ -48,17 +48,17 @@ abbrev pub blank : View
 blank = record { number = None; receipts = []; made = None; opening = None; hand = Empty; told = None }
 
 -- the pass that makes chairs, after it made so many
-abbrev pub usher : Option Page → ℕ → View
+abbrev pub usher : Option SeenMessage → ℕ → View
 usher opening made =
     record { number = None; receipts = []; made = Some made; opening = opening; hand = Empty; told = None }
 
 -- the pass of a chair, between its calls
-abbrev pub sitter : Option Page → ℕ → List Receipt → View
+abbrev pub sitter : Option SeenMessage → ℕ → List Receipt → View
 sitter opening number receipts =
     record { number = Some number; receipts = receipts; made = None; opening = opening; hand = Empty; told = None }
 
 -- the same view with a page in hand, for good or not
-abbrev pub holding : Bool → Page → View → View
+abbrev pub holding : Bool → SeenMessage → View → View
 holding final page v =
     record {
       number = v.number;

@@ -4,8 +4,9 @@ ghost use Rattle.std.specs.Prelude.{◌≡◌, IfOk, OnErr};
 ghost use Rattle.lease_book.specs.Books.{IsAnswered};
 ghost use Rattle.lease_desk.specs.Askings.{asked_of};
 
+use cards::OutOfMemory;
 use checker::Verdict;
-use lease_book::{Book, Entry, OutOfMemory, Reply};
+use lease_book::{Book, Entry, Reply};
 
 /// What a call asks of the book.
 #[derive(Drop)]

@@ -6,15 +6,16 @@ ghost use Rattle.lease_desk.specs.Askings.{asked_of};
 ghost use Rattle.lease_desk.specs.Desks.{IsChairOf, IsTold, terms_of, number_of, receipts_in};
 ghost use Rattle.lease_desk.specs.HandIns.{IsHandedIn};
 
+use crate::announcing::announce;
 use crate::asking::Asking;
 use crate::chairs::Chair;
 use crate::desk::Desk;
 use crate::entering::attend;
-use crate::gates::{Gate, announce};
 use crate::receipts::Receipt;
 use crate::verdicts::verdict_on;
+use cards::OutOfMemory;
 use checker::Claimed;
-use lease_book::{Entry, OutOfMemory};
+use lease_book::{Entry, Gate};
 use std::sync::Wait;
 
 impl Desk {

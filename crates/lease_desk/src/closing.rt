@@ -3,7 +3,7 @@
 ghost use Rattle.std.specs.Prelude.{◌≡◌, ◌<◌, ℕ, All, Option, Some, length, map, true};
 ghost use Rattle.crossbeam_channel.specs.Claims.{view, IsSeatAt};
 ghost use Rattle.crossbeam_channel.specs.Ends.{sends_on};
-ghost use Rattle.lease_desk.specs.declared.views.Page.{Page};
+ghost use Rattle.lease_desk.specs.declared.views.SeenMessage.{SeenMessage};
 ghost use Rattle.lease_desk.specs.declared.views.Hand.TheVariants.{Holds};
 ghost use Rattle.lease_desk.specs.Desks.{IsChairAt, AreChairsOf, IsClosed, terms_of, start_of, shown_of};
 ghost use Rattle.lease_desk.specs.Closing.{AreSeatedAt, IsCollected, IsSitting, IsCompared};
@@ -29,11 +29,11 @@ pub struct Closed {
 fn compare(ends: &DeskEnds, own: &mut DeskPass, chair: &mut Chair)
     requires seat { IsSeatAt (sends_on ends.now.sender) own.old }
     requires sits { IsSitting ends.now chair.old }
-    requires holds { (last : Page) × ((view own.old).hand ≡ Holds true last) }
+    requires holds { (last : SeenMessage) × ((view own.old).hand ≡ Holds true last) }
     ensures seat { IsSeatAt (sends_on ends.now.sender) own.new }
     ensures view { view own.new ≡ view own.old }
     ensures same { shown_of chair.new ≡ shown_of chair.old }
-    ensures compared { (last : Page) → (view own.old).hand ≡ Holds true last → IsCompared last chair.new }
+    ensures compared { (last : SeenMessage) → (view own.old).hand ≡ Holds true last → IsCompared last chair.new }
 {
     let told = ends.sender.another::<Tells>(own);
     ends.sender.absorb::<Hears>(&mut chair.pass, told);
@@ -44,9 +44,9 @@ fn compare(ends: &DeskEnds, own: &mut DeskPass, chair: &mut Chair)
 fn settle(ends: &DeskEnds, own: DeskPass, chairs: &mut [Chair])
     requires seat { IsSeatAt (sends_on ends.now.sender) own }
     requires sit { All (IsSitting ends.now) chairs.old }
-    requires holds { (last : Page) × ((view own).hand ≡ Holds true last) }
+    requires holds { (last : SeenMessage) × ((view own).hand ≡ Holds true last) }
     ensures same { map shown_of chairs.new ≡ map shown_of chairs.old }
-    ensures compared { (last : Page) → (view own).hand ≡ Holds true last → All (IsCompared last) chairs.new }
+    ensures compared { (last : SeenMessage) → (view own).hand ≡ Holds true last → All (IsCompared last) chairs.new }
 {
     let mut own = own;
     for chair in chairs.iter_mut() {
@@ -58,7 +58,7 @@ fn settle(ends: &DeskEnds, own: DeskPass, chairs: &mut [Chair])
 fn collect<R: Wait>(rt: &R, ends: &DeskEnds, chairs: &mut [Chair]) -> Book
     requires some { 0 < length chairs.old }
     requires seated { AreSeatedAt ends.now chairs.old }
-    ensures { (opening : Option Page) → All (IsChairAt ends.now opening) chairs.old
+    ensures { (opening : Option SeenMessage) → All (IsChairAt ends.now opening) chairs.old
         → IsCollected opening chairs.old chairs.new result }
 {
     let mut own = ends.sender.another::<Spares>(&mut chairs[0].pass);

@@ -14,7 +14,7 @@ use crate::messages::Message;
 use crate::receipts::Receipt;
 use crate::rule::DeskPass;
 use crate::turns::{give, take};
-use lease_book::OutOfMemory;
+use cards::OutOfMemory;
 use std::sync::Wait;
 
 /// Asks the book, and notes whose request it was.

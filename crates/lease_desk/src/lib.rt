@@ -5,16 +5,15 @@
 //! compared with the book.
 #![tactic(auto)]
 
+mod announcing;
 mod asking;
 mod board_copies;
 mod calls;
 mod chairs;
-mod clocks;
 mod closing;
 mod desk;
 mod ends;
 mod entering;
-mod gates;
 mod messages;
 mod opening;
 mod receipts;
@@ -25,8 +24,6 @@ mod verdicts;
 mod views;
 
 pub use chairs::Chair;
-pub use clocks::Clock;
 pub use closing::Closed;
 pub use desk::Desk;
-pub use gates::Gate;
 pub use receipts::Receipt;

@@ -5,7 +5,7 @@ ghost use Rattle.lease_book.specs.Histories.{deal_of};
 ghost use Rattle.lease_book.specs.Proofs.{IsProven};
 ghost use Rattle.lease_desk.specs.Askings.{IsVerdictOn};
 
-use crate::gates::Announced;
+use crate::announcing::Announced;
 use checker::{Claimed, HandFault, Verdict, check_claim};
 use lease_book::{Entry, deal_on};
 use pbn_deals::Board;

@@ -5,7 +5,7 @@ use lease_book::{Book, Event};
 use std::collections::LinkedList;
 
 /// What the rule sees of a message. No value of it is made.
-pub struct Page {
+pub struct SeenMessage {
     /// The events that the book had when the desk was opened.
     pub before: LinkedList<Event>,
     /// The book, with the events since.
@@ -21,7 +21,7 @@ pub enum Hand {
     /// It does not.
     Empty,
     /// It has this one, which it keeps for good, or gives back.
-    Holds(bool, Page),
+    Holds(bool, SeenMessage),
 }
 
 /// What a pass knows. No value of it is made.
@@ -33,9 +33,9 @@ pub struct View {
     /// How many chairs there are, where it is the one that makes them.
     pub made: Option<usize>,
     /// The message with which the desk was opened.
-    pub opening: Option<Page>,
+    pub opening: Option<SeenMessage>,
     /// The message that it has in hand.
     pub hand: Hand,
     /// The message that is kept for good, where it was told.
-    pub told: Option<Page>,
+    pub told: Option<SeenMessage>,
 }

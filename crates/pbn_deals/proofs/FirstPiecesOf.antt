@@ -190,10 +190,10 @@ pub line_comment_at : (text others : List ℕ) → text ≡ 59 ∷ others → (i
 line_comment_at text others is in_data pieces is_open h =
     moved text others [] text 59 is (λ front e. e ∙ append-nil front) in_data in_data (λ b. Comment b ∷ []) (59 ∷ others) (sym (append-nil (59 ∷ others))) (λ g. line_comment_first others g) h
 
-pub pair_at : (text others bytes : List ℕ) (tag : Tag) → text ≡ 91 ∷ others → ((found : List ℕ) → text ≡ found ++ tag.rest → bytes ≡ found) → tag_of others ≡ Some tag → (pieces : List Piece) (is_open : Bool) → HasPieces false text pieces is_open → (value : List ℕ) × ComeFirst (Pair tag.name value bytes ∷ []) bytes false text tag.rest pieces is_open
+pub pair_at : (text others bytes : List ℕ) (tag : Tag) → text ≡ 91 ∷ others → ((found : List ℕ) → text ≡ found ++ tag.rest → bytes ≡ found) → tag_of others ≡ Some tag → (pieces : List Piece) (is_open : Bool) → HasPieces false text pieces is_open → ComeFirst (Pair tag.name tag.value bytes ∷ []) bytes false text tag.rest pieces is_open
 pair_at text others bytes tag is cut e pieces is_open h =
     let inside = inside_of others tag e in
-    (tag.value, moved text others tag.rest bytes 91 is cut false false (λ b. Pair tag.name tag.value b ∷ []) (91 ∷ inside.0) (ap (λ x. 91 ∷ x) inside.1) (λ g. before (Pair tag.name tag.value (91 ∷ inside.0) ∷ []) 91 inside.0 (ap (λ x. 91 ∷ x) inside.1) (λ p. tag_pair inside.0 refl e inside.1 p.has) g) h)
+    moved text others tag.rest bytes 91 is cut false false (λ b. Pair tag.name tag.value b ∷ []) (91 ∷ inside.0) (ap (λ x. 91 ∷ x) inside.1) (λ g. before (Pair tag.name tag.value (91 ∷ inside.0) ∷ []) 91 inside.0 (ap (λ x. 91 ∷ x) inside.1) (λ p. tag_pair inside.0 refl e inside.1 p.has) g) h
 
 pub no_pair_at : (text : Bor (List ℕ)) (others : List ℕ) → text.now ≡ 91 ∷ others → tag_of others ≡ None → (pieces : List Piece) (is_open : Bool) → HasPieces false text.now pieces is_open → IsFirst false text.now pieces is_open (seen.NoPair text) []
 no_pair_at text others is e pieces is_open h =

@@ -32,3 +32,8 @@ pub mod RowsBack
 pub mod FirstPiecesOf
 pub mod FirstRows
 pub mod LineStarts
+pub mod Dealt
+pub mod DealWords
+pub mod DealsBack
+pub mod RowsInTurn
+pub mod PiecesInTurn

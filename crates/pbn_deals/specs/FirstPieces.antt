@@ -39,7 +39,7 @@ abbrev pub found_bytes : CodePiece → List ℕ
 found_bytes (seen.Blanks bytes) = bytes.now
 found_bytes (seen.Comment bytes) = bytes.now
 found_bytes (seen.OpenComment bytes) = bytes.now
-found_bytes (seen.Pair name bytes) = bytes.now
+found_bytes (seen.Pair name value bytes) = bytes.now
 found_bytes (seen.Data bytes) = bytes.now
 found_bytes (seen.NoPair bytes) = bytes.now
 
@@ -57,7 +57,7 @@ abbrev pub ArePieces : CodePiece → List Piece → Type 0
 ArePieces (seen.Blanks bytes) pieces = pieces ≡ map Space bytes.now
 ArePieces (seen.Comment bytes) pieces = pieces ≡ Comment bytes.now ∷ []
 ArePieces (seen.OpenComment bytes) pieces = pieces ≡ Comment bytes.now ∷ []
-ArePieces (seen.Pair name bytes) pieces = (value : List ℕ) × (pieces ≡ Pair name.now value bytes.now ∷ [])
+ArePieces (seen.Pair name value bytes) pieces = pieces ≡ Pair name.now value.now bytes.now ∷ []
 ArePieces (seen.Data bytes) pieces = (list_all is_data_piece pieces ≡ true) × (flat_map bytes_of pieces ≡ bytes.now)
 ArePieces (seen.NoPair bytes) pieces = pieces ≡ NoPair bytes.now ∷ []
 

@@ -4,6 +4,8 @@ pub mod Words
 pub mod DealValue
 pub mod Faults
 pub mod LayoutValue
+pub mod DealText
+pub mod LayoutsBack
 pub mod Tags
 pub mod Games
 pub mod Lines

@@ -1,5 +1,6 @@
 //! What holds of the rules alone.
 
+ghost use Rattle.pbn_deals.specs.LayoutsBack.{LayoutsAreReadBack};
 ghost use Rattle.pbn_deals.specs.LayoutValue.{HasOneLayout, HasSomeLayout};
 ghost use Rattle.pbn_deals.specs.LineBoards.{AreBoardsOfLines, TextsAreLines};
 ghost use Rattle.pbn_deals.specs.Printable.{BoardsArePrintable};
@@ -52,4 +53,10 @@ pub fn one_layout()
 /// Every Deal value alone says a layout, or has a fault.
 pub fn some_layout()
     ensures { HasSomeLayout }
+{}
+
+/// What [`write_layout`](crate::write_layout) writes is read back by [`read_layout`](crate::read_layout) as the same
+/// layout.
+pub fn layouts_are_read_back()
+    ensures { LayoutsAreReadBack }
 {}

@@ -1,8 +1,9 @@
-//! Boards of a PBN text, and layouts of a Deal value, as PBN 2.1 has them and, where the standard leaves room, as
-//! docs/FORMATS.md tells.
+//! Boards of a PBN text, and layouts of a Deal value, read and written as PBN 2.1 says. Where the standard leaves room,
+//! docs/FORMATS.md decides.
 #![tactic(auto)]
 
 mod boards;
+mod deal_texts;
 mod deal_values;
 mod dealings;
 mod faults;
@@ -18,12 +19,13 @@ mod readers;
 mod tags;
 
 pub use boards::{Board, BoardName};
+pub use deal_texts::write_layout;
 pub use deal_values::read_layout;
 pub use faults::PbnFault;
 pub use games::MOST_BOARDS;
 pub use laws::{
-    boards_are_of_lines, boards_are_printable, one_answer, one_layout, some_answer, some_layout,
-    texts_are_lines, texts_are_read_in_turn,
+    boards_are_of_lines, boards_are_printable, layouts_are_read_back, one_answer, one_layout,
+    some_answer, some_layout, texts_are_lines, texts_are_read_in_turn,
 };
 pub use line_cuts::without_mark;
 pub use line_starts::{LineStart, line_start};

@@ -54,6 +54,8 @@ pub enum Piece<'a> {
     Pair {
         /// Its name.
         name: &'a [u8],
+        /// Its value.
+        value: &'a [u8],
         /// All of it.
         bytes: &'a [u8],
     },
@@ -138,9 +140,9 @@ fn first_pair<'a>(text: &'a [u8], others: &'a [u8]) -> (Piece<'a>, &'a [u8])
 {
     match read_tag(others) {
         Some(tag) => {
-            let name = tag.name;
+            let (name, value) = (tag.name, tag.value);
             let bytes = front_of(text, tag.rest);
-            (Piece::Pair { name, bytes }, tag.rest)
+            (Piece::Pair { name, value, bytes }, tag.rest)
         }
         None => (Piece::NoPair(text), &[]),
     }

@@ -3,7 +3,8 @@
 ghost use Rattle.std.specs.Prelude.{◌≡◌, ◌≢◌, ◌≤◌, ◌∷◌, ◌++◌, MatchOption, IfSome, All, length};
 ghost use Rattle.pbn_deals.specs.Letters.{is_letter};
 ghost use Rattle.pbn_deals.specs.Reading.{Lacks};
-ghost use Rattle.pbn_deals.specs.Tags.{is_name_byte, name_front, after_name, is_board, is_deal, is_inherited, is_same_name, tag_of};
+ghost use Rattle.pbn_deals.specs.Tags.{is_name_byte, name_front, after_name, is_board, is_deal, is_inherited};
+ghost use Rattle.pbn_deals.specs.Tags.{is_same_name, tag_of};
 ghost use Rattle.pbn_deals.specs.Views.{tag_seen};
 
 use crate::hands::after_blanks;

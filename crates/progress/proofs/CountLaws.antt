@@ -197,7 +197,7 @@ module _ (boards : List Board) (published : List ℕ) (number : ℕ) (few : AreB
 
 -- ---- the counts of no results
 pub begun : (boards : List Board) (index : ℕ) (counts : Counts) → AreBoards boards → length boards ≤ index
-    → counts.boards ≡ length boards → counts.results ≡ min (20 * count_by (λ (board : Board). is_some board.deal) (take index boards)) (2 ^ 64 - 1)
+    → counts.boards ≡ min (count_by (λ (board : Board). is_some board.deal) (take index boards)) (2 ^ 64 - 1) → counts.results ≡ min (20 * count_by (λ (board : Board). is_some board.deal) (take index boards)) (2 ^ 64 - 1)
     → counts.published ≡ 0 → counts.finished ≡ 0
     → ((number : ℕ) → number < 4096 → get_or counts.sharing number 0 ≡ min (count_by (λ (board : Board). is_first_with boards board.deal number) (take index boards)) 65535)
     → ((number : ℕ) → number < 4096 → get_or counts.of_board number 0 ≡ 0)
@@ -206,7 +206,9 @@ begun boards index counts few whole boards_are results_are published_are finishe
     let all : take index boards ≡ boards = take_all index boards whole in
     let dealt = λ (board : Board). is_some board.deal in
     record {
-      boards_are = boards_are;
+      boards_are =
+          let dealt_are : counts.boards ≡ min (count_by dealt boards) (2 ^ 64 - 1) = rw all at boards_are in
+          omega (arith, dealt_are, few, count_by-le-length dealt boards);
       results_are =
           let results : counts.results ≡ min (20 * count_by dealt boards) (2 ^ 64 - 1) = rw all at results_are in
           omega (arith, results, few, count_by-le-length dealt boards);

@@ -1,6 +1,6 @@
 -- What is counted of a run: by its boards, and by the boards for which a result was published, in the order in which
 -- they came. A result is published for the first board with a deal, and counts for each board that has it.
-use Rattle.std.specs.Prelude.{◌≡◌, ℕ, ◌+◌, ◌*◌, ◌-◌, ◌^◌, ◌<◌, min, Bool, false, List, [], ◌∷◌, ◌++◌, length, count_by}
+use Rattle.std.specs.Prelude.{◌≡◌, ℕ, ◌+◌, ◌*◌, ◌-◌, ◌^◌, ◌<◌, min, Bool, false, List, [], ◌∷◌, ◌++◌, count_by}
 use Rattle.std.specs.Prelude.{sum_by}
 use Rattle.std.specs.Prelude.{Option, None, Some, is_some, nat_eq, nat_le, slice_index, if◌then◌else◌}
 use Rattle.std.specs.List.{position_or_len}
@@ -19,9 +19,13 @@ is_first_with boards (Some deal) number = nat_eq (position_or_len (is_dealt deal
 abbrev pub sharing_count : List Board → ℕ → ℕ
 sharing_count boards number = count_by (λ board. is_first_with boards board.deal number) boards
 
+-- how many boards have a deal
+abbrev pub dealt_count : List Board → ℕ
+dealt_count boards = count_by (λ board. is_some board.deal) boards
+
 -- how many results there may be: twenty for each board with a deal
 abbrev pub possible_count : List Board → ℕ
-possible_count boards = 20 * count_by (λ board. is_some board.deal) boards
+possible_count boards = 20 * dealt_count boards
 
 -- how many results of a board were published
 abbrev pub results_of : List Board → List ℕ → Board → ℕ
@@ -38,7 +42,7 @@ finished_count boards published = count_by (λ board. nat_le 20 (results_of boar
 -- The counts are those of these boards, after results were published for these. (What is kept of a board ends at 255,
 -- and all results at the greatest u64.)
 pub record AreCounted (boards : List Board) (published : List ℕ) (counts : Counts) : Type 0 where
-  pub boards_are : counts.boards ≡ length boards
+  pub boards_are : counts.boards ≡ dealt_count boards
   pub results_are : counts.results ≡ possible_count boards
   pub published_are : counts.published ≡ min (result_count boards published) (2 ^ 64 - 1)
   pub finished_are : counts.finished ≡ finished_count boards published

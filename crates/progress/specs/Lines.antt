@@ -1,5 +1,5 @@
 -- What is told of the work.
-use Rattle.std.specs.Prelude.{ℕ, ◌-◌, List, ◌++◌, codes, ◌⊎◌, ⊤}
+use Rattle.std.specs.Prelude.{ℕ, ◌-◌, ◌==◌, List, ◌++◌, codes, ◌⊎◌, ⊤, if◌then◌else◌}
 use Rattle.std.specs.Fmt.{decimal}
 use Rattle.cards.specs.Devices.{Device, Adds, AddsBeginning}
 use Rattle.lease_book.specs.declared.events.Reply.{Reply}
@@ -20,12 +20,16 @@ counts_text counts = codes "ddfarm: "
 abbrev pub line_text : Counts → ℕ → List ℕ
 line_text counts seconds = counts_text counts ++ (decimal seconds ++ codes " s\n")
 
+-- how many tables are incomplete, at the end of the last line
+abbrev pub incomplete_text : ℕ → List ℕ
+incomplete_text count =
+    if count == 1 then codes "1 table incomplete\n" else decimal count ++ codes " tables incomplete\n"
+
 -- the last line, such as `ddfarm: 200 of 200 results, 10 of 10 boards, 41 s, 0 tables incomplete`
 abbrev pub last_line_text : Counts → ℕ → List ℕ
 last_line_text counts seconds =
     counts_text counts
-    ++ (decimal seconds ++ (codes " s, "
-    ++ (decimal (counts.boards - counts.finished) ++ codes " tables incomplete\n")))
+    ++ (decimal seconds ++ (codes " s, " ++ incomplete_text (counts.boards - counts.finished)))
 
 -- the reply is that a result was published
 abbrev pub IsPublished : Reply → Type 0

@@ -21,6 +21,7 @@ pub(crate) struct Counts {
     pub(crate) results: u64,
     /// How many boards have all of theirs.
     pub(crate) finished: u64,
+    /// How many boards have a deal.
     pub(crate) boards: u64,
 }
 
@@ -49,9 +50,9 @@ impl Counts {
         ensures { IsBegun boards.now self.new }
     {
         *self = Counts::none();
-        self.boards = boards.len() as u64;
         for (number, board) in boards.iter().enumerate() {
             if board.deal.is_some() {
+                self.boards = self.boards.saturating_add(1);
                 self.results = self.results.saturating_add(RESULTS as u64);
                 self.share(firsts[number]);
             }
@@ -85,7 +86,7 @@ impl Counts {
         }
     }
 
-    /// How many boards have not all of their results.
+    /// How many boards with a deal have not all of their results.
     pub(crate) fn incomplete(&self) -> u64
         ensures { result ≡ self.now.boards - self.now.finished }
     {

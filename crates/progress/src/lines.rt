@@ -1,9 +1,7 @@
 //! The lines that are written.
 
-ghost use Rattle.std.specs.Prelude.{◌++◌, codes};
-ghost use Rattle.std.specs.Fmt.{decimal};
 ghost use Rattle.cards.specs.Devices.{Writes};
-ghost use Rattle.progress.specs.Lines.{counted, counts_text, last_line_text, line_text};
+ghost use Rattle.progress.specs.Lines.{counted, counts_text, incomplete_text, last_line_text, line_text};
 
 use crate::counts::Counts;
 use cards::{DeviceFault, Sink, write_all, write_number};
@@ -42,8 +40,11 @@ pub(crate) fn write_line<S: Sink>(
 
 /// Writes how many tables are incomplete, at the end of the last line.
 fn write_incomplete<S: Sink>(incomplete: u64, sink: &mut S) -> Result<(), DeviceFault>
-    ensures { Writes (S.state sink.old) (S.state sink.new) (decimal incomplete ++ codes " tables incomplete\n") result }
+    ensures { Writes (S.state sink.old) (S.state sink.new) (incomplete_text incomplete) result }
 {
+    if incomplete == 1 {
+        return write_all(sink, b"1 table incomplete\n");
+    }
     write_number(sink, incomplete)?;
     write_all(sink, b" tables incomplete\n")
 }

@@ -5,8 +5,7 @@ ghost use Rattle.std.specs.Prelude.{◌≡◌, ◌<◌, ◌≤◌, max};
 use crate::counts::Counts;
 use crate::lines::{write_last_line, write_line};
 use cards::Sink;
-use lease_book::{Entry, Reply};
-use lease_desk::{Clock, Gate};
+use lease_book::{Clock, Entry, Gate, Reply};
 use pbn_deals::Board;
 use std::sync::{Mutex, Wait};
 

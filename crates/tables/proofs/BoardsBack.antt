@@ -18,11 +18,11 @@ use Rattle.pbn_deals.specs.Tags.{Tag, tag_of, value_front, after_value, is_inher
 use Rattle.pbn_deals.specs.Games.{Tags, no_tags, boards_of, SaysDeal, board_tag, deal_tag, other_tag, first_board, only_deal, greatest_count, says_nothing}
 use Rattle.pbn_deals.specs.Lines.{is_line_feed, without_return, lines_of, is_escaped, is_blank_line}
 use Rattle.pbn_deals.specs.Reading.{Ends, Scans, at_end, at_tag, at_line_comment, Answers, no_line, escaped_line, blank_line, whole_line, put_boards}
-use Rattle.tables.specs.DealText.{deal_text}
+use Rattle.pbn_deals.specs.DealText.{deal_text}
 use Rattle.tables.specs.TablesText.{Results, line_feed, tag_line, deal_value, row_text, result_row, entry_row, rows_text, entries, right_in_two, is_complete, published_count, table_tag, incomplete_text, table_text, board_text, numbered_text, tables_text}
 use Rattle.pbn_deals.specs.Printable.{IsBoardDeal, IsPrintable}
 use Rattle.tables.specs.ReadBack.{AreTricks, AreReadBack}
-use Rattle.tables.proofs.DealsBack.{reads_back}
+use Rattle.pbn_deals.proofs.DealsBack.{reads_back}
 use Rattle.tables.proofs.LinesBack.{IsLine, lines_of-line, IsTame, IsLine-from_tame, IsTame-append, Scans-quiet}
 use Rattle.tables.proofs.CalmTexts.{is_calm, IsTame-from_calm, IsQuiet-from_calm, is_calm-append, NoQuote, seat_letter-calm, denomination-calm, right_in_two-calm, decimal-calm}
 

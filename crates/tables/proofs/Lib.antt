@@ -5,9 +5,6 @@ pub mod TableLemmas
 pub mod BoardLemmas
 pub mod LinesBack
 pub mod CalmTexts
-pub mod Dealt
-pub mod DealWords
-pub mod DealsBack
 pub mod BoardsBack
 pub mod PageLines
 pub mod PageBack

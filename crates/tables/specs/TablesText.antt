@@ -12,7 +12,7 @@ use Rattle.cards.specs.Pack.{trump_letters}
 use Rattle.cards.specs.Seats.{seat_letter}
 use Rattle.cards.specs.Deal.{Deal}
 use Rattle.pbn_deals.specs.declared.boards.Board.{Board}
-use Rattle.tables.specs.DealText.{deal_text}
+use Rattle.pbn_deals.specs.DealText.{deal_text}
 
 -- the results of one board that are known, by declarer and denomination
 abbrev pub Results : Type 0

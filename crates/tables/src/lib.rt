@@ -1,12 +1,9 @@
 //! The tables of boards as a PBN text.
 //!
-//! [`write_sheet`] prints the boards of a [`Sheet`] with the results that are known of them, [`write_tables`] those of
-//! a book of leases, [`write_table`] the table of one board, and [`write_layout`] a deal. They take no memory; after a
-//! fault of the sink a beginning of the text has gone out.
+//! [`write_sheet`] writes the boards of a [`Sheet`] with the results that are known of them, [`write_table`] the table
+//! of one board. They take no memory. After a fault of the sink a beginning of the text has been written.
 #![tactic(auto)]
 
-mod books;
-mod deals;
 mod laws;
 mod pieces;
 mod rows;
@@ -14,8 +11,6 @@ mod sheet_text;
 mod sheets;
 mod tables;
 
-pub use books::write_tables;
-pub use deals::write_layout;
 pub use laws::{
     boards_are_read_back, pages_are_read, pages_say_one_thing, said_boards_are_read_back,
 };

@@ -4,12 +4,11 @@ ghost use Rattle.std.specs.Prelude.{◌≡◌, codes, length, IfOk};
 ghost use Rattle.cards.specs.Devices.{Writes};
 ghost use Rattle.tables.specs.TablesText.{tag_line, deal_value, board_text, tables_text, complete_count};
 
-use crate::deals::write_layout;
 use crate::pieces::write_pieces;
 use crate::sheets::{Report, Sheet};
 use crate::tables::{count_complete, write_table};
 use cards::{DeviceFault, Layout, Sink, write_all};
-use pbn_deals::Board;
+use pbn_deals::{Board, write_layout};
 
 /// Writes the Deal tag.
 fn write_deal<S: Sink>(sink: &mut S, deal: &Option<Layout>) -> Result<(), DeviceFault>

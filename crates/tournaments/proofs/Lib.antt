@@ -1,4 +1,3 @@
-pub mod ReadLaws
 pub mod WorkLaws
 pub mod PageLaws
 pub mod WholePageLaws

@@ -21,7 +21,7 @@ use Rattle.lease_book.specs.declared.events.Event.{Event}
 use Rattle.lease_book.specs.Histories.{deal_of, published_in}
 use Rattle.lease_book.proofs.TwinLaws.{board_with}
 use Rattle.lease_book.specs.TrueHistories.{AreValues}
-use Rattle.tables.specs.BookResults.{book_results}
+use Rattle.lease_book.specs.BookResults.{book_results}
 use Rattle.tables.specs.ReadBack.{AreTricks}
 use Rattle.tables.specs.PageReading.{Row, Table, Rows, Incomplete, Block}
 use Rattle.tables.specs.WrittenOnce.{is_same_denomination, is_row_of, numbers_in, SaysResults, SayBoards}

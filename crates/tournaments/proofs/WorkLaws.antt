@@ -17,7 +17,7 @@ use Rattle.checker.specs.Roots.{from_first}
 use Rattle.checker.specs.EntryFaults.{EntryAnswers}
 use Rattle.lease_book.specs.declared.entries.Entry.{Entry}
 use Rattle.lease_book.specs.declared.events.Grant.{Grant}
-use Rattle.lease_book.specs.declared.events.Evidence.TheVariants.{Shows}
+use Rattle.lease_book.specs.declared.events.HandedIn.TheVariants.{Shows}
 use Rattle.lease_book.specs.declared.events.Asked.{Asked}
 use Rattle.lease_book.specs.declared.events.Asked.TheVariants.{Lease, Expire}
 use Rattle.lease_book.specs.declared.events.Reply.{Reply}
@@ -33,7 +33,7 @@ use Rattle.lease_book.proofs.LegalLaws.{gives_none}
 use Rattle.lease_book.proofs.NamedLaws.{nothing_left}
 use Rattle.lease_book.proofs.FreeLaws.{ended, free_after_hand_in, free_after_give_up, free_at_end, published_at_end, given_at_end}
 use Rattle.lease_book.specs.Done.{IsDone}
-use Rattle.partition_solver.specs.Answers.{MayFind}
+use Rattle.certificate_graph.specs.Solvers.{MayFind}
 use Rattle.tournaments.specs.Asking.{as_verdict, IsVerdictOnFound, IsFoundFor, asked_for, IsWorkedOn, AreWorkedOn}
 use Rattle.lease_book.specs.Moments.{MayTell, IsTimed, AreTimed}
 use Rattle.tournaments.specs.Working.{WorksOn, GivesOut}

@@ -1,4 +1,4 @@
--- That a solver was asked for each entry that was leased, and that what it found was handed in.
+-- The solver was asked for each entry that was leased, and its answer was handed in.
 use Rattle.std.specs.Prelude.{◌≡◌, ℕ, List, [], ◌∷◌, Option, None, Some, Result, Ok, Err}
 use Rattle.cards.specs.Deal.{Deal}
 use Rattle.pbn_deals.specs.declared.boards.Board.{Board}
@@ -9,7 +9,8 @@ use Rattle.checker.specs.declared.hand_faults.HandFault.{HandFault}
 use Rattle.checker.specs.declared.hand_faults.HandFault.TheVariants as hand
 use Rattle.checker.specs.Roots.{from_first}
 use Rattle.checker.specs.EntryFaults.{EntryAnswers}
-use Rattle.partition_solver.specs.Answers.{MayFind, MayAnswer}
+use Rattle.certificate_graph.specs.Solvers.{MayFind}
+use Rattle.certificate_graph.specs.Bundles.{MayAnswer}
 use Rattle.lease_book.specs.declared.entries.Entry.{Entry}
 use Rattle.lease_book.specs.declared.events.Grant.{Grant}
 use Rattle.lease_book.specs.declared.events.Asked.{Asked}
@@ -18,12 +19,12 @@ use Rattle.lease_book.specs.declared.events.Event.{Event}
 use Rattle.lease_book.specs.Histories.{given_by, deal_of}
 use Rattle.lease_book.specs.Proofs.{evidence_of}
 
--- what the checker's answer for two graphs is as a verdict
+-- the checker's answer for two graphs, as a verdict
 abbrev pub as_verdict : Result Shown EntryFault → Result Shown HandFault
 as_verdict (Ok shown) = Ok shown
 as_verdict (Err fault) = Err (hand.Entry fault)
 
--- the verdict on what was found, where something was
+-- the verdict on an answer, if there is one
 abbrev pub IsVerdictOnFound : Deal → Entry → Option Answer → Option (Result Shown HandFault) → Type 0
 IsVerdictOnFound deal entry None verdict = verdict ≡ None
 IsVerdictOnFound deal entry (Some answer) verdict =
@@ -32,33 +33,33 @@ IsVerdictOnFound deal entry (Some answer) verdict =
     (from_first answer.defenders) checked
     × (verdict ≡ Some (as_verdict checked))
 
--- the verdict on what the solver was asked for and answered for an entry; on a board without a deal it is not asked
+-- the verdict on an answer that the solver may give for an entry; on a board without a deal it is not asked
 abbrev pub IsFoundFor : MayFind → ℕ → Option Deal → Entry → Option (Result Shown HandFault) → Type 0
 IsFoundFor may_find budget None entry verdict = verdict ≡ None
 IsFoundFor may_find budget (Some deal) entry verdict =
     (found : Option Answer) × MayAnswer may_find deal entry.declarer entry.trump budget found
     × IsVerdictOnFound deal entry found verdict
 
--- what is asked of the book then: the verdict is handed in under the lease, or the lease is given up
+-- the request that follows: the verdict is handed in under the lease, or the lease is given up
 abbrev pub asked_for : ℕ → Entry → Option (Result Shown HandFault) → Asked
 asked_for lease entry None = GiveUp lease
 asked_for lease entry (Some verdict) = HandIn lease entry (evidence_of verdict)
 
--- the request is that for a lease, by what the solver found
+-- the request follows from the lease by an answer that the solver may give
 abbrev pub IsWorkOn : MayFind → ℕ → List Board → Grant → Asked → Type 0
 IsWorkOn may_find budget boards grant asked =
     (verdict : Option (Result Shown HandFault))
     × IsFoundFor may_find budget (deal_of boards grant.entry.board) grant.entry verdict
     × (asked ≡ asked_for grant.lease grant.entry verdict)
 
--- the next request is that for the lease that was given, if one was
+-- if a lease was given, the next request follows from it
 abbrev pub IsWorkedOn : MayFind → ℕ → List Board → Option Grant → List Event → Type 0
 IsWorkedOn may_find budget boards None later = Unit {0}
 IsWorkedOn may_find budget boards (Some grant) [] = ⊥
 IsWorkedOn may_find budget boards (Some grant) (next ∷ later) = IsWorkOn may_find budget boards grant next.asked
 
--- the solver was asked for the entry of each lease that was given, and then the verdict on what it found was handed in
--- under that lease, or the lease was given up, since it found nothing
+-- For each lease that was given the solver was asked for the entry. Then the verdict on its answer was handed in under
+-- that lease, or the lease was given up, since there was no answer.
 abbrev pub AreWorkedOn : MayFind → ℕ → List Board → List Event → Type 0
 AreWorkedOn may_find budget boards [] = Unit {0}
 AreWorkedOn may_find budget boards (event ∷ later) =

@@ -1,4 +1,4 @@
--- The number and the name of a fault, and what is printed of it.
+-- The number, the name and the printed text of a fault.
 use Rattle.std.specs.Prelude.{ℕ, List, [], ◌∷◌, ◌++◌, codes}
 use Rattle.std.specs.Fmt.{decimal}
 use Rattle.pbn_deals.specs.Faults as pbn
@@ -21,7 +21,7 @@ fault_name (Pbn refusal) = codes "Pbn"
 fault_name NoThread = codes "NoThread"
 fault_name Write = codes "Write"
 
--- of a refused text its own number and name
+-- the number and the name that follow if a text is refused
 abbrev pub after_name : MakeFault → List ℕ
 after_name OutOfMemory = []
 after_name Read = []

@@ -1,4 +1,4 @@
--- What is read, line by line, of the page of a whole tournament (`PageReading` of `tables` says how a page is read).
+-- How the page of a whole tournament is read, line by line (`PageReading` of `tables` has the rules).
 use Rattle.std.specs.Prelude.{◌≡◌, ℕ, List, Some, Ok, All, ⊤}
 use Rattle.std.specs.List.{AllZip, enumerate_from}
 use Rattle.cards.specs.Deal.{Deal}
@@ -9,7 +9,7 @@ use Rattle.strategies.specs.Values.{IsValue}
 use Rattle.lease_book.specs.declared.events.Event.{Event}
 use Rattle.lease_book.specs.Histories.{Terms}
 use Rattle.lease_book.specs.TrueHistories.{IsTrueHistory}
-use Rattle.tables.specs.BookResults.{book_results}
+use Rattle.lease_book.specs.BookResults.{book_results}
 use Rattle.tables.specs.TablesText.{tables_text}
 use Rattle.tables.specs.PageReading.{Row, Table, Rows, Incomplete, Block, page_in}
 use Rattle.tables.specs.WrittenOnce.{SayBoards}
@@ -23,26 +23,25 @@ abbrev pub IsTrueRow : Board → Row → Type 0
 IsTrueRow board row =
     (deal : Deal) × (board.deal ≡ Some deal) × IsValue deal row.declarer row.denomination row.tricks
 
--- so is each number of a table; where some are not known, none stands in it
+-- each number of a table is true; if some numbers are unknown, the table has none
 abbrev pub IsTrueTable : Board → Table → Type 0
 IsTrueTable board (Rows rows) = All (IsTrueRow board) rows
 IsTrueTable board (Incomplete count) = ⊤
 
--- The page is read as one block for each board, in their order, and no other. A block has the board's name and its
--- deal, and twenty rows in which each declarer and denomination stands once, with the number that the history
--- publishes; or it says how many of the twenty are published (`SaysBoard`). Each number in it is the double-dummy
--- value.
+-- The page is read as one block for each board, in their order, and nothing else. A block has the board's name and its
+-- deal. Then it has twenty rows, one for each declarer and denomination, with the number that the history publishes, or
+-- it says how many of the twenty are published (`SaysBoard`). Each number in it is the double-dummy value.
 pub record IsReadOnce (boards : List Board) (events : List Event) (page : List ℕ) : Type 0 where
   pub blocks : List Block
   pub read : page_in (lines_of page) ≡ Some blocks
   pub boards_said : SayBoards (book_results boards events) (enumerate_from 0 boards) blocks
   pub values : AllZip (λ board block. IsTrueTable board block.table) boards blocks
 
--- the page of all boards: that text, which is read so
+-- the page is the text of all boards, and is read so
 abbrev pub IsTablesPage : List ℕ → List Board → List Event → List ℕ → Type 0
 IsTablesPage text boards events page = (page ≡ history_text boards events) × IsReadOnce boards events page
 
--- that is how the page is read that is written of the boards that any text says, after any true history over them
+-- the page of the boards that any text says, after any true history over them, is read so
 abbrev pub TablesAreRead : Type 0
 TablesAreRead =
     (text : List ℕ) (terms : Terms) (events : List Event) →

@@ -1,4 +1,4 @@
--- What is made of a text and a whole list of requests: the text of the tables.
+-- The text of tables that is made of a text and a whole list of requests.
 use Rattle.std.specs.Prelude.{◌≡◌, ℕ, List, Result, Ok, Err}
 use Rattle.cards.specs.Devices.{Device, Adds, AddsBeginning}
 use Rattle.pbn_deals.specs.declared.boards.Board.{Board}
@@ -14,8 +14,8 @@ use Rattle.lease_book.specs.TrueHistories.{IsTrueHistory}
 use Rattle.tournaments.specs.Making.{AreReported}
 use Rattle.tournaments.specs.Pages.{history_text, IsReadOnce}
 
--- The boards are those of the text, and the history is that of the requests, each hand-in judged by its texts: it is
--- legal, and it publishes exactly the numbers of the first good hand-ins, each of them the double-dummy value, once.
+-- The boards are the boards of the text, and the history answers the requests, each hand-in judged by its texts. It is
+-- legal, and it publishes exactly the numbers of the first good hand-ins, each once, and each the double-dummy value.
 pub record IsHistoryOf (text : List ℕ) (term tries : ℕ) (requests : List Request) (boards : List Board)
     (events : List Event)
     : Type 0 where
@@ -26,8 +26,7 @@ pub record IsHistoryOf (text : List ℕ) (term tries : ℕ) (requests : List Req
       (record { terms = record { boards = boards; term = term; tries = tries }; events = events }) replies
   pub history : IsTrueHistory (record { boards = boards; term = term; tries = tries }) events
 
--- the sink has got the text of the boards with the numbers of that history: a page that is read as them, each number
--- once
+-- the sink has got the text of the boards with the numbers of that history; it is read as them, each number once
 pub record FillsFromRequests (text : List ℕ) (term tries : ℕ) (requests : List Request) (sink sink' : Device)
     (report : Report)
     : Type 0 where
@@ -38,7 +37,7 @@ pub record FillsFromRequests (text : List ℕ) (term tries : ℕ) (requests : Li
   pub page : IsReadOnce boards events (history_text boards events)
   pub counts : AreReported boards events report
 
--- a beginning of that text was written, before the sink failed
+-- a beginning of that text was written, and then the sink failed
 pub record BeginsFromRequests (text : List ℕ) (term tries : ℕ) (requests : List Request) (sink sink' : Device)
     : Type 0 where
   pub boards : List Board
@@ -46,7 +45,7 @@ pub record BeginsFromRequests (text : List ℕ) (term tries : ℕ) (requests : L
   pub history : IsHistoryOf text term tries requests boards events
   pub written : AddsBeginning sink sink' (history_text boards events)
 
--- What was answered, and what the sink has got. With all refusals but the last nothing was written.
+-- The answer, and the bytes in the sink. After a fault something was written only if the sink failed.
 abbrev pub ReplaysTables : List ℕ → ℕ → ℕ → List Request → Device → Device → Result Report MakeFault → Type 0
 ReplaysTables text term tries requests sink sink' (Ok report) =
     FillsFromRequests text term tries requests sink sink' report

@@ -11,7 +11,7 @@ use Rattle.lease_book.specs.Replays.{IsReplayed}
 use Rattle.tournaments.specs.declared.faults.MakeFault.{MakeFault}
 use Rattle.tournaments.specs.declared.faults.MakeFault.TheVariants.{OutOfMemory, Read, Pbn, NoThread, Write}
 
--- the boards that a text says, or its first fault; memory may run out
+-- the boards that a text says, or its first fault, or memory ran out
 abbrev pub TakesBoards : List ℕ → Result (Vec Board Global) MakeFault → Type 0
 TakesBoards text (Ok boards) = TextAnswers text (Ok boards.items)
 TakesBoards text (Err OutOfMemory) = ⊤
@@ -20,6 +20,6 @@ TakesBoards text (Err (Pbn fault)) = TextAnswers text (Err fault)
 TakesBoards text (Err NoThread) = ⊥
 TakesBoards text (Err Write) = ⊥
 
--- a book that has answered these requests
+-- the book has answered these requests
 abbrev pub IsReplayedBook : Terms → List Request → Ledger → Type 0
 IsReplayedBook terms requests book = (replies : List Reply) × IsReplayed terms requests book replies

@@ -7,7 +7,7 @@ use Rattle.pbn_deals.specs.Reading.{TextAnswers}
 use Rattle.lease_book.specs.declared.events.Event.{Event}
 use Rattle.lease_book.specs.Histories.{Terms}
 use Rattle.lease_book.specs.TrueHistories.{AreValues, IsTrueHistory}
-use Rattle.tables.specs.BookResults.{book_results}
+use Rattle.lease_book.specs.BookResults.{book_results}
 use Rattle.whole_texts.specs.OldTables.{has_deal}
 use Rattle.whole_texts.specs.WholeText.{Game, games_of, WholeText}
 use Rattle.whole_texts.specs.Laws.{LosesNothing, ShowsBoard, ShowGames}
@@ -16,10 +16,10 @@ use Rattle.whole_texts.specs.Laws.{LosesNothing, ShowsBoard, ShowGames}
 abbrev pub games_with_deal : List Line → List Game
 games_with_deal lines = filter (λ game. has_deal game.lines) (games_of lines)
 
--- The page is the text with the tables of its boards in place of those that it had. It is read as the same boards, and
--- without the new tables it is the text without its old ones. Read by its lines, each game with a Deal tag shows the
--- results of its board, once, and each result is the double-dummy value of its deal: the first such game those of the
--- first board, and so on. If the board has no deal, the game shows no results. A game without a Deal tag is as it was.
+-- The page is the text with the tables of its boards in place of its old ones. It is read as the same boards, and
+-- without the new tables it is the text without its old ones. Read by its lines, the games with a Deal tag show the
+-- boards, in order: each shows the results of its board once, and each result is the double-dummy value of its deal. If
+-- the board has no deal, the game shows no results. A game without a Deal tag is as it was.
 pub record IsWholePage (text : List ℕ) (boards : List Board) (events : List Event) (page : List ℕ) : Type 0 where
   pub whole : WholeText text boards (book_results boards events) page
   pub same_boards : TextAnswers page (Ok boards)
@@ -32,7 +32,7 @@ pub record IsWholePage (text : List ℕ) (boards : List Board) (events : List Ev
       (games_with_deal lines)
   pub values : AreValues boards events
 
--- that is what is written of any text that is read as boards, after any true history over them
+-- the page of any text that is read as boards, after any true history over them, is such a page
 abbrev pub WholePagesAreRead : Type 0
 WholePagesAreRead =
     (text : List ℕ) (terms : Terms) (events : List Event) (page : List ℕ) →

@@ -4,21 +4,20 @@ ghost use Rattle.std.specs.Prelude.{◌≡◌, Some};
 ghost use Rattle.tournaments.specs.declared.faults.MakeFault.TheVariants as faults;
 ghost use Rattle.tournaments.specs.Faults.{fault_number, fault_name, fault_text};
 
-use cards::DeviceFault;
-use checker::OutOfMemory;
+use cards::{DeviceFault, OutOfMemory};
 use pbn_deals::PbnFault;
 use std::error::Error;
 use std::fmt;
 use streams::InputFault;
 
-/// Why no tables were made. With all but `Write` nothing was written.
+/// Why no tables were made. Only with `Write` something was written.
 #[derive(Clone, Copy, Debug, PartialEq, Eq)]
 pub enum MakeFault {
     /// Memory ran out.
     OutOfMemory,
     /// The source failed.
     Read,
-    /// The text of the boards is refused, for this reason.
+    /// The text of the boards is refused for this reason.
     Pbn(PbnFault),
     /// A thread could not be started.
     NoThread,
@@ -27,7 +26,7 @@ pub enum MakeFault {
 }
 
 impl MakeFault {
-    /// The printed number.
+    /// Returns the printed number.
     pub fn number(&self) -> u8
         ensures { result ≡ fault_number self.now }
     {
@@ -40,7 +39,7 @@ impl MakeFault {
         }
     }
 
-    /// The printed name.
+    /// Returns the printed name.
     pub fn name(&self) -> &'static str
         ensures { result.now ≡ fault_name self.now }
     {
@@ -54,7 +53,7 @@ impl MakeFault {
     }
 }
 
-/// The number and the name; a refused text has its own after them, as in `3 Pbn 5 CardTwice`.
+/// Writes the number and the name. A refused text has its own number and name after them, as in `3 Pbn 5 CardTwice`.
 impl fmt::Display for MakeFault {
     ghost output = { λ fault. Some (fault_text fault) };
 
@@ -89,7 +88,7 @@ impl From<OutOfMemory> for MakeFault {
     }
 }
 
-/// The fault of a sink. (That of a source is an `InputFault`.)
+/// Makes the fault of a sink. (The fault of a source is an `InputFault`.)
 pub fn write_failed(_fault: DeviceFault) -> MakeFault
     ensures { result ≡ faults.Write }
 {

@@ -1,8 +1,8 @@
 //! The double-dummy tables of a tournament: from the text of its boards to the text of their tables.
 //!
-//! [`make_single`] reads the boards, works on one entry after another and writes the tables. Nothing is asked of the
-//! solver or of the clock: a number is written only where its certificates were accepted. [`replay_tables`] writes the
-//! tables of a whole list of requests. [`tables_are_read`] says what every such page is.
+//! [`make_single`] reads the boards, works on one entry after another and writes the tables. The solver and the clock
+//! may answer anything: a number is written only if its certificates were accepted. [`replay_tables`] writes the tables
+//! of a whole list of requests. [`tables_are_read`] says what every such page is.
 #![tactic(auto)]
 
 mod faults;

@@ -10,12 +10,12 @@ use crate::faults::{MakeFault, write_failed};
 use crate::laws::tables_are_read;
 use crate::texts::take_boards;
 use cards::Sink;
-use lease_book::{Book, BookFault, Request, is_true_history, replay};
+use lease_book::{Book, BookFault, Request, is_true_history, replay, write_tables};
 use pbn_deals::Board;
 use std::alloc::Global;
-use tables::{Report, write_tables};
+use tables::Report;
 
-/// The book of a whole list of requests, unless memory runs out.
+/// Makes a book and has it answer a whole list of requests. Fails only if memory runs out.
 fn replay_book(
     alloc: Global,
     boards: Vec<Board>,
@@ -39,9 +39,9 @@ fn replay_book(
 
 /// Has a book over the boards of a PBN text answer a whole list of requests, in their order, and writes the tables.
 ///
-/// Whatever the requests are, and in whatever order leases, expiries, repeats and damaged or foreign certificates come,
-/// a number that is written is that of the first good hand-in for its entry, and the double-dummy value of its deal.
-/// With all refusals but a failed sink nothing was written.
+/// The requests may be any, and leases, expiries, repeats and damaged or foreign certificates may come in any order. A
+/// number that is written is the number of the first good hand-in for its entry, and the double-dummy value of its
+/// deal. If there is a fault other than a failed sink, nothing was written.
 pub fn replay_tables<O: Sink>(
     alloc: Global,
     text: &[u8],

@@ -3,6 +3,7 @@
 ghost use Rattle.std.specs.Prelude.{◌<◌, ◌≢◌, IfErr};
 ghost use Rattle.lease_book.specs.Books.{AreTries};
 ghost use Rattle.tournaments.specs.declared.faults.MakeFault.TheVariants.{NoThread};
+ghost use Rattle.streams.specs.RunStreams.{devices};
 ghost use Rattle.tournaments.specs.Making.{MakesPage, IsWholeRun};
 ghost use Rattle.tournaments.specs.Pages.{IsTablesPage};
 
@@ -11,19 +12,18 @@ use crate::laws::tables_are_read;
 use crate::texts::{open_book, take_boards};
 use crate::working::work_through;
 use cards::{Sink, Source};
-use lease_book::{Book, is_true_history};
-use lease_desk::Clock;
-use partition_solver::Solver;
+use certificate_graph::Solver;
+use lease_book::{Book, Clock, is_true_history, write_tables};
 use std::alloc::Global;
 use streams::read_all;
-use tables::{Report, write_tables};
+use tables::Report;
 
-/// Reads the boards of a PBN text to its end, has the solver work on each entry in turn, as often as `tries` says and
-/// within a budget of its own steps, and writes the tables of what was shown. The book of the run is handed out.
+/// Reads the boards of a PBN text to its end, has the solver work on each entry in turn, as often as `tries` says, with
+/// a budget of the solver's steps, and writes the tables. Returns the report and the book of the run.
 ///
-/// Whatever the solver answers and the clock tells, a number that is written is the double-dummy value of its deal: an
-/// answer whose certificates don't show it gives none. Right after each lease the checker's verdict on what the solver
-/// found is handed in. With all refusals but a failed sink nothing was written.
+/// The solver and the clock may answer anything. A number that is written is the double-dummy value of its deal: an
+/// answer whose certificates don't show it gives none. Right after each lease the checker's verdict on the solver's
+/// answer is handed in. If there is a fault other than a failed sink, nothing was written.
 pub fn make_single<I: Source, O: Sink, S: Solver, C: Clock>(
     alloc: Global,
     input: &mut I,
@@ -37,7 +37,8 @@ pub fn make_single<I: Source, O: Sink, S: Solver, C: Clock>(
     requires tries { AreTries tries }
     requires budget { 0 < budget }
     ensures made { MakesPage (IsWholeRun (S.may_find solver.now) (C.may_tell clock.now) budget) IsTablesPage
-        term tries (I.state input.old) (I.state input.new) (O.state output.old) (O.state output.new) result }
+        term tries (devices (I.state input.old) (O.state output.old))
+        (devices (I.state input.new) (O.state output.new)) result }
     ensures one_thread { IfErr result (λ fault. fault ≢ NoThread) }
 {
     let text = read_all(alloc, input)?;

@@ -10,7 +10,7 @@ use lease_book::{Book, BookFault};
 use pbn_deals::{Board, PbnFault, boards_are_printable, read_boards};
 use std::alloc::Global;
 
-/// The boards of a PBN text, or why there are none.
+/// Returns the boards of a PBN text, or the reason why there are none.
 pub fn take_boards(alloc: Global, text: &[u8]) -> Result<Vec<Board>, MakeFault>
     ensures boards { TakesBoards text.now result }
     ensures few { IfOk result (λ boards. AreBoards boards.items) }
@@ -23,7 +23,7 @@ pub fn take_boards(alloc: Global, text: &[u8]) -> Result<Vec<Board>, MakeFault>
     }
 }
 
-/// A book over boards of a text, without a history, unless memory runs out.
+/// Makes a book over boards of a text, without a history. Fails only if memory runs out.
 pub fn open_book(
     alloc: Global,
     boards: Vec<Board>,

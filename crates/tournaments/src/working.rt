@@ -2,20 +2,18 @@
 
 ghost use Rattle.std.specs.Prelude.{◌≡◌, [], IfOk, OnOk, MatchOption};
 ghost use Rattle.lease_book.specs.Histories.{deal_of};
-ghost use Rattle.partition_solver.specs.Answers.{MayAnswer};
+ghost use Rattle.certificate_graph.specs.Bundles.{MayAnswer};
 ghost use Rattle.tournaments.specs.Asking.{IsVerdictOnFound, IsFoundFor};
 ghost use Rattle.tournaments.specs.Working.{GivesOut, WorksOn};
 
-use cards::Layout;
-use certificate_graph::Answer;
-use checker::{HandFault, OutOfMemory, Verdict, check_entry};
-use lease_book::{Book, Entry, Reply};
-use lease_desk::Clock;
-use partition_solver::Solver;
+use cards::{Layout, OutOfMemory};
+use certificate_graph::{Answer, Solver};
+use checker::{HandFault, Verdict, check_entry};
+use lease_book::{Book, Clock, Entry, Reply};
 use pbn_deals::Board;
 use std::alloc::Global;
 
-/// The layout of an entry's board, if it has one.
+/// Returns the layout of an entry's board, if it has one.
 fn layout_for(boards: &[Board], entry: Entry) -> Option<&Layout>
     ensures { MatchOption result (deal_of boards.now entry.board ≡ None)
         (λ layout. deal_of boards.now entry.board ≡ Some layout.now) }
@@ -23,7 +21,7 @@ fn layout_for(boards: &[Board], entry: Entry) -> Option<&Layout>
     boards.get(entry.board)?.deal.as_ref()
 }
 
-/// The checker's verdict on an answer for an entry, whose layout this is.
+/// Returns the checker's verdict on an answer for an entry with this layout.
 fn verdict_of(layout: &Layout, entry: Entry, answer: &Answer) -> Verdict
     ensures { IsVerdictOnFound layout.now entry (Some answer.now) (Some result) }
 {
@@ -38,8 +36,8 @@ fn verdict_of(layout: &Layout, entry: Entry, answer: &Answer) -> Verdict
     checked.map_err(HandFault::Entry)
 }
 
-/// The solver's answer for an entry, whose layout this is: none where nothing was found within the budget, and where
-/// the solver had no memory. Fails only where memory runs out for the answer's graphs.
+/// Returns the solver's answer for an entry with this layout. There is none if nothing was found within the budget, or
+/// if the solver had no memory. Fails only if memory runs out for the answer's graphs.
 fn answer_for<S: Solver>(
     alloc: Global,
     layout: &Layout,
@@ -58,7 +56,8 @@ fn answer_for<S: Solver>(
         .map_err(|_| OutOfMemory)
 }
 
-/// The verdict on the solver's answer for an entry, if it has one: none too where the board has no deal.
+/// Returns the verdict on the solver's answer for an entry. There is none without an answer, or if the board has no
+/// deal.
 fn verdict_on<S: Solver>(
     alloc: Global,
     boards: &[Board],
@@ -77,7 +76,7 @@ fn verdict_on<S: Solver>(
     Ok(Some(verdict_of(layout, entry, &answer)))
 }
 
-/// Hands in what the solver answers for the entry of a lease, or gives the lease up.
+/// Hands in the solver's answer for the entry of a lease, or gives the lease up.
 fn work_on<S: Solver>(
     alloc: Global,
     book: &mut Book,

@@ -8,7 +8,7 @@ use Rattle.pbn_deals.specs.declared.pieces.Piece.TheVariants as found
 use Rattle.pbn_deals.specs.Tags.{is_deal}
 use Rattle.pbn_deals.specs.FirstPieces.{is_data_piece, is_found_data, found_bytes, ArePieces, opens_comment, IsFirst}
 use Rattle.pbn_deals.specs.Pieces.{Piece, Space, Comment, Pair, Data, NoPair, bytes_of, HasPieces}
-use Rattle.pbn_deals.proofs.SomePieces.{pieced}
+use Rattle.pbn_deals.proofs.PiecesInTurn.{some_first, begin_nil}
 use Rattle.whole_texts.specs.OldTables.{is_table, left_pieces, table_behind, is_deal_pair}
 use Rattle.whole_texts.specs.Lefts.{left_kind}
 use Rattle.whole_texts.specs.Facts.{AreFacts}
@@ -137,32 +137,6 @@ begins t pieces more is_open facts line h has = record {
   opens = refl;
   last = λ e. absurd (cc);
 }
-
-some_first : (piece : CodePiece) (first : List Piece) → ArePieces piece first → found_bytes piece ≢ [] → first ≢ []
-some_first (found.Blanks bytes) first are some none = go bytes.now (sym are ∙ none) some where
-  go : (b : List ℕ) → map Space b ≡ [] → b ≢ [] → ⊥
-  go [] e n = n refl
-  go (byte ∷ bytes) e n = cc
-some_first (found.Comment bytes) first are some none = let x = sym are ∙ none in cc
-some_first (found.OpenComment bytes) first are some none = let x = sym are ∙ none in cc
-some_first (found.Pair name bytes) first (value, are) some none = let x = sym are ∙ none in cc
-some_first (found.Data bytes) first (all, same) some none = some (sym same ∙ ap (flat_map bytes_of) none)
-some_first (found.NoPair bytes) first are some none = let x = sym are ∙ none in cc
-
--- a piece takes bytes
-longer : (bytes rest : List ℕ) → bytes ≢ [] → length rest < length (bytes ++ rest)
-longer [] rest some = absurd (some refl)
-longer (byte ∷ bytes) rest some = omega (arith, length-append bytes rest)
-
-pub takes_bytes : (in_data : Bool) (text after : List ℕ) (piece : CodePiece) → ((pieces : List Piece) (is_open : Bool) → HasPieces in_data text pieces is_open → IsFirst in_data text pieces is_open piece after) → length after < length text
-takes_bytes in_data text after piece found =
-    let p = pieced in_data text in
-    let f = found p.pieces p.is_open p.has in
-    subst (λ t. length after < length t) (sym f.whole) (longer (found_bytes piece) after f.some)
-
-begin_nil : (bytes rest : List ℕ) → bytes ++ rest ≡ [] → bytes ≡ []
-begin_nil [] rest e = refl
-begin_nil (byte ∷ bytes) rest e = absurd (cc)
 
 pub goes_on : (t : Bool) (pieces more : List Piece) (is_open in_data : Bool) (rest after : List ℕ) (facts facts' : PieceFacts) (piece : CodePiece) → (g : GoesOn t pieces more is_open facts in_data rest) → IsFirst in_data rest g.others g.behind piece after → ((before first : List Piece) → AreFacts t before false facts → ArePieces piece first → first ≢ [] → AreFacts t (before ++ first) (opens_comment piece) facts') → GoesOn t pieces more is_open facts' (is_found_data piece || in_data) after
 goes_on t pieces more is_open in_data rest after facts facts' piece g f made = record {

@@ -122,7 +122,7 @@ data_more (Pair name value bytes ∷ pieces) e some = absurd (cc)
 data_more (NoPair bytes ∷ pieces) e some = absurd (cc)
 
 -- a tag pair, section data, or what begins none
-pub others_more : (piece : CodePiece) (before pieces : List Piece) → ((name bytes : Bor (List ℕ)) × (piece ≡ found.Pair name bytes)) ⊎ ((bytes : Bor (List ℕ)) × (piece ≡ found.Data bytes)) ⊎ ((bytes : Bor (List ℕ)) × (piece ≡ found.NoPair bytes)) → ArePieces piece pieces → pieces ≢ [] → More ≡ left_kind (before ++ pieces)
-others_more piece before pieces (inl (name, bytes, is)) are some = let (value, e) = subst (λ p. ArePieces p pieces) is are in any_more before pieces (ap has_more e) (λ none. ap (λ l. is_count (OfGame l)) e)
+pub others_more : (piece : CodePiece) (before pieces : List Piece) → ((name value bytes : Bor (List ℕ)) × (piece ≡ found.Pair name value bytes)) ⊎ ((bytes : Bor (List ℕ)) × (piece ≡ found.Data bytes)) ⊎ ((bytes : Bor (List ℕ)) × (piece ≡ found.NoPair bytes)) → ArePieces piece pieces → pieces ≢ [] → More ≡ left_kind (before ++ pieces)
+others_more piece before pieces (inl (name, value, bytes, is)) are some = let e = subst (λ p. ArePieces p pieces) is are in any_more before pieces (ap has_more e) (λ none. ap (λ l. is_count (OfGame l)) e)
 others_more piece before pieces (inr (inl (bytes, is))) are some = let (all, same) = subst (λ p. ArePieces p pieces) is are in let (more, n) = data_more pieces all some in any_more before pieces more (λ none. n)
 others_more piece before pieces (inr (inr (bytes, is))) are some = let e = subst (λ p. ArePieces p pieces) is are in any_more before pieces (ap has_more e) (λ none. ap (λ l. is_count (OfGame l)) e)

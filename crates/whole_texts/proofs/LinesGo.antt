@@ -3,7 +3,7 @@ use Rattle.std.proofs.Common.{◌≡◌, ℕ, ◌<◌, Bool, true, false, cond, 
 use Rattle.std.proofs.lemmas.Grind.{flat_map-append}
 use Rattle.cards.specs.Devices.{Device, Adds, AddsBeginning}
 use Rattle.pbn_deals.specs.DealValue.{is_word}
-use Rattle.pbn_deals.proofs.RowsBack.{AreEnded, text_ended}
+use Rattle.pbn_deals.proofs.RowsInTurn.{HasFirst, has_first, no_rows}
 use Rattle.pbn_deals.specs.Pieces.{Piece, Kind, Gap, Escaped, OfGame, body_of, LineIs, Row, rows_of, Line, line_bytes, AreLines, no_more, one_more}
 use Rattle.whole_texts.specs.LeftText.{kind_left, without_any_count, kept, tables_behind, Passes}
 use Rattle.whole_texts.specs.Lefts.{left_kind}
@@ -85,18 +85,6 @@ first_text counts_go in_table kind end lines =
     ∙ (ap (flat_map line_bytes) (kept-append counts_go (put_left in_table kind end []) rest)
     ∙ flat_map-append line_bytes (kept counts_go (put_left in_table kind end [])) (kept counts_go rest))
 
--- the first of lines, and the others
-pub record HasFirst (is_open : Bool) (row : Row) (rows : List Row) (lines : List Line) (last : Bool) : Type 0 where
-  pub kind : Kind
-  pub behind : Bool
-  pub is : LineIs is_open row.bytes kind behind
-  pub others : List Line
-  pub are : AreLines behind rows others last
-  pub all : lines ≡ record { kind = kind; end = row.end } ∷ others
-
-pub has_first : {is_open last : Bool} {row : Row} {rows : List Row} {lines : List Line} → AreLines is_open (row ∷ rows) lines last → HasFirst is_open row rows lines last
-has_first (one_more {is_open' = behind} {kind = kind} {lines} l r) = record { kind = kind; behind = behind; is = l; others = lines; are = r; all = refl }
-
 pub record LinesGo (start now : Device) (counts_go : Bool) (old before : Before) (those : List Line) (is_open : Bool) (rest : List ℕ) : Type 0 where
   pub others : List Line
   pub has : AreLines before.is_open (rows_of rest) others is_open
@@ -140,9 +128,6 @@ module _ {start now : Device} {counts_go is_open : Bool} {old before : Before} {
   pub fault_in_line : {later : Device} → AddsBeginning now later text → AddsBeginning start later (LeftText counts_go old.in_table those)
   fault_in_line a = fault_in text todo goes a
 
-no_rows : {is_open last : Bool} {lines : List Line} → AreLines is_open [] lines last → (lines ≡ []) × (is_open ≡ last)
-no_rows no_more = (refl, refl)
-
 pub lines_gone : {start now : Device} {counts_go is_open : Bool} {old before : Before} {those : List Line} {rest : List ℕ} → LinesGo start now counts_go old before those is_open rest → rest ≡ [] → Adds start now (LeftText counts_go old.in_table those) × Passes (last_of old.last (LeftText counts_go old.in_table those)) is_open (tables_behind old.in_table those) before
 lines_gone {start} {now} {counts_go} {is_open} {old} {before} {those} go none =
     let end = no_rows (subst (λ t. AreLines before.is_open (rows_of t) go.others is_open) none go.has) in
@@ -159,19 +144,3 @@ pub stays_text : (counts_go in_table is_open : Bool) (kind : Kind) (end : List �
 stays_text counts_go in_table is_open kind end facts h stays =
     ap (flat_map line_bytes) (line_kept counts_go in_table is_open kind end facts h ∙ ap (λ b. cond b [] (record { kind = kind_left in_table kind; end = end } ∷ [])) (sym stays))
     ∙ append-nil (body_of (kind_left in_table kind) ++ end)
-
--- a row has a byte
-some_row : (row : Row) (rows : List Row) → AreEnded (row ∷ rows) → 0 < length (row.bytes ++ row.end)
-some_row row rows (inl ((lacks, inl e), more)) = let n = length-append row.bytes row.end in let m = ap length e in omega (arith, n, m)
-some_row row rows (inl ((lacks, inr (e, f)), more)) = let n = length-append row.bytes row.end in let m = ap length e in omega (arith, n, m)
-some_row row rows (inr ((lacks, e, w), none)) = let n = length-append row.bytes row.end in let m = word_length row.bytes w in omega (arith, n, m) where
-  word_length : (bytes : List ℕ) → is_word bytes ≡ true → 0 < length bytes
-  word_length [] w = absurd (cc)
-  word_length (byte ∷ bytes) w = omega arith
-
-pub rest_shorter : (rest after : List ℕ) (row : Row) → rows_of rest ≡ row ∷ rows_of after → rest ≡ (row.bytes ++ row.end) ++ after → length after < length rest
-rest_shorter rest after row rows whole =
-    let some = some_row row (rows_of after) (subst AreEnded rows (text_ended rest)) in
-    let n = length-append (row.bytes ++ row.end) after in
-    let m = ap length whole in
-    omega (arith, some, n, m)

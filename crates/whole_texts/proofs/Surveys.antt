@@ -13,7 +13,7 @@ use Rattle.whole_texts.specs.LeftText.{tables_behind}
 use Rattle.whole_texts.specs.LineFacts.{is_solid}
 use Rattle.whole_texts.specs.declared.games.GameText.{GameText}
 use Rattle.whole_texts.proofs.LineCuts.{cut_lines}
-use Rattle.whole_texts.proofs.LinesGo.{HasFirst, has_first}
+use Rattle.pbn_deals.proofs.RowsInTurn.{HasFirst, has_first}
 use Rattle.whole_texts.proofs.SolidLines.{behind-append, is_minor, EndsSolid, left_parts, ends_solid, stays_minor}
 
 -- ---- the first line with a Deal tag

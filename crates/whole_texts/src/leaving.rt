@@ -3,7 +3,8 @@
 ghost use Rattle.std.specs.Prelude.{◌≡◌, [], false, Bool, List, None};
 ghost use Rattle.std.specs.List.{flat_map};
 ghost use Rattle.pbn_deals.specs.Pieces as seen;
-ghost use Rattle.pbn_deals.specs.Pieces.{bytes_of, body_of, HasPieces, Kind, LineIs, Line, line_bytes, rows_of, AreLines};
+ghost use Rattle.pbn_deals.specs.Pieces.{bytes_of, body_of, HasPieces, Kind, LineIs, Line, line_bytes, rows_of};
+ghost use Rattle.pbn_deals.specs.Pieces.{AreLines};
 ghost use Rattle.pbn_deals.specs.FirstPieces.{ArePieces};
 ghost use Rattle.whole_texts.specs.OldTables.{left_pieces, table_behind, put_left, table_behind_line, without_tables};
 ghost use Rattle.whole_texts.specs.LineFacts.{FactsOfLine, line_goes};
@@ -73,7 +74,7 @@ fn piece_left<'a>(in_table: bool, piece: Piece<'a>) -> (&'a [u8], bool)
         | Piece::Comment(bytes)
         | Piece::OpenComment(bytes)
         | Piece::NoPair(bytes) => (bytes, in_table),
-        Piece::Pair { name, bytes } => {
+        Piece::Pair { name, bytes, .. } => {
             let is_table = is_same_name(TABLE, name);
             (if is_table { &[] } else { bytes }, is_table)
         }

@@ -2,7 +2,7 @@
 use Rattle.std.proofs.Common.{refl, subst}
 use Rattle.cards.specs.Devices.{Adds, AddsBeginning}
 use Rattle.lease_book.specs.Histories.{Terms}
-use Rattle.tables.specs.BookResults.{book_results}
+use Rattle.lease_book.specs.BookResults.{book_results}
 use Rattle.tables.specs.TablesText.{tables_text}
 use Rattle.tournaments.specs.Pages.{history_text, IsTablesPage}
 use Rattle.audits.specs.Audits.{audit_terms}

@@ -6,7 +6,7 @@ use Rattle.streams.specs.declared.inputs.InputFault.{InputFault}
 use Rattle.tournaments.specs.declared.faults.MakeFault.{MakeFault}
 use Rattle.tournaments.specs.declared.faults.MakeFault.TheVariants.{OutOfMemory, Read, Pbn, NoThread, Write}
 use Rattle.tournaments.specs.Texts.{TakesBoards}
-use Rattle.tournaments.proofs.ReadLaws.{Loses-all}
+use Rattle.streams.proofs.ReadLaws.{Loses-all}
 use Rattle.evidence.specs.Wholes.{Whole}
 use Rattle.audits.specs.declared.faults.AuditFault.TheVariants.{Page}
 use Rattle.audits.specs.Audits.{IsHalted}

@@ -1,7 +1,7 @@
 -- One page is written of the text, and it is read as the law says, since its history is true over the text's boards.
 use Rattle.std.proofs.Common.{sym, subst}
 use Rattle.lease_book.specs.Histories.{Terms}
-use Rattle.tables.specs.BookResults.{book_results}
+use Rattle.lease_book.specs.BookResults.{book_results}
 use Rattle.tournaments.specs.WholePages.{IsWholePage}
 use Rattle.whole_texts.specs.WholeText.{IsOfLines, WholeText}
 use Rattle.audits.specs.Audits.{audit_terms}

@@ -1,7 +1,7 @@
 use Rattle.std.proofs.Common.{◌<◌, List, length, Some, refl, sym, ◌∙◌, ap, subst, arith}
 use Rattle.cards.specs.Deal.{Deal}
 use Rattle.cards.specs.declared.suits.Trump.{Trump}
-use Rattle.partition_solver.specs.declared.bundles.Claim.{Claim}
+use Rattle.certificate_graph.specs.declared.bundles.Claim.{Claim}
 use Rattle.lease_book.proofs.TwinLaws.{deal_there}
 use Rattle.audits.specs.Firsts.{AllKnown}
 use Rattle.audits.proofs.ShownLaws.{foreign_shows_nothing}

@@ -1,7 +1,7 @@
 use Rattle.std.proofs.Common.{◌≡◌, ◌+◌, List, [], ◌∷◌, ◌++◌, take, cond, true, sym, ◌∙◌, ap, subst, arith}
 use Rattle.std.specs.Result.{is_ok}
 use Rattle.std.proofs.lemmas.List.{take_more, take_all}
-use Rattle.partition_solver.specs.declared.bundles.Claim.{Claim}
+use Rattle.certificate_graph.specs.declared.bundles.Claim.{Claim}
 use Rattle.checker.specs.declared.entries.Shown.{Shown}
 use Rattle.evidence.specs.Sections.{SectionShape}
 use Rattle.audits.specs.Firsts.{AreShownBy}

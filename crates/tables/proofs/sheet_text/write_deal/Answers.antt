@@ -1,6 +1,6 @@
 use Rattle.std.proofs.Common.{◌∷◌, ◌++◌, []}
 use Rattle.cards.proofs.WriteLemmas.{AddsBeginning-stop, AddsBeginning-then, Writes-then, Writes-err}
-use Rattle.tables.specs.DealText.{deal_text}
+use Rattle.pbn_deals.specs.DealText.{deal_text}
 use Rattle.tables.proofs.sheet_text.write_deal.Goals as goal
 
 pub returns-in_err-write_all-in-Some : goal.returns-in_err-write_all-in-Some

@@ -4,6 +4,7 @@ use Rattle.lease_book.specs.Histories.{Terms}
 use Rattle.lease_book.specs.Books.{Ledger}
 use Rattle.lease_book.specs.TrueHistories.{IsTrueHistory}
 use Rattle.cards.specs.Devices.{AddsBeginning}
+use Rattle.streams.specs.RunStreams.{devices}
 use Rattle.tournaments.specs.Making.{IsWholeRun, BeginsPage}
 use Rattle.tournaments.specs.Pages.{history_text, IsTablesPage}
 use Rattle.tournaments.proofs.single.make_single.Goals as goal
@@ -58,6 +59,6 @@ returns-in_err-report-clause-made g c =
     let page = history_text boards events in
     let read = c.tables_are_read.ensures c.as_slice.result.now opened events c.in_ok-boards.ensures.boards history in
     let written : AddsBeginning (g.O.Sink.state c.args.output.now) (g.O.Sink.state c.write_tables.new.sink) page = search rules in
-    let begins : BeginsPage is_run IsTablesPage c.args.term c.args.tries (g.I.Source.state c.args.input.now) (g.I.Source.state c.read_all.new.source) (g.O.Sink.state c.args.output.now) (g.O.Sink.state c.write_tables.new.sink) =
+    let begins : BeginsPage is_run IsTablesPage c.args.term c.args.tries (devices (g.I.Source.state c.args.input.now) (g.O.Sink.state c.args.output.now)) (devices (g.I.Source.state c.read_all.new.source) (g.O.Sink.state c.write_tables.new.sink)) =
     record { boards = boards; read = search rules; events = events; run = run; page = page; is = (refl, read); written = written } in
     search (rules, begins)

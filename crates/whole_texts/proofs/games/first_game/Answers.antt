@@ -1,7 +1,7 @@
 use Rattle.std.proofs.Common.{ℕ, List, false, None, refl, sym, ◌∙◌, ap, subst, flat_map, length, arith}
 use Rattle.std.specs.Borrow.{Bor}
 use Rattle.pbn_deals.specs.Pieces.{line_bytes}
-use Rattle.whole_texts.proofs.LinesGo.{rest_shorter}
+use Rattle.pbn_deals.proofs.RowsInTurn.{rest_shorter}
 use Rattle.whole_texts.proofs.Surveys.{Surveyed, survey_begins, next_line, own, own_line, line_is, solid_line, minor_line, ends_with_text, ends_at_gap, some_text}
 use Rattle.whole_texts.proofs.games.first_game.Goals as goal
 use Rattle.whole_texts.proofs.games.first_game.Goals.{then-is_solid, else-is_solid}

@@ -1,5 +1,6 @@
 use Rattle.whole_texts.proofs.Gone.{stops}
-use Rattle.whole_texts.proofs.LinesGo.{first, fault_in_line, one_line_more, lines_begin, lines_gone, rest_shorter}
+use Rattle.pbn_deals.proofs.RowsInTurn.{rest_shorter}
+use Rattle.whole_texts.proofs.LinesGo.{first, fault_in_line, one_line_more, lines_begin, lines_gone}
 use Rattle.whole_texts.proofs.leaving.write_lines.Goals as goal
 
 pub loop-row-init : goal.loop-row-init

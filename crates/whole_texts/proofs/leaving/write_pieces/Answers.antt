@@ -1,7 +1,7 @@
 use Rattle.std.proofs.Common.{◌||◌, sym, ap, subst, flat_map}
 use Rattle.pbn_deals.specs.Pieces.{bytes_of}
 use Rattle.whole_texts.specs.OldTables.{left_pieces}
-use Rattle.whole_texts.proofs.FactsOf.{takes_bytes}
+use Rattle.pbn_deals.proofs.PiecesInTurn.{takes_bytes}
 use Rattle.whole_texts.proofs.Gone.{stops}
 use Rattle.whole_texts.proofs.PiecesGo.{PiecesGo, fault_in_piece, one_piece_more, pieces_begin, pieces_gone}
 use Rattle.whole_texts.proofs.leaving.write_pieces.Goals as goal

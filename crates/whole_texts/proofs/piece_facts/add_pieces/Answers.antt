@@ -1,5 +1,6 @@
 use Rattle.std.proofs.Common.{◌||◌, sym, ap, subst}
-use Rattle.whole_texts.proofs.FactsOf.{GoesOn, begins, takes_bytes, goes_on, ends}
+use Rattle.pbn_deals.proofs.PiecesInTurn.{takes_bytes}
+use Rattle.whole_texts.proofs.FactsOf.{GoesOn, begins, goes_on, ends}
 use Rattle.whole_texts.proofs.piece_facts.add_pieces.Goals as goal
 
 -- src/piece_facts.rt:103:5

@@ -1,7 +1,7 @@
 use Rattle.std.proofs.Common.{◌≡◌, List, get_or, None, Option, is_some, true, sym, ◌∙◌, ap, subst, arith, rules}
 use Rattle.std.proofs.lemmas.List.{take_all}
 use Rattle.std.proofs.lemmas.List.Elements.{All-more}
-use Rattle.partition_solver.specs.declared.bundles.Claim.{Claim}
+use Rattle.certificate_graph.specs.declared.bundles.Claim.{Claim}
 use Rattle.checker.specs.declared.entries.Shown.{Shown}
 use Rattle.lease_book.specs.Entries.{place_of}
 use Rattle.audits.specs.Firsts.{AllKnown}

@@ -15,10 +15,11 @@ loop-number-preserved c =
     elim c.if-is_some.branch [
       | then-is_some w ↦
           let has : is_some here.result.deal ≡ true = sym w.if-is_some.ensures in
-          let results : c.if-is_some.self.results ≡ w.saturating_add-self.result = search rules in
+          let results : c.if-is_some.self.results ≡ w.saturating_add-self-then-is_some.result = search rules in
+          let dealt_are : c.if-is_some.self.boards ≡ w.saturating_add-self.result = search rules in
           record {
-            boards_are = search rules;
-            results_are = omega (arith, results, w.saturating_add-self.ensures, inv.results_are, count_by_more_yes dealt boards c.loop-number.number here.result (omega arith) (ap dealt (sym here.is) ∙ has));
+            boards_are = omega (arith, dealt_are, w.saturating_add-self.ensures, inv.boards_are, count_by_more_yes dealt boards c.loop-number.number here.result (omega arith) (ap dealt (sym here.is) ∙ has));
+            results_are = omega (arith, results, w.saturating_add-self-then-is_some.ensures, inv.results_are, count_by_more_yes dealt boards c.loop-number.number here.result (omega arith) (ap dealt (sym here.is) ∙ has));
             published_are = search rules;
             finished_are = search rules;
             sharing_are = subst (λ (counts : Counts). HaveShared boards counts.sharing (c.loop-number.number + 1)) (sym w.self-is)
@@ -28,8 +29,9 @@ loop-number-preserved c =
       | else-is_some w ↦
           let none : is_some here.result.deal ≡ false = sym w.if-is_some.ensures in
           let results : c.if-is_some.self.results ≡ c.loop-number.self.results = search rules in
+          let dealt_are : c.if-is_some.self.boards ≡ c.loop-number.self.boards = search rules in
           record {
-            boards_are = search rules;
+            boards_are = omega (arith, dealt_are, inv.boards_are, count_by_more_no dealt boards c.loop-number.number here.result (omega arith) (ap dealt (sym here.is) ∙ none));
             results_are = omega (arith, results, inv.results_are, count_by_more_no dealt boards c.loop-number.number here.result (omega arith) (ap dealt (sym here.is) ∙ none));
             published_are = search rules;
             finished_are = search rules;

@@ -1,5 +1,5 @@
 -- The boards so far are counted: how many have a deal, and of each place how many have the deal of the first board with it.
-use Rattle.std.proofs.Common.{◌≡◌, ℕ, ◌*◌, ◌-◌, ◌^◌, ◌<◌, min, length, take, get_or, count_by, is_some}
+use Rattle.std.proofs.Common.{◌≡◌, ℕ, ◌*◌, ◌-◌, ◌^◌, ◌<◌, min, take, get_or, count_by, is_some}
 use Rattle.pbn_deals.specs.declared.boards.Board.{Board}
 use Rattle.progress.specs.Counts.{is_first_with}
 use Rattle.progress.proofs.counts.Counts.begin.Given as goal
@@ -7,7 +7,7 @@ use Rattle.progress.proofs.counts.Counts.begin.Given as goal
 abbrev pub invariant-loop-number : goal.invariant-loop-number
 invariant-loop-number l =
     record {
-      boards_are : l.self.boards ≡ length l.boards;
+      boards_are : l.self.boards ≡ min (count_by (λ (board : Board). is_some board.deal) (take l.number l.boards)) (2 ^ 64 - 1);
       results_are : l.self.results ≡ min (20 * count_by (λ (board : Board). is_some board.deal) (take l.number l.boards)) (2 ^ 64 - 1);
       published_are : l.self.published ≡ 0;
       finished_are : l.self.finished ≡ 0;

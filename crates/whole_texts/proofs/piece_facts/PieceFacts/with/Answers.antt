@@ -14,9 +14,8 @@ returns-in-OpenComment c = λ t before pieces h are some.
 -- src/piece_facts.rt:49:5
 pub returns-in-Pair : goal.returns-in-Pair
 returns-in-Pair c = λ t before pieces h are some.
-    let (value, is) = subst (λ p. ArePieces p pieces) c.in-Pair.is are in
-    let pair = Pair c.in-Pair.name.now value c.in-Pair.bytes.now ∷ [] in
-    let made = c.with_pair.ensures t before value c.in-Pair.bytes.now h (subst (λ l. ArePieces c.args.piece l) is are) in
+    let is = subst (λ p. ArePieces p pieces) c.in-Pair.is are in
+    let made = c.with_pair.ensures t before c.in-Pair.value.now c.in-Pair.bytes.now h (subst (λ l. ArePieces c.args.piece l) is are) in
     subst (λ o. AreFacts t (before ++ pieces) o c.with_pair.result) (sym (ap opens_comment c.in-Pair.is))
     (subst (λ l. AreFacts t (before ++ l) false c.with_pair.result) (sym is) made)
 

@@ -1,0 +1,26 @@
+use Rattle.std.proofs.Common.{refl, arith}
+use Rattle.cards.specs.declared.pack.Rank.TheVariants.{Two}
+use Rattle.cards.proofs.WriteLemmas.{Adds-piece, AddsBeginning-piece, Writes-err, pieces-all}
+use Rattle.pbn_deals.specs.DealText.{ranks_falling, held_letter, group_text}
+use Rattle.pbn_deals.proofs.deal_texts.write_group.Goals as goal
+
+pub returns-in_err-write_card : goal.returns-in_err-write_card
+unfolding group_text
+returns-in_err-write_card g c =
+    let text_of = held_letter c.args.layout.now c.args.seat c.args.suit in
+    Writes-err c.from_residual.result _ c.from_residual.ensures.1
+    (AddsBeginning-piece text_of ranks_falling c.loop-rank.rank-index Two (omega arith) c.loop-rank.invariant.wrote c.in_err-write_card.ensures)
+
+pub loop-rank-preserved : goal.loop-rank-preserved
+loop-rank-preserved g c =
+    let text_of = held_letter c.args.layout.now c.args.seat c.args.suit in
+    record {
+      items = refl;
+      wrote = Adds-piece text_of ranks_falling c.loop-rank.rank-index Two (omega arith) c.loop-rank.invariant.wrote c.in_ok-write_card.ensures;
+    }
+
+pub returns : goal.returns
+unfolding group_text
+returns g c =
+    let text_of = held_letter c.args.layout.now c.args.seat c.args.suit in
+    rw (pieces-all text_of ranks_falling c.loop-rank.rank-index (omega arith)) at c.loop-rank.invariant.wrote
