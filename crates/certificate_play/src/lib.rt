@@ -8,7 +8,6 @@
 
 mod branches;
 mod copies;
-mod holders;
 mod lines;
 mod playing;
 mod sides;

@@ -14,13 +14,12 @@ ghost use Rattle.certificate_play.specs.OwnCards.{IsOwnCard, IsAnswer};
 ghost use Rattle.certificate_play.specs.Steps.{IsKeptIn};
 
 use crate::copies::copy;
-use crate::holders::holders;
 use crate::stand_ins::last_card;
 use crate::steps::{Step, after_own, after_reply, own_card};
 use arrayvec::ArrayVec;
 use cards::{Card, Layout, Seat, Side};
 use certificate_graph::Graph;
-use play_rules::{PlayFault, Table};
+use play_rules::{PlayFault, Table, holders};
 use std::alloc::AllocError;
 use std::marker::Model;
 

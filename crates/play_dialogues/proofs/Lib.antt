@@ -7,3 +7,4 @@ pub mod TrailLaws
 pub mod LineLaws
 pub mod WordLaws
 pub mod ConverseLaws
+pub mod TrickLemmas

@@ -11,23 +11,16 @@ use Rattle.cards.specs.declared.pack.Rank.{Rank}
 use Rattle.cards.specs.declared.pack.Rank.TheVariants.{Two, Three, Four, Five, Six, Seven}
 use Rattle.cards.specs.declared.pack.Rank.TheVariants.{Eight, Nine, Ten, Jack, Queen, King, Ace}
 use Rattle.cards.specs.declared.pack.Card.{Card}
-use Rattle.cards.specs.Pack.{suit_letter, rank_letter, card_of}
+use Rattle.cards.specs.Pack.{rank_letter, card_of}
 use Rattle.cards.specs.Seats.{seat_letter, side_letters}
 use Rattle.cards.specs.Deal.{Deal, holder_of, is_held_by}
 use Rattle.play_rules.specs.History.{trick_of, leader_after, tricks_of}
 use Rattle.play_rules.specs.Left.{left_of}
 use Rattle.play_rules.specs.Position.{turn_of}
 use Rattle.certificate_play.specs.Promises.{Promise}
+use Rattle.play_dialogues.specs.CardTexts.{card_text, cards_text}
 use Rattle.play_dialogues.specs.declared.words.Refusal.{Refusal}
 use Rattle.play_dialogues.specs.declared.words.Refusal.TheVariants.{NoCard, NotHeld, MustFollow, Several, NothingBack}
-
--- a card: `SA`
-abbrev pub card_text : Card → List ℕ
-card_text card = suit_letter card.suit ++ rank_letter card.rank
-
--- cards, each behind a blank
-abbrev pub cards_text : List Card → List ℕ
-cards_text cards = flat_map (λ (card : Card). 32 ∷ card_text card) cards
 
 -- ---- the hands
 -- who holds each card that is left
