@@ -9,7 +9,7 @@ use Rattle.clap.specs.declared.builder.action.ArgAction.TheVariants.{SetTrue}
 use Rattle.clap.specs.declared.builder.command.Command.{Command}
 use Rattle.clap.specs.declared.builder.command.Command.TheViews.{out-Command as fields_of}
 use Rattle.clap.specs.declared.builder.value_parser.ValueParser.{ValueParser}
-use Rattle.clap.specs.declared.builder.value_parser.ValueParser.TheVariants.{Names, Signed, Unsigned}
+use Rattle.clap.specs.declared.builder.value_parser.ValueParser.TheVariants.{Names, Signed}
 use Rattle.asked.specs.Options.{OptionNumbers, table_options, budget_option, progress_option, whole_option}
 use Rattle.asked.specs.Options.{default_side, evidence_option, side_option, side_word}
 use Rattle.asked.specs.declared.sides.ContractSide.TheVariants.{Declarer, Defenders}
@@ -39,17 +39,17 @@ choice name texts = record (word name) { parser = Some (Names texts) }
 abbrev pub hand_words : Letters → Text → List Rule
 hand_words letters seat = word (codes "LAYOUT") ∷ choice seat letters.seats ∷ choice (codes "TRUMP") letters.trumps ∷ []
 
--- the numbers of a range, which may be typed with a sign or may not
-abbrev pub numbers_in_range : Bool → ℕ → ℕ → ValueParser
-numbers_in_range true least most = Signed (pos least) (pos most)
-numbers_in_range false least most = Unsigned least most
+-- the texts that stand for a missing number: none where the number of processors does
+abbrev pub defaults_of : Bool → Text → List Text
+defaults_of true default = []
+defaults_of false default = default ∷ []
 
--- `--name NUMBER`, with the number that stands for a missing one
+-- `--name NUMBER`, with the number that stands for a missing one; a number with a sign is refused for its range too
 abbrev pub number_rule : OptionNumbers → Rule
 number_rule option = record (new_rule option.name) {
   long = Some option.name;
-  parser = Some (numbers_in_range option.is_signed option.least option.most);
-  defaults = option.default ∷ [];
+  parser = Some (Signed (pos option.least) (pos option.most));
+  defaults = defaults_of option.is_by_machine option.default;
   value_names = 1;
 }
 
@@ -113,6 +113,7 @@ abbrev pub command_line : Letters → App
 command_line letters = record {
   top = record (new_shape (codes "ddfarm")) {
     is_leaf = false;
+    has_version = true;
     disable_help_subcommand = true;
     arg_required_else_help = true;
     subcommand_required = true;

@@ -4,7 +4,7 @@ ghost use Rattle.std.specs.Prelude.{◌≡◌, IfOk, map};
 ghost use Rattle.clap.specs.Words.{app_of};
 ghost use Rattle.asked.specs.Options.{numbers_of};
 ghost use Rattle.arguments.specs.CommandLine.{AddsRules, AreLetters, IsArg, IsLeaf, audit, check, choice, choice_rule};
-ghost use Rattle.arguments.specs.CommandLine.{command_line, flag, hand_words, line, numbers_in_range};
+ghost use Rattle.arguments.specs.CommandLine.{command_line, flag, hand_words, line};
 ghost use Rattle.arguments.specs.CommandLine.{number_rule, plain, play, settings, solve, table, text_rule, word};
 
 use crate::help;
@@ -44,6 +44,7 @@ pub(crate) fn command<'a>(alloc: Global, letters: Letters<'a>) -> Result<Command
     let command = Command::new(alloc, "ddfarm")
         .bin_name("ddfarm")?
         .about(help::ABOUT)
+        .version(help::VERSION)
         .after_help(help::EXAMPLE)
         .subcommand_required(true)
         .arg_required_else_help(true)
@@ -191,26 +192,19 @@ fn choice_arg<'a>(alloc: Global, name: &'a str, texts: &'a [&'a str], help: &'a 
         .help(help)
 }
 
-/// The numbers that an option takes.
-fn numbers_of_option<'a>(option: &NumberOption) -> ValueParser<'a>
-    ensures { result ≡ numbers_in_range option.now.is_signed option.now.least option.now.most }
-{
-    if option.is_signed {
-        ValueParser::signed(i64::from(option.least), i64::from(option.most))
-    } else {
-        ValueParser::unsigned(u64::from(option.least), u64::from(option.most))
-    }
-}
-
 fn number_arg<'a>(alloc: Global, option: &NumberOption) -> Arg<'a>
     ensures { IsArg (number_rule (numbers_of option.now)) result }
 {
-    Arg::new(alloc, option.name)
+    let arg = Arg::new(alloc, option.name)
         .long(option.name)
         .value_name(option.value_name)
-        .value_parser(numbers_of_option(option))
-        .default_value(option.default_text)
-        .help(option.help)
+        .value_parser(ValueParser::signed(i64::from(option.least), i64::from(option.most)))
+        .help(option.help);
+    if option.is_by_machine {
+        arg
+    } else {
+        arg.default_value(option.default_text)
+    }
 }
 
 fn flag_arg<'a>(alloc: Global, option: &FlagOption) -> Arg<'a>

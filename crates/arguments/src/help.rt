@@ -4,6 +4,13 @@ pub const ABOUT: &str = "\
 Double-dummy results of bridge deals: how many tricks each side takes
 when all four hands are seen and both sides play best.";
 
+/// What follows the program's name where `--version` is given.
+pub const VERSION: &str = "\
+1.0.0
+certificates: reads and writes versions 1 and 2
+evidence: reads and writes version 1
+boards: reads and writes PBN 2.1";
+
 pub const EXAMPLE: &str = "\
 Examples:
   ddfarm table <club.pbn >tables.pbn

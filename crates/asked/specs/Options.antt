@@ -1,6 +1,6 @@
 -- The options: how each is named; of one with a number its range, and what stands for a missing one; of others what
 -- they say.
-use Rattle.std.specs.Prelude.{ℕ, Bool, true, false, ◌≤◌, List, [], ◌∷◌, codes}
+use Rattle.std.specs.Prelude.{ℕ, Bool, true, false, ◌≤◌, List, [], ◌∷◌, codes, min, max}
 use Rattle.asked.specs.declared.options.NumberOption.{NumberOption}
 use Rattle.asked.specs.declared.sides.ContractSide.{ContractSide}
 use Rattle.asked.specs.declared.sides.ContractSide.TheVariants.{Declarer, Defenders}
@@ -9,10 +9,10 @@ pub record OptionNumbers : Type 0 where
   pub name : List ℕ
   pub least : ℕ
   pub most : ℕ
-  -- whether it may be typed with a sign
-  pub is_signed : Bool
-  -- in digits
+  -- the number that stands for a missing one, in digits
   pub default : List ℕ
+  -- whether on the command line the number of processors stands for a missing one
+  pub is_by_machine : Bool
 
 -- what a row of the table says
 abbrev pub numbers_of : NumberOption → OptionNumbers
@@ -20,29 +20,33 @@ numbers_of row = record {
   name = row.name.now;
   least = row.least;
   most = row.most;
-  is_signed = row.is_signed;
   default = row.default_text.now;
+  is_by_machine = row.is_by_machine;
 }
 
 -- the number is in the option's range
 abbrev pub IsIn : OptionNumbers → ℕ → Type 0
 IsIn option number = (option.least ≤ number) × (number ≤ option.most)
 
+-- the number of an option's range that is next to this one
+abbrev pub nearest_in : OptionNumbers → ℕ → ℕ
+nearest_in option number = max option.least (min option.most number)
+
 -- how many threads look for answers
 abbrev pub solvers_option : OptionNumbers
-solvers_option = record { name = codes "solvers"; least = 1; most = 64; is_signed = false; default = codes "2" }
+solvers_option = record { name = codes "solvers"; least = 1; most = 64; default = codes "2"; is_by_machine = true }
 
 -- how many threads check them
 abbrev pub checkers_option : OptionNumbers
-checkers_option = record { name = codes "checkers"; least = 1; most = 64; is_signed = false; default = codes "2" }
+checkers_option = record { name = codes "checkers"; least = 1; most = 64; default = codes "2"; is_by_machine = true }
 
 -- how many seconds an entry is lent
 abbrev pub term_option : OptionNumbers
-term_option = record { name = codes "term"; least = 0; most = 1000000000; is_signed = false; default = codes "600" }
+term_option = record { name = codes "term"; least = 0; most = 1000000000; default = codes "600"; is_by_machine = false }
 
 -- how often an entry is searched
 abbrev pub tries_option : OptionNumbers
-tries_option = record { name = codes "tries"; least = 1; most = 1000; is_signed = true; default = codes "3" }
+tries_option = record { name = codes "tries"; least = 1; most = 1000; default = codes "3"; is_by_machine = false }
 
 -- how many steps a search may take
 abbrev pub budget_option : OptionNumbers
@@ -50,13 +54,13 @@ budget_option = record {
   name = codes "budget";
   least = 1;
   most = 1000000000;
-  is_signed = false;
   default = codes "10000000";
+  is_by_machine = false;
 }
 
 -- how many entries are lent to a search at a time
 abbrev pub batch_option : OptionNumbers
-batch_option = record { name = codes "batch"; least = 1; most = 20; is_signed = false; default = codes "20" }
+batch_option = record { name = codes "batch"; least = 1; most = 20; default = codes "20"; is_by_machine = false }
 
 -- the options of `table` that have a number, in the order of its help
 abbrev pub table_options : List OptionNumbers

@@ -1,7 +1,7 @@
 //! The options of the command line: a row for each.
 
 ghost use Rattle.std.specs.Prelude.{◌≡◌, ◌↔◌, IsTrue, map};
-ghost use Rattle.asked.specs.Options.{IsIn, numbers_of, table_options};
+ghost use Rattle.asked.specs.Options.{IsIn, nearest_in, numbers_of, table_options};
 
 /// An option with a number.
 #[derive(Clone, Copy)]
@@ -14,12 +14,12 @@ pub struct NumberOption {
     pub least: u32,
     /// The greatest number that it may have.
     pub most: u32,
-    /// Whether it may be typed with a sign: then a number below 0 is refused for its range.
-    pub is_signed: bool,
-    /// The number where the option is missing.
+    /// The number that stands for a missing one.
     pub default: u64,
     /// Its digits.
     pub default_text: &'static str,
+    /// Whether on the command line the number of processors stands for a missing one.
+    pub is_by_machine: bool,
     /// What help says of the option.
     pub help: &'static str,
 }
@@ -30,6 +30,13 @@ impl NumberOption {
         ensures { IsTrue result ↔ IsIn (numbers_of self.now) number }
     {
         u64::from(self.least) <= number && number <= u64::from(self.most)
+    }
+
+    /// The number of the option's range that is next to this one.
+    pub fn nearest(&self, number: u64) -> u64
+        ensures { result ≡ nearest_in (numbers_of self.now) number }
+    {
+        number.min(u64::from(self.most)).max(u64::from(self.least))
     }
 }
 
@@ -72,10 +79,10 @@ pub const SOLVERS: NumberOption = NumberOption {
     value_name: "THREADS",
     least: 1,
     most: 64,
-    is_signed: false,
     default: 2,
     default_text: "2",
-    help: "How many searches go on at a time: 1 to 64",
+    is_by_machine: true,
+    help: "How many searches go on at a time: 1 to 64 [default: the number of processors]",
 };
 
 /// How many threads check answers.
@@ -84,10 +91,10 @@ pub const CHECKERS: NumberOption = NumberOption {
     value_name: "THREADS",
     least: 1,
     most: 64,
-    is_signed: false,
     default: 2,
     default_text: "2",
-    help: "How many answers are checked at a time: 1 to 64",
+    is_by_machine: true,
+    help: "How many answers are checked at a time: 1 to 64 [default: the number of processors]",
 };
 
 /// How many seconds an entry is lent.
@@ -96,9 +103,9 @@ pub const TERM: NumberOption = NumberOption {
     value_name: "SECONDS",
     least: 0,
     most: 1_000_000_000,
-    is_signed: false,
     default: 600,
     default_text: "600",
+    is_by_machine: false,
     help: "How many seconds an entry is lent to a search before it is free again: 0 to 1000000000",
 };
 
@@ -108,9 +115,9 @@ pub const TRIES: NumberOption = NumberOption {
     value_name: "TRIES",
     least: 1,
     most: 1000,
-    is_signed: true,
     default: 3,
     default_text: "3",
+    is_by_machine: false,
     help: "How often an entry is searched before it is left without a number: 1 to 1000",
 };
 
@@ -120,9 +127,9 @@ pub const BUDGET: NumberOption = NumberOption {
     value_name: "STEPS",
     least: 1,
     most: 1_000_000_000,
-    is_signed: false,
     default: 10_000_000,
     default_text: "10000000",
+    is_by_machine: false,
     help: "How many steps a search for an answer may take, each one card tried: 1 to 1000000000",
 };
 
@@ -132,9 +139,9 @@ pub const BATCH: NumberOption = NumberOption {
     value_name: "ENTRIES",
     least: 1,
     most: 20,
-    is_signed: false,
     default: 20,
     default_text: "20",
+    is_by_machine: false,
     help: "How many entries are lent to a search at a time: 1 to 20",
 };
 

@@ -3,18 +3,20 @@ use Rattle.std.specs.Prelude.{◌≡◌, ℕ, List, [], ◌∷◌, ◌++◌, ◌
 use Rattle.clap.specs.declared.error.kind.ErrorKind.{ErrorKind}
 use Rattle.clap.specs.declared.error.kind.ErrorKind.TheVariants as kinds
 use Rattle.cards.specs.Devices.{Device}
-use Rattle.partition_solver.specs.Answers.{MayFind}
+use Rattle.streams.specs.RunStreams.{RunDevices}
+use Rattle.certificate_graph.specs.Solvers.{MayFind}
 use Rattle.lease_book.specs.Moments.{MayTell}
 use Rattle.arguments.specs.CommandLine.{AreLetters}
 use Rattle.arguments.specs.Words.{AskFor, HasNone}
 use Rattle.arguments.specs.declared.command.Letters.{Letters}
 use Rattle.subcommands.specs.declared.faults.RunFault.TheVariants.{OutOfMemory}
-use Rattle.subcommands.specs.declared.statuses.Status.{Status}
-use Rattle.subcommands.specs.declared.statuses.Status.TheVariants.{Failed, Refused}
+use Rattle.answer_subcommands.specs.declared.statuses.Status.{Status}
+use Rattle.answer_subcommands.specs.declared.statuses.Status.TheVariants.{Failed, Refused}
 use Rattle.asked.specs.declared.subcommands.Subcommand.{Subcommand}
 use Rattle.subcommands.specs.Explanations.{told_text}
-use Rattle.subcommands.specs.Statuses.{status_code, IsTold}
-use Rattle.subcommands.specs.NamedFiles.{MayOpen}
+use Rattle.answer_subcommands.specs.Statuses.{status_code}
+use Rattle.subcommands.specs.Statuses.{IsTold}
+use Rattle.subcommands.specs.KeptFiles.{MayOpen}
 use Rattle.subcommands.specs.Runs.{Shows, RunsSubcommand}
 
 -- help or the version is asked for
@@ -34,15 +36,15 @@ pub record IsInLines (said lines : List ℕ) : Type 0 where
 abbrev pub AreLinesOf : Option (List ℕ) → List ℕ → Type 0
 AreLinesOf said lines = AreLines lines × IfSome said (λ bytes. IsInLines bytes lines)
 
--- nothing is written, and that memory ran out is told
-abbrev pub TellsNoMemory : Device → Device → Device → Device → Status → Type 0
-TellsNoMemory sink sink' errors errors' status =
-    (status ≡ Failed) × (sink' ≡ sink) × IsTold errors errors' (told_text None OutOfMemory)
+-- nothing is read or written, and that memory ran out is told
+abbrev pub TellsNoMemory : RunDevices → RunDevices → Status → Type 0
+TellsNoMemory old new status =
+    (status ≡ Failed) × (new.both ≡ old.both) × IsTold old.errors new.errors (told_text None OutOfMemory)
 
 -- the lines of help are written, unless memory ran out for them
-abbrev pub ShowsHelp : Option (List ℕ) → Device → Device → Device → Device → Status → Type 0
-ShowsHelp (Some lines) sink sink' errors errors' status = Shows sink sink' errors errors' lines status
-ShowsHelp None sink sink' errors errors' status = TellsNoMemory sink sink' errors errors' status
+abbrev pub ShowsHelp : Option (List ℕ) → RunDevices → RunDevices → Status → Type 0
+ShowsHelp (Some lines) old new status = Shows old new lines status
+ShowsHelp None old new status = TellsNoMemory old new status
 
 -- what is told of refused words: the lines of why, or where memory ran out for them that they are refused
 abbrev pub refusal_lines : Option (List ℕ) → List ℕ
@@ -53,28 +55,28 @@ abbrev pub TellsRefusal : Option (List ℕ) → Device → Device → Status →
 TellsRefusal lines errors errors' status = (status ≡ Refused) × IsTold errors errors' (refusal_lines lines)
 
 -- What comes of words that ask for no subcommand, by the kind of the error and what it says, in lines if memory held
--- them: help that was asked for is written; a refusal is told on the error output alone; or memory ran out.
-pub data EndsWords (said : Option (List ℕ)) (sink sink' errors errors' : Device) (kind : ErrorKind) (status : Status)
-    : Type 0 where
+-- them: help that was asked for is written; a refusal is told on the error output alone; or memory ran out. The input
+-- stays as it was.
+pub data EndsWords (said : Option (List ℕ)) (old new : RunDevices) (kind : ErrorKind) (status : Status) : Type 0 where
   is_shown : IsAsked kind → (lines : Option (List ℕ)) → IfSome lines (AreLinesOf said)
-      → ShowsHelp lines sink sink' errors errors' status
-      → EndsWords said sink sink' errors errors' kind status
+      → ShowsHelp lines old new status
+      → EndsWords said old new kind status
   is_refused : (IsAsked kind → ⊥) → (kind ≡ kinds.OutOfMemory → ⊥) → (lines : Option (List ℕ))
-      → IfSome lines (AreLinesOf said) → sink' ≡ sink → TellsRefusal lines errors errors' status
-      → EndsWords said sink sink' errors errors' kind status
-  is_without_memory : kind ≡ kinds.OutOfMemory → TellsNoMemory sink sink' errors errors' status
-      → EndsWords said sink sink' errors errors' kind status
+      → IfSome lines (AreLinesOf said) → new.both ≡ old.both → TellsRefusal lines old.errors new.errors status
+      → EndsWords said old new kind status
+  is_without_memory : kind ≡ kinds.OutOfMemory → TellsNoMemory old new status
+      → EndsWords said old new kind status
 
 -- the words ask for a subcommand, which is done, or there is none; `clap` doesn't tell what its errors say
 pub data MeetsWords (may_find : MayFind) (may_tell : MayTell) (may_open : MayOpen) (words : List (List ℕ))
-    (source source' sink sink' errors errors' : Device) (status : Status) : Type 0 where
-  is_done : (letters : Letters) → AreLetters letters → (asked : Subcommand) → AskFor letters words asked
-      → RunsSubcommand may_find may_tell may_open asked source source' sink sink' errors errors' status
-      → MeetsWords may_find may_tell may_open words source source' sink sink' errors errors' status
-  is_none : (letters : Letters) → AreLetters letters → (kind : ErrorKind) → HasNone letters words kind
-      → source' ≡ source
-      → EndsWords None sink sink' errors errors' kind status
-      → MeetsWords may_find may_tell may_open words source source' sink sink' errors errors' status
+    (processors : ℕ) (old new : RunDevices) (status : Status)
+    : Type 0 where
+  is_done : (letters : Letters) → AreLetters letters → (asked : Subcommand) → AskFor letters words processors asked
+      → RunsSubcommand may_find may_tell may_open asked old new status
+      → MeetsWords may_find may_tell may_open words processors old new status
+  is_none : (letters : Letters) → AreLetters letters → (kind : ErrorKind) → HasNone letters words processors kind
+      → EndsWords None old new kind status
+      → MeetsWords may_find may_tell may_open words processors old new status
 
 -- the exit status is the number of the status that the run ends with
 abbrev pub ExitsBy : (Status → Type 0) → ℕ → Type 0

@@ -4,27 +4,29 @@
 #![tactic(auto)]
 
 ghost use Rattle.std.specs.Prelude.{IfSome, map, option_map};
+ghost use Rattle.streams.specs.RunStreams.{devices_of};
 ghost use Rattle.command_line.specs.Commands.{AreLinesOf, EndsWords, ExitsBy, MeetsWords, ShowsHelp};
 ghost use Rattle.command_line.specs.Commands.{TellsRefusal};
 
 use arguments::parse_arguments;
 use cards::{Sink, Source, write_all};
+use certificate_graph::Solver;
 use clap::error::ErrorKind;
 use farm::{Clock, Means};
-use lease_desk::Gate;
-use partition_solver::Solver;
+use lease_book::Gate;
 use std::alloc::Global;
 use std::convert::AsStr;
 use std::fmt::Display;
 use std::sync::Wait;
 use std::thread::Threads;
 use streams::Streams;
-use subcommands::{NamedFiles, RunFault, Status, run_subcommand, show, tell};
+use subcommands::{KeptFiles, NamedFiles, RunFault, Status, run_subcommand, show, tell};
 
 /// What is told of refused words where there is no memory for more.
 const REFUSED: &str = "ddfarm: the command line is refused\n";
 
-/// Does what the words ask for, the first of them being the program's name, and answers the exit status.
+/// Does what the words ask for, the first of them being the program's name, and answers the exit status. If the words
+/// don't say how many solvers or checkers, there are as many as the processors given, 64 at most.
 ///
 /// What can't be done is told on the error output, with nothing on the output but what `play` has written, and the
 /// beginning that a failed output has taken; so is what was passed over of evidence, or couldn't be kept, behind a page
@@ -38,57 +40,58 @@ pub fn run_command<
     I: Source,
     O: Sink,
     E: Sink,
-    R: Threads + Wait + Sync + NamedFiles,
+    R: Threads + Wait + Sync + NamedFiles + KeptFiles,
 >(
     rt: &R,
     alloc: Global,
     words: &'a [S],
+    processors: usize,
     means: &Means<'_, P, G, C>,
     streams: &mut Streams<I, O, E>,
 ) -> u8
     ensures { ExitsBy (MeetsWords (P.may_find means.now.solver.now) (C.may_tell means.now.clock.now)
-        (R.may_open rt.now) (map S.text words.entry.now)
-        (I.state streams.old.input) (I.state streams.new.input) (O.state streams.old.output)
-        (O.state streams.new.output)
-        (E.state streams.old.errors) (E.state streams.new.errors)) result }
+        (record { to_read = R.may_open rt.now; to_keep = R.may_keep rt.now }) (map S.text words.entry.now) processors
+        (devices_of I.state O.state E.state streams.old) (devices_of I.state O.state E.state streams.new)) result }
 {
-    match parse_arguments(alloc, words) {
+    match parse_arguments(alloc, words, processors) {
         Ok(asked) => run_subcommand(rt, alloc, asked, means, streams).code(),
         Err(error) => {
             let kind = error.kind();
-            tell_words(alloc, kind, error, &mut streams.output, &mut streams.errors).code()
+            tell_words(alloc, kind, error, streams).code()
         }
     }
 }
 
 /// Writes the help that was asked for, or tells why the words are refused, by what is said of an error of this kind.
-fn tell_words<D: Display + Drop, O: Sink, E: Sink>(
+fn tell_words<D: Display + Drop, I: Source, O: Sink, E: Sink>(
     alloc: Global,
     kind: ErrorKind,
     said: D,
-    output: &mut O,
-    errors: &mut E,
+    streams: &mut Streams<I, O, E>,
 ) -> Status
-    ensures { EndsWords (D.output said) (O.state output.old) (O.state output.new) (E.state errors.old)
-        (E.state errors.new) kind result }
+    ensures { EndsWords (D.output said) (devices_of I.state O.state E.state streams.old)
+        (devices_of I.state O.state E.state streams.new) kind result }
 {
     match kind {
-        ErrorKind::OutOfMemory => tell(RunFault::OutOfMemory, errors),
+        ErrorKind::OutOfMemory => tell(RunFault::OutOfMemory, &mut streams.errors),
         ErrorKind::DisplayHelp | ErrorKind::DisplayVersion => {
-            show_help(lines_of(alloc, said), output, errors)
+            show_help(lines_of(alloc, said), streams)
         }
-        _ => tell_refusal(lines_of(alloc, said), errors),
+        _ => tell_refusal(lines_of(alloc, said), &mut streams.errors),
     }
 }
 
 /// Writes the lines of the help that was asked for, if there was memory for them.
-fn show_help<O: Sink, E: Sink>(lines: Option<String>, output: &mut O, errors: &mut E) -> Status
-    ensures { ShowsHelp (option_map (λ text. text.bytes.items) lines) (O.state output.old) (O.state output.new)
-        (E.state errors.old) (E.state errors.new) result }
+fn show_help<I: Source, O: Sink, E: Sink>(
+    lines: Option<String>,
+    streams: &mut Streams<I, O, E>,
+) -> Status
+    ensures { ShowsHelp (option_map (λ text. text.bytes.items) lines)
+        (devices_of I.state O.state E.state streams.old) (devices_of I.state O.state E.state streams.new) result }
 {
     match lines {
-        Some(text) => show(text.as_bytes(), output, errors),
-        None => tell(RunFault::OutOfMemory, errors),
+        Some(text) => show(text.as_bytes(), streams),
+        None => tell(RunFault::OutOfMemory, &mut streams.errors),
     }
 }
 

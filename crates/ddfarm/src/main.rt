@@ -9,6 +9,7 @@ use partition_solver::Partition;
 use progress::Progress;
 use std::io::{BufWriter, ErrorKind};
 use std::process::ExitCode;
+use std::thread::{Threads, available_parallelism};
 use std::time::Instant;
 use streams::{ReaderSource, Streams, WriterSink};
 use subcommands::{RunFault, close_output, tell};
@@ -55,6 +56,14 @@ fn room_for(words: &[String]) -> usize {
     }
 }
 
+/// How many processors the machine has, or 2 if it doesn't say.
+fn processors(rt: &impl Threads) -> usize {
+    match available_parallelism(rt) {
+        Ok(count) => count.get(),
+        Err(_) => 2,
+    }
+}
+
 fn main(rt: HostRuntime) -> ExitCode {
     let clock = Seconds {
         rt: &rt,
@@ -80,6 +89,13 @@ fn main(rt: HostRuntime) -> ExitCode {
         output: WriterSink::new(buffered),
         errors,
     };
-    let status = run_command(&rt, rt.alloc(), words.as_slice(), &means, &mut streams);
+    let status = run_command(
+        &rt,
+        rt.alloc(),
+        words.as_slice(),
+        processors(&rt),
+        &means,
+        &mut streams,
+    );
     ExitCode::from(close_output(status, &mut streams.output, &mut streams.errors))
 }

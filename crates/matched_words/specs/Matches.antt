@@ -1,5 +1,7 @@
 -- What the words of a subcommand say, and what `clap`'s matches are read as.
-use Rattle.std.specs.Prelude.{◌≡◌, ℕ, Bool, true, false, List, Option, Some, None, codes, option_map}
+use Rattle.std.specs.Prelude.{◌≡◌, ◌⊎◌, ℕ, Bool, true, false, List, Option, Some, None, codes, option_map}
+use Rattle.std.specs.Prelude.{if◌then◌else◌}
+use Rattle.std.specs.Str.{bytes_eq}
 use Rattle.std.specs.Borrow.{Bor}
 use Rattle.std.specs.Str.Parse.{IsNumeral, digits_value, without_leading_plus}
 use Rattle.clap.specs.Words.{Row, Text, first_of, one_of}
@@ -10,7 +12,7 @@ use Rattle.asked.specs.declared.subcommands.Subcommand.{Subcommand}
 use Rattle.asked.specs.declared.subcommands.PlayOptions.{PlayOptions}
 use Rattle.asked.specs.declared.subcommands.TableOptions.{TableOptions}
 use Rattle.asked.specs.declared.subcommands.Subcommand.TheVariants.{Plain, Solve, Table, Check, Line, Play, Audit}
-use Rattle.asked.specs.Options.{OptionNumbers, IsIn, budget_option, progress_option, whole_option}
+use Rattle.asked.specs.Options.{OptionNumbers, IsIn, nearest_in, budget_option, progress_option, whole_option}
 use Rattle.asked.specs.Options.{evidence_option, side_option, side_word}
 use Rattle.asked.specs.Settings.{OfEach, numbers_in}
 use Rattle.matched_words.specs.declared.matched.NamedDeal.{NamedDeal}
@@ -30,9 +32,20 @@ abbrev pub SaysNumber : List Row → OptionNumbers → ℕ → Type 0
 SaysNumber said option number =
     (text : Text) × (one_of option.name said ≡ Some text) × Writes text number × IsIn option number
 
--- the words say the numbers of the settings
-abbrev pub SaysSettings : List Row → Settings → Type 0
-SaysSettings said settings = OfEach (SaysNumber said) (numbers_in settings)
+-- the words have an option's number; where the option is missing it is that of the processors, as near as the range has
+abbrev pub SaysThreads : List Row → ℕ → OptionNumbers → ℕ → Type 0
+SaysThreads said processors option number =
+    SaysNumber said option number ⊎ ((first_of option.name said ≡ None) × (number ≡ nearest_in option processors))
+
+-- one of both, as the option has it
+abbrev pub SaysBy : Bool → List Row → ℕ → OptionNumbers → ℕ → Type 0
+SaysBy true said processors option number = SaysThreads said processors option number
+SaysBy false said processors option number = SaysNumber said option number
+
+-- the words say the numbers of the settings, on a machine with this number of processors
+abbrev pub SaysSettings : List Row → ℕ → Settings → Type 0
+SaysSettings said processors settings =
+    OfEach (λ option number. SaysBy option.is_by_machine said processors option number) (numbers_in settings)
 
 -- an option without a value stands among the words, or does not
 abbrev pub flag_letters : Bool → Text
@@ -47,8 +60,8 @@ abbrev pub SaysText : List Row → Text → Option (Bor Text) → Type 0
 SaysText said name text = option_map (λ t. t.now) text ≡ first_of name said
 
 -- the words say the options of `table`
-abbrev pub SaysTable : List Row → TableOptions → Type 0
-SaysTable said options = SaysSettings said options.settings
+abbrev pub SaysTable : List Row → ℕ → TableOptions → Type 0
+SaysTable said processors options = SaysSettings said processors options.settings
     × SaysFlag said progress_option options.progress
     × SaysFlag said whole_option options.whole
     × SaysText said evidence_option options.evidence
@@ -61,26 +74,51 @@ SaysPlay said options =
     × (first_of (codes "ANSWER") said ≡ Some options.answer.now)
     × (first_of side_option said ≡ Some (side_word options.side))
 
--- what was said after a subcommand's name is this
-abbrev pub Says : Text → List Row → Subcommand → Type 0
-Says name said (Plain layout leader trump) = (name ≡ codes "plain")
-    × SaysDeal said (codes "LEADER") (record { layout = layout; seat = leader; trump = trump })
-Says name said (Solve layout declarer trump budget) = (name ≡ codes "solve")
-    × SaysDeal said (codes "DECLARER") (record { layout = layout; seat = declarer; trump = trump })
-    × SaysNumber said budget_option budget
-Says name said (Table options) = (name ≡ codes "table") × SaysTable said options
-Says name said (Check layout declarer trump) = (name ≡ codes "check")
-    × SaysDeal said (codes "DECLARER") (record { layout = layout; seat = declarer; trump = trump })
-Says name said (Line layout declarer trump) = (name ≡ codes "line")
-    × SaysDeal said (codes "DECLARER") (record { layout = layout; seat = declarer; trump = trump })
-Says name said (Play options) = (name ≡ codes "play") × SaysPlay said options
-Says name said (Audit file whole) = (name ≡ codes "audit")
-    × (first_of (codes "FILE") said ≡ Some file.now)
-    × SaysFlag said whole_option whole
+-- the subcommands by their names
+pub data Name : Type 0 where
+  plain_name : Name
+  solve_name : Name
+  table_name : Name
+  check_name : Name
+  line_name : Name
+  play_name : Name
+  audit_name : Name
 
-abbrev pub SaysMatched : Option (Text × List Row) → Subcommand → Type 0
-SaysMatched (Some matched) asked = Says matched.0 matched.1 asked
-SaysMatched None asked = ⊥
+abbrev pub name_of : Text → Option Name
+name_of text =
+    if bytes_eq text (codes "plain") then Some plain_name else
+    if bytes_eq text (codes "solve") then Some solve_name else
+    if bytes_eq text (codes "table") then Some table_name else
+    if bytes_eq text (codes "check") then Some check_name else
+    if bytes_eq text (codes "line") then Some line_name else
+    if bytes_eq text (codes "play") then Some play_name else
+    if bytes_eq text (codes "audit") then Some audit_name else None
+
+-- the words after this name say this subcommand, on a machine with this number of processors
+abbrev pub SaysNamed : Option Name → List Row → ℕ → Subcommand → Type 0
+SaysNamed (Some plain_name) said processors asked = (deal : NamedDeal)
+    × (asked ≡ Plain deal.layout deal.seat deal.trump) × SaysDeal said (codes "LEADER") deal
+SaysNamed (Some solve_name) said processors asked = (deal : NamedDeal) × (budget : ℕ)
+    × (asked ≡ Solve deal.layout deal.seat deal.trump budget) × SaysDeal said (codes "DECLARER") deal
+    × SaysNumber said budget_option budget
+SaysNamed (Some table_name) said processors asked = (options : TableOptions)
+    × (asked ≡ Table options) × SaysTable said processors options
+SaysNamed (Some check_name) said processors asked = (deal : NamedDeal)
+    × (asked ≡ Check deal.layout deal.seat deal.trump) × SaysDeal said (codes "DECLARER") deal
+SaysNamed (Some line_name) said processors asked = (deal : NamedDeal)
+    × (asked ≡ Line deal.layout deal.seat deal.trump) × SaysDeal said (codes "DECLARER") deal
+SaysNamed (Some play_name) said processors asked = (options : PlayOptions)
+    × (asked ≡ Play options) × SaysPlay said options
+SaysNamed (Some audit_name) said processors asked = (file : Bor Text) × (whole : Bool)
+    × (asked ≡ Audit file whole) × (first_of (codes "FILE") said ≡ Some file.now) × SaysFlag said whole_option whole
+SaysNamed None said processors asked = ⊥
+
+abbrev pub Says : Text → List Row → ℕ → Subcommand → Type 0
+Says text said processors asked = SaysNamed (name_of text) said processors asked
+
+abbrev pub SaysMatched : Option (Text × List Row) → ℕ → Subcommand → Type 0
+SaysMatched (Some matched) processors asked = Says matched.0 matched.1 processors asked
+SaysMatched None processors asked = ⊥
 
 -- what is read is said, and where nothing is read nothing is said
 abbrev pub IsRead : {T : Type 0} → (T → Type 0) → Option T → Type 0

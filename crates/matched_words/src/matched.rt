@@ -1,12 +1,12 @@
 //! The subcommand that `clap`'s matches name.
 
-ghost use Rattle.std.specs.Prelude.{◌≡◌, ◌↔◌, Some, codes, option_map};
+ghost use Rattle.std.specs.Prelude.{◌≡◌, ◌↔◌, ℕ, Some, codes, option_map};
 ghost use Rattle.clap.specs.Words.{first_of, found_of, rows_of, subcommand_rows_of};
 ghost use Rattle.cards.specs.Seats.{seat_letter};
 ghost use Rattle.cards.specs.Pack.{trump_letters};
 ghost use Rattle.asked.specs.Options.{numbers_of, side_option, side_word};
 ghost use Rattle.matched_words.specs.Matches.{IsRead, flag_letters, Says, SaysDeal, SaysMatched, SaysNumber};
-ghost use Rattle.matched_words.specs.Matches.{SaysSettings};
+ghost use Rattle.matched_words.specs.Matches.{SaysSettings, SaysThreads};
 
 use asked::options::{self, NumberOption};
 use asked::{ContractSide, PlayOptions, Settings, Subcommand, TableOptions};
@@ -23,15 +23,16 @@ pub struct NamedDeal<'a> {
     pub trump: Trump,
 }
 
-/// The subcommand that the words name, where the matches have its words.
-pub fn matched_subcommand<'a>(matches: &ArgMatches<'a>) -> Option<Subcommand<'a>>
-    ensures { IsRead (SaysMatched (subcommand_rows_of matches.now)) result }
+/// The subcommand that the words name, if the matches have its words. Without the options for the numbers of threads
+/// there are as many as the processors given, 64 at most.
+pub fn matched_subcommand<'a>(matches: &ArgMatches<'a>, processors: usize) -> Option<Subcommand<'a>>
+    ensures { IsRead (SaysMatched (subcommand_rows_of matches.now) processors) result }
 {
     let (name, said) = matches.subcommand()?;
     match name {
         "plain" => plain_subcommand(said),
         "solve" => solve_subcommand(said),
-        "table" => table_subcommand(said),
+        "table" => table_subcommand(said, processors),
         "check" => check_subcommand(said),
         "line" => line_subcommand(said),
         "play" => play_subcommand(said),
@@ -41,7 +42,7 @@ pub fn matched_subcommand<'a>(matches: &ArgMatches<'a>) -> Option<Subcommand<'a>
 }
 
 fn plain_subcommand<'a>(said: &ArgMatches<'a>) -> Option<Subcommand<'a>>
-    ensures { IsRead (Says (codes "plain") (rows_of (found_of said.now))) result }
+    ensures { (processors : ℕ) → IsRead (Says (codes "plain") (rows_of (found_of said.now)) processors) result }
 {
     let deal = deal_of(said, "LEADER")?;
     Some(Subcommand::Plain {
@@ -52,7 +53,7 @@ fn plain_subcommand<'a>(said: &ArgMatches<'a>) -> Option<Subcommand<'a>>
 }
 
 fn solve_subcommand<'a>(said: &ArgMatches<'a>) -> Option<Subcommand<'a>>
-    ensures { IsRead (Says (codes "solve") (rows_of (found_of said.now))) result }
+    ensures { (processors : ℕ) → IsRead (Says (codes "solve") (rows_of (found_of said.now)) processors) result }
 {
     let deal = deal_of(said, "DECLARER")?;
     let budget = number_of(said, &options::BUDGET)?;
@@ -64,10 +65,10 @@ fn solve_subcommand<'a>(said: &ArgMatches<'a>) -> Option<Subcommand<'a>>
     })
 }
 
-fn table_subcommand<'a>(said: &ArgMatches<'a>) -> Option<Subcommand<'a>>
-    ensures { IsRead (Says (codes "table") (rows_of (found_of said.now))) result }
+fn table_subcommand<'a>(said: &ArgMatches<'a>, processors: usize) -> Option<Subcommand<'a>>
+    ensures { IsRead (Says (codes "table") (rows_of (found_of said.now)) processors) result }
 {
-    let settings = settings_of(said)?;
+    let settings = settings_of(said, processors)?;
     let progress = flag_of(said, options::PROGRESS.name)?;
     let whole = flag_of(said, options::WHOLE.name)?;
     let evidence = word_of(said, options::EVIDENCE.name);
@@ -80,11 +81,11 @@ fn table_subcommand<'a>(said: &ArgMatches<'a>) -> Option<Subcommand<'a>>
 }
 
 /// The settings that the options say.
-fn settings_of(said: &ArgMatches<'_>) -> Option<Settings>
-    ensures { IsRead (SaysSettings (rows_of (found_of said.now))) result }
+fn settings_of(said: &ArgMatches<'_>, processors: usize) -> Option<Settings>
+    ensures { IsRead (SaysSettings (rows_of (found_of said.now)) processors) result }
 {
-    let solvers = number_of(said, &options::SOLVERS)?;
-    let checkers = number_of(said, &options::CHECKERS)?;
+    let solvers = threads_of(said, &options::SOLVERS, processors)?;
+    let checkers = threads_of(said, &options::CHECKERS, processors)?;
     let term = number_of(said, &options::TERM)?;
     let tries = number_of(said, &options::TRIES)?;
     let budget = number_of(said, &options::BUDGET)?;
@@ -99,7 +100,7 @@ fn settings_of(said: &ArgMatches<'_>) -> Option<Settings>
 }
 
 fn check_subcommand<'a>(said: &ArgMatches<'a>) -> Option<Subcommand<'a>>
-    ensures { IsRead (Says (codes "check") (rows_of (found_of said.now))) result }
+    ensures { (processors : ℕ) → IsRead (Says (codes "check") (rows_of (found_of said.now)) processors) result }
 {
     let deal = deal_of(said, "DECLARER")?;
     Some(Subcommand::Check {
@@ -110,7 +111,7 @@ fn check_subcommand<'a>(said: &ArgMatches<'a>) -> Option<Subcommand<'a>>
 }
 
 fn line_subcommand<'a>(said: &ArgMatches<'a>) -> Option<Subcommand<'a>>
-    ensures { IsRead (Says (codes "line") (rows_of (found_of said.now))) result }
+    ensures { (processors : ℕ) → IsRead (Says (codes "line") (rows_of (found_of said.now)) processors) result }
 {
     let deal = deal_of(said, "DECLARER")?;
     Some(Subcommand::Line {
@@ -121,7 +122,7 @@ fn line_subcommand<'a>(said: &ArgMatches<'a>) -> Option<Subcommand<'a>>
 }
 
 fn play_subcommand<'a>(said: &ArgMatches<'a>) -> Option<Subcommand<'a>>
-    ensures { IsRead (Says (codes "play") (rows_of (found_of said.now))) result }
+    ensures { (processors : ℕ) → IsRead (Says (codes "play") (rows_of (found_of said.now)) processors) result }
 {
     let deal = deal_of(said, "DECLARER")?;
     let answer = word_of(said, "ANSWER")?;
@@ -136,7 +137,7 @@ fn play_subcommand<'a>(said: &ArgMatches<'a>) -> Option<Subcommand<'a>>
 }
 
 fn audit_subcommand<'a>(said: &ArgMatches<'a>) -> Option<Subcommand<'a>>
-    ensures { IsRead (Says (codes "audit") (rows_of (found_of said.now))) result }
+    ensures { (processors : ℕ) → IsRead (Says (codes "audit") (rows_of (found_of said.now)) processors) result }
 {
     let file = word_of(said, "FILE")?;
     let whole = flag_of(said, options::WHOLE.name)?;
@@ -214,4 +215,14 @@ fn number_of(said: &ArgMatches<'_>, option: &NumberOption) -> Option<u64>
         return None;
     }
     Some(number)
+}
+
+/// The number of an option, or, if the option is missing, the number of processors, as near as its range has.
+fn threads_of(said: &ArgMatches<'_>, option: &NumberOption, processors: usize) -> Option<u64>
+    ensures { IsRead (SaysThreads (rows_of (found_of said.now)) processors (numbers_of option.now)) result }
+{
+    match word_of(said, option.name) {
+        Some(_) => number_of(said, option),
+        None => Some(option.nearest(processors as u64)),
+    }
 }

@@ -1,2 +1,4 @@
 pub mod Flushes
 pub mod Inputs
+pub mod RunStreams
+pub mod Opening

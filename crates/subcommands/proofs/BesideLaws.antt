@@ -7,6 +7,7 @@ use Rattle.asked.specs.declared.settings.Settings.{Settings}
 use Rattle.asked.specs.declared.subcommands.TableOptions.{TableOptions}
 use Rattle.cards.specs.Devices.{Device}
 use Rattle.streams.specs.Inputs.{IsReadToEnd}
+use Rattle.streams.specs.RunStreams.{devices}
 use Rattle.pbn_deals.specs.declared.boards.Board.{Board}
 use Rattle.pbn_deals.specs.Reading.{TextAnswers}
 use Rattle.evidence.specs.Sections.{SectionShape}
@@ -23,7 +24,7 @@ use Rattle.farm.specs.Faults.{IsHalt}
 use Rattle.farm.specs.Rounds.{Finishes}
 use Rattle.tournaments.specs.declared.faults.MakeFault.{MakeFault}
 use Rattle.tournaments.specs.declared.faults.MakeFault.TheVariants.{OutOfMemory, Read, Pbn, NoThread, Write}
-use Rattle.tournaments.proofs.ReadLaws.{Loses-all}
+use Rattle.streams.proofs.ReadLaws.{Loses-all}
 use Rattle.audits.specs.Shown.{PublishesShown}
 use Rattle.audits.specs.Shows.{ShowsSections}
 use Rattle.audits.proofs.PublishLaws.{timed_by}
@@ -81,13 +82,13 @@ halted_so told may_tell settings source source' text boards farm.NoThread made i
 halted_so told may_tell settings source source' text boards (farm.Book fault) made is halt all says = absurd halt
 
 -- without a book nothing was written
-unmade_page : (told : Option (List ℕ)) (may_tell : MayTell) (options : TableOptions) (source source' sink : Device) (fault : MakeFault) → MakesBookBeside told may_tell options.settings source source' (Err fault) → MakesPageBeside (IsRunBesideSome told may_tell) options source source' sink sink (Err fault)
+unmade_page : (told : Option (List ℕ)) (may_tell : MayTell) (options : TableOptions) (source source' sink : Device) (fault : MakeFault) → MakesBookBeside told may_tell options.settings source source' (Err fault) → MakesPageBeside (IsRunBesideSome told may_tell) options (devices source sink) (devices source' sink) (Err fault)
 unmade_page told may_tell options source source' sink OutOfMemory none = (none, refl)
 unmade_page told may_tell options source source' sink Read none = (none, refl)
 unmade_page told may_tell options source source' sink (Pbn fault) none = (none.0, none.1, none.2, refl)
 unmade_page told may_tell options source source' sink NoThread none = (none.0, none.1, refl)
 unmade_page told may_tell options source source' sink Write none = absurd none
 
-pub unmade : (told : Option (List ℕ)) (may_tell : MayTell) (options : TableOptions) (source source' sink : Device) (fault : MakeFault) (answer : Result Outcome RunFault) → MakesBookBeside told may_tell options.settings source source' (Err fault) → IsErrAnd answer (λ told. told ≡ make_fault fault) → WritesBeside told may_tell options source source' sink sink answer
+pub unmade : (told : Option (List ℕ)) (may_tell : MayTell) (options : TableOptions) (source source' sink : Device) (fault : MakeFault) (answer : Result Outcome RunFault) → MakesBookBeside told may_tell options.settings source source' (Err fault) → IsErrAnd answer (λ told. told ≡ make_fault fault) → WritesBeside told may_tell options (devices source sink) (devices source' sink) answer
 unmade told may_tell options source source' sink fault (Ok outcome) none is = absurd is
 unmade told may_tell options source source' sink fault (Err made) none is = (fault, is, unmade_page told may_tell options source source' sink fault none)

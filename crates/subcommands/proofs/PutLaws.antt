@@ -4,6 +4,7 @@ use Rattle.cards.specs.Devices.{Device}
 use Rattle.pbn_deals.specs.declared.boards.Board.{Board}
 use Rattle.pbn_deals.specs.Reading.{TextAnswers}
 use Rattle.streams.specs.Inputs.{IsReadToEnd}
+use Rattle.streams.specs.RunStreams.{devices}
 use Rattle.lease_book.specs.Books.{Ledger}
 use Rattle.lease_book.specs.Histories.{Terms}
 use Rattle.tables.specs.declared.sheets.Report.{Report}
@@ -15,7 +16,7 @@ module _ (is_run : RunFact) (is_page : PageFact) (boards : List Board) (term tri
   boards_are : book.terms.boards ≡ boards
   boards_are = ap (λ (t : Terms). t.boards) terms
 
-  pub page_filled : (report : Report) → PutsPage is_page text book sink sink' (Ok report) → FillsPage is_run is_page term tries source source' sink sink' report book
+  pub page_filled : (report : Report) → PutsPage is_page text book sink sink' (Ok report) → FillsPage is_run is_page term tries (devices source sink) (devices source' sink') report book
   page_filled report put = record {
     boards = boards;
     read = record { text = text; all = all; read = read };
@@ -27,9 +28,9 @@ module _ (is_run : RunFact) (is_page : PageFact) (boards : List Board) (term tri
     counts = subst (λ (b : List Board). AreReported b book.events report) boards_are put.3;
   }
 
-  pub page_begun : (fault : MakeFault) → PutsPage is_page text book sink sink' (Err fault) → MakesPage is_run is_page term tries source source' sink sink' (Err fault)
+  pub page_begun : (fault : MakeFault) → PutsPage is_page text book sink sink' (Err fault) → MakesPage is_run is_page term tries (devices source sink) (devices source' sink') (Err fault)
   page_begun fault put =
-      let begins : BeginsPage is_run is_page term tries source source' sink sink' =
+      let begins : BeginsPage is_run is_page term tries (devices source sink) (devices source' sink') =
       record {
         boards = boards;
         read = record { text = text; all = all; read = read };
@@ -39,4 +40,4 @@ module _ (is_run : RunFact) (is_page : PageFact) (boards : List Board) (term tri
         is = subst (λ (b : List Board). is_page text b book.events put.1.0) boards_are put.1.1;
         written = put.1.2;
       } in
-      subst (λ (f : MakeFault). MakesPage is_run is_page term tries source source' sink sink' (Err f)) (sym put.0) begins
+      subst (λ (f : MakeFault). MakesPage is_run is_page term tries (devices source sink) (devices source' sink') (Err f)) (sym put.0) begins

@@ -7,6 +7,7 @@ use Rattle.cards.specs.Devices.{Device, one_more}
 use Rattle.pbn_deals.specs.declared.boards.Board.{Board}
 use Rattle.pbn_deals.specs.Reading.{TextAnswers}
 use Rattle.streams.specs.Inputs.{IsReadToEnd, Loses}
+use Rattle.streams.specs.RunStreams.{Devices}
 use Rattle.evidence.specs.declared.parts.Part.{Part}
 use Rattle.evidence.specs.Sections.{SectionShape}
 use Rattle.evidence.specs.Wholes.{Whole}
@@ -90,11 +91,11 @@ MakesBookBeside told may_tell settings source source' (Err NoThread) =
 MakesBookBeside told may_tell settings source source' (Err Write) = ⊥
 
 -- the page of tables of such a run
-abbrev pub MakesPageBeside : RunFact → TableOptions → Device → Device → Device → Device
+abbrev pub MakesPageBeside : RunFact → TableOptions → Devices → Devices
     → Result (Report × Ledger) MakeFault → Type 0
-MakesPageBeside is_run options source source' sink sink' made =
-    MakesPage is_run (page_fact options.whole) options.settings.term (tries_beside options.settings.tries) source
-    source' sink sink' made
+MakesPageBeside is_run options old new made =
+    MakesPage is_run (page_fact options.whole) options.settings.term (tries_beside options.settings.tries) old
+    new made
 
 -- a run beside a file which tells this, wherever reading it ended
 abbrev pub IsRunBesideSome : Option (List ℕ) → MayTell → RunFact
@@ -108,12 +109,12 @@ IsOutcomeBeside whole report book outcome =
 
 -- The tables of the boards of the input beside a file that tells this: how far it was read, and this is the damage of
 -- what was read.
-abbrev pub WritesBeside : Option (List ℕ) → MayTell → TableOptions → Device → Device → Device → Device
+abbrev pub WritesBeside : Option (List ℕ) → MayTell → TableOptions → Devices → Devices
     → Result Outcome RunFault → Type 0
-WritesBeside told may_tell options source source' sink sink' (Ok outcome) =
+WritesBeside told may_tell options old new (Ok outcome) =
     (report : Report) × (book : Ledger) × IsOutcomeBeside options.whole report book outcome
     × MakesPageBeside (IsRunBesideFile told (record { damage = outcome.damage; ended = outcome.read }) may_tell)
-    options source source' sink sink' (Ok (report, book))
-WritesBeside told may_tell options source source' sink sink' (Err fault) =
+    options old new (Ok (report, book))
+WritesBeside told may_tell options old new (Err fault) =
     (made : MakeFault) × (fault ≡ make_fault made)
-    × MakesPageBeside (IsRunBesideSome told may_tell) options source source' sink sink' (Err made)
+    × MakesPageBeside (IsRunBesideSome told may_tell) options old new (Err made)

@@ -4,12 +4,12 @@ use Rattle.std.specs.Prelude.{if◌then◌else◌}
 use Rattle.std.specs.List.{flat_map}
 use Rattle.pbn_deals.specs.declared.faults.PbnFault.{PbnFault}
 use Rattle.pbn_deals.specs.declared.faults.PbnFault.TheVariants as pbn
-use Rattle.evidence_solvers.specs.declared.faults.CannotOpen.{CannotOpen}
-use Rattle.evidence_solvers.specs.declared.faults.CannotOpen.TheVariants.{Missing, Denied, NotAFile, Refused}
+use Rattle.streams.specs.declared.opening.CannotOpen.{CannotOpen}
+use Rattle.streams.specs.declared.opening.CannotOpen.TheVariants.{Missing, Denied, NotAFile, Refused}
 use Rattle.evidence_solvers.specs.declared.faults.KeepFault.{KeepFault}
 use Rattle.evidence_solvers.specs.declared.faults.KeepFault.TheVariants as keep
-use Rattle.subcommands.specs.declared.named_files.FileFault.{FileFault}
-use Rattle.subcommands.specs.declared.named_files.FileFault.TheVariants as file
+use Rattle.answer_subcommands.specs.declared.named_files.FileFault.{FileFault}
+use Rattle.answer_subcommands.specs.declared.named_files.FileFault.TheVariants as file
 use Rattle.subcommands.specs.declared.faults.RunFault.{RunFault}
 use Rattle.subcommands.specs.declared.faults.RunFault.TheVariants as fault
 use Rattle.subcommands.specs.Statuses.{told_line}

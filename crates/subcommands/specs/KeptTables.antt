@@ -2,24 +2,24 @@
 use Rattle.std.specs.Prelude.{◌≡◌, ℕ, List, Option, None, Some, Result, Ok, Err, IfOk, ◌⊎◌}
 use Rattle.std.specs.Borrow.{Bor}
 use Rattle.asked.specs.declared.subcommands.TableOptions.{TableOptions}
-use Rattle.cards.specs.Devices.{Device}
+use Rattle.streams.specs.RunStreams.{Devices}
 use Rattle.lease_book.specs.Moments.{MayTell}
 use Rattle.evidence_solvers.specs.declared.access.Access.{Access}
-use Rattle.evidence_solvers.specs.declared.faults.CannotOpen.{CannotOpen}
+use Rattle.streams.specs.declared.opening.CannotOpen.{CannotOpen}
 use Rattle.evidence_solvers.specs.declared.faults.KeepFault.{KeepFault}
 use Rattle.evidence_solvers.specs.Added.{IsKeptAs}
 use Rattle.evidence_solvers.specs.Opening.{is_read_only}
 use Rattle.subcommands.specs.declared.faults.RunFault.{RunFault}
 use Rattle.subcommands.specs.declared.faults.RunFault.TheVariants.{Evidence}
-use Rattle.subcommands.specs.declared.named_files.FileFault.TheVariants as file
+use Rattle.answer_subcommands.specs.declared.named_files.FileFault.TheVariants as file
 use Rattle.subcommands.specs.declared.outcomes.Outcome.{Outcome}
-use Rattle.subcommands.specs.NamedFiles.{MayOpen}
+use Rattle.subcommands.specs.KeptFiles.{OpensToKeep}
 use Rattle.subcommands.specs.Pages.{WritesTables}
 use Rattle.subcommands.specs.Beside.{WritesBeside}
 
 -- the file of this name was opened, tells this, and can be used so
-abbrev pub IsOpened : MayOpen → List ℕ → Option (List ℕ) → Access → Type 0
-IsOpened may_open name told access = may_open.to_keep name (Ok (record { bytes = told; failed = 0 }, access))
+abbrev pub IsOpened : OpensToKeep → List ℕ → Option (List ℕ) → Access → Type 0
+IsOpened opens name told access = opens name (Ok (record { bytes = told; failed = 0 }, access))
 
 -- what came of tables, with what is said of the file to which evidence is added
 abbrev pub with_file : Result Outcome RunFault → Access → Result Unit KeepFault → Result Outcome RunFault
@@ -32,11 +32,10 @@ abbrev pub IsSaidOf : Access → Result Outcome RunFault → Type 0
 IsSaidOf access answer = IfOk answer (λ outcome. outcome.notes.read_only ≡ is_read_only access)
 
 -- the file can't be opened, for this reason, and nothing was read or written
-pub record OpensNoFile (may_open : MayOpen) (name : List ℕ) (why : CannotOpen) (source source' sink sink' : Device)
+pub record OpensNoFile (opens : OpensToKeep) (name : List ℕ) (why : CannotOpen) (old new : Devices)
     : Type 0 where
-  pub unopened : may_open.to_keep name (Err why)
-  pub source_is : source' ≡ source
-  pub sink_is : sink' ≡ sink
+  pub unopened : opens name (Err why)
+  pub stay : new ≡ old
 
 -- The file that held this has this now: whole sections were added, as far as it is said that all was kept. Whatever
 -- came of the tables, nothing but sections was added, of which the last may be a beginning.
@@ -46,18 +45,18 @@ HasKept told now (Err fault) = (kept : Result Unit KeepFault) × IsKeptAs told n
 
 -- What `table` answers with a file of this name, and what the input has given and the output has got: the file was
 -- opened, and the tables are those beside it; or it can't be opened, and nothing was read or written.
-abbrev pub KeepsTables : MayOpen → MayTell → TableOptions → List ℕ → Device → Device → Device → Device
+abbrev pub KeepsTables : OpensToKeep → MayTell → TableOptions → List ℕ → Devices → Devices
     → Result Outcome RunFault → Type 0
-KeepsTables may_open may_tell options name source source' sink sink' answer =
-    ((told : Option (List ℕ)) × (access : Access) × IsOpened may_open name told access × IsSaidOf access answer
-    × WritesBeside told may_tell options source source' sink sink' answer)
+KeepsTables opens may_tell options name old new answer =
+    ((told : Option (List ℕ)) × (access : Access) × IsOpened opens name told access × IsSaidOf access answer
+    × WritesBeside told may_tell options old new answer)
     ⊎ ((why : CannotOpen) × (answer ≡ Err (Evidence (file.Open why)))
-    × OpensNoFile may_open name why source source' sink sink')
+    × OpensNoFile opens name why old new)
 
 -- what `table` does
-abbrev pub FillsTables : MayOpen → MayTell → TableOptions → Option (Bor (List ℕ)) → Device → Device → Device → Device
+abbrev pub FillsTables : OpensToKeep → MayTell → TableOptions → Option (Bor (List ℕ)) → Devices → Devices
     → Result Outcome RunFault → Type 0
-FillsTables may_open may_tell options None source source' sink sink' answer =
-    WritesTables may_tell options source source' sink sink' answer
-FillsTables may_open may_tell options (Some name) source source' sink sink' answer =
-    KeepsTables may_open may_tell options name.now source source' sink sink' answer
+FillsTables opens may_tell options None old new answer =
+    WritesTables may_tell options old new answer
+FillsTables opens may_tell options (Some name) old new answer =
+    KeepsTables opens may_tell options name.now old new answer

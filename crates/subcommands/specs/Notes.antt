@@ -1,12 +1,12 @@
 -- What is said of a run that was done and is no fault: each note at most once.
-use Rattle.std.specs.Prelude.{◌≡◌, ◌==◌, ℕ, ◌<◌, Bool, true, false, List, [], ◌∷◌, ◌++◌, ◌⊎◌, codes}
-use Rattle.std.specs.Prelude.{if◌then◌else◌}
+use Rattle.std.specs.Prelude.{◌≡◌, ℕ, ◌<◌, nat_lt, Bool, true, false, List, [], ◌∷◌, ◌++◌, ◌⊎◌, codes}
 use Rattle.std.specs.Fmt.{decimal}
 use Rattle.cards.specs.Devices.{Device}
 use Rattle.subcommands.specs.declared.notes.Searches.{Searches}
 use Rattle.subcommands.specs.declared.notes.Lacking.{Lacking}
 use Rattle.subcommands.specs.declared.notes.Lacking.TheVariants.{Nothing, Searched, Unshown}
 use Rattle.subcommands.specs.declared.notes.Notes.{Notes}
+use Rattle.subcommands.specs.Counted.{counted}
 use Rattle.subcommands.specs.Statuses.{IsTold}
 
 -- nothing is said
@@ -20,14 +20,12 @@ no_board_text =
     codes "ddfarm: note: no board was found" ++ 10
     ∷ codes "  the input has to be plain text in PBN, not UTF-16, and its lines have to end by LF or CR LF" ++ 10 ∷ []
 
--- how many boards have something
-abbrev pub counted_boards : ℕ → List ℕ
-counted_boards count = if count == 1 then codes "1 board has" else decimal count ++ codes " boards have"
-
 -- boards have no deal
 abbrev pub undealt_text : ℕ → List ℕ
 undealt_text count =
-    codes "ddfarm: note: " ++ (counted_boards count ++ (codes " no deal, so there is no table" ++ 10 ∷ []))
+    codes "ddfarm: note: "
+    ++ (counted count (codes "1 board has") (codes " boards have")
+    ++ (codes " no deal, so there is no table" ++ 10 ∷ []))
 
 -- a file of evidence can only be read
 abbrev pub read_only_text : List ℕ
@@ -36,24 +34,38 @@ read_only_text = codes "ddfarm: note: evidence: the file can only be read, so no
 -- how many tables are incomplete, as the beginning of a note
 abbrev pub counted_tables : ℕ → List ℕ
 counted_tables tables =
-    if tables == 1 then codes "ddfarm: note: 1 table is incomplete: "
-    else codes "ddfarm: note: " ++ (decimal tables ++ codes " tables are incomplete: ")
+    codes "ddfarm: note: "
+    ++ counted tables (codes "1 table is incomplete: ") (codes " tables are incomplete: ")
 
 -- how searches ended
 abbrev pub counts_text : Searches → List ℕ
 counts_text searches =
-    decimal searches.steps
-    ++ (codes " searches ran out of steps, "
+    counted searches.steps (codes "1 search ran out of steps, ") (codes " searches ran out of steps, ")
     ++ (decimal searches.memory
-    ++ (codes " out of memory, " ++ (decimal searches.refused ++ (codes " answers were refused" ++ 10 ∷ [])))))
+    ++ (codes " out of memory, "
+    ++ (counted searches.refused (codes "1 answer was refused") (codes " answers were refused") ++ 10 ∷ [])))
+
+-- a text, if it holds
+abbrev pub text_if : Bool → List ℕ → List ℕ
+text_if true text = text
+text_if false text = []
+
+-- what helps searches that ran out of steps, and searches that ran out of memory
+abbrev pub steps_advice : ℕ → List ℕ
+steps_advice count = text_if (nat_lt 0 count) (codes "; --budget gives a search more steps")
+
+abbrev pub memory_advice : ℕ → List ℕ
+memory_advice count = text_if (nat_lt 0 count) (codes "; use fewer --solvers or give more memory")
+
+-- the second line after searches: how often each was made, and what helps
+abbrev pub advice_line : Searches → List ℕ
+advice_line searches =
+    codes "  each missing result was tried as often as --tries says"
+    ++ (steps_advice searches.steps ++ (memory_advice searches.memory ++ 10 ∷ []))
 
 -- tables are incomplete after searches
 abbrev pub searched_text : ℕ → Searches → List ℕ
-searched_text tables searches =
-    counted_tables tables
-    ++ (counts_text searches
-    ++ (codes "  each missing result was tried as often as --tries says; --budget gives a search more steps"
-    ++ 10 ∷ []))
+searched_text tables searches = counted_tables tables ++ (counts_text searches ++ advice_line searches)
 
 -- tables lack results that evidence doesn't show
 abbrev pub unshown_text : ℕ → List ℕ

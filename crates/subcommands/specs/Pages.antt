@@ -2,6 +2,7 @@
 use Rattle.std.specs.Prelude.{◌≡◌, ℕ, Bool, true, false, List, Result, Ok, Err}
 use Rattle.asked.specs.declared.subcommands.TableOptions.{TableOptions}
 use Rattle.cards.specs.Devices.{Device, Adds, AddsBeginning}
+use Rattle.streams.specs.RunStreams.{Devices}
 use Rattle.lease_book.specs.Books.{Ledger}
 use Rattle.lease_book.specs.Moments.{MayTell}
 use Rattle.farm.specs.Runs.{IsRun}
@@ -43,12 +44,12 @@ pub record IsOutcomeOf (whole : Bool) (report : Report) (book : Ledger) (outcome
   }
 
 -- the tables of the boards of the input, and what came of them
-abbrev pub WritesTables : MayTell → TableOptions → Device → Device → Device → Device → Result Outcome RunFault → Type 0
-WritesTables may_tell options source source' sink sink' (Ok outcome) =
+abbrev pub WritesTables : MayTell → TableOptions → Devices → Devices → Result Outcome RunFault → Type 0
+WritesTables may_tell options old new (Ok outcome) =
     (report : Report) × (book : Ledger) × IsOutcomeOf options.whole report book outcome
-    × MakesPage (IsRun may_tell) (page_fact options.whole) options.settings.term options.settings.tries source source'
-    sink sink' (Ok (report, book))
-WritesTables may_tell options source source' sink sink' (Err fault) =
+    × MakesPage (IsRun may_tell) (page_fact options.whole) options.settings.term options.settings.tries old new
+    (Ok (report, book))
+WritesTables may_tell options old new (Err fault) =
     (made : MakeFault) × (fault ≡ make_fault made)
-    × MakesPage (IsRun may_tell) (page_fact options.whole) options.settings.term options.settings.tries source source'
-    sink sink' (Err made)
+    × MakesPage (IsRun may_tell) (page_fact options.whole) options.settings.term options.settings.tries old new
+    (Err made)

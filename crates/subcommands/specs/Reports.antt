@@ -10,8 +10,8 @@ use Rattle.subcommands.specs.declared.notes.Searches.{Searches}
 use Rattle.subcommands.specs.declared.notes.Lacking.{Lacking}
 use Rattle.subcommands.specs.declared.notes.Lacking.TheVariants.{Nothing, Searched, Unshown}
 use Rattle.subcommands.specs.declared.notes.Notes.{Notes}
-use Rattle.subcommands.specs.declared.statuses.Status.{Status}
-use Rattle.subcommands.specs.declared.statuses.Status.TheVariants.{Done, Incomplete}
+use Rattle.answer_subcommands.specs.declared.statuses.Status.{Status}
+use Rattle.answer_subcommands.specs.declared.statuses.Status.TheVariants.{Done, Incomplete}
 
 -- how many boards have a deal
 abbrev pub deal_count : List Board → ℕ

@@ -1,77 +1,52 @@
 -- What a run does for what was asked, and how it ends.
-use Rattle.std.specs.Prelude.{◌≡◌, Result, Ok, Err, ◌⊎◌, Option, None, Some, option_map, List, ℕ, ⊤}
+use Rattle.std.specs.Prelude.{◌≡◌, Result, Ok, Err, ◌⊎◌, Option, None, Some, option_map, List, ℕ}
 use Rattle.lease_book.specs.Moments.{MayTell}
-use Rattle.partition_solver.specs.Answers.{MayFind}
+use Rattle.certificate_graph.specs.Solvers.{MayFind}
 use Rattle.streams.specs.Flushes.{HandsOn}
+use Rattle.streams.specs.RunStreams.{Devices, RunDevices}
 use Rattle.cards.specs.Devices.{Device, Fails, Adds, AddsBeginning}
 use Rattle.streams.specs.declared.inputs.InputFault.{InputFault}
 use Rattle.evidence_solvers.specs.declared.faults.KeepFault.{KeepFault}
 use Rattle.subcommands.specs.declared.faults.RunFault.{RunFault}
 use Rattle.subcommands.specs.declared.faults.RunFault.TheVariants.{Write, Unkept}
 use Rattle.subcommands.specs.declared.outcomes.Outcome.{Outcome}
-use Rattle.subcommands.specs.declared.statuses.Status.{Status}
-use Rattle.subcommands.specs.declared.statuses.Status.TheVariants.{Done, Failed, Refused, Incomplete, Rejected}
+use Rattle.answer_subcommands.specs.declared.statuses.Status.{Status}
+use Rattle.answer_subcommands.specs.declared.statuses.Status.TheVariants.{Done, Failed, Refused, Incomplete, Rejected}
 use Rattle.asked.specs.declared.subcommands.Subcommand.{Subcommand}
 use Rattle.asked.specs.declared.subcommands.Subcommand.TheVariants.{Plain, Solve, Table, Check, Line, Play, Audit}
 use Rattle.subcommands.specs.Explanations.{told_text}
 use Rattle.subcommands.specs.Notes.{TellsNotes}
-use Rattle.subcommands.specs.Statuses.{fault_status, status_code, IsTold}
-use Rattle.subcommands.specs.NamedFiles.{MayOpen}
+use Rattle.answer_subcommands.specs.Statuses.{status_code}
+use Rattle.subcommands.specs.Statuses.{fault_status, IsTold}
+use Rattle.subcommands.specs.KeptFiles.{MayOpen}
 use Rattle.subcommands.specs.Outcomes.{Quietly, DoneQuietly, TellsDamage, shelf_fault}
-use Rattle.subcommands.specs.PlainLine.{MeetsPlainLine}
-use Rattle.subcommands.specs.Checks.{ChecksAnswer}
-use Rattle.subcommands.specs.Solves.{SolvesLayout}
-use Rattle.subcommands.specs.Lines.{FollowsAnswer}
-use Rattle.subcommands.specs.Playing.{PlaysAnswer}
+use Rattle.answer_subcommands.specs.PlainLine.{MeetsPlainLine}
+use Rattle.answer_subcommands.specs.Checks.{ChecksAnswer}
+use Rattle.answer_subcommands.specs.Solves.{SolvesLayout}
+use Rattle.answer_subcommands.specs.Lines.{FollowsAnswer}
+use Rattle.answer_subcommands.specs.Playing.{PlaysAnswer}
 use Rattle.subcommands.specs.Auditing.{AuditsFile}
 use Rattle.subcommands.specs.KeptTables.{FillsTables}
 
--- a layout alone is asked about
-abbrev pub IsOfLayout : Subcommand → Type 0
-IsOfLayout (Plain layout leader trump) = ⊤
-IsOfLayout (Solve layout declarer trump budget) = ⊤
-IsOfLayout _ = ⊥
-
--- what comes of it, by what the solver may find
-abbrev pub EvaluatesLayout : MayFind → Subcommand → Device → Device → Result Outcome RunFault → Type 0
-EvaluatesLayout may_find (Plain layout leader trump) sink sink' answer =
-    DoneQuietly (MeetsPlainLine layout.now leader trump sink sink') answer
-EvaluatesLayout may_find (Solve layout declarer trump budget) sink sink' answer =
-    DoneQuietly (SolvesLayout may_find layout.now declarer trump budget sink sink') answer
-EvaluatesLayout may_find _ sink sink' answer = ⊥
-
--- an answer is asked about, which is the input
-abbrev pub IsOfAnswer : Subcommand → Type 0
-IsOfAnswer (Check layout declarer trump) = ⊤
-IsOfAnswer (Line layout declarer trump) = ⊤
-IsOfAnswer _ = ⊥
-
--- what comes of it
-abbrev pub JudgesInput : Subcommand → Device → Device → Device → Device → Result Outcome RunFault → Type 0
-JudgesInput (Check layout declarer trump) source source' sink sink' answer =
-    Quietly (ChecksAnswer layout.now declarer trump source source' sink sink') answer
-JudgesInput (Line layout declarer trump) source source' sink sink' answer =
-    Quietly (FollowsAnswer layout.now declarer trump source source' sink sink') answer
-JudgesInput _ source source' sink sink' answer = ⊥
-
 -- What came of a run, by what the solver may find, the clock may tell and the opening of a file may come to, and what
 -- its devices have given and got. A single layout leaves the input as it was.
-abbrev pub Does : MayFind → MayTell → MayOpen → Subcommand → Device → Device → Device → Device
+abbrev pub Does : MayFind → MayTell → MayOpen → Subcommand → Devices → Devices
     → Result Outcome RunFault → Type 0
-Does may_find may_tell may_open (Plain layout leader trump) source source' sink sink' answer =
-    (source' ≡ source) × EvaluatesLayout may_find (Plain layout leader trump) sink sink' answer
-Does may_find may_tell may_open (Solve layout declarer trump budget) source source' sink sink' answer =
-    (source' ≡ source) × EvaluatesLayout may_find (Solve layout declarer trump budget) sink sink' answer
-Does may_find may_tell may_open (Table options) source source' sink sink' answer =
-    FillsTables may_open may_tell options options.evidence source source' sink sink' answer
-Does may_find may_tell may_open (Check layout declarer trump) source source' sink sink' answer =
-    JudgesInput (Check layout declarer trump) source source' sink sink' answer
-Does may_find may_tell may_open (Line layout declarer trump) source source' sink sink' answer =
-    JudgesInput (Line layout declarer trump) source source' sink sink' answer
-Does may_find may_tell may_open (Play options) source source' sink sink' answer =
-    Quietly (PlaysAnswer may_open options source source' sink sink') answer
-Does may_find may_tell may_open (Audit file whole) source source' sink sink' answer =
-    AuditsFile may_open file.now whole source source' sink sink' answer
+Does may_find may_tell may_open (Plain layout leader trump) old new answer =
+    (new.source ≡ old.source) × DoneQuietly (MeetsPlainLine layout.now leader trump old.sink new.sink) answer
+Does may_find may_tell may_open (Solve layout declarer trump budget) old new answer =
+    (new.source ≡ old.source)
+    × DoneQuietly (SolvesLayout may_find layout.now declarer trump budget old.sink new.sink) answer
+Does may_find may_tell may_open (Table options) old new answer =
+    FillsTables may_open.to_keep may_tell options options.evidence old new answer
+Does may_find may_tell may_open (Check layout declarer trump) old new answer =
+    Quietly (ChecksAnswer layout.now declarer trump old new) answer
+Does may_find may_tell may_open (Line layout declarer trump) old new answer =
+    Quietly (FollowsAnswer layout.now declarer trump old new) answer
+Does may_find may_tell may_open (Play options) old new answer =
+    Quietly (PlaysAnswer may_open.to_read options old new) answer
+Does may_find may_tell may_open (Audit file whole) old new answer =
+    AuditsFile may_open.to_read file.now whole old new answer
 
 -- how a run that was done ends: as it does where all was kept, or that not all was is told
 abbrev pub EndsKept : Result Unit KeepFault → Status → Device → Device → Status → Type 0
@@ -107,18 +82,22 @@ Ends file (Err fault) errors errors' status =
 
 -- a whole run
 pub record RunsSubcommand (may_find : MayFind) (may_tell : MayTell) (may_open : MayOpen) (run : Subcommand)
-    (source source' sink sink' errors errors' : Device) (status : Status) : Type 0 where
+    (old new : RunDevices) (status : Status)
+    : Type 0 where
   pub answer : Result Outcome RunFault
-  pub does : Does may_find may_tell may_open run source source' sink sink' answer
-  pub ends : Ends (file_of run) answer errors errors' status
+  pub does : Does may_find may_tell may_open run old.both new.both answer
+  pub ends : Ends (file_of run) answer old.errors new.errors status
 
--- a text was written on the output, or a beginning of it, and that it failed was told
-abbrev pub Shows : Device → Device → Device → Device → List ℕ → Status → Type 0
-Shows sink sink' errors errors' text Done = Adds sink sink' text × (errors' ≡ errors)
-Shows sink sink' errors errors' text Failed = AddsBeginning sink sink' text × IsTold errors errors' (told_text None Write)
-Shows sink sink' errors errors' text Refused = ⊥
-Shows sink sink' errors errors' text Incomplete = ⊥
-Shows sink sink' errors errors' text Rejected = ⊥
+-- A text was written on the output, or a beginning of it, and that it failed was told. The input stays as it was.
+abbrev pub Shows : RunDevices → RunDevices → List ℕ → Status → Type 0
+Shows old new text Done =
+    (new.both.source ≡ old.both.source) × Adds old.both.sink new.both.sink text × (new.errors ≡ old.errors)
+Shows old new text Failed =
+    (new.both.source ≡ old.both.source) × AddsBeginning old.both.sink new.both.sink text
+    × IsTold old.errors new.errors (told_text None Write)
+Shows old new text Refused = ⊥
+Shows old new text Incomplete = ⊥
+Shows old new text Rejected = ⊥
 
 -- the exit status of a run that failed or was refused
 abbrev pub IsUndone : ℕ → Type 0
@@ -131,7 +110,8 @@ pub data Closes (sink sink' : Device) (below : Option (List ℕ)) (errors errors
     : Type 0 where
   is_flushed : ended ≡ code → HandsOn sink sink' below → errors' ≡ errors
       → Closes sink sink' below errors errors' code ended
-  fails : (IsUndone code → ⊥) → ended ≡ status_code Failed → Fails sink sink' → IsTold errors errors' (told_text None Write)
+  fails : (IsUndone code → ⊥) → ended ≡ status_code Failed → Fails sink sink'
+      → IsTold errors errors' (told_text None Write)
       → Closes sink sink' below errors errors' code ended
   fails_too : IsUndone code → ended ≡ code → Fails sink sink' → errors' ≡ errors
       → Closes sink sink' below errors errors' code ended

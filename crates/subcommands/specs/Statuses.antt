@@ -1,28 +1,20 @@
--- How runs end: the exit status, and the line that tells why a run failed or was refused.
+-- Why runs fail or are refused: their status, and the line that tells it.
 use Rattle.std.specs.Prelude.{ℕ, List, [], ◌∷◌, ◌++◌, codes, Option, None, Some, ◌⊎◌}
 use Rattle.std.specs.Fmt.{decimal}
 use Rattle.cards.specs.Devices.{Device, Adds, AddsBeginning}
 use Rattle.pbn_deals.specs.Faults.{fault_text, fault_line}
-use Rattle.streams.specs.declared.inputs.InputFault.{InputFault}
-use Rattle.streams.specs.declared.inputs.InputFault.TheVariants as input
+use Rattle.answer_subcommands.specs.declared.faults.AnswerFault.{AnswerFault}
+use Rattle.answer_subcommands.specs.declared.faults.AnswerFault.TheVariants as answer
 use Rattle.tournaments.specs.declared.faults.MakeFault.{MakeFault}
 use Rattle.tournaments.specs.declared.faults.MakeFault.TheVariants as make
 use Rattle.audits.specs.declared.faults.AuditFault.{AuditFault}
 use Rattle.audits.specs.declared.faults.AuditFault.TheVariants as audit
 use Rattle.evidence_solvers.specs.declared.faults.KeepFault.TheVariants as keep
-use Rattle.subcommands.specs.declared.named_files.FileFault.TheVariants as file
+use Rattle.answer_subcommands.specs.declared.named_files.FileFault.TheVariants as file
 use Rattle.subcommands.specs.declared.faults.RunFault.{RunFault}
 use Rattle.subcommands.specs.declared.faults.RunFault.TheVariants as fault
-use Rattle.subcommands.specs.declared.statuses.Status.{Status}
-use Rattle.subcommands.specs.declared.statuses.Status.TheVariants.{Done, Failed, Refused, Incomplete, Rejected}
-
--- the exit status of the process
-abbrev pub status_code : Status → ℕ
-status_code Done = 0
-status_code Failed = 1
-status_code Refused = 2
-status_code Incomplete = 3
-status_code Rejected = 4
+use Rattle.answer_subcommands.specs.declared.statuses.Status.{Status}
+use Rattle.answer_subcommands.specs.declared.statuses.Status.TheVariants.{Failed, Refused, Incomplete}
 
 -- memory or a device has failed, the words or the input are refused, or there is no answer
 abbrev pub fault_status : RunFault → Status
@@ -40,10 +32,16 @@ fault_status (fault.Evidence why) = Failed
 fault_status (fault.AnswerFile why) = Failed
 fault_status (fault.Unkept why) = Failed
 
--- why an input could not be read
-abbrev pub input_fault : InputFault → RunFault
-input_fault input.OutOfMemory = fault.OutOfMemory
-input_fault input.Read = fault.Read
+-- why nothing came of a layout or an answer
+abbrev pub answer_fault : AnswerFault → RunFault
+answer_fault answer.OutOfMemory = fault.OutOfMemory
+answer_fault answer.Read = fault.Read
+answer_fault answer.Write = fault.Write
+answer_fault (answer.Layout refusal) = fault.Layout refusal
+answer_fault answer.TooLarge = fault.TooLarge
+answer_fault answer.NoResult = fault.NoResult
+answer_fault answer.NoAnswer = fault.NoAnswer
+answer_fault (answer.File why) = fault.AnswerFile why
 
 -- why no tables were made
 abbrev pub make_fault : MakeFault → RunFault

@@ -2,13 +2,14 @@
 
 ghost use Rattle.std.specs.Prelude.{◌≡◌};
 ghost use Rattle.audits.specs.Audits.{AuditsTables};
+ghost use Rattle.streams.specs.RunStreams.{devices};
 ghost use Rattle.subcommands.specs.Auditing.{AuditsFile};
 ghost use Rattle.subcommands.specs.Pages.{page_fact};
 
 use crate::faults::RunFault;
-use crate::named_files::{FileFault, NamedFiles};
 use crate::outcomes::Outcome;
 use crate::reports::{page_status, unshown_notes};
+use answer_subcommands::{FileFault, NamedFiles};
 use audits::{AuditFault, audit_tables, audit_whole};
 use cards::{Sink, Source};
 use evidence::{Damage, Sections};
@@ -30,8 +31,8 @@ pub(crate) fn audit_file<R: Threads + Sync + NamedFiles, I: Source, O: Sink>(
     input: &mut I,
     output: &mut O,
 ) -> Result<Outcome, RunFault>
-    ensures { AuditsFile (R.may_open rt.now) name.now whole (I.state input.old) (I.state input.new)
-        (O.state output.old) (O.state output.new) result }
+    ensures { AuditsFile (R.may_open rt.now) name.now whole (devices (I.state input.old) (O.state output.old))
+        (devices (I.state input.new) (O.state output.new)) result }
 {
     let file = match rt.open_named(name) {
         Ok(file) => file,
@@ -59,8 +60,8 @@ fn audit_page<R: Threads + Sync, I: Source, E: Source, O: Sink>(
     evidence: &mut Sections<E>,
     output: &mut O,
 ) -> Result<(Report, Book, Damage), AuditFault>
-    ensures { AuditsTables (page_fact whole) (I.state input.old) (I.state input.new) evidence.old evidence.new
-        (O.state output.old) (O.state output.new) result }
+    ensures { AuditsTables (page_fact whole) (devices (I.state input.old) (O.state output.old))
+        (devices (I.state input.new) (O.state output.new)) evidence.old evidence.new result }
 {
     if whole {
         audit_whole(rt, alloc, input, evidence, output)

@@ -1,6 +1,7 @@
 //! The tables of a run that begins with what a file of evidence shows.
 
 ghost use Rattle.std.specs.Prelude.{◌≡◌, Ok};
+ghost use Rattle.streams.specs.RunStreams.{devices};
 ghost use Rattle.subcommands.specs.Beside.{MakesBookBeside, WritesBeside, tries_beside};
 
 use crate::faults::RunFault;
@@ -12,11 +13,10 @@ use crate::searches::{Counted, Tally};
 use asked::{Settings, TableOptions};
 use audits::{EvidenceRead, show_evidence};
 use cards::{Sink, Source};
+use certificate_graph::Solver;
 use evidence::Sections;
 use farm::{Clock, Means, resume_farm};
-use lease_book::Book;
-use lease_desk::Gate;
-use partition_solver::Solver;
+use lease_book::{Book, Gate};
 use std::alloc::Global;
 use std::io::Read;
 use std::sync::Wait;
@@ -93,7 +93,8 @@ pub(crate) fn write_tables_beside<
     output: &mut O,
 ) -> Result<Outcome, RunFault>
     ensures { WritesBeside (F.remaining file) (C.may_tell work.entry.means.now.clock.now) work.entry.options
-        (I.state input.old) (I.state input.new) (O.state output.old) (O.state output.new) result }
+        (devices (I.state input.old) (O.state output.old))
+        (devices (I.state input.new) (O.state output.new)) result }
 {
     let Work { options, means } = work;
     let tally = Tally::new();

@@ -3,8 +3,9 @@
 ghost use Rattle.std.specs.Prelude.{◌∷◌, ◌++◌, []};
 ghost use Rattle.std.specs.Fmt.{decimal};
 ghost use Rattle.cards.specs.Devices.{Writes};
-ghost use Rattle.subcommands.specs.Outcomes.{TellsDamage, counted_text, damage_line};
+ghost use Rattle.subcommands.specs.Outcomes.{TellsDamage, damage_line};
 
+use crate::counted::write_counted;
 use cards::{DeviceFault, Sink, write_all, write_number};
 use evidence::Damage;
 
@@ -22,19 +23,13 @@ fn write_damage<E: Sink>(damage: Damage, errors: &mut E) -> Result<(), DeviceFau
     ensures { Writes (E.state errors.old) (E.state errors.new) (damage_line damage) result }
 {
     write_all(errors, b"ddfarm: evidence: ")?;
-    write_counted(damage.count, errors)?;
+    write_counted(
+        damage.count,
+        b"1 section is damaged, at byte ",
+        b" sections are damaged, the first at byte ",
+        errors,
+    )?;
     write_first(damage.first, errors)
-}
-
-/// Writes how many pieces were passed over.
-fn write_counted<E: Sink>(count: u64, errors: &mut E) -> Result<(), DeviceFault>
-    ensures { Writes (E.state errors.old) (E.state errors.new) (counted_text count) result }
-{
-    if count == 1 {
-        return write_all(errors, b"1 section is damaged, at byte ");
-    }
-    write_number(errors, count)?;
-    write_all(errors, b" sections are damaged, the first at byte ")
 }
 
 /// Writes where the first begins.

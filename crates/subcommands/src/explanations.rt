@@ -2,15 +2,17 @@
 
 ghost use Rattle.std.specs.Prelude.{◌≡◌, Some, option_map};
 ghost use Rattle.cards.specs.Devices.{Writes};
-ghost use Rattle.subcommands.specs.Explanations.{explains, opening_of, opening_line, second_line, reason_text, shown_name};
+ghost use Rattle.subcommands.specs.Explanations.{explains, opening_of, opening_line, second_line, reason_text};
+ghost use Rattle.subcommands.specs.Explanations.{shown_name};
 ghost use Rattle.subcommands.specs.Explanations.{shown_byte, text_explanation, layout_explanation, file_explanation};
 ghost use Rattle.subcommands.specs.Explanations.{keep_explanation, explanation_of};
 
 use crate::faults::RunFault;
-use crate::named_files::FileFault;
+use answer_subcommands::FileFault;
 use cards::{DeviceFault, Sink, write_all};
-use evidence_solvers::{CannotOpen, KeepFault};
+use evidence_solvers::KeepFault;
 use pbn_deals::PbnFault;
+use streams::CannotOpen;
 
 /// Writes the line that explains a fault, if there is one. A file that can't be opened has this name.
 pub(crate) fn write_explanation<E: Sink>(

@@ -9,14 +9,11 @@ ghost use Rattle.subcommands.specs.Statuses.{fault_status, IsTold, told_line, sa
 ghost use Rattle.pbn_deals.specs.Faults.{fault_line};
 
 use crate::explanations::write_explanation;
-use crate::named_files::FileFault;
-use crate::statuses::Status;
+use answer_subcommands::{AnswerFault, FileFault, Status};
 use audits::AuditFault;
 use cards::{DeviceFault, Sink, write_all, write_number};
 use evidence_solvers::KeepFault;
 use pbn_deals::PbnFault;
-use strategies::TooLarge;
-use streams::InputFault;
 use tournaments::MakeFault;
 
 /// Why a run fails or is refused.
@@ -50,15 +47,21 @@ pub enum RunFault {
     Unkept(KeepFault),
 }
 
-impl From<InputFault> for RunFault {
-    ghost use Rattle.subcommands.specs.Statuses.{input_fault};
+impl From<AnswerFault> for RunFault {
+    ghost use Rattle.subcommands.specs.Statuses.{answer_fault};
 
-    ghost from_gives = { λ fault answer. answer ≡ input_fault fault };
+    ghost from_gives = { λ fault answer. answer ≡ answer_fault fault };
 
-    fn from(fault: InputFault) -> RunFault {
+    fn from(fault: AnswerFault) -> RunFault {
         match fault {
-            InputFault::OutOfMemory => RunFault::OutOfMemory,
-            InputFault::Read => RunFault::Read,
+            AnswerFault::OutOfMemory => RunFault::OutOfMemory,
+            AnswerFault::Read => RunFault::Read,
+            AnswerFault::Write => RunFault::Write,
+            AnswerFault::Layout(refusal) => RunFault::Layout(refusal),
+            AnswerFault::TooLarge => RunFault::TooLarge,
+            AnswerFault::NoResult => RunFault::NoResult,
+            AnswerFault::NoAnswer => RunFault::NoAnswer,
+            AnswerFault::File(why) => RunFault::AnswerFile(why),
         }
     }
 }
@@ -90,21 +93,6 @@ impl From<AuditFault> for RunFault {
             AuditFault::Evidence => RunFault::Evidence(FileFault::Read),
         }
     }
-}
-
-impl From<TooLarge> for RunFault {
-    ghost from_gives = { λ _ answer. answer ≡ faults.TooLarge };
-
-    fn from(_fault: TooLarge) -> RunFault {
-        RunFault::TooLarge
-    }
-}
-
-/// The fault of an output. (That of an input is an `InputFault`.)
-pub(crate) fn write_failed(_fault: DeviceFault) -> RunFault
-    ensures { result ≡ faults.Write }
-{
-    RunFault::Write
 }
 
 /// Writes the fault on the error output, with what explains it, and answers how the run ends. If the error output

@@ -3,21 +3,23 @@
 ghost use Rattle.std.specs.Prelude.{◌≡◌};
 ghost use Rattle.std.specs.Io.Take.{take_remaining};
 ghost use Rattle.evidence_solvers.specs.Tails.{tail_contents};
+ghost use Rattle.streams.specs.RunStreams.{devices};
 ghost use Rattle.subcommands.specs.Beside.{WritesBeside};
 ghost use Rattle.subcommands.specs.KeptTables.{FillsTables, HasKept, IsSaidOf, with_file};
 
 use crate::beside::{Work, write_tables_beside};
 use crate::faults::RunFault;
-use crate::named_files::{FileFault, NamedFiles};
+use crate::kept_files::KeptFiles;
 use crate::notes::Notes;
 use crate::outcomes::Outcome;
 use crate::pages::{Unwatched, write_page};
+use answer_subcommands::FileFault;
 use asked::TableOptions;
 use cards::{Sink, Source};
-use evidence_solvers::{Access, Closed, KeepFault, Keeping, Opened, Told};
+use certificate_graph::Solver;
+use evidence_solvers::{Access, Closed, Held, KeepFault, Keeping, Opened};
 use farm::{Clock, Means};
-use lease_desk::Gate;
-use partition_solver::Solver;
+use lease_book::Gate;
 use std::alloc::Global;
 use std::marker::Brand;
 use std::sync::Wait;
@@ -58,8 +60,8 @@ fn write_beside<
     C: Clock + Sync,
     I: Source,
     O: Sink,
-    R: Threads + Wait + Sync + NamedFiles,
-    T: Told + Send,
+    R: Threads + Wait + Sync + KeptFiles,
+    T: Held + Send,
 >(
     rt: &R,
     alloc: Global,
@@ -68,12 +70,13 @@ fn write_beside<
     input: &mut I,
     output: &mut O,
 ) -> Ended<R::Kept>
-    requires { tail_contents R.Kept.contents opened.tail ≡ T.told }
+    requires { tail_contents R.Kept.contents opened.tail ≡ T.held }
     ensures tables { WritesBeside (take_remaining R.Kept.remaining opened.front)
-        (C.may_tell work.entry.means.now.clock.now) work.entry.options (I.state input.old) (I.state input.new)
-        (O.state output.old) (O.state output.new) result.answer }
+        (C.may_tell work.entry.means.now.clock.now) work.entry.options
+        (devices (I.state input.old) (O.state output.old)) (devices (I.state input.new) (O.state output.new))
+        result.answer }
     ensures said { IsSaidOf opened.access result.answer }
-    ensures kept { HasKept T.told (R.Kept.contents result.file) result.answer }
+    ensures kept { HasKept T.held (R.Kept.contents result.file) result.answer }
 {
     let Work { options, means } = work;
     let Opened {
@@ -108,7 +111,7 @@ fn fill_tables<
     C: Clock + Sync,
     I: Source,
     O: Sink,
-    R: Threads + Wait + Sync + NamedFiles,
+    R: Threads + Wait + Sync + KeptFiles,
 >(
     rt: &R,
     alloc: Global,
@@ -117,8 +120,9 @@ fn fill_tables<
     input: &mut I,
     output: &mut O,
 ) -> Result<Outcome, RunFault>
-    ensures { FillsTables (R.may_open rt.now) (C.may_tell means.now.clock.now) options.entry options.entry.evidence
-        (I.state input.old) (I.state input.new) (O.state output.old) (O.state output.new) result }
+    ensures { FillsTables (R.may_keep rt.now) (C.may_tell means.now.clock.now) options.entry options.entry.evidence
+        (devices (I.state input.old) (O.state output.old))
+        (devices (I.state input.new) (O.state output.new)) result }
 {
     let Some(name) = options.evidence else {
         return write_page(rt, alloc, options, means, input, output);
@@ -132,13 +136,13 @@ fn fill_tables<
 }
 
 /// The same, and the gate is told of the work if progress is asked for.
-pub(crate) fn write_tables<
+pub(crate) fn keep_tables<
     P: Solver + Sync,
     G: Gate + Sync,
     C: Clock + Sync,
     I: Source,
     O: Sink,
-    R: Threads + Wait + Sync + NamedFiles,
+    R: Threads + Wait + Sync + KeptFiles,
 >(
     rt: &R,
     alloc: Global,
@@ -147,8 +151,9 @@ pub(crate) fn write_tables<
     input: &mut I,
     output: &mut O,
 ) -> Result<Outcome, RunFault>
-    ensures { FillsTables (R.may_open rt.now) (C.may_tell means.now.clock.now) options.entry options.entry.evidence
-        (I.state input.old) (I.state input.new) (O.state output.old) (O.state output.new) result }
+    ensures { FillsTables (R.may_keep rt.now) (C.may_tell means.now.clock.now) options.entry options.entry.evidence
+        (devices (I.state input.old) (O.state output.old))
+        (devices (I.state input.new) (O.state output.new)) result }
 {
     if options.progress {
         return fill_tables(rt, alloc, options, means, input, output);

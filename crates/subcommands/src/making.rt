@@ -2,6 +2,7 @@
 
 ghost use Rattle.std.specs.Prelude.{◌≡◌, IsSome, Some};
 ghost use Rattle.farm.specs.Runs.{IsRun};
+ghost use Rattle.streams.specs.RunStreams.{devices};
 ghost use Rattle.subcommands.specs.Halts.{halted_fault};
 ghost use Rattle.tournaments.specs.Making.{MakesPage};
 ghost use Rattle.tournaments.specs.Pages.{IsTablesPage};
@@ -10,10 +11,9 @@ ghost use Rattle.subcommands.specs.Made.{MakesBook};
 
 use crate::putting::{put_tables, put_whole};
 use cards::{Sink, Source};
+use certificate_graph::Solver;
 use farm::{Clock, FarmFault, Means, Settings, run_farm};
-use lease_book::Book;
-use lease_desk::Gate;
-use partition_solver::Solver;
+use lease_book::{Book, Gate};
 use std::alloc::Global;
 use std::sync::Wait;
 use std::thread::Threads;
@@ -81,7 +81,8 @@ pub fn make_tables<
     means: &Means<'_, S, G, C>,
 ) -> Result<(Report, Book), MakeFault>
     ensures { MakesPage (IsRun (C.may_tell means.now.clock.now)) IsTablesPage settings.term settings.tries
-        (I.state input.old) (I.state input.new) (O.state output.old) (O.state output.new) result }
+        (devices (I.state input.old) (O.state output.old))
+        (devices (I.state input.new) (O.state output.new)) result }
 {
     let (_, book) = make_book(rt, alloc, input, settings, means)?;
     let report = put_tables(&book, output)?;
@@ -107,7 +108,8 @@ pub fn make_whole<
     means: &Means<'_, S, G, C>,
 ) -> Result<(Report, Book), MakeFault>
     ensures { MakesPage (IsRun (C.may_tell means.now.clock.now)) IsWholePage settings.term settings.tries
-        (I.state input.old) (I.state input.new) (O.state output.old) (O.state output.new) result }
+        (devices (I.state input.old) (O.state output.old))
+        (devices (I.state input.new) (O.state output.new)) result }
 {
     let (text, book) = make_book(rt, alloc, input, settings, means)?;
     let report = put_whole(text.as_slice(), &book, output)?;

@@ -2,10 +2,11 @@
 
 ghost use Rattle.std.specs.Prelude.{◌≡◌};
 ghost use Rattle.cards.specs.Devices.{Writes};
-ghost use Rattle.subcommands.specs.Notes.{TellsIf, TellsLacking, TellsNotes, TellsUndealt, counted_boards};
-ghost use Rattle.subcommands.specs.Notes.{counted_tables, counts_text};
+ghost use Rattle.subcommands.specs.Notes.{TellsIf, TellsLacking, TellsNotes, TellsUndealt, advice_line};
+ghost use Rattle.subcommands.specs.Notes.{counted_tables, counts_text, text_if};
 ghost use Rattle.subcommands.specs.Notes.{searched_text, undealt_text, unshown_text, quiet_notes};
 
+use crate::counted::write_counted;
 use cards::{DeviceFault, Sink, write_all, write_number};
 
 /// How many searches of results ended without an answer, and how many answers were refused.
@@ -99,19 +100,8 @@ fn write_undealt<E: Sink>(count: u64, errors: &mut E) -> Result<(), DeviceFault>
     ensures { Writes (E.state errors.old) (E.state errors.new) (undealt_text count) result }
 {
     write_all(errors, b"ddfarm: note: ")?;
-    write_boards(count, errors)?;
+    write_counted(count, b"1 board has", b" boards have", errors)?;
     write_all(errors, b" no deal, so there is no table\n")
-}
-
-/// Writes how many boards have something.
-fn write_boards<E: Sink>(count: u64, errors: &mut E) -> Result<(), DeviceFault>
-    ensures { Writes (E.state errors.old) (E.state errors.new) (counted_boards count) result }
-{
-    if count == 1 {
-        return write_all(errors, b"1 board has");
-    }
-    write_number(errors, count)?;
-    write_all(errors, b" boards have")
 }
 
 /// Writes which tables are incomplete, if any are.
@@ -139,22 +129,59 @@ fn write_searched<E: Sink>(
 {
     write_tables(tables, errors)?;
     write_counts(searches, errors)?;
-    write_all(
-        errors,
-        b"  each missing result was tried as often as --tries says; --budget gives a search more steps\n",
-    )
+    write_advice(searches, errors)
 }
 
 /// Writes how searches ended.
 fn write_counts<E: Sink>(searches: Searches, errors: &mut E) -> Result<(), DeviceFault>
     ensures { Writes (E.state errors.old) (E.state errors.new) (counts_text searches) result }
 {
-    write_number(errors, searches.steps)?;
-    write_all(errors, b" searches ran out of steps, ")?;
+    write_counted(
+        searches.steps,
+        b"1 search ran out of steps, ",
+        b" searches ran out of steps, ",
+        errors,
+    )?;
     write_number(errors, searches.memory)?;
     write_all(errors, b" out of memory, ")?;
-    write_number(errors, searches.refused)?;
-    write_all(errors, b" answers were refused\n")
+    write_counted(
+        searches.refused,
+        b"1 answer was refused",
+        b" answers were refused",
+        errors,
+    )?;
+    write_all(errors, b"\n")
+}
+
+/// Writes how often each search was made, and what helps those that found nothing.
+fn write_advice<E: Sink>(searches: Searches, errors: &mut E) -> Result<(), DeviceFault>
+    ensures { Writes (E.state errors.old) (E.state errors.new) (advice_line searches) result }
+{
+    write_all(
+        errors,
+        b"  each missing result was tried as often as --tries says",
+    )?;
+    write_if(
+        searches.steps > 0,
+        b"; --budget gives a search more steps",
+        errors,
+    )?;
+    write_if(
+        searches.memory > 0,
+        b"; use fewer --solvers or give more memory",
+        errors,
+    )?;
+    write_all(errors, b"\n")
+}
+
+/// Writes a text if it holds.
+fn write_if<E: Sink>(holds: bool, text: &[u8], errors: &mut E) -> Result<(), DeviceFault>
+    ensures { Writes (E.state errors.old) (E.state errors.new) (text_if holds text.now) result }
+{
+    if holds {
+        return write_all(errors, text);
+    }
+    write_all(errors, b"")
 }
 
 /// Writes how many tables lack results that evidence doesn't show.
@@ -172,10 +199,11 @@ fn write_unshown<E: Sink>(tables: u64, errors: &mut E) -> Result<(), DeviceFault
 fn write_tables<E: Sink>(tables: u64, errors: &mut E) -> Result<(), DeviceFault>
     ensures { Writes (E.state errors.old) (E.state errors.new) (counted_tables tables) result }
 {
-    if tables == 1 {
-        return write_all(errors, b"ddfarm: note: 1 table is incomplete: ");
-    }
     write_all(errors, b"ddfarm: note: ")?;
-    write_number(errors, tables)?;
-    write_all(errors, b" tables are incomplete: ")
+    write_counted(
+        tables,
+        b"1 table is incomplete: ",
+        b" tables are incomplete: ",
+        errors,
+    )
 }

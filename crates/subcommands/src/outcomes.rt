@@ -1,11 +1,11 @@
 //! What came of a run that was done.
 
 ghost use Rattle.std.specs.Prelude.{◌≡◌};
-ghost use Rattle.subcommands.specs.Outcomes.{quiet, quiet_answer};
+ghost use Rattle.subcommands.specs.Outcomes.{done_answer, quiet, quiet_answer};
 
 use crate::faults::RunFault;
 use crate::notes::Notes;
-use crate::statuses::Status;
+use answer_subcommands::{AnswerFault, Status};
 use evidence::Damage;
 use evidence_solvers::KeepFault;
 use streams::InputFault;
@@ -41,11 +41,21 @@ impl Outcome {
 }
 
 /// What came of a run of which nothing is said, that passes nothing over and has nothing to keep.
-pub(crate) fn quietly(answer: Result<Status, RunFault>) -> Result<Outcome, RunFault>
+pub(crate) fn quietly(answer: Result<Status, AnswerFault>) -> Result<Outcome, RunFault>
     ensures { result ≡ quiet_answer answer }
 {
     match answer {
         Ok(status) => Ok(Outcome::quiet(status)),
-        Err(fault) => Err(fault),
+        Err(fault) => Err(RunFault::from(fault)),
+    }
+}
+
+/// The same of a run that answers no more than that all is done.
+pub(crate) fn done_quietly(answer: Result<(), AnswerFault>) -> Result<Outcome, RunFault>
+    ensures { result ≡ done_answer answer }
+{
+    match answer {
+        Ok(()) => Ok(Outcome::quiet(Status::Done)),
+        Err(fault) => Err(RunFault::from(fault)),
     }
 }

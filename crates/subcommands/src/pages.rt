@@ -2,6 +2,7 @@
 
 ghost use Rattle.std.specs.Prelude.{◌≡◌};
 ghost use Rattle.farm.specs.Runs.{IsRun};
+ghost use Rattle.streams.specs.RunStreams.{devices};
 ghost use Rattle.subcommands.specs.Pages.{IsOutcomeOf, WritesTables, page_fact};
 ghost use Rattle.tournaments.specs.Making.{MakesPage};
 
@@ -12,11 +13,10 @@ use crate::reports::{count_refusals, page_status, searched_notes};
 use crate::searches::{Counted, Tally};
 use asked::TableOptions;
 use cards::{Sink, Source};
+use certificate_graph::Solver;
 use evidence::Damage;
 use farm::{Clock, Means};
-use lease_book::Book;
-use lease_desk::Gate;
-use partition_solver::Solver;
+use lease_book::{Book, Gate};
 use std::alloc::Global;
 use std::sync::Wait;
 use std::thread::Threads;
@@ -50,8 +50,8 @@ fn make_page<
     output: &mut O,
 ) -> Result<(Report, Book), MakeFault>
     ensures { MakesPage (IsRun (C.may_tell means.now.clock.now)) (page_fact options.entry.whole)
-        options.entry.settings.term options.entry.settings.tries (I.state input.old) (I.state input.new)
-        (O.state output.old) (O.state output.new) result }
+        options.entry.settings.term options.entry.settings.tries (devices (I.state input.old) (O.state output.old))
+        (devices (I.state input.new) (O.state output.new)) result }
 {
     if options.whole {
         make_whole(rt, alloc, input, output, options.settings, means)
@@ -76,8 +76,8 @@ pub(crate) fn write_page<
     input: &mut I,
     output: &mut O,
 ) -> Result<Outcome, RunFault>
-    ensures { WritesTables (C.may_tell means.now.clock.now) options.entry (I.state input.old) (I.state input.new)
-        (O.state output.old) (O.state output.new) result }
+    ensures { WritesTables (C.may_tell means.now.clock.now) options.entry
+        (devices (I.state input.old) (O.state output.old)) (devices (I.state input.new) (O.state output.new)) result }
 {
     let tally = Tally::new();
     let solver = &Counted {

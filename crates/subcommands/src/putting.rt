@@ -9,8 +9,8 @@ ghost use Rattle.subcommands.specs.Pages.{PutsPage, page_fact};
 ghost use Rattle.tournaments.specs.declared.faults.MakeFault.TheVariants as faults;
 
 use cards::{DeviceFault, Sink};
-use lease_book::Book;
-use tables::{Report, write_tables};
+use lease_book::{Book, write_tables};
+use tables::Report;
 use tournaments::{MakeFault, tables_are_read, whole_pages_are_read};
 use whole_texts::{one_is_written, write_whole};
 

@@ -5,7 +5,7 @@ ghost use Rattle.subcommands.specs.Reports.{deal_count, lacking_tables, notes_wi
 ghost use Rattle.subcommands.specs.Reports.{is_refused_reply, searched_notes, unshown_notes};
 
 use crate::notes::{Lacking, Notes, Searches};
-use crate::statuses::Status;
+use answer_subcommands::Status;
 use lease_book::{Book, Event, Reply};
 use pbn_deals::Board;
 use tables::Report;

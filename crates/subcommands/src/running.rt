@@ -2,32 +2,30 @@
 
 ghost use Rattle.std.specs.Prelude.{◌≡◌, None, option_map};
 ghost use Rattle.streams.specs.Flushes.{inner_contents};
-ghost use Rattle.subcommands.specs.declared.statuses.Status.TheVariants.{Failed};
+ghost use Rattle.streams.specs.RunStreams.{devices_of};
+ghost use Rattle.answer_subcommands.specs.declared.statuses.Status.TheVariants.{Failed};
 ghost use Rattle.subcommands.specs.Outcomes.{shelf_fault};
 ghost use Rattle.subcommands.specs.Explanations.{told_text};
 ghost use Rattle.subcommands.specs.Statuses.{IsTold};
-ghost use Rattle.subcommands.specs.Runs.{Closes, Ends, EndsRead, EvaluatesLayout, IsOfAnswer, IsOfLayout, JudgesInput};
-ghost use Rattle.subcommands.specs.Runs.{RunsSubcommand, Shows, file_of};
+ghost use Rattle.subcommands.specs.Runs.{Closes, Ends, EndsRead, RunsSubcommand, Shows, file_of};
 
 use crate::auditing::audit_file;
-use crate::checks::check_answer;
 use crate::damage_lines::tell_damage;
 use crate::faults::{RunFault, tell, tell_of_file};
-use crate::kept_tables::write_tables;
-use crate::lines::follow_answer;
-use crate::named_files::{FileFault, NamedFiles};
+use crate::kept_files::KeptFiles;
+use crate::kept_tables::keep_tables;
 use crate::notes::tell_notes;
-use crate::outcomes::{Outcome, quietly};
-use crate::plain::plain_line;
-use crate::playing::play_answer;
-use crate::solves::solve_layout;
-use crate::statuses::Status;
+use crate::outcomes::{Outcome, done_quietly, quietly};
+use answer_subcommands::{
+    FileFault, NamedFiles, Status, check_answer, follow_answer, plain_line, play_answer,
+    solve_layout,
+};
 use asked::Subcommand;
 use cards::{Sink, Source, write_all};
+use certificate_graph::Solver;
 use evidence_solvers::KeepFault;
 use farm::{Clock, Means};
-use lease_desk::Gate;
-use partition_solver::Solver;
+use lease_book::Gate;
 use std::alloc::Global;
 use std::io::{BufWriter, Write};
 use std::sync::Wait;
@@ -47,7 +45,7 @@ pub fn run_subcommand<
     I: Source,
     O: Sink,
     E: Sink,
-    R: Threads + Wait + Sync + NamedFiles,
+    R: Threads + Wait + Sync + NamedFiles + KeptFiles,
 >(
     rt: &R,
     alloc: Global,
@@ -55,22 +53,39 @@ pub fn run_subcommand<
     means: &Means<'_, P, G, C>,
     streams: &mut Streams<I, O, E>,
 ) -> Status
-    ensures { RunsSubcommand (P.may_find means.now.solver.now) (C.may_tell means.now.clock.now) (R.may_open rt.now)
-        asked.entry
-        (I.state streams.old.input) (I.state streams.new.input) (O.state streams.old.output)
-        (O.state streams.new.output)
-        (E.state streams.old.errors) (E.state streams.new.errors) result }
+    ensures { RunsSubcommand (P.may_find means.now.solver.now) (C.may_tell means.now.clock.now)
+        (record { to_read = R.may_open rt.now; to_keep = R.may_keep rt.now }) asked.entry
+        (devices_of I.state O.state E.state streams.old)
+        (devices_of I.state O.state E.state streams.new) result }
 {
     let input = &mut streams.input;
     let output = &mut streams.output;
     let answer = match asked {
-        Subcommand::Plain { .. } | Subcommand::Solve { .. } => {
-            evaluate_layout(alloc, asked, means.solver, output)
+        Subcommand::Plain {
+            layout,
+            leader,
+            trump,
+        } => done_quietly(plain_line(layout.as_bytes(), leader, trump, output)),
+        Subcommand::Solve {
+            layout,
+            declarer,
+            trump,
+            budget,
+        } => {
+            let (value, solver) = (layout.as_bytes(), means.solver);
+            done_quietly(solve_layout(alloc, value, declarer, trump, budget, solver, output))
         }
-        Subcommand::Check { .. } | Subcommand::Line { .. } => {
-            judge_input(alloc, asked, input, output)
-        }
-        Subcommand::Table(options) => write_tables(rt, alloc, options, means, input, output),
+        Subcommand::Table(options) => keep_tables(rt, alloc, options, means, input, output),
+        Subcommand::Check {
+            layout,
+            declarer,
+            trump,
+        } => quietly(check_answer(alloc, layout.as_bytes(), declarer, trump, input, output)),
+        Subcommand::Line {
+            layout,
+            declarer,
+            trump,
+        } => quietly(follow_answer(alloc, layout.as_bytes(), declarer, trump, input, output)),
         Subcommand::Play(options) => quietly(play_answer(rt, alloc, options, input, output)),
         Subcommand::Audit { file, whole } => audit_file(rt, alloc, file, whole, input, output),
     };
@@ -131,80 +146,15 @@ fn tell_unread<E: Sink>(fault: InputFault, errors: &mut E) -> Status
     }
 }
 
-/// What comes of a layout alone: its plain value, or an answer for it.
-fn evaluate_layout<P: Solver, O: Sink>(
-    alloc: Global,
-    asked: Subcommand<'_>,
-    solver: &P,
-    output: &mut O,
-) -> Result<Outcome, RunFault>
-    requires { IsOfLayout asked }
-    ensures { EvaluatesLayout (P.may_find solver.now) asked.entry (O.state output.old) (O.state output.new) result }
-{
-    match asked {
-        Subcommand::Plain {
-            layout,
-            leader,
-            trump,
-        } => {
-            plain_line(layout.as_bytes(), leader, trump, output)?;
-            Ok(Outcome::quiet(Status::Done))
-        }
-        Subcommand::Solve {
-            layout,
-            declarer,
-            trump,
-            budget,
-        } => {
-            let value = layout.as_bytes();
-            solve_layout(alloc, value, declarer, trump, budget, solver, output)?;
-            Ok(Outcome::quiet(Status::Done))
-        }
-        _ => unreachable!(),
-    }
-}
-
-/// What comes of an answer, which is the input: whether it is right, or its line of play.
-fn judge_input<I: Source, O: Sink>(
-    alloc: Global,
-    asked: Subcommand<'_>,
-    input: &mut I,
-    output: &mut O,
-) -> Result<Outcome, RunFault>
-    requires { IsOfAnswer asked }
-    ensures { JudgesInput asked.entry (I.state input.old) (I.state input.new) (O.state output.old) (O.state output.new)
-        result }
-{
-    match asked {
-        Subcommand::Check {
-            layout,
-            declarer,
-            trump,
-        } => {
-            let value = layout.as_bytes();
-            quietly(check_answer(alloc, value, declarer, trump, input, output))
-        }
-        Subcommand::Line {
-            layout,
-            declarer,
-            trump,
-        } => {
-            let value = layout.as_bytes();
-            quietly(follow_answer(alloc, value, declarer, trump, input, output))
-        }
-        _ => unreachable!(),
-    }
-}
-
 /// Writes a text that was asked for, such as help, and answers how the run ends: a write that failed is told on the
 /// error output.
-pub fn show<O: Sink, E: Sink>(text: &[u8], output: &mut O, errors: &mut E) -> Status
-    ensures { Shows (O.state output.old) (O.state output.new) (E.state errors.old)
-        (E.state errors.new) text.now result }
+pub fn show<I: Source, O: Sink, E: Sink>(text: &[u8], streams: &mut Streams<I, O, E>) -> Status
+    ensures { Shows (devices_of I.state O.state E.state streams.old) (devices_of I.state O.state E.state streams.new)
+        text.now result }
 {
-    match write_all(output, text) {
+    match write_all(&mut streams.output, text) {
         Ok(()) => Status::Done,
-        Err(_) => tell(RunFault::Write, errors),
+        Err(_) => tell(RunFault::Write, &mut streams.errors),
     }
 }
 

@@ -4,7 +4,7 @@ ghost use Rattle.std.specs.Prelude.{◌≡◌};
 
 use crate::notes::Searches;
 use cards::{Layout, Seat, Trump};
-use partition_solver::{Bundle, Solver};
+use certificate_graph::{Bundle, Solver};
 use std::alloc::{AllocError, Global};
 use std::sync::atomic::AtomicU64;
 use std::sync::atomic::Ordering::SeqCst;

@@ -1,4 +1,5 @@
-use Rattle.std.proofs.Common.{None, refl, subst}
+use Rattle.std.proofs.Common.{None, subst}
+use Rattle.streams.specs.RunStreams.{devices_of}
 use Rattle.clap.specs.declared.error.kind.ErrorKind.{ErrorKind}
 use Rattle.clap.specs.Values.{kind_of}
 use Rattle.command_line.specs.Commands.{EndsWords, is_done, is_none}
@@ -12,5 +13,5 @@ returns-in-Ok g c =
 pub returns-in-Err : goal.returns-in-Err
 returns-in-Err g c =
     let read = c.in-Err.ensures in
-    let ends = subst (λ (kind : ErrorKind). EndsWords None (g.O.Sink.state c.args.streams.now.output) (g.O.Sink.state c.tell_words.new.output) (g.E.Sink.state c.args.streams.now.errors) (g.E.Sink.state c.tell_words.new.errors) kind c.tell_words.result) c.kind-kind.ensures c.tell_words.ensures in
-    (c.tell_words.result, is_none read.0 read.1 (kind_of c.in-Err.error) read.2 refl ends, c.code-in-Err.ensures)
+    let ends = subst (λ (kind : ErrorKind). EndsWords None (devices_of g.I.Source.state g.O.Sink.state g.E.Sink.state c.args.streams.now) (devices_of g.I.Source.state g.O.Sink.state g.E.Sink.state c.tell_words.new.streams) kind c.tell_words.result) c.kind-kind.ensures c.tell_words.ensures in
+    (c.tell_words.result, is_none read.0 read.1 (kind_of c.in-Err.error) read.2 ends, c.code-in-Err.ensures)

@@ -6,8 +6,10 @@ use Rattle.arguments.proofs.command.command.Goals as goal
 
 pub returns : goal.returns
 returns c =
-    let told : app_of c.after_help.result ≡ new_app (codes "ddfarm") = ap app_of_fields c.after_help.ensures
-    ∙ (ap app_of_fields c.about.ensures ∙ (ap app_of_fields c.in_ok-bin_name.ensures.0 ∙ c.new.ensures.app)) in
+    let about : app_of c.about.result ≡ new_app (codes "ddfarm") = ap app_of_fields c.about.ensures
+    ∙ (ap app_of_fields c.in_ok-bin_name.ensures.0 ∙ c.new.ensures.app) in
+    let told = ap app_of_fields c.after_help.ensures ∙ (ap app_of_fields c.version.ensures
+    ∙ ap (on_top (λ s. record s { has_version = true })) about) in
     let named = ap app_of_fields c.subcommand_required.ensures
     ∙ ap (on_top (λ s. record s { subcommand_required = true })) told in
     let shown = ap app_of_fields c.arg_required_else_help.ensures

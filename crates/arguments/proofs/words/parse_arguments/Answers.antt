@@ -14,7 +14,7 @@ returns-in_err-matches g c =
     (c.in_err-matches.ensures.kinds (ap is_simple_and_free same ∙ simple_and_free letters)) in (
       letters,
       c.known_letters-letters.ensures,
-      refused_by letters words c.from_residual-in_err-matches.result error (search rules) (none_from letters words error kinds),
+      refused_by letters words c.args.processors c.from_residual-in_err-matches.result error (search rules) (none_from letters words c.args.processors error kinds),
     )
 
 pub returns-in-Some : goal.returns-in-Some
@@ -28,7 +28,7 @@ returns-in-Some g c =
       c.known_letters-letters.ensures,
       (
         sym (ap (λ (app : App). fault_of app words) same) ∙ taken,
-        subst (λ (o : Option (Text × List Row)). SaysMatched o c.in-Some.asked)
+        subst (λ (o : Option (Text × List Row)). SaysMatched o c.args.processors c.in-Some.asked)
             (matched ∙ ap (λ (app : App). subcommand_of app words) same) c.in-Some.ensures,
       ),
     )
@@ -43,7 +43,7 @@ returns g c =
     ∙ ap (λ (app : App). subcommand_of app words) same in (
       letters,
       c.known_letters-letters.ensures,
-      none_without letters words c.in_ok-no_subcommand-in-None.field-0 (sym (ap (λ (app : App). fault_of app words) same) ∙ taken)
-          (λ asked said. c.in-None.ensures asked (subst (λ (o : Option (Text × List Row)). SaysMatched o asked) (sym matched) said))
+      none_without letters words c.args.processors c.in_ok-no_subcommand-in-None.field-0 (sym (ap (λ (app : App). fault_of app words) same) ∙ taken)
+          (λ asked said. c.in-None.ensures asked (subst (λ (o : Option (Text × List Row)). SaysMatched o c.args.processors asked) (sym matched) said))
           c.in_ok-no_subcommand-in-None.ensures,
     )

@@ -1,11 +1,10 @@
 use Rattle.std.proofs.Common.{rules}
-use Rattle.clap.specs.Words.{found_of, rows_of}
-use Rattle.matched_words.proofs.SaysLemmas.{nothing_read, no_play}
+use Rattle.matched_words.proofs.SaysLemmas.{nothing_read}
 use Rattle.matched_words.proofs.matched.play_subcommand.Goals as goal
 
 pub returns-in_err-deal : goal.returns-in_err-deal
-returns-in_err-deal c = nothing_read _ _ c.from_residual.ensures (no_play (rows_of (found_of c.args.said.now))
-    (λ options said. c.in_err-deal.ensures (record { layout = options.layout; seat = options.declarer; trump = options.trump }) said.0))
+returns-in_err-deal c = λ processors. nothing_read _ _ c.from_residual.ensures (λ read said.
+    c.in_err-deal.ensures (record { layout = said.0.layout; seat = said.0.declarer; trump = said.0.trump }) said.2.0)
 
 pub returns-in_err-answer : goal.returns-in_err-answer
 returns-in_err-answer c = search rules

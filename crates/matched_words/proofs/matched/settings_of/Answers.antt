@@ -1,7 +1,7 @@
 use Rattle.std.proofs.Common.{sym, subst}
 use Rattle.asked.specs.Settings.{OfEach}
 use Rattle.clap.specs.Words.{found_of, rows_of}
-use Rattle.matched_words.specs.Matches.{SaysNumber}
+use Rattle.matched_words.specs.Matches.{SaysBy}
 use Rattle.matched_words.proofs.SaysLemmas.{nothing_read, set_to}
 use Rattle.matched_words.proofs.matched.settings_of.Goals as goal
 
@@ -31,7 +31,7 @@ returns c =
     let tries = set_to _ (λ n. record n { tries = c.in_ok-tries.tries }) _ _ _ _ _ _ c.with_tries.ensures c.ok-3.ensures.value c.in_ok-settings-3.was checkers in
     let budget = set_to _ (λ n. record n { budget = c.in_ok-budget.budget }) _ _ _ _ _ _ c.with_budget.ensures c.ok-4.ensures.value c.in_ok-settings-4.was tries in
     let batch = set_to _ (λ n. record n { batch = c.in_ok-batch.batch }) _ _ _ _ _ _ c.with_batch.ensures c.ok-5.ensures.value c.in_ok-settings-5.was budget in
-    subst (λ n. OfEach (SaysNumber (rows_of (found_of c.args.said.now))) n) (sym batch) (record {
+    subst (λ n. OfEach (λ option number. SaysBy option.is_by_machine (rows_of (found_of c.args.said.now)) c.args.processors option number) n) (sym batch) (record {
       solvers = c.in_ok-solvers.ensures;
       checkers = c.in_ok-checkers.ensures;
       term = c.in_ok-term.ensures;

@@ -1,4 +1,5 @@
 use Rattle.std.proofs.Common.{inr, subst, Err}
+use Rattle.streams.specs.RunStreams.{devices}
 use Rattle.evidence.specs.Wholes.{Whole}
 use Rattle.audits.specs.Audits.{AuditsTables}
 use Rattle.subcommands.specs.Pages.{page_fact}
@@ -17,7 +18,7 @@ returns g c =
         none_failed = c.in-Ok.ensures.none_failed;
         left = c.audit_page.new.evidence;
         audits =
-            subst (λ (evidence : Whole). AuditsTables (page_fact c.args.whole) (g.I.Source.state c.args.input.now) source' evidence c.audit_page.new.evidence (g.O.Sink.state c.args.output.now) sink' (Err c.in-Err-audit_page.fault))
+            subst (λ (evidence : Whole). AuditsTables (page_fact c.args.whole) (devices (g.I.Source.state c.args.input.now) (g.O.Sink.state c.args.output.now)) (devices source' sink') evidence c.audit_page.new.evidence (Err c.in-Err-audit_page.fault))
             c.new-evidence.ensures c.in-Err-audit_page.ensures;
       },
     )

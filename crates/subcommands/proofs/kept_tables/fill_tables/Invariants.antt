@@ -3,4 +3,4 @@ use Rattle.evidence_solvers.specs.Tails.{tail_contents}
 use Rattle.subcommands.proofs.kept_tables.fill_tables.Given as goal
 
 abbrev pub ghosts-write_beside : goal.ghosts-write_beside
-ghosts-write_beside g a = record { told = tail_contents g.R.Kept.Write.contents a.opened.tail }
+ghosts-write_beside g a = record { held = tail_contents g.R.Kept.Write.contents a.opened.tail }

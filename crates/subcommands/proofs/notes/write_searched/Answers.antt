@@ -11,5 +11,5 @@ returns-in_err-write_counts g c =
 
 pub returns : goal.returns
 returns g c =
-    Writes-then c.write_all.result _ _ c.in_ok-write_tables.ensures
-    (Writes-then c.write_all.result _ _ c.in_ok-write_counts.ensures c.write_all.ensures)
+    Writes-then c.write_advice.result _ _ c.in_ok-write_tables.ensures
+    (Writes-then c.write_advice.result _ _ c.in_ok-write_counts.ensures c.write_advice.ensures)

@@ -4,12 +4,12 @@ use Rattle.subcommands.proofs.notes.write_undealt.Goals as goal
 pub returns-in_err-write_all : goal.returns-in_err-write_all
 returns-in_err-write_all g c = Writes-err c.from_residual.result _ c.from_residual.ensures.1 (AddsBeginning-stop _ c.in_err-write_all.ensures)
 
-pub returns-in_err-write_boards : goal.returns-in_err-write_boards
-returns-in_err-write_boards g c =
-    Writes-err c.from_residual-in_err-write_boards.result _ c.from_residual-in_err-write_boards.ensures.1
-    (AddsBeginning-then c.in_ok-write_all.ensures (AddsBeginning-stop _ c.in_err-write_boards.ensures))
+pub returns-in_err-write_counted : goal.returns-in_err-write_counted
+returns-in_err-write_counted g c =
+    Writes-err c.from_residual-in_err-write_counted.result _ c.from_residual-in_err-write_counted.ensures.1
+    (AddsBeginning-then c.in_ok-write_all.ensures (AddsBeginning-stop _ c.in_err-write_counted.ensures))
 
 pub returns : goal.returns
 returns g c =
     Writes-then c.write_all-2.result _ _ c.in_ok-write_all.ensures
-    (Writes-then c.write_all-2.result _ _ c.in_ok-write_boards.ensures c.write_all-2.ensures)
+    (Writes-then c.write_all-2.result _ _ c.in_ok-write_counted.ensures c.write_all-2.ensures)

@@ -1,5 +1,5 @@
 -- One page is written of the text, and it is read as the law says, since its history is true over the text's boards.
-use Rattle.tables.specs.BookResults.{book_results}
+use Rattle.lease_book.specs.BookResults.{book_results}
 use Rattle.subcommands.proofs.putting.put_whole.Goals as goal
 
 pub write_whole-requires : goal.write_whole-requires

@@ -1,0 +1,4 @@
+pub mod AnswerLaws
+pub mod CheckLemmas
+pub mod LineLemmas
+pub mod SolveLemmas

@@ -1,0 +1,11 @@
+pub mod Statuses
+pub mod NamedFiles
+pub mod Faults
+pub mod PlainLine
+pub mod Answers
+pub mod VerdictLines
+pub mod Checks
+pub mod Judging
+pub mod Lines
+pub mod Playing
+pub mod Solves

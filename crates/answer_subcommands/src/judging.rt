@@ -1,0 +1,36 @@
+//! The verdict on the text of an answer.
+
+ghost use Rattle.answer_subcommands.specs.Judging.{JudgesAnswer};
+
+use crate::answers::read_answer;
+use crate::faults::AnswerFault;
+use cards::{Layout, OutOfMemory, Seat, Trump};
+use checker::{Accepted, HandFault, Texts, judge_graphs};
+use std::alloc::Global;
+
+/// Checks the text of an answer, whose graphs are handed out if it is accepted.
+pub(crate) fn judge_answer(
+    alloc: Global,
+    text: &[u8],
+    layout: &Layout,
+    declarer: Seat,
+    trump: Trump,
+) -> Result<Result<Accepted, HandFault>, AnswerFault>
+    ensures { JudgesAnswer text.now layout.now declarer trump result }
+{
+    let Some((tricks, declarers, defenders)) = read_answer(text) else {
+        return Err(AnswerFault::NoResult);
+    };
+    let texts = Texts {
+        declarers,
+        defenders,
+    };
+    match judge_graphs(alloc, layout, declarer, trump, tricks, texts) {
+        Ok(Ok(accepted)) => {
+            accepted.proven.invariant();
+            Ok(Ok(accepted))
+        }
+        Ok(Err(fault)) => Ok(Err(fault)),
+        Err(OutOfMemory) => Err(AnswerFault::OutOfMemory),
+    }
+}

@@ -1,0 +1,26 @@
+//! What a run does with one layout: its plain value, an answer, and what comes of an answer.
+//!
+//! Nothing here starts a thread or knows of a book.
+#![tactic(auto)]
+
+mod answers;
+mod checks;
+mod faults;
+mod judging;
+mod lines;
+mod named_files;
+mod plain;
+mod playing;
+mod solves;
+mod statuses;
+mod verdict_lines;
+
+pub use answers::{read_answer, text_is_one_answer};
+pub use checks::check_answer;
+pub use faults::AnswerFault;
+pub use lines::follow_answer;
+pub use named_files::{FileFault, NamedFiles};
+pub use plain::plain_line;
+pub use playing::play_answer;
+pub use solves::{answers_are_read_back, solve_layout};
+pub use statuses::Status;

@@ -1,0 +1,120 @@
+//! The line of play of an answer.
+
+ghost use Rattle.std.specs.Prelude.{◌++◌, Ok, Err};
+ghost use Rattle.cards.specs.Devices.{Writes};
+ghost use Rattle.certificate_play.specs.Sides.{AreBegun};
+ghost use Rattle.checker.specs.Judging.{IsAccepted};
+ghost use Rattle.play_dialogues.specs.PlayText.{play_text};
+ghost use Rattle.streams.specs.RunStreams.{devices};
+ghost use Rattle.answer_subcommands.specs.Checks.{AnswersText, Prints};
+ghost use Rattle.answer_subcommands.specs.Lines.{FollowsAnswer, IsLineOf, IsLineText};
+ghost use Rattle.answer_subcommands.specs.VerdictLines.{verdict_line};
+
+use crate::faults::{AnswerFault, write_failed};
+use crate::judging::judge_answer;
+use crate::statuses::Status;
+use crate::verdict_lines::write_verdict;
+use arrayvec::ArrayVec;
+use cards::{Card, DeviceFault, Layout, Seat, Sink, Source, Trump};
+use certificate_play::{Playing, Sides, line};
+use checker::{Accepted, HandFault, Proven};
+use pbn_deals::read_layout;
+use play_dialogues::write_play;
+use std::alloc::Global;
+use streams::read_all;
+
+/// Reads an answer to its end, checks it as [`check_answer`](crate::check_answer) does, and writes the verdict; behind
+/// one that accepts, a line of play in which each side has just the tricks that were shown for it.
+///
+/// Refuses bytes that spell no layout before anything is read, and a text whose first line is not a result line.
+/// Nothing was written after any fault but a failed output, and after that one a beginning of the text.
+pub fn follow_answer<I: Source, O: Sink>(
+    alloc: Global,
+    value: &[u8],
+    declarer: Seat,
+    trump: Trump,
+    input: &mut I,
+    output: &mut O,
+) -> Result<Status, AnswerFault>
+    ensures { FollowsAnswer value.now declarer trump (devices (I.state input.old) (O.state output.old))
+        (devices (I.state input.new) (O.state output.new)) result }
+{
+    let layout = read_layout(value).map_err(AnswerFault::Layout)?;
+    let text = read_all(alloc, input)?;
+    follow_text(alloc, text.as_slice(), &layout, declarer, trump, output)
+}
+
+/// The same of the text of an answer.
+fn follow_text<O: Sink>(
+    alloc: Global,
+    text: &[u8],
+    layout: &Layout,
+    declarer: Seat,
+    trump: Trump,
+    output: &mut O,
+) -> Result<Status, AnswerFault>
+    ensures { AnswersText IsLineText text.now layout.now declarer trump (O.state output.old) (O.state output.new)
+        result }
+{
+    match judge_answer(alloc, text, layout, declarer, trump)? {
+        Ok(accepted) => follow(&accepted, output),
+        Err(fault) => refuse(fault, output),
+    }
+}
+
+/// Writes that an answer is refused, and why.
+fn refuse<O: Sink>(fault: HandFault, output: &mut O) -> Result<Status, AnswerFault>
+    ensures { Prints IsLineText (Err fault) (O.state output.old) (O.state output.new) result }
+{
+    match write_verdict(Err(fault), output) {
+        Ok(()) => Ok(Status::Rejected),
+        Err(fault) => Err(write_failed(fault)),
+    }
+}
+
+/// Writes that an answer is accepted, and its line of play.
+fn follow<O: Sink>(accepted: &Accepted, output: &mut O) -> Result<Status, AnswerFault>
+    requires { IsAccepted accepted.now }
+    ensures { Prints IsLineText (Ok accepted.now.proven) (O.state output.old) (O.state output.new) result }
+{
+    let sides = begin(accepted);
+    let cards = line_of(&accepted.proven, sides);
+    match write_line(&accepted.proven, cards.as_slice(), output) {
+        Ok(()) => Ok(Status::Done),
+        Err(fault) => Err(write_failed(fault)),
+    }
+}
+
+/// Both sides before the opening lead.
+pub(crate) fn begin(accepted: &Accepted) -> Sides<'_>
+    requires { IsAccepted accepted.now }
+    ensures { AreBegun accepted.now.proven.layout accepted.now.proven.declarer accepted.now.proven.trump
+        accepted.now.proven.k result }
+{
+    let shown = accepted.proven.shown();
+    let leader = shown.declarer.next();
+    let others = shown.layout.len() as u8 - shown.k;
+    Sides {
+        declarers: Playing::begin(&accepted.declarers, shown.layout, leader, shown.k),
+        defenders: Playing::begin(&accepted.defenders, shown.layout, leader, others),
+    }
+}
+
+/// The cards of a play in which each side has just the tricks that were shown for it.
+fn line_of(proven: &Proven, sides: Sides<'_>) -> ArrayVec<Card, 52>
+    requires { AreBegun proven.now.layout proven.now.declarer proven.now.trump proven.now.k sides }
+    ensures { IsLineOf proven.now result.items }
+{
+    proven.invariant();
+    line(sides.declarers, sides.defenders)
+}
+
+/// Writes the verdict and the tricks of the line.
+fn write_line<O: Sink>(proven: &Proven, cards: &[Card], output: &mut O) -> Result<(), DeviceFault>
+    ensures { Writes (O.state output.old) (O.state output.new)
+        (verdict_line (Ok proven.now) ++ play_text proven.now.declarer proven.now.trump cards.now) result }
+{
+    let shown = proven.shown();
+    write_verdict(Ok(*proven), output)?;
+    write_play(shown.declarer, shown.trump, cards, output)
+}

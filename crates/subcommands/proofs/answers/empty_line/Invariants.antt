@@ -1,6 +1,0 @@
-use Rattle.std.proofs.Common.{ℕ, ◌<◌}
-use Rattle.subcommands.specs.Answers.{IsEmptyLine}
-use Rattle.subcommands.proofs.answers.empty_line.Given as goal
-
-abbrev pub invariant-loop-place : goal.invariant-loop-place
-invariant-loop-place l = (before : ℕ) → before < l.place → IsEmptyLine l.text before → ⊥

@@ -1,5 +1,0 @@
-use Rattle.subcommands.proofs.SolveLemmas.{are_read_back}
-use Rattle.subcommands.proofs.solves.answers_are_read_back.Goals as goal
-
-pub returns : goal.returns
-returns c = are_read_back
