@@ -4,8 +4,9 @@
 use crate::expect::{expect_bytes, expect_eq};
 use arrayvec::ArrayVec;
 use cards::{Buffer, Bytes, Layout, Seat, Side, Trump};
+use certificate_graph::{Bundle, Claim, Solver};
 use lease_book::{Entry, GraphText, Request};
-use partition_solver::{Bundle, Claim, Partition, Solver};
+use partition_solver::Partition;
 use std::alloc::{AllocError, Global};
 use std::process::Abort;
 use std::test::Fail;

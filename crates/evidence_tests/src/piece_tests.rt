@@ -1,6 +1,7 @@
 //! Whole texts, with damage in them.
 
-use crate::texts::{LENGTH, section};
+use crate::expect::expect_eq;
+use crate::finesse::{LENGTH, section};
 use cards::Bytes;
 use evidence::{Part, Sections};
 use std::alloc::Global;
@@ -31,7 +32,7 @@ fn said(alloc: Global, text: &[u8], greatest_piece: usize) -> Result<String, Fai
 fn expect_said(rt: &impl Abort, alloc: Global, text: &str, wanted: &str) -> Result<(), Fail> {
     for greatest_piece in [1usize, 5, 6, 7, 8, 300, 1_000_000] {
         let got = said(alloc, text.as_bytes(), greatest_piece)?;
-        assert_eq!(rt; got.as_str(), wanted);
+        expect_eq(rt, &got.as_str(), &wanted);
     }
     Ok(())
 }
@@ -116,7 +117,7 @@ fn failing_source(rt: HostRuntime) -> Result<(), Fail> {
         // the second section is read by the call that finds its end
         let wanted = if calls * 10 < LENGTH + 6 { 0 } else { 1 };
         let all = 2 * LENGTH / 10 + 1;
-        assert_eq!(rt; found, if calls > all { 2 } else { wanted });
+        expect_eq(&rt, &found, &if calls > all { 2 } else { wanted });
     }
     let mut sections = Sections::new(alloc, Bytes::failing_after(b"x", 1, 0));
     assert!(rt; matches!(sections.next(alloc), Err(InputFault::Read)));

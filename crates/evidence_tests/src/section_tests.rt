@@ -1,11 +1,13 @@
 //! A section, and texts that are none by one byte.
 
-use crate::texts::{CLAIMS, DEAL, EW, NS, graphs, section, text_of};
+use crate::expect::expect_eq;
+use crate::finesse::{CLAIMS, DEAL, NS, graphs, section, text_of};
 use cards::{Suit, Trump};
 use evidence::{Section, bundle_bytes, read_section, section_bytes, write_section};
 use std::alloc::Global;
 use std::process::Abort;
 use std::test::Fail;
+use test_support::graphs::NOTHING;
 
 /// How many claims the section has whose text it is; nothing where it is the text of none. A section is written again
 /// as the same bytes, and so are its parts.
@@ -14,10 +16,14 @@ fn claims_in(rt: &impl Abort, alloc: Global, text: &str) -> Result<Option<usize>
         return Ok(None);
     };
     let bytes = section_bytes(alloc, &section)?;
-    assert_eq!(rt; bytes.as_slice(), text.as_bytes());
+    expect_eq(rt, &bytes.as_slice(), &text.as_bytes());
     let (layout, trump) = (*section.layout(), section.trump());
     let bundle = section.into_bundle();
-    assert_eq!(rt; bundle_bytes(alloc, &layout, trump, &bundle)?, Some(bytes));
+    expect_eq(
+        rt,
+        &bundle_bytes(alloc, &layout, trump, &bundle)?,
+        &Some(bytes),
+    );
     Ok(Some(bundle.claims.len()))
 }
 
@@ -53,7 +59,7 @@ fn claims(rt: HostRuntime) -> Result<(), Fail> {
         ("", None),
     ] {
         let text = text_of(rt.alloc(), DEAL, "NT", claims, graphs.as_str())?;
-        assert_eq!(rt; claims_in(&rt, rt.alloc(), text.as_str())?, count);
+        expect_eq(&rt, &claims_in(&rt, rt.alloc(), text.as_str())?, &count);
     }
     Ok(())
 }
@@ -81,7 +87,7 @@ fn deals_and_denominations(rt: HostRuntime) -> Result<(), Fail> {
         (DEAL, "", None),
     ] {
         let text = text_of(rt.alloc(), deal, trump, CLAIMS, graphs.as_str())?;
-        assert_eq!(rt; claims_in(&rt, rt.alloc(), text.as_str())?, count);
+        expect_eq(&rt, &claims_in(&rt, rt.alloc(), text.as_str())?, &count);
     }
     Ok(())
 }
@@ -90,18 +96,18 @@ fn deals_and_denominations(rt: HostRuntime) -> Result<(), Fail> {
 fn both_graphs(rt: HostRuntime) -> Result<(), Fail> {
     let alloc = rt.alloc();
     for (graphs, count) in [
-        (format!(in alloc; "{NS}\n{EW}")?, Some(1)),
-        (format!(in alloc; "{EW}\n{NS}")?, None),
+        (format!(in alloc; "{NS}\n{NOTHING}")?, Some(1)),
+        (format!(in alloc; "{NOTHING}\n{NS}")?, None),
         (format!(in alloc; "{NS}\n{NS}")?, None),
-        (format!(in alloc; "{NS}{EW}")?, None),
-        (format!(in alloc; "{NS}\n\n{EW}")?, None),
-        (format!(in alloc; "{NS}\n{EW}\n")?, None),
-        (format!(in alloc; "\n{NS}\n{EW}")?, None),
+        (format!(in alloc; "{NS}{NOTHING}")?, None),
+        (format!(in alloc; "{NS}\n\n{NOTHING}")?, None),
+        (format!(in alloc; "{NS}\n{NOTHING}\n")?, None),
+        (format!(in alloc; "\n{NS}\n{NOTHING}")?, None),
         (format!(in alloc; "{NS}\n")?, None),
         (format!(in alloc; "{NS}")?, None),
     ] {
         let text = text_of(alloc, DEAL, "NT", CLAIMS, graphs.as_str())?;
-        assert_eq!(rt; claims_in(&rt, alloc, text.as_str())?, count);
+        expect_eq(&rt, &claims_in(&rt, alloc, text.as_str())?, &count);
     }
     Ok(())
 }
@@ -137,7 +143,7 @@ fn answers(rt: HostRuntime) -> Result<(), Fail> {
     let Some(bytes) = bundle_bytes(alloc, &layout, Trump::Nt, &bundle)? else {
         return Err(Fail::new("its parts are a section"));
     };
-    assert_eq!(rt; bytes.as_slice(), text.as_bytes());
+    expect_eq(&rt, &bytes.as_slice(), &text.as_bytes());
     assert!(rt; bundle_bytes(alloc, &layout, Trump::Suit(Suit::Spades), &bundle)?.is_none());
     bundle.claims.clear();
     assert!(rt; bundle_bytes(alloc, &layout, Trump::Nt, &bundle)?.is_none());
@@ -156,10 +162,11 @@ fn says(rt: &impl Abort, alloc: Global, section: &Section) -> Result<(), Fail> {
     )?;
     let wanted =
         "NT 2 [Claim { declarer: East, k: 0, declarer_root: None, defenders_root: Some(0) }]";
-    assert_eq!(rt; printed.as_str(), wanted);
-    assert_eq!(rt;
-        (section.ns().nodes().len(), section.ew().nodes().len()),
-        (2, 0)
+    expect_eq(rt, &printed.as_str(), &wanted);
+    expect_eq(
+        rt,
+        &(section.ns().nodes().len(), section.ew().nodes().len()),
+        &(2, 0),
     );
     Ok(())
 }

@@ -4,8 +4,7 @@ use crate::dividing::{CountsCalls, LetsOthersOn};
 use crate::expect::expect_eq;
 use crate::gates::{TellsAll, Told};
 use crate::remembers::{Call, Remembers, declarers_of, trumps_of};
-use crate::solvers::ACE;
-use crate::tables::{ONE_SUIT_EACH, TURNED, TableTally, boards_of, one_board, tally_of};
+use crate::tables::{TURNED, TableTally, boards_of, one_board, tally_of};
 use cards::{Seat, Trump};
 use farm::{Means, Settings, run_farm};
 use lease_book::{Book, Reply};
@@ -17,6 +16,7 @@ use std::sync::Wait;
 use std::sync::atomic::Ordering::SeqCst;
 use std::test::Fail;
 use std::thread::Threads;
+use test_support::deals::{ACE, FOUR_SUITS};
 use test_support::idle::{LetsPass, StandsStill};
 use test_support::settings::once;
 
@@ -97,7 +97,7 @@ fn expect_groups<R: Threads + Wait + Abort + Sync>(
 ) -> Result<(), Fail> {
     let (solver, gate) = (Remembers::new(rt, alloc), TellsAll::new());
     let settings = once(1, 1, BUDGET, row.batch)?;
-    let boards = one_board(alloc, ONE_SUIT_EACH)?;
+    let boards = one_board(alloc, FOUR_SUITS)?;
     let means = Means {
         solver: &solver,
         gate: &gate,
@@ -153,7 +153,7 @@ fn said_one_by_one(alloc: Global, book: &Book, budget: u64) -> Result<Vec<Call>,
 fn said_board_by_board(alloc: Global, budget: u64) -> Result<Vec<Call>, Fail> {
     let mut said = Vec::new(alloc);
     for deal in [ACE, TURNED] {
-        let layout = read_layout(deal)?;
+        let layout = read_layout(deal.as_bytes())?;
         for trump in Trump::ALL {
             said.push(Call {
                 layout,
@@ -242,11 +242,11 @@ fn late_answers_are_published(rt: HostRuntime) -> Result<(), Fail> {
 }
 
 /// Four deals of one card each.
-const ROUND: [&[u8]; 4] = [
+const ROUND: [&str; 4] = [
     ACE,
     TURNED,
-    b"N:Q... J... A... K...",
-    b"N:K... Q... J... A...",
+    "N:Q... J... A... K...",
+    "N:K... Q... J... A...",
 ];
 
 /// Solvers that lease at once. The declarers of a denomination are asked for together, so that what was kept of them

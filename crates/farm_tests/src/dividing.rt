@@ -1,8 +1,8 @@
 //! What shows whether the entries of a denomination are divided between solvers.
 
 use cards::{Layout, Seat, Trump};
-use lease_desk::Clock;
-use partition_solver::{Bundle, Solver};
+use certificate_graph::{Bundle, Solver};
+use lease_book::Clock;
 use std::alloc::{AllocError, Global};
 use std::sync::atomic::AtomicU64;
 use std::sync::atomic::Ordering::SeqCst;

@@ -3,15 +3,16 @@
 
 use crate::expect::expect_eq;
 use crate::flawed::{Change, FindsSome, Flawed, Graphs};
-use crate::solvers::ACE;
 use crate::tables::{leases_given_up, one_board, tally_of};
+use certificate_graph::Solver;
 use farm::{Means, run_farm};
 use lease_book::Book;
-use partition_solver::{Partition, Solver};
+use partition_solver::Partition;
 use std::alloc::Global;
 use std::sync::Wait;
 use std::test::Fail;
 use std::thread::Threads;
+use test_support::deals::ACE;
 use test_support::idle::{LetsPass, StandsStill};
 use test_support::settings::once;
 

@@ -2,7 +2,8 @@
 
 use arrayvec::ArrayVec;
 use cards::{Layout, Seat, Suit, Trump};
-use partition_solver::{Bundle, Claim, Partition, Solver};
+use certificate_graph::{Bundle, Claim, Solver};
+use partition_solver::Partition;
 use std::alloc::{AllocError, Global};
 
 /// What is done to the graphs of an answer.

@@ -3,10 +3,11 @@
 use crate::expect::expect_eq;
 use crate::gates::Hears;
 use crate::sharing::CountsHolders;
-use crate::solvers::{ACE, FindsTheAce};
+use crate::solvers::FindsTheAce;
 use crate::tables::{hand_ins_of, one_board, tally_of};
 use farm::{Means, run_farm};
 use std::test::Fail;
+use test_support::deals::ACE;
 use test_support::idle::StandsStill;
 use test_support::settings::once;
 

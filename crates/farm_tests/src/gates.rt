@@ -1,8 +1,7 @@
 //! Gates for tests.
 
 use crate::digits::Digits;
-use lease_book::{Entry, Reply};
-use lease_desk::Gate;
+use lease_book::{Entry, Gate, Reply};
 use std::alloc::Global;
 use std::sync::atomic::Ordering::SeqCst;
 use std::sync::atomic::{AtomicBool, AtomicU64};

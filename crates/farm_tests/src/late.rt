@@ -2,8 +2,9 @@
 
 use arrayvec::ArrayVec;
 use cards::{Layout, Seat, Trump};
-use lease_desk::{Clock, Gate};
-use partition_solver::{Bundle, Claim, Partition, Solver};
+use certificate_graph::{Bundle, Claim, Solver};
+use lease_book::{Clock, Gate};
+use partition_solver::Partition;
 use std::alloc::{AllocError, Global};
 use std::sync::atomic::AtomicU64;
 use std::sync::atomic::Ordering::SeqCst;

@@ -2,11 +2,11 @@
 
 use crate::expect::expect_eq;
 use crate::late::{AfterTheSolver, LiesOnce};
-use crate::solvers::ACE;
 use crate::tables::{TableTally, one_board, tally_of};
 use farm::{Means, run_farm};
 use partition_solver::Partition;
 use std::test::Fail;
+use test_support::deals::ACE;
 use test_support::settings::once;
 
 /// How many steps a solver has for an entry.

@@ -1,5 +1,5 @@
 //! Tests of runs of a farm: whole ones, what comes of solvers that find nothing or the wrong thing, and that threads
-//! really work side by side.
+//! really work side by side. And tests of the relay between its threads.
 #![tactic(auto)]
 
 #[cfg(test)]
@@ -26,6 +26,18 @@ mod late_tests;
 mod notice_tests;
 #[cfg(test)]
 mod notices;
+#[cfg(test)]
+mod relay_end_tests;
+#[cfg(test)]
+mod relay_order_tests;
+#[cfg(test)]
+mod relay_runs;
+#[cfg(test)]
+mod relay_thread_tests;
+#[cfg(test)]
+mod relay_wait_tests;
+#[cfg(test)]
+mod relay_watch;
 #[cfg(test)]
 mod remembers;
 #[cfg(test)]

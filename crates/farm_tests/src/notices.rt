@@ -1,7 +1,6 @@
 //! A gate that keeps all that it is told.
 
-use lease_book::{Entry, Reply};
-use lease_desk::Gate;
+use lease_book::{Entry, Gate, Reply};
 use pbn_deals::Board;
 use std::alloc::Global;
 use std::sync::{Mutex, Wait};

@@ -1,7 +1,8 @@
 //! A solver that remembers what it was asked.
 
 use cards::{Layout, Seat, Suit, Trump};
-use partition_solver::{Bundle, Partition, Solver};
+use certificate_graph::{Bundle, Solver};
+use partition_solver::Partition;
 use std::alloc::{AllocError, Global};
 use std::sync::{Mutex, Wait};
 

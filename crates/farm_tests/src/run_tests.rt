@@ -2,15 +2,17 @@
 
 use crate::expect::expect_eq;
 use crate::solvers::{FindsTheAce, HasNoMemory};
-use crate::tables::{ONE_SUIT_EACH, TableTally, boards_of, empty_boards, one_board, tally_of};
+use crate::tables::{TableTally, boards_of, empty_boards, one_board, tally_of};
+use certificate_graph::Solver;
 use farm::{FarmFault, Means, run_farm};
 use lease_book::{Asked, BookFault, Entry, Reply};
-use partition_solver::{Partition, Solver};
+use partition_solver::Partition;
 use std::alloc::Global;
 use std::process::Abort;
 use std::sync::Wait;
 use std::test::Fail;
 use std::thread::Threads;
+use test_support::deals::FOUR_SUITS;
 use test_support::idle::{FindsNothing, LetsPass, StandsStill};
 use test_support::settings::once;
 
@@ -29,7 +31,7 @@ fn run_on_one_suit_each<S: Solver + Sync, R: Threads + Wait + Abort + Sync>(
     solver: &S,
 ) -> Result<TableTally, Fail> {
     let settings = once(threads, threads, BUDGET, batch)?;
-    let boards = one_board(alloc, ONE_SUIT_EACH)?;
+    let boards = one_board(alloc, FOUR_SUITS)?;
     let means = Means {
         solver,
         gate: &LetsPass,
@@ -73,7 +75,7 @@ fn each_entry_is_leased_and_published_once(rt: HostRuntime) -> Result<(), Fail> 
 fn a_deal_of_two_boards_is_solved_once(rt: HostRuntime) -> Result<(), Fail> {
     let alloc = rt.alloc();
     let settings = once(1, 1, BUDGET, 20)?;
-    let boards = boards_of(alloc, &[ONE_SUIT_EACH, ONE_SUIT_EACH])?;
+    let boards = boards_of(alloc, &[FOUR_SUITS, FOUR_SUITS])?;
     let means = Means {
         solver: &Partition::new(),
         gate: &LetsPass,

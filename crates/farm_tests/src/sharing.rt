@@ -3,9 +3,8 @@
 use crate::gates::waits_for;
 use arrayvec::ArrayVec;
 use cards::{Layout, Seat, Side, Trump};
-use certificate_graph::{Graph, Version};
-use lease_desk::Gate;
-use partition_solver::{Bundle, Claim, Solver};
+use certificate_graph::{Bundle, Claim, Graph, Solver, Version};
+use lease_book::Gate;
 use std::alloc::{AllocError, Global};
 use std::sync::Arc;
 use std::sync::atomic::Ordering::SeqCst;

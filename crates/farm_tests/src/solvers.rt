@@ -2,11 +2,11 @@
 
 use arrayvec::ArrayVec;
 use cards::{Layout, Seat, Side, Trump};
-use certificate_graph::Graph;
+use certificate_graph::{Bundle, Claim, Graph, Solver};
 use lease_book::Entry;
-use partition_solver::{Bundle, Claim, Solver};
 use std::alloc::{AllocError, Global};
 use std::sync::Arc;
+use test_support::graphs::{ACE_WINS, NOTHING};
 
 /// A solver that never has memory.
 #[derive(Drop)]
@@ -25,9 +25,6 @@ impl Solver for HasNoMemory {
     }
 }
 
-/// The deal of one card each on which North's ace wins the only trick.
-pub const ACE: &[u8] = b"N:A... K... Q... J...";
-
 /// North declares no-trump on the first board: the first entry.
 pub const NT: Entry = Entry {
     board: 0,
@@ -35,24 +32,9 @@ pub const NT: Entry = Entry {
     trump: Trump::Nt,
 };
 
-/// North's ace wins the only trick.
-const ACE_WINS: &[u8] = b"DDC 1
-trump NT
-side NS
-nodes 1
-E 1 1.1.1.1/N 0.0.0.0/ 0.0.0.0/ 0.0.0.0/ (SxSx(SxSa{}))
-";
-
-/// East and West need nothing.
-const NOTHING: &[u8] = b"DDC 1
-trump NT
-side EW
-nodes 0
-";
-
 /// The graph of a text.
-fn graph_of(alloc: Global, text: &[u8]) -> Result<Arc<Graph>, AllocError> {
-    match Graph::read(alloc, text) {
+fn graph_of(alloc: Global, text: &str) -> Result<Arc<Graph>, AllocError> {
+    match Graph::read(alloc, text.as_bytes()) {
         Ok(graph) => Ok(Arc::new(alloc, graph)?),
         Err(_) => Err(AllocError),
     }

@@ -14,7 +14,7 @@ use test_support::settings::once;
 const BUDGET: u64 = 10_000_000;
 
 /// The first deal of `examples/club.pbn`.
-const DEALT: &[u8] = b"N:Q64.QJ7.K9.AK954 98.43.A7653.QJ83 T73.T92.QT842.72 AKJ52.AK865.J.T6";
+const DEALT: &str = "N:Q64.QJ7.K9.AK954 98.43.A7653.QJ83 T73.T92.QT842.72 AKJ52.AK865.J.T6";
 
 /// Its tricks, as `examples/club-tables.pbn` has them: both declarers of a side take as many.
 fn tricks(entry: Entry) -> u8 {

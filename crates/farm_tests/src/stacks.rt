@@ -1,7 +1,8 @@
 //! A solver that needs a large stack.
 
 use cards::{Layout, Seat, Trump};
-use partition_solver::{Bundle, Partition, Solver};
+use certificate_graph::{Bundle, Solver};
+use partition_solver::Partition;
 use std::alloc::{AllocError, Global};
 use std::sync::atomic::AtomicU64;
 use std::sync::atomic::Ordering::SeqCst;

@@ -6,18 +6,14 @@ use pbn_deals::{Board, BoardName, read_layout};
 use std::alloc::{AllocError, Global};
 use std::test::Fail;
 
-/// The deal of four hands of one suit each.
-pub const ONE_SUIT_EACH: &[u8] =
-    b"N:AKQJT98765432... .AKQJT98765432.. ..AKQJT98765432. ...AKQJT98765432";
-
 /// The deal of one card each in which East has the ace: the cards of North's ace, each at the next seat.
-pub const TURNED: &[u8] = b"N:J... A... K... Q...";
+pub const TURNED: &str = "N:J... A... K... Q...";
 
 /// A board for each of these deals.
-pub fn boards_of(alloc: Global, deals: &[&[u8]]) -> Result<Vec<Board>, Fail> {
+pub fn boards_of(alloc: Global, deals: &[&str]) -> Result<Vec<Board>, Fail> {
     let mut boards = Vec::new(alloc);
     for deal in deals {
-        let layout = read_layout(deal)?;
+        let layout = read_layout(deal.as_bytes())?;
         boards.push(Board {
             name: BoardName::new(Vec::new(alloc)),
             deal: Some(layout),
@@ -27,7 +23,7 @@ pub fn boards_of(alloc: Global, deals: &[&[u8]]) -> Result<Vec<Board>, Fail> {
 }
 
 /// One board with this deal.
-pub fn one_board(alloc: Global, deal: &[u8]) -> Result<Vec<Board>, Fail> {
+pub fn one_board(alloc: Global, deal: &str) -> Result<Vec<Board>, Fail> {
     boards_of(alloc, &[deal])
 }
 

@@ -2,16 +2,16 @@
 
 use crate::expect::expect_eq;
 use crate::gates::{HoldsTheFirst, TwoCheckers, TwoClerks, TwoSolvers};
-use crate::solvers::{ACE, FindsTheAce, NT};
+use crate::solvers::{FindsTheAce, NT};
 use crate::tables::{one_board, published_in, tally_of};
 use farm::{Means, run_farm};
-use lease_book::{Asked, Book, Reply};
-use lease_desk::Gate;
+use lease_book::{Asked, Book, Gate, Reply};
 use std::alloc::Global;
 use std::process::Abort;
 use std::sync::Wait;
 use std::test::Fail;
 use std::thread::Threads;
+use test_support::deals::ACE;
 use test_support::idle::{FindsNothing, StandsStill};
 use test_support::settings::once;
 

@@ -3,9 +3,9 @@
 use crate::expect::expect_eq;
 use crate::solver_tests::{ENDINGS, NINE, Row, SMALL, TRUMPS, expect_for, number_in};
 use cards::{Layout, Seat, Side, Trump};
-use certificate_graph::Answer;
+use certificate_graph::{Answer, Bundle, Claim, Solver};
 use checker::{CheckedGraph, Claimed, Rooted, check_claim, check_entry};
-use partition_solver::{Bundle, Claim, Partition, Solver};
+use partition_solver::Partition;
 use pbn_deals::read_layout;
 use std::alloc::{AllocError, Global};
 use std::process::Abort;

@@ -2,9 +2,9 @@
 
 use crate::expect::expect;
 use cards::{Layout, Seat, Suit, Trump};
-use certificate_graph::Answer;
+use certificate_graph::{Answer, Solver};
 use checker::check_entry;
-use partition_solver::{Partition, Solver};
+use partition_solver::Partition;
 use pbn_deals::read_layout;
 use std::alloc::{AllocError, Global};
 use std::process::Abort;

@@ -2,8 +2,8 @@
 
 use crate::certificates::{ACE, FINESSE};
 use crate::expect::{expect_bytes, expect_eq};
-use cards::{Buffer, Seat, Side, Suit, Trump};
-use certificate_graph::{Child, Graph, Node, OutOfMemory, Tree, Version};
+use cards::{Buffer, OutOfMemory, Seat, Side, Suit, Trump};
+use certificate_graph::{Child, Graph, Node, Tree, Version};
 use pattern_step::PatCard;
 use patterns::Pattern;
 use std::alloc::Global;

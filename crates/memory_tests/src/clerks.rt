@@ -3,11 +3,9 @@
 use crate::outcomes::{Outcome, Told};
 use crate::spending::Spending;
 use cards::{Layout, Seat, Side, Trump};
-use certificate_graph::{Graph, Version};
+use certificate_graph::{Bundle, Claim, Graph, Solver, Version};
 use farm::{FarmFault, Means, run_farm};
-use lease_book::{Asked, Book, Entry, Reply};
-use lease_desk::Gate;
-use partition_solver::{Bundle, Claim, Solver};
+use lease_book::{Asked, Book, Entry, Gate, Reply};
 use pbn_deals::{Board, BoardName, read_layout};
 use std::alloc::{AllocError, Global};
 use std::sync::atomic::Ordering::SeqCst;

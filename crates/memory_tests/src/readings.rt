@@ -3,8 +3,8 @@
 use crate::outcomes::{Outcome, Told};
 use crate::spending::Spending;
 use crate::texts::{CR_LF, FINESSE, FROM_SECOND};
-use cards::{Buffer, Layout};
-use certificate_graph::{Graph, OutOfMemory, TextFault};
+use cards::{Buffer, Layout, OutOfMemory};
+use certificate_graph::{Graph, TextFault};
 use pbn_deals::{Board, PbnFault, read_boards, read_layout};
 use std::alloc::{AllocError, Global};
 use test_support::deals::FOUR_SUITS;

@@ -4,9 +4,9 @@ use crate::outcomes::{Outcome, Told};
 use crate::spending::Spending;
 use crate::texts::FINESSE_LAYOUT;
 use cards::{Layout, Seat, Trump};
-use certificate_graph::Answer;
+use certificate_graph::{Answer, Solver};
 use checker::check_entry;
-use partition_solver::{Partition, Solver};
+use partition_solver::Partition;
 use pbn_deals::read_layout;
 use std::alloc::{AllocError, Global};
 

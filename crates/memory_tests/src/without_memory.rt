@@ -8,11 +8,10 @@ use crate::texts::{FINESSE, HEAD_OF_ACE};
 use cards::{Buffer, Layout, Seat, Trump};
 use certificate_graph::Graph;
 use checker::{CheckedGraph, Claimed, check_claim, check_entry, check_graph};
-use lease_book::Book;
+use lease_book::{Book, write_tables};
 use pbn_deals::read_layout;
 use std::alloc::{AllocError, Global};
 use std::sync::Arc;
-use tables::write_tables;
 use test_support::deals::ACE;
 
 /// The trick of North's ace, and what shows it.

@@ -3,7 +3,8 @@
 use crate::contracts::Contract;
 use crate::expect::expect_eq;
 use cards::{Seat, Side, Suit, Trump};
-use partition_solver::{Partition, Solver};
+use certificate_graph::Solver;
+use partition_solver::Partition;
 use pbn_deals::read_layout;
 use std::test::Fail;
 

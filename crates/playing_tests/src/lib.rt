@@ -1,14 +1,22 @@
-//! Plays by certificates, beside numbers counted from the rules of a trick.
+//! Plays by certificates, beside numbers counted from the rules of a trick, and dialogues.
 #![tactic(auto)]
 
 #[cfg(test)]
 mod contracts;
+#[cfg(test)]
+mod dialogue_order_tests;
+#[cfg(test)]
+mod dialogue_tests;
+#[cfg(test)]
+mod dialogue_texts;
 #[cfg(test)]
 mod draws;
 #[cfg(test)]
 mod ending_tests;
 #[cfg(test)]
 mod expect;
+#[cfg(test)]
+mod finesse;
 #[cfg(test)]
 mod foreign;
 #[cfg(test)]

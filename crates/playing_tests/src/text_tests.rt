@@ -1,12 +1,13 @@
 //! The text of a play, worked out by hand.
 
 use crate::expect::{expect, expect_bytes};
+use crate::finesse::{DEAL, FINESSE, NOTHING};
 use arrayvec::ArrayVec;
 use cards::{Buffer, Card, Rank, Seat, Suit, Trump};
 use certificate_graph::Graph;
 use certificate_play::{begin_both, line};
-use line_texts::write_play;
 use pbn_deals::read_layout;
+use play_dialogues::write_play;
 use std::alloc::Global;
 use std::process::Abort;
 use std::test::Fail;
@@ -26,22 +27,6 @@ fn expect_text(
     Ok(())
 }
 
-/// East and West need nothing, and play their lowest cards.
-const NOTHING: &[u8] = b"DDC 1
-trump NT
-side EW
-nodes 0
-";
-
-/// North's card waits for West's.
-const FINESSE: &[u8] = b"DDC 1
-trump NT
-side NS
-nodes 2
-S 2 2.2.2.2/NWN 0.0.0.0/ 0.0.0.0/ 0.0.0.0/ Sx(SbSa(Sx{N1})SxSc(Sx{N1}))
-N 1 1.1.1.1/N 0.0.0.0/ 0.0.0.0/ 0.0.0.0/ Sa(SxSx(Sx{}))
-";
-
 const FINESSE_LINE: &[u8] = b"1 S: S2 S4 SQ S5 N
 2 N: SA S6 S3 SK N
 declarer 0, defenders 2
@@ -52,7 +37,7 @@ declarer 0, defenders 2
 fn line_of_the_finesse(rt: HostRuntime) -> Result<(), Fail> {
     let declarers = Graph::read(rt.alloc(), NOTHING)?;
     let defenders = Graph::read(rt.alloc(), FINESSE)?;
-    let layout = read_layout(b"N:AQ... 65... 32... K4...")?;
+    let layout = read_layout(DEAL)?;
     let sides = begin_both(&layout, Seat::East, Trump::Nt, 0, &declarers, &defenders)?;
     let cards = line(sides.declarers, sides.defenders);
     expect_text(

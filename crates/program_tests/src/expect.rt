@@ -1,8 +1,8 @@
 //! What runs are expected to print, to tell and to end with.
 
 use cards::{Buffer, Bytes};
+use certificate_graph::Solver;
 use farm::Means;
-use partition_solver::Solver;
 use std::alloc::Global;
 use std::fmt::Debug;
 use std::process::Abort;
@@ -10,7 +10,7 @@ use std::sync::Wait;
 use std::test::Fail;
 use std::thread::Threads;
 use streams::Streams;
-use subcommands::{NamedFiles, Status, Subcommand, run_subcommand};
+use subcommands::{KeptFiles, NamedFiles, Status, Subcommand, run_subcommand};
 use test_support::idle::{LetsPass, StandsStill};
 
 /// Room for all that a run prints.
@@ -59,7 +59,7 @@ pub fn means<'a, S, G>(solver: &'a S, gate: &'a G) -> Means<'a, S, G, StandsStil
 }
 
 /// Does the run over an input and an output with this much room.
-pub fn expect_run<R: Abort + NamedFiles + Threads + Wait + Sync, S: Solver + Sync>(
+pub fn expect_run<R: Abort + NamedFiles + KeptFiles + Threads + Wait + Sync, S: Solver + Sync>(
     rt: &R,
     alloc: Global,
     run: Subcommand<'_>,

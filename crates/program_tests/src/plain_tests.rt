@@ -1,15 +1,15 @@
 //! Lines of `plain`, one after the other on one output.
 
 use crate::expect::expect_eq;
+use answer_subcommands::{AnswerFault, plain_line};
 use cards::{Buffer, Seat, Suit, Trump};
 use pbn_deals::PbnFault;
 use std::alloc::Global;
 use std::process::Abort;
 use std::test::Fail;
-use subcommands::{RunFault, Status, Subcommand, plain_line};
 
 /// Layouts with a leader and a trump, and what comes of each, on one output.
-const LINES: [(&[u8], Seat, Trump, Result<(), RunFault>); 4] = [
+const LINES: [(&[u8], Seat, Trump, Result<(), AnswerFault>); 4] = [
     (
         b"N:2... .A.. 3... .K..",
         Seat::East,
@@ -20,19 +20,19 @@ const LINES: [(&[u8], Seat, Trump, Result<(), RunFault>); 4] = [
         b"N:A... A... Q... J...",
         Seat::East,
         Trump::Nt,
-        Err(RunFault::Layout(PbnFault::CardTwice { line: 1 })),
+        Err(AnswerFault::Layout(PbnFault::CardTwice { line: 1 })),
     ),
     (
         b"N:AKQJT... 98765... ..AKQJT. ...AKQJT",
         Seat::North,
         Trump::Nt,
-        Err(RunFault::TooLarge),
+        Err(AnswerFault::TooLarge),
     ),
     (
         b"N:A... K... Q... J...",
         Seat::East,
         Trump::Nt,
-        Err(RunFault::Write),
+        Err(AnswerFault::Write),
     ),
 ];
 

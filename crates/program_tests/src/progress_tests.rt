@@ -3,9 +3,9 @@
 use crate::expect::{ROOM, expect_eq, means};
 use crate::table_tests::tables;
 use cards::{Buffer, Bytes, DeviceFault, Seat, Sink, Trump};
-use lease_book::{Entry, Reply, first_boards};
-use lease_desk::{Clock, Gate};
-use partition_solver::{Partition, Solver};
+use certificate_graph::Solver;
+use lease_book::{Clock, Entry, Gate, Reply, first_boards};
+use partition_solver::Partition;
 use pbn_deals::{Board, BoardName, read_layout};
 use progress::Progress;
 use std::alloc::Global;
@@ -17,7 +17,7 @@ use std::test::Fail;
 use std::thread;
 use std::thread::Threads;
 use streams::Streams;
-use subcommands::{NamedFiles, Status, Subcommand, run_subcommand};
+use subcommands::{KeptFiles, NamedFiles, Status, Subcommand, run_subcommand};
 use test_support::idle::FindsNothing;
 
 /// A board with four hands of one suit each.
@@ -106,7 +106,7 @@ const TOLD: [(bool, usize, Told, Told); 4] = [
 ];
 
 /// What a gate is told while tables are made.
-fn expect_told<R: Abort + NamedFiles + Threads + Wait + Sync, S: Solver + Sync>(
+fn expect_told<R: Abort + NamedFiles + KeptFiles + Threads + Wait + Sync, S: Solver + Sync>(
     rt: &R,
     alloc: Global,
     run: Subcommand<'_>,
@@ -213,10 +213,10 @@ const OTHER_REPLIES: [Reply; 8] = [
     Reply::AlreadyPublished,
 ];
 
-const LINES: &[u8] = b"ddfarm: 2 of 20 results, 0 of 2 boards, 5 s
-ddfarm: 19 of 20 results, 0 of 2 boards, 6 s
-ddfarm: 20 of 20 results, 1 of 2 boards, 9 s
-ddfarm: 20 of 20 results, 1 of 2 boards, 12 s, 1 tables incomplete
+const LINES: &[u8] = b"ddfarm: 2 of 20 results, 0 of 1 boards, 5 s
+ddfarm: 19 of 20 results, 0 of 1 boards, 6 s
+ddfarm: 20 of 20 results, 1 of 1 boards, 9 s
+ddfarm: 20 of 20 results, 1 of 1 boards, 12 s, 0 tables incomplete
 ";
 
 /// A line is written when a result is published in another second than that of the last line, or of the beginning. No
@@ -250,9 +250,9 @@ fn a_line_a_second_and_one_at_the_end(rt: HostRuntime) -> Result<(), Fail> {
     Ok(())
 }
 
-const SHARED_LINES: &[u8] = b"ddfarm: 2 of 60 results, 0 of 4 boards, 4 s
-ddfarm: 41 of 60 results, 2 of 4 boards, 5 s
-ddfarm: 60 of 60 results, 3 of 4 boards, 6 s, 1 tables incomplete
+const SHARED_LINES: &[u8] = b"ddfarm: 2 of 60 results, 0 of 3 boards, 4 s
+ddfarm: 41 of 60 results, 2 of 3 boards, 5 s
+ddfarm: 60 of 60 results, 3 of 3 boards, 6 s, 0 tables incomplete
 ";
 
 /// A result counts for each of the boards with its deal, and for no other board.

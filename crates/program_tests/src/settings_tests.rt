@@ -3,9 +3,10 @@
 use crate::expect::{ROOM, expect_eq, means};
 use crate::progress_tests::BOARD;
 use cards::{Buffer, Bytes, Layout, Seat, Trump};
+use certificate_graph::{Bundle, Solver};
 use farm::Settings;
-use lease_desk::Gate;
-use partition_solver::{Bundle, Partition, Solver};
+use lease_book::Gate;
+use partition_solver::Partition;
 use std::alloc::{AllocError, Global};
 use std::process::Abort;
 use std::sync::Wait;
@@ -14,17 +15,15 @@ use std::sync::atomic::{AtomicBool, AtomicU64};
 use std::test::Fail;
 use std::thread::Threads;
 use streams::Streams;
-use subcommands::{NamedFiles, Status, Subcommand, TableOptions, run_subcommand};
+use subcommands::{KeptFiles, NamedFiles, Status, Subcommand, TableOptions, run_subcommand};
 use test_support::idle::LetsPass;
 
 /// Makes the tables of a board, and answers how that ends.
-fn status_of<R: Abort + NamedFiles + Threads + Wait + Sync, S: Solver + Sync, G: Gate + Sync>(
-    rt: &R,
-    alloc: Global,
-    settings: Settings,
-    solver: &S,
-    gate: &G,
-) -> Result<Status, Fail> {
+fn status_of<
+    R: Abort + NamedFiles + KeptFiles + Threads + Wait + Sync,
+    S: Solver + Sync,
+    G: Gate + Sync,
+>(rt: &R, alloc: Global, settings: Settings, solver: &S, gate: &G) -> Result<Status, Fail> {
     let run = Subcommand::Table(TableOptions {
         settings,
         progress: true,

@@ -1,10 +1,11 @@
 //! Answers that are found, written and then checked.
 
 use crate::expect::{CARD_TWICE, End, NO_CARDS, NO_LAYOUT, ROOM, expect_eq, expect_run, means};
+use answer_subcommands::read_answer;
 use arrayvec::ArrayVec;
 use cards::{Buffer, Bytes, Layout, Seat, Side, Suit, Trump};
-use certificate_graph::{Graph, Version};
-use partition_solver::{Bundle, Claim, Partition, Solver};
+use certificate_graph::{Bundle, Claim, Graph, Solver, Version};
+use partition_solver::Partition;
 use pbn_deals::read_layout;
 use std::alloc::{AllocError, Global};
 use std::process::Abort;
@@ -13,7 +14,7 @@ use std::test::Fail;
 use std::thread::Threads;
 use strategies::plain_value;
 use streams::Streams;
-use subcommands::{NamedFiles, Status, Subcommand, read_answer, run_subcommand};
+use subcommands::{KeptFiles, NamedFiles, Status, Subcommand, run_subcommand};
 use test_support::idle::{FindsNothing, LetsPass};
 
 /// Room for an answer of four cards a hand.
@@ -64,7 +65,7 @@ fn expect_version_two(rt: &impl Abort, answer: &[u8], tricks: u8) -> Result<(), 
 }
 
 /// An answer is found, of version 2, and `check` accepts it with this number.
-fn expect_accepted<R: Abort + NamedFiles + Threads + Wait + Sync>(
+fn expect_accepted<R: Abort + NamedFiles + KeptFiles + Threads + Wait + Sync>(
     rt: &R,
     alloc: Global,
     layout: &str,

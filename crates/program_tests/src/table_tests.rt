@@ -3,13 +3,15 @@
 use crate::expect::{ROOM, expect_eq, expect_run};
 use arrayvec::ArrayVec;
 use cards::{Buffer, Bytes, Layout, Seat, Trump};
-use certificate_graph::Graph;
+use certificate_graph::{Bundle, Claim, Graph, Solver};
 use farm::{Settings, SettingsFault};
-use partition_solver::{Bundle, Claim, Solver};
+use partition_solver::Partition;
 use pbn_deals::PbnFault;
 use std::alloc::{AllocError, Global};
 use std::process::Abort;
 use std::sync::Arc;
+use std::sync::atomic::AtomicU64;
+use std::sync::atomic::Ordering::SeqCst;
 use std::test::Fail;
 use subcommands::{Status, Subcommand, TableOptions};
 use tables::Report;
@@ -164,7 +166,7 @@ const OF_ONE_SUIT_EACH: &str = "% PBN 2.1
 /// Each of the twenty results is tried three times, and each answer is refused.
 const REFUSED: &str =
     "ddfarm: note: 1 table is incomplete: 0 searches ran out of steps, 0 out of memory, 60 answers were refused
-  each missing result was tried as often as --tries says; --budget gives a search more steps
+  each missing result was tried as often as --tries says
 ";
 
 /// A proof for another deal shows no number.
@@ -176,4 +178,103 @@ fn one_proof_for_every_entry(rt: HostRuntime) -> Result<(), Fail> {
         expect_run(&rt, rt.alloc(), run, &OneProof, ONE_SUIT_EACH, ROOM, wanted)?;
     }
     Ok(())
+}
+
+/// A solver that has no memory, or none for North's results.
+#[derive(Drop)]
+struct LacksMemory {
+    for_all: bool,
+}
+
+impl Solver for LacksMemory {
+    fn solve(
+        &self,
+        _alloc: Global,
+        _layout: &Layout,
+        declarers: &[Seat],
+        _trump: Trump,
+        _budget: u64,
+    ) -> Result<Option<Bundle>, AllocError> {
+        if self.for_all || declarers.contains(&Seat::North) {
+            Err(AllocError)
+        } else {
+            Ok(None)
+        }
+    }
+}
+
+const WITHOUT_MEMORY: &str =
+    "ddfarm: note: 1 table is incomplete: 0 searches ran out of steps, 60 out of memory, 0 answers were refused
+  each missing result was tried as often as --tries says; use fewer --solvers or give more memory
+";
+
+const NORTH_WITHOUT_MEMORY: &str =
+    "ddfarm: note: 1 table is incomplete: 45 searches ran out of steps, 15 out of memory, 0 answers were refused
+  each missing result was tried as often as --tries says; --budget gives a search more steps; \
+use fewer --solvers or give more memory
+";
+
+/// The second line says what helps the searches that found nothing.
+#[test]
+fn searches_without_memory(rt: HostRuntime) -> Result<(), Fail> {
+    for (for_all, told) in [(true, WITHOUT_MEMORY), (false, NORTH_WITHOUT_MEMORY)] {
+        let solver = LacksMemory { for_all };
+        let wanted = (Status::Incomplete, OF_ONE_SUIT_EACH, told);
+        let run = tables(false, 1)?;
+        expect_run(&rt, rt.alloc(), run, &solver, ONE_SUIT_EACH, ROOM, wanted)?;
+    }
+    Ok(())
+}
+
+/// A solver that finds all results but West's at no-trump. The first search for that runs out of steps, the second out
+/// of memory, and the third claims what it doesn't show.
+#[derive(Drop)]
+struct LacksOne {
+    solver: Partition,
+    searches: AtomicU64,
+}
+
+impl Solver for LacksOne {
+    fn solve(
+        &self,
+        alloc: Global,
+        layout: &Layout,
+        declarers: &[Seat],
+        trump: Trump,
+        budget: u64,
+    ) -> Result<Option<Bundle>, AllocError> {
+        if trump != Trump::Nt || !declarers.contains(&Seat::West) {
+            return self.solver.solve(alloc, layout, declarers, trump, budget);
+        }
+        match self.searches.fetch_add(1, SeqCst) {
+            0 => Ok(None),
+            1 => Err(AllocError),
+            _ => OneProof.solve(alloc, layout, declarers, trump, budget),
+        }
+    }
+}
+
+const ONE_OF_EACH: &str =
+    "ddfarm: note: 1 table is incomplete: 1 search ran out of steps, 1 out of memory, 1 answer was refused
+  each missing result was tried as often as --tries says; --budget gives a search more steps; \
+use fewer --solvers or give more memory
+";
+
+const ALL_BUT_ONE: &str = "% PBN 2.1
+[Board \"1\"]
+[Deal \"N:AKQJT98765432... .AKQJT98765432.. ..AKQJT98765432. ...AKQJT98765432\"]
+; table incomplete: 19 of 20
+
+";
+
+/// A single search and a single answer have the words for one.
+#[test]
+fn one_search_of_each_end(rt: HostRuntime) -> Result<(), Fail> {
+    let solver = LacksOne {
+        solver: Partition::new(),
+        searches: AtomicU64::new(0),
+    };
+    let wanted = (Status::Incomplete, ALL_BUT_ONE, ONE_OF_EACH);
+    let run = tables(false, 1)?;
+    expect_run(&rt, rt.alloc(), run, &solver, ONE_SUIT_EACH, ROOM, wanted)
 }

@@ -1,8 +1,8 @@
 //! A solver, a gate and a clock that do nothing.
 
 use cards::{Layout, Seat, Trump};
-use lease_desk::{Clock, Gate};
-use partition_solver::{Bundle, Solver};
+use certificate_graph::{Bundle, Solver};
+use lease_book::{Clock, Gate};
 use std::alloc::{AllocError, Global};
 
 /// A solver that finds nothing.

@@ -2,8 +2,8 @@
 
 use crate::texts::{bytes_of, field, repeated, say_field, say_refusal};
 use cards::{Buffer, Bytes};
+use certificate_graph::Solver;
 use lease_book::Book;
-use partition_solver::Solver;
 use pbn_deals::{Board, read_boards, read_layout};
 use std::alloc::{AllocError, Global};
 use tables::Report;

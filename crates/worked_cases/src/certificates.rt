@@ -1,12 +1,12 @@
 //! Cases on the texts of certificates and answers.
 
 use crate::texts::{bytes_of, field, number, say_field, say_refusal, seat, trump};
+use answer_subcommands::read_answer;
 use cards::Layout;
 use certificate_graph::Graph;
-use checker::{Proven, check_graph, judge};
+use checker::{Proven, Texts, check_graph, judge};
 use pbn_deals::read_layout;
 use std::alloc::{AllocError, Global};
-use subcommands::read_answer;
 
 /// Why a text is refused, or whether the steps of its graph hold, or the first fault of a step.
 pub fn answer_certificate(alloc: Global, case: &str, out: &mut String) -> Result<(), AllocError> {
@@ -40,7 +40,11 @@ pub fn answer_judge(alloc: Global, case: &str, out: &mut String) -> Result<(), A
     let ours = bytes_of(alloc, field(case, 5))?;
     let theirs = bytes_of(alloc, field(case, 6))?;
     let deal = layout.as_ref();
-    match judge(alloc, deal, declarer, trump, k, &ours, &theirs) {
+    let texts = Texts {
+        declarers: &ours,
+        defenders: &theirs,
+    };
+    match judge(alloc, deal, declarer, trump, k, texts) {
         Ok(Ok(proven)) => say_proven(&proven, layout, out),
         Ok(Err(fault)) => write!(out, "refused {fault}"),
         Err(_) => out.push_str("out of memory"),

@@ -2,8 +2,9 @@
 
 use crate::replies::{say_history, say_published, say_reply};
 use crate::texts::{field, number, seat, trump, word};
-use checker::judge;
-use lease_book::{Book, Entry, GraphText, OutOfMemory, Reply, Request, replay};
+use cards::OutOfMemory;
+use checker::{Texts, judge};
+use lease_book::{Book, Entry, GraphText, Reply, Request, replay};
 use pbn_deals::{Board, BoardName, read_layout};
 use std::alloc::{AllocError, Global};
 
@@ -99,8 +100,11 @@ fn reply_of(alloc: Global, book: &mut Book, request: &Request) -> Result<Reply, 
                 trump,
                 ..
             } = *entry;
-            let (ours, theirs) = (declarer.as_bytes(), defenders.as_bytes());
-            let verdict = judge(alloc, deal, seat, trump, *k, ours, theirs)?;
+            let texts = Texts {
+                declarers: declarer.as_bytes(),
+                defenders: defenders.as_bytes(),
+            };
+            let verdict = judge(alloc, deal, seat, trump, *k, texts)?;
             book.settle(*lease, *entry, verdict)
         }
     }

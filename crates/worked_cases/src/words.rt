@@ -8,11 +8,14 @@ use std::alloc::{AllocError, Global};
 use std::sync::Wait;
 use std::thread::Threads;
 use streams::Streams;
-use subcommands::NamedFiles;
+use subcommands::{KeptFiles, NamedFiles};
 use test_support::idle::{FindsNothing, LetsPass, StandsStill};
 
 /// Room for what a run prints.
 const ROOM: usize = 8192;
+
+/// How many processors the machine is said to have.
+const PROCESSORS: usize = 2;
 
 /// An input, and both outputs.
 type Memory<'a> = Streams<Bytes<'a>, Buffer, Buffer>;
@@ -32,7 +35,7 @@ fn memory(
 }
 
 /// Does what words ask for, with a solver that finds nothing.
-fn run_words<R: NamedFiles + Threads + Wait + Sync>(
+fn run_words<R: NamedFiles + KeptFiles + Threads + Wait + Sync>(
     rt: &R,
     alloc: Global,
     words: &[&str],
@@ -43,11 +46,11 @@ fn run_words<R: NamedFiles + Threads + Wait + Sync>(
         gate: &LetsPass,
         clock: &StandsStill,
     };
-    run_command(rt, alloc, words, &means, streams)
+    run_command(rt, alloc, words, PROCESSORS, &means, streams)
 }
 
 /// Says what comes of words: the exit status, and what is on both outputs.
-fn say_run<R: NamedFiles + Threads + Wait + Sync>(
+fn say_run<R: NamedFiles + KeptFiles + Threads + Wait + Sync>(
     rt: &R,
     alloc: Global,
     words: &[&str],
@@ -61,7 +64,7 @@ fn say_run<R: NamedFiles + Threads + Wait + Sync>(
 }
 
 /// What `plain` prints of a layout.
-pub fn answer_plain<R: NamedFiles + Threads + Wait + Sync>(
+pub fn answer_plain<R: NamedFiles + KeptFiles + Threads + Wait + Sync>(
     rt: &R,
     alloc: Global,
     case: &str,
@@ -79,7 +82,7 @@ pub fn answer_plain<R: NamedFiles + Threads + Wait + Sync>(
 }
 
 /// What `check` or `line` prints of an answer.
-pub fn answer_check<R: NamedFiles + Threads + Wait + Sync>(
+pub fn answer_check<R: NamedFiles + KeptFiles + Threads + Wait + Sync>(
     rt: &R,
     alloc: Global,
     subcommand: &str,
@@ -99,7 +102,7 @@ pub fn answer_check<R: NamedFiles + Threads + Wait + Sync>(
 }
 
 /// What `table` prints of a PBN text.
-pub fn answer_table<R: NamedFiles + Threads + Wait + Sync>(
+pub fn answer_table<R: NamedFiles + KeptFiles + Threads + Wait + Sync>(
     rt: &R,
     alloc: Global,
     case: &str,
@@ -130,7 +133,7 @@ fn room_of(field: &str) -> usize {
 
 /// What comes of the words of a case: the exit status, what is on the output and on the error output, and what is left
 /// of an input of at most 64 bytes.
-pub fn answer_words<R: NamedFiles + Threads + Wait + Sync>(
+pub fn answer_words<R: NamedFiles + KeptFiles + Threads + Wait + Sync>(
     rt: &R,
     alloc: Global,
     case: &str,
@@ -164,7 +167,7 @@ fn say_told(printed: &[u8], told: &[u8], out: &mut String) -> Result<(), AllocEr
 }
 
 /// Whether what comes of the words of a case is what it tells.
-pub fn answer_told<R: NamedFiles + Threads + Wait + Sync>(
+pub fn answer_told<R: NamedFiles + KeptFiles + Threads + Wait + Sync>(
     rt: &R,
     alloc: Global,
     case: &str,
@@ -201,7 +204,7 @@ fn say_lines(name: &str, printed: &[u8], out: &mut String) -> Result<(), AllocEr
 
 /// What comes of the words of a case, over no input: the exit status, and the lines on the output and on the error
 /// output.
-pub fn answer_lines<R: NamedFiles + Threads + Wait + Sync>(
+pub fn answer_lines<R: NamedFiles + KeptFiles + Threads + Wait + Sync>(
     rt: &R,
     alloc: Global,
     case: &str,

@@ -5,10 +5,11 @@ ghost use Rattle.lease_desk.specs.Desks.{IsChairOf, number_of};
 
 use crate::expect::expect_eq;
 use crate::lease_tests::long_list::verdict_on;
+use cards::OutOfMemory;
 use certificate_graph::Graph;
-use checker::{Claimed, OutOfMemory};
-use lease_book::{Asked, Event, Evidence, GraphText, Reply, Request};
-use lease_desk::{Chair, Closed, Desk, Gate, Receipt};
+use checker::Claimed;
+use lease_book::{Asked, Event, Gate, GraphText, HandedIn, Reply, Request};
+use lease_desk::{Chair, Closed, Desk, Receipt};
 use pbn_deals::Board;
 use std::alloc::{AllocError, Global};
 use std::process::Abort;
@@ -90,8 +91,8 @@ pub fn asked_by(alloc: Global, boards: &[Board], request: &Request) -> Result<As
                 lease: *lease,
                 entry: *entry,
                 evidence: match verdict {
-                    Ok(proven) => Evidence::Shows(proven.shown()),
-                    Err(fault) => Evidence::Faulty(fault),
+                    Ok(proven) => HandedIn::Shows(proven.shown()),
+                    Err(fault) => HandedIn::Faulty(fault),
                 },
             }
         }

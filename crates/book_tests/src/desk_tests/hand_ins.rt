@@ -9,8 +9,8 @@ use crate::expect::expect_eq;
 use crate::lease_tests::certificates::{Answer, EAST_HIGH, NORTH_HIGH, NT};
 use cards::{Seat, Trump};
 use checker::{EntryFault, HandFault, PartFault};
-use lease_book::{Asked, Entry, Event, Evidence, Reply, Request};
-use lease_desk::{Chair, Desk, Gate};
+use lease_book::{Asked, Entry, Event, Gate, HandedIn, Reply, Request};
+use lease_desk::{Chair, Desk};
 use std::alloc::Global;
 use std::process::Abort;
 use std::sync::Wait;
@@ -78,7 +78,7 @@ const HAND_INS: [HandIn; 7] = [
 fn fault_of(asked: Asked) -> Option<HandFault> {
     match asked {
         Asked::HandIn {
-            evidence: Evidence::Faulty(fault),
+            evidence: HandedIn::Faulty(fault),
             ..
         } => Some(fault),
         _ => None,

@@ -1,7 +1,7 @@
 //! The replies of a book by searches of two plain lists, of the leases given and of the entries published.
 
 use crate::lease_tests::slow_book::{DECLARERS, TRUMPS};
-use lease_book::{Asked, Entry, Evidence, Reply};
+use lease_book::{Asked, Entry, HandedIn, Reply};
 use std::alloc::{AllocError, Global};
 
 /// A lease that was given. Its number is its place among the leases, from 1.
@@ -148,18 +148,18 @@ impl PlainBook<'_> {
         &mut self,
         lease: u64,
         entry: Entry,
-        evidence: Evidence,
+        evidence: HandedIn,
     ) -> Result<Reply, AllocError> {
         let published = self.is_published(entry);
         match (self.leases.get_mut(place_of(lease)), evidence) {
             (None, _) => Ok(Reply::UnknownLease),
             (Some(given), _) if given.entry != entry => Ok(Reply::OtherEntry),
             _ if published => Ok(Reply::AlreadyPublished),
-            (Some(given), Evidence::Faulty(fault)) => {
+            (Some(given), HandedIn::Faulty(fault)) => {
                 given.held = false;
                 Ok(Reply::BadCertificate(fault))
             }
-            (_, Evidence::Shows(shown)) => self.publish(entry, shown.k),
+            (_, HandedIn::Shows(shown)) => self.publish(entry, shown.k),
         }
     }
 

@@ -3,7 +3,7 @@
 use super::certificates::{EAST_HIGH, NORTH_HIGH, NT, boards};
 use crate::expect::{expect, expect_eq};
 use cards::{Seat, Trump};
-use checker::judge;
+use checker::{Texts, judge};
 use lease_book::{Book, BookFault, Reply, replay};
 use pbn_deals::{Board, BoardName, read_layout};
 use std::alloc::Global;
@@ -107,8 +107,10 @@ fn expect_settled(
         *declarer,
         Trump::Nt,
         1,
-        text.as_bytes(),
-        NOTHING.as_bytes(),
+        Texts {
+            declarers: text.as_bytes(),
+            defenders: NOTHING.as_bytes(),
+        },
     )?;
     expect(rt, proof.is_ok());
     expect_eq(rt, &book.settle(1, NT, proof)?, reply);

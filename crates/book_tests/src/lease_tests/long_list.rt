@@ -5,8 +5,8 @@ use super::certificates::{Answer, EAST_HIGH, NORTH_HIGH, boards};
 use super::slow_book::{Ask, DECLARERS, Past, Rules, TRUMPS, entry_of, leased, published, reply};
 use crate::expect::expect_eq;
 use crate::fixed_numbers::next;
-use cards::{Seat, Trump};
-use checker::{OutOfMemory, Verdict, judge};
+use cards::{OutOfMemory, Seat, Trump};
+use checker::{Texts, Verdict, judge};
 use lease_book::{Book, Entry, GraphText, Reply, Request, replay};
 use pbn_deals::Board;
 use std::alloc::{AllocError, Global};
@@ -127,8 +127,10 @@ pub fn verdict_on(
         entry.declarer,
         entry.trump,
         k,
-        declarer.as_bytes(),
-        defenders.as_bytes(),
+        Texts {
+            declarers: declarer.as_bytes(),
+            defenders: defenders.as_bytes(),
+        },
     )
 }
 

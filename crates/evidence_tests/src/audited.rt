@@ -1,0 +1,85 @@
+//! An audit of the two boards over memory, and what it shows.
+
+use crate::two_boards::BOARDS;
+use audits::audit_tables;
+use cards::{Buffer, Bytes, Seat, Suit, Trump};
+use evidence::{Damage, Sections};
+use lease_book::{Book, Entry};
+use std::alloc::Global;
+use std::test::Fail;
+use std::thread::Threads;
+
+/// Room for two tables.
+const ROOM: usize = 1000;
+
+/// What is shown of the two boards.
+#[derive(Clone, Copy, Debug, PartialEq)]
+pub struct Shown {
+    /// How many contracts have a number.
+    pub numbers: u64,
+    /// The number of North's spades on the first board.
+    pub first: Option<u8>,
+    /// That of North's no-trump on the second.
+    pub second: Option<u8>,
+}
+
+impl Shown {
+    /// What the sections show, or one of them does, or none.
+    pub fn by(first: bool, second: bool) -> Shown {
+        Shown {
+            numbers: u64::from(first).saturating_add(u64::from(second)),
+            first: if first { Some(13) } else { None },
+            second: if second { Some(0) } else { None },
+        }
+    }
+}
+
+/// How many contracts of a board have a number.
+fn numbers_of(book: &Book, board: usize) -> u64 {
+    let mut numbers = 0u64;
+    for declarer in Seat::ALL {
+        for trump in Trump::ALL {
+            let entry = Entry {
+                board,
+                declarer,
+                trump,
+            };
+            if book.published(entry).is_some() {
+                numbers = numbers.saturating_add(1);
+            }
+        }
+    }
+    numbers
+}
+
+/// The number of a contract of North's.
+pub fn number_of(book: &Book, board: usize, trump: Trump) -> Option<u8> {
+    book.published(Entry {
+        board,
+        declarer: Seat::North,
+        trump,
+    })
+}
+
+/// What this evidence shows, whose bytes come in pieces of at most so many, and what is passed over.
+pub fn audit<R: Threads + Sync>(
+    rt: &R,
+    alloc: Global,
+    evidence: &[u8],
+    greatest_piece: usize,
+) -> Result<(Shown, Damage), Fail> {
+    let mut input = Bytes::new(BOARDS.as_bytes(), ROOM);
+    let mut sections = Sections::new(alloc, Bytes::new(evidence, greatest_piece));
+    let mut output = Buffer::new(alloc, ROOM, ROOM)?;
+    match audit_tables(rt, alloc, &mut input, &mut sections, &mut output) {
+        Ok((_, book, damage)) => {
+            let shown = Shown {
+                numbers: numbers_of(&book, 0).saturating_add(numbers_of(&book, 1)),
+                first: number_of(&book, 0, Trump::Suit(Suit::Spades)),
+                second: number_of(&book, 1, Trump::Nt),
+            };
+            Ok((shown, damage))
+        }
+        Err(_) => Err(Fail::new("an audit without faults")),
+    }
+}
