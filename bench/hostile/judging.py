@@ -8,9 +8,9 @@ import checker
 reader = module_of("reading", "reader")
 writer = module_of("whole", "model")
 COUNTS = rb"ddfarm: \d+ of \d+ results, \d+ of \d+ boards, \d+ s"
-PROGRESS = re.compile(rb"(?:" + COUNTS + rb"\n)*" + COUNTS + rb", (\d+) tables incomplete\n")
+PROGRESS = re.compile(rb"(?:" + COUNTS + rb"\n)*" + COUNTS + rb", (?:(1) table|(\d+) tables) incomplete\n")
 NOTE = reader.NOTE.encode()
-STEPS = re.compile(rb" (\d+) searches ran out of steps,")
+STEPS = re.compile(rb" (\d+) search(?:es)? ran out of steps,")
 REFUSED = re.compile(
     rb"refused (?:9 KTooLarge|(?:declarer|defenders) (?:10 Text [1-6] [A-Za-z]+ line \d+|1 RootMissing|2 RootNeedless"
     rb"|3 RootTrump|4 RootSide|5 RootLead|6 RootNeed|7 RootPattern|8 Node \d+ [1-8] [A-Za-z]+))\n")
@@ -23,11 +23,11 @@ WRITING_FAILED = b"ddfarm: writing failed\n"
 
 
 def progress_fault(told, lacking):
-    """What is wrong with what was told of the work, of which so many tables lack a number."""
+    """What is wrong with what was told of the work, of which so many tables of boards with a deal lack a number."""
     match = PROGRESS.fullmatch(told)
     if match is None:
         return "progress has another form"
-    return None if int(match[1]) == lacking else "progress tells another number of incomplete tables"
+    return None if int(match[1] or match[2]) == lacking else "progress tells another number of incomplete tables"
 
 
 def searches_fault(steps, missing, words):
@@ -88,8 +88,8 @@ def end_fault(outcome, text, written, words):
     """What is wrong with the status and the error output of `table` with these words on a text, of which it wrote this
     or, with `--whole`, the same tables."""
     shown = [(deal, reader.ENTRIES - int(known) if known else 0) for deal, known in SHOWN.findall(written)]
-    lacking = lacking_in(written)
-    incomplete = sum(lacks > 0 for _, lacks in shown) if "--whole" in words else lacking
+    lacking = sum(lacks > 0 for _, lacks in shown)
+    incomplete = lacking if "--whole" in words else lacking_in(written)
     if outcome.status != (3 if incomplete else 0):
         return f"another status with {incomplete} incomplete tables"
     told, note, notes = outcome.err.partition(NOTE)

@@ -40,7 +40,7 @@ WELL = "well"
 TOLD = {(1, b"ddfarm: out of memory\n"): "out of memory", (1, b"ddfarm: a thread could not be started\n"): "no thread",
         (3, b"ddfarm: no answer\n  --budget gives the search more steps\n"): "no answer"}
 NO_ROOM = (b"refused declarer 10 Text 7 OutOfMemory\n", b"refused defenders 10 Text 7 OutOfMemory\n")
-SEARCHES = re.compile(rb" (\d+) searches ran out of steps, (\d+) out of memory,")
+SEARCHES = re.compile(rb" (\d+) search(?:es)? ran out of steps, (\d+) out of memory,")
 PARTLY = {"table": "incomplete", "check": "no memory for a text"}
 DOCUMENTED = {WELL, *TOLD.values(), *PARTLY.values()}
 SIGNALS = {known.name for known in signal.Signals}

@@ -181,9 +181,11 @@ def table_note(tables, steps, memory=0):
     """The note on incomplete tables, if there are any, after so many searches that ran out of steps and of memory."""
     if not tables:
         return b""
-    return (f"{NOTE}{counted(tables, 'table is', 'tables are')} incomplete: {steps} searches ran out of steps, "
-            f"{memory} out of memory, 0 answers were refused\n"
-            "  each missing result was tried as often as --tries says; --budget gives a search more steps\n").encode()
+    advice = "; --budget gives a search more steps" if steps else ""
+    advice += "; use fewer --solvers or give more memory" if memory else ""
+    return (f"{NOTE}{counted(tables, 'table is', 'tables are')} incomplete: "
+            f"{counted(steps, 'search', 'searches')} ran out of steps, {memory} out of memory, 0 answers were refused\n"
+            f"  each missing result was tried as often as --tries says{advice}\n").encode()
 
 
 def predict(text):
