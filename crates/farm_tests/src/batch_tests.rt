@@ -4,7 +4,7 @@ use crate::dividing::{CountsCalls, LetsOthersOn};
 use crate::expect::expect_eq;
 use crate::gates::{TellsAll, Told};
 use crate::remembers::{Call, Remembers, declarers_of, trumps_of};
-use crate::tables::{TURNED, TableTally, boards_of, one_board, tally_of};
+use crate::tallies::{TURNED, TableTally, boards_of, one_board, tally_of};
 use cards::{Seat, Trump};
 use farm::{Means, Settings, run_farm};
 use lease_book::{Book, Reply};

@@ -3,7 +3,7 @@
 
 use crate::expect::expect_eq;
 use crate::flawed::{Change, FindsSome, Flawed, Graphs};
-use crate::tables::{leases_given_up, one_board, tally_of};
+use crate::tallies::{leases_given_up, one_board, tally_of};
 use certificate_graph::Solver;
 use farm::{Means, run_farm};
 use lease_book::Book;

@@ -4,7 +4,7 @@ use crate::expect::expect_eq;
 use crate::gates::Hears;
 use crate::sharing::CountsHolders;
 use crate::solvers::FindsTheAce;
-use crate::tables::{hand_ins_of, one_board, tally_of};
+use crate::tallies::{hand_ins_of, one_board, tally_of};
 use farm::{Means, run_farm};
 use std::test::Fail;
 use test_support::deals::ACE;

@@ -2,7 +2,7 @@
 
 use crate::expect::expect_eq;
 use crate::late::{AfterTheSolver, LiesOnce};
-use crate::tables::{TableTally, one_board, tally_of};
+use crate::tallies::{TableTally, one_board, tally_of};
 use farm::{Means, run_farm};
 use partition_solver::Partition;
 use std::test::Fail;

@@ -53,6 +53,6 @@ mod stack_tests;
 #[cfg(test)]
 mod stacks;
 #[cfg(test)]
-mod tables;
+mod tallies;
 #[cfg(test)]
 mod thread_tests;

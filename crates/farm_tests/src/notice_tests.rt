@@ -4,7 +4,7 @@ use crate::dividing::CountsCalls;
 use crate::expect::expect_eq;
 use crate::flawed::FindsSome;
 use crate::notices::{KeepsNotices, Notice};
-use crate::tables::{TURNED, boards_of, one_board};
+use crate::tallies::{TURNED, boards_of, one_board};
 use cards::{Seat, Side, Suit, Trump};
 use certificate_graph::Solver;
 use farm::{Means, resume_farm, run_farm};

@@ -2,7 +2,7 @@
 
 use crate::expect::expect_eq;
 use crate::solvers::{FindsTheAce, HasNoMemory};
-use crate::tables::{TableTally, boards_of, empty_boards, one_board, tally_of};
+use crate::tallies::{TableTally, boards_of, empty_boards, one_board, tally_of};
 use certificate_graph::Solver;
 use farm::{FarmFault, Means, run_farm};
 use lease_book::{Asked, BookFault, Entry, Reply};

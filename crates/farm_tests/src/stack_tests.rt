@@ -2,7 +2,7 @@
 
 use crate::expect::expect_eq;
 use crate::stacks::{DEPTH, NeedsStack};
-use crate::tables::{one_board, published_in};
+use crate::tallies::{one_board, published_in};
 use cards::{Side, Suit, Trump};
 use farm::{Means, run_farm};
 use lease_book::Entry;

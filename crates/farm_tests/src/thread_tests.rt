@@ -3,7 +3,7 @@
 use crate::expect::expect_eq;
 use crate::gates::{HoldsTheFirst, TwoCheckers, TwoClerks, TwoSolvers};
 use crate::solvers::{FindsTheAce, NT};
-use crate::tables::{one_board, published_in, tally_of};
+use crate::tallies::{one_board, published_in, tally_of};
 use farm::{Means, run_farm};
 use lease_book::{Asked, Book, Gate, Reply};
 use std::alloc::Global;
