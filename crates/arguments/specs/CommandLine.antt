@@ -31,6 +31,10 @@ pub record AreLetters (letters : Letters) : Type 0 where
 abbrev pub word : Text → Rule
 word name = record (new_rule name) { required = true }
 
+-- a word that may be missing
+abbrev pub optional_word : Text → Rule
+optional_word name = new_rule name
+
 -- one of these texts
 abbrev pub choice : Text → Bor (List (Bor Text)) → Rule
 choice name texts = record (word name) { parser = Some (Names texts) }
@@ -79,7 +83,7 @@ text_rule name = record (new_rule name) {
 -- how tables are made
 abbrev pub settings : List Rule
 settings = map number_rule table_options
-    ++ flag progress_option ∷ flag whole_option ∷ text_rule evidence_option ∷ []
+    ++ flag progress_option ∷ flag whole_option ∷ text_rule evidence_option ∷ optional_word (codes "BOARDS") ∷ []
 
 abbrev pub subcommand : Text → List Rule → Shape
 subcommand name rules = record (new_shape name) { rules = rules }
@@ -88,7 +92,7 @@ abbrev pub table : Shape
 table = subcommand (codes "table") settings
 
 abbrev pub audit : Shape
-audit = subcommand (codes "audit") (word (codes "FILE") ∷ flag whole_option ∷ [])
+audit = subcommand (codes "audit") (word (codes "FILE") ∷ optional_word (codes "BOARDS") ∷ flag whole_option ∷ [])
 
 abbrev pub solve : Letters → Shape
 solve letters = subcommand (codes "solve")

@@ -5,7 +5,8 @@ ghost use Rattle.clap.specs.Words.{app_of};
 ghost use Rattle.asked.specs.Options.{numbers_of};
 ghost use Rattle.arguments.specs.CommandLine.{AddsRules, AreLetters, IsArg, IsLeaf, audit, check, choice, choice_rule};
 ghost use Rattle.arguments.specs.CommandLine.{command_line, flag, hand_words, line};
-ghost use Rattle.arguments.specs.CommandLine.{number_rule, plain, play, settings, solve, table, text_rule, word};
+ghost use Rattle.arguments.specs.CommandLine.{number_rule, optional_word, plain, play, settings, solve, table};
+ghost use Rattle.arguments.specs.CommandLine.{text_rule, word};
 
 use crate::help;
 use asked::options::{self, ChoiceOption, FlagOption, NumberOption, TextOption};
@@ -78,6 +79,7 @@ fn audit_command<'a>(alloc: Global) -> Result<Command<'a>, AllocError>
         .after_help(help::AUDIT_EXAMPLE);
     command
         .arg(word_arg(alloc, "FILE", help::AUDIT_FILE))?
+        .arg(optional_word_arg(alloc, "BOARDS", help::BOARDS))?
         .arg(flag_arg(alloc, &options::WHOLE))
 }
 
@@ -158,7 +160,8 @@ fn with_settings<'a>(alloc: Global, command: Command<'a>) -> Result<Command<'a>,
     with_numbers(alloc, command, options::table_options())?
         .arg(flag_arg(alloc, &options::PROGRESS))?
         .arg(flag_arg(alloc, &options::WHOLE))?
-        .arg(text_arg(alloc, &options::EVIDENCE))
+        .arg(text_arg(alloc, &options::EVIDENCE))?
+        .arg(optional_word_arg(alloc, "BOARDS", help::BOARDS))
 }
 
 /// The command with these options.
@@ -180,6 +183,13 @@ fn word_arg<'a>(alloc: Global, name: &'a str, help: &'a str) -> Arg<'a>
     ensures { IsArg (word name.entry.now) result }
 {
     Arg::new(alloc, name).required(true).help(help)
+}
+
+/// A word that is any text and may be missing.
+fn optional_word_arg<'a>(alloc: Global, name: &'a str, help: &'a str) -> Arg<'a>
+    ensures { IsArg (optional_word name.entry.now) result }
+{
+    Arg::new(alloc, name).help(help)
 }
 
 /// A word that is one of these texts.

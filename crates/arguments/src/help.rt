@@ -13,10 +13,10 @@ boards: reads and writes PBN 2.1";
 
 pub const EXAMPLE: &str = "\
 Examples:
-  ddfarm table <club.pbn >tables.pbn
+  ddfarm table club.pbn >tables.pbn
 writes the tables of all boards of a tournament; with --evidence club.dde it keeps the
 evidence for them.
-  ddfarm audit club.dde <club.pbn >tables.pbn
+  ddfarm audit club.dde club.pbn >tables.pbn
 writes what evidence shows of them: it is checked, and nothing is searched.
   ddfarm solve \"N:A... K... Q... J...\" N NT >answer.txt
   ddfarm check \"N:A... K... Q... J...\" N NT <answer.txt
@@ -30,17 +30,20 @@ a line, and let you try to take more.
 pub const TABLE_ABOUT: &str = "\
 Reads the boards of a tournament in PBN and writes their double-dummy tables";
 
-pub const TABLE_USAGE: &str = "ddfarm table [OPTIONS] <club.pbn >tables.pbn";
+pub const TABLE_USAGE: &str = "ddfarm table [OPTIONS] [BOARDS] >tables.pbn";
+
+pub const BOARDS: &str = "\
+The file with the boards; without it, or with `-`, they are read from the standard input";
 
 pub const TABLE_EXAMPLE: &str = "\
 Examples:
-  ddfarm table <club.pbn >tables.pbn
-reads a PBN 2.1 text from the standard input and writes one to the standard
-output: of each board its name, its deal and its table, twenty numbers of tricks,
-each backed by certificates that were checked. Where some weren't found, a line such
+  ddfarm table club.pbn >tables.pbn
+reads a PBN 2.1 text and writes one to the standard output: of each board its
+name, its deal and its table, twenty numbers of tricks, each backed by
+certificates that were checked. Where some weren't found, a line such
 as `; table incomplete: 19 of 20` stands in place of the table. With --whole the text
 is written as it is, with the tables in it.
-  ddfarm table --evidence club.dde <club.pbn >tables.pbn
+  ddfarm table --evidence club.dde club.pbn >tables.pbn
 writes the same, and keeps the certificates in club.dde, which is made where it isn't
 there. What it shows isn't searched again, and what is searched is added as it is found.
 So a run that was stopped goes on by the same line, and `ddfarm audit` makes the tables
@@ -60,24 +63,24 @@ What is refused, each with its line:
 
 Exit status:
   0  no table is incomplete
-  1  the input, the output or the evidence failed, FILE can't be opened, memory ran out
-     outside a search, or a thread could not be started
+  1  the boards, the output or the evidence failed, a file can't be opened, memory ran
+     out outside a search, or a thread could not be started
   2  the command line or the text is refused
   3  a table is incomplete: a note says whether steps or memory ran out";
 
 pub const AUDIT_ABOUT: &str = "\
 Reads the boards of a tournament and writes the tables that evidence shows of them";
 
-pub const AUDIT_USAGE: &str = "ddfarm audit [--whole] FILE <club.pbn >tables.pbn";
+pub const AUDIT_USAGE: &str = "ddfarm audit [--whole] FILE [BOARDS] >tables.pbn";
 
 pub const AUDIT_FILE: &str = "\
 The file with the evidence, or a pipe: it is read once, from front to back";
 
 pub const AUDIT_EXAMPLE: &str = "\
 Examples:
-  ddfarm audit club.dde <club.pbn >tables.pbn
-  ddfarm audit <(zstd -dc club.dde.zst) <club.pbn >tables.pbn
-reads the boards from the standard input, as `ddfarm table` does, and then evidence, as
+  ddfarm audit club.dde club.pbn >tables.pbn
+  ddfarm audit <(zstd -dc club.dde.zst) club.pbn >tables.pbn
+reads the boards, as `ddfarm table` does, and then evidence, as
 `ddfarm table --evidence club.dde` keeps it. Nothing is searched and nothing is trusted:
 each certificate is checked, and a number is written only where certificates show it.
 The tables are those of `ddfarm table`. Where some numbers weren't shown, a line such as
@@ -90,7 +93,7 @@ deals are passed over. So are damaged ones, and that is told once on the error o
 
 Exit status:
   0  no table is incomplete
-  1  FILE can't be opened or read, the input or the output failed, or memory ran out
+  1  a file can't be opened or read, the output failed, or memory ran out
   2  the command line is refused, or the text, as by `ddfarm table`
   3  a table is incomplete: the evidence doesn't show all of its numbers";
 

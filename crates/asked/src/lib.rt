@@ -8,4 +8,4 @@ mod subcommands;
 
 pub use settings::{Settings, SettingsFault};
 pub use sides::ContractSide;
-pub use subcommands::{PlayOptions, Subcommand, TableOptions};
+pub use subcommands::{AuditOptions, PageForm, PlayOptions, Subcommand, TableOptions};

@@ -49,12 +49,16 @@ pub enum Subcommand<'a> {
     /// A play of the cards against a certificate of an answer.
     Play(PlayOptions<'a>),
     /// The tables that evidence shows for the boards of the input.
-    Audit {
-        /// The name of the file with the evidence.
-        file: &'a str,
-        /// Whether the input is written as it is, with its tables in it.
-        whole: bool,
-    },
+    Audit(AuditOptions<'a>),
+}
+
+/// Which page of a text's tables is written.
+#[derive(Clone, Copy)]
+pub enum PageForm {
+    /// The tables alone.
+    Tables,
+    /// The text as it is, with its tables in it.
+    Whole,
 }
 
 /// What is asked of a play against a certificate.
@@ -79,8 +83,21 @@ pub struct TableOptions<'a> {
     pub settings: Settings,
     /// Whether the gate is told of the work.
     pub progress: bool,
-    /// Whether the input is written as it is, with its tables in it.
-    pub whole: bool,
+    /// Which page is written.
+    pub page: PageForm,
+    /// The name of the file with the boards, if it isn't the input.
+    pub boards: Option<&'a str>,
     /// The name of the file in which evidence is kept, where it is kept.
     pub evidence: Option<&'a str>,
+}
+
+/// What is asked of an audit.
+#[derive(Clone, Copy)]
+pub struct AuditOptions<'a> {
+    /// The name of the file with the evidence.
+    pub file: &'a str,
+    /// Which page is written.
+    pub page: PageForm,
+    /// The name of the file with the boards, if it isn't the input.
+    pub boards: Option<&'a str>,
 }

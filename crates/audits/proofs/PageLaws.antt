@@ -1,56 +1,43 @@
 -- The page after an audit of the text's boards.
-use Rattle.std.proofs.Common.{◌≡◌, ℕ, List, length, sym, ◌∙◌, ap, subst}
-use Rattle.cards.specs.Devices.{Device, Adds, AddsBeginning}
+use Rattle.std.proofs.Common.{◌≡◌, ℕ, List, Ok, Err, sym, subst}
+use Rattle.cards.specs.Devices.{Device}
+use Rattle.pbn_deals.specs.Reading.{TextAnswers}
 use Rattle.streams.specs.RunStreams.{devices}
 use Rattle.lease_book.specs.Books.{Ledger}
 use Rattle.lease_book.specs.Histories.{Terms}
 use Rattle.tables.specs.declared.sheets.Report.{Report}
-use Rattle.lease_book.specs.BookResults.{book_results}
-use Rattle.tables.specs.TablesText.{complete_count}
+use Rattle.tournaments.specs.declared.faults.MakeFault.{MakeFault}
 use Rattle.tournaments.specs.Making.{PageFact}
+use Rattle.tournaments.specs.Putting.{PutsPage}
+use Rattle.tournaments.proofs.PutLaws.{says_boards, page_filled, page_beginning}
 use Rattle.evidence.specs.Wholes.{Whole}
 use Rattle.evidence.specs.declared.damages.Damage.{Damage}
+use Rattle.audits.specs.declared.faults.AuditFault.TheVariants.{Page}
 use Rattle.audits.specs.Reads.{sections_of}
-use Rattle.audits.specs.Audits.{IsAudit, AuditsText, FillsFromEvidence, BeginsFromEvidence}
+use Rattle.audits.specs.Audits.{IsAudit, AuditsText, FillsFromEvidence, BeginsFromEvidence, AuditsTables}
 
-module _ (is_page : PageFact) (source source' : Device) (evidence evidence' : Whole) (text : List ℕ) (book : Ledger) (damage : Damage)
-    (made : AuditsText source source' evidence evidence' text book damage) (sink sink' : Device) (page : List ℕ) (is : is_page text made.boards book.events page) where
-  pub fills : (report : Report) → Adds sink sink' page → report.boards ≡ length book.terms.boards → report.complete ≡ complete_count book.terms.boards (book_results book.terms.boards book.events)
-      → FillsFromEvidence is_page (devices source sink) (devices source' sink') evidence evidence' report book damage
-  fills report written boards_are complete_are =
-      let audits = made.audits in
-      record {
-        parts = audits.parts;
-        read = audits.read;
-        page = record {
-          boards = made.boards;
-          read = record { text = text; all = made.all; read = made.read };
-          terms = audits.terms_are;
-          run = subst (λ (t : Terms). IsAudit (sections_of audits.parts) t book.events) (sym audits.terms_are) audits.audit;
-          page = page;
-          is = is;
-          written = written;
-          counts = record {
-            boards_are = boards_are ∙ ap (λ (t : Terms). length t.boards) audits.terms_are;
-            complete_are = complete_are ∙ ap (λ (t : Terms). complete_count t.boards (book_results t.boards book.events)) audits.terms_are;
-          };
-        };
-      }
+module _ (is_page : PageFact) (source source' sink sink' : Device) (evidence evidence' : Whole) (text : List ℕ) (book : Ledger) (damage : Damage)
+    (made : AuditsText source source' evidence evidence' text book damage) where
+  pub is_audit : IsAudit (sections_of made.audits.parts) book.terms book.events
+  is_audit = subst (λ (t : Terms). IsAudit (sections_of made.audits.parts) t book.events) (sym made.audits.terms_are) made.audits.audit
 
-  pub begins_page : AddsBeginning sink sink' page → BeginsFromEvidence is_page (devices source sink) (devices source' sink') evidence evidence'
-  begins_page written =
-      let audits = made.audits in
+  pub says : TextAnswers text (Ok book.terms.boards)
+  says = says_boards (IsAudit (sections_of made.audits.parts)) is_page made.boards 1 1 source source' sink sink' text book made.all made.read made.audits.terms_are
+
+  pub fills : (report : Report) → PutsPage is_page text book sink sink' (Ok report) → FillsFromEvidence is_page (devices source sink) (devices source' sink') evidence evidence' report book damage
+  fills report put = record {
+    parts = made.audits.parts;
+    read = made.audits.read;
+    page = page_filled (IsAudit (sections_of made.audits.parts)) is_page made.boards 1 1 source source' sink sink' text book made.all made.read made.audits.terms_are is_audit report put;
+  }
+
+  pub begins_page : (fault : MakeFault) → PutsPage is_page text book sink sink' (Err fault) → AuditsTables is_page (devices source sink) (devices source' sink') evidence evidence' (Err (Page fault))
+  begins_page fault put =
+      let begins : BeginsFromEvidence is_page (devices source sink) (devices source' sink') evidence evidence' =
       record {
-        parts = audits.parts;
+        parts = made.audits.parts;
         damage = damage;
-        read = audits.read;
-        page = record {
-          boards = made.boards;
-          read = record { text = text; all = made.all; read = made.read };
-          events = book.events;
-          run = audits.audit;
-          page = page;
-          is = is;
-          written = written;
-        };
-      }
+        read = made.audits.read;
+        page = page_beginning (IsAudit (sections_of made.audits.parts)) is_page made.boards 1 1 source source' sink sink' text book made.all made.read made.audits.terms_are is_audit fault put;
+      } in
+      subst (λ (f : MakeFault). AuditsTables is_page (devices source sink) (devices source' sink') evidence evidence' (Err (Page f))) (sym put.0) begins

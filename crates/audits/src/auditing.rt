@@ -2,8 +2,7 @@
 
 ghost use Rattle.std.specs.Prelude.{◌≡◌};
 ghost use Rattle.lease_book.specs.Books.{AreBoards};
-ghost use Rattle.tournaments.specs.Pages.{IsTablesPage};
-ghost use Rattle.tournaments.specs.WholePages.{IsWholePage};
+ghost use Rattle.tournaments.specs.Putting.{page_fact};
 ghost use Rattle.streams.specs.RunStreams.{devices};
 ghost use Rattle.audits.specs.Audits.{AuditsOrStops, AuditsOrHalts, AuditsTables};
 
@@ -11,16 +10,16 @@ use crate::faults::AuditFault;
 use crate::firsts::FirstProofs;
 use crate::publishing::publish_firsts;
 use crate::reading::read_firsts;
+use asked::PageForm;
 use cards::{Sink, Source};
 use evidence::{Damage, Sections};
-use lease_book::{Book, is_true_history, write_tables};
+use lease_book::{Book, is_true_history};
 use pbn_deals::Board;
 use std::alloc::Global;
 use std::thread::Threads;
 use streams::{InputFault, read_all};
 use tables::Report;
-use tournaments::{MakeFault, open_book, tables_are_read, take_boards, whole_pages_are_read};
-use whole_texts::{one_is_written, write_whole};
+use tournaments::{MakeFault, open_book, put_page, take_boards};
 
 /// A book over the boards, in which what the evidence shows is published, and what was passed over.
 fn audit_boards<R: Threads + Sync, E: Source>(
@@ -72,7 +71,8 @@ fn audit_text<R: Threads + Sync, I: Source, E: Source>(
 }
 
 /// Reads the boards of a PBN text to its end and then the evidence, checks each section of it whose deal is on a board,
-/// and writes the tables of what was shown. The book and what was passed over are handed out. Nothing is searched.
+/// and writes the page that is asked for, with what was shown. The book and what was passed over are handed out. Nothing
+/// is searched.
 ///
 /// Whatever the evidence is, a number that is written is the double-dummy value of its deal. An entry has one exactly
 /// where a section for its deal and denomination has a claim for its declarer that the graphs of the section show, and
@@ -81,39 +81,17 @@ fn audit_text<R: Threads + Sync, I: Source, E: Source>(
 pub fn audit_tables<R: Threads + Sync, I: Source, E: Source, O: Sink>(
     rt: &R,
     alloc: Global,
+    page: PageForm,
     input: &mut I,
     evidence: &mut Sections<E>,
     output: &mut O,
 ) -> Result<(Report, Book, Damage), AuditFault>
-    ensures { AuditsTables IsTablesPage (devices (I.state input.old) (O.state output.old))
-        (devices (I.state input.new) (O.state output.new)) evidence.old evidence.new result }
-{
-    let (_, book, damage) = audit_text(rt, alloc, input, evidence)?;
-    tables_are_read();
-    match write_tables(&book, output) {
-        Ok(report) => Ok((report, book, damage)),
-        Err(_) => Err(AuditFault::Page(MakeFault::Write)),
-    }
-}
-
-/// Reads a PBN text to its end and then the evidence, checks each section of it whose deal is on a board, and writes
-/// the text as it was read, with the tables of what was shown in it. The book and what was passed over are handed out.
-/// Of each number that is written and of faults holds what [`audit_tables`] says.
-pub fn audit_whole<R: Threads + Sync, I: Source, E: Source, O: Sink>(
-    rt: &R,
-    alloc: Global,
-    input: &mut I,
-    evidence: &mut Sections<E>,
-    output: &mut O,
-) -> Result<(Report, Book, Damage), AuditFault>
-    ensures { AuditsTables IsWholePage (devices (I.state input.old) (O.state output.old))
+    ensures { AuditsTables (page_fact page) (devices (I.state input.old) (O.state output.old))
         (devices (I.state input.new) (O.state output.new)) evidence.old evidence.new result }
 {
     let (text, book, damage) = audit_text(rt, alloc, input, evidence)?;
-    one_is_written();
-    whole_pages_are_read();
-    match write_whole(text.as_slice(), &book, output) {
+    match put_page(text.as_slice(), &book, page, output) {
         Ok(report) => Ok((report, book, damage)),
-        Err(_) => Err(AuditFault::Page(MakeFault::Write)),
+        Err(fault) => Err(AuditFault::Page(fault)),
     }
 }

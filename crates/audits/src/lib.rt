@@ -13,7 +13,7 @@ mod publishing;
 mod reading;
 mod showing;
 
-pub use auditing::{audit_tables, audit_whole};
+pub use auditing::audit_tables;
 pub use faults::AuditFault;
 pub use reading::EvidenceRead;
 pub use showing::show_evidence;

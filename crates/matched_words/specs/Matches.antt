@@ -11,6 +11,9 @@ use Rattle.asked.specs.declared.settings.Settings.{Settings}
 use Rattle.asked.specs.declared.subcommands.Subcommand.{Subcommand}
 use Rattle.asked.specs.declared.subcommands.PlayOptions.{PlayOptions}
 use Rattle.asked.specs.declared.subcommands.TableOptions.{TableOptions}
+use Rattle.asked.specs.declared.subcommands.AuditOptions.{AuditOptions}
+use Rattle.asked.specs.declared.subcommands.PageForm.{PageForm}
+use Rattle.asked.specs.declared.subcommands.PageForm.TheVariants.{Tables, Whole}
 use Rattle.asked.specs.declared.subcommands.Subcommand.TheVariants.{Plain, Solve, Table, Check, Line, Play, Audit}
 use Rattle.asked.specs.Options.{OptionNumbers, IsIn, nearest_in, budget_option, progress_option, whole_option}
 use Rattle.asked.specs.Options.{evidence_option, side_option, side_word}
@@ -59,12 +62,36 @@ SaysFlag said name flag = first_of name said ≡ Some (flag_letters flag)
 abbrev pub SaysText : List Row → Text → Option (Bor Text) → Type 0
 SaysText said name text = option_map (λ t. t.now) text ≡ first_of name said
 
+-- what stands for the option `--whole` among the words where this page is asked for
+abbrev pub page_letters : PageForm → Text
+page_letters Tables = flag_letters false
+page_letters Whole = flag_letters true
+
+abbrev pub SaysPage : List Row → PageForm → Type 0
+SaysPage said page = first_of whole_option said ≡ Some (page_letters page)
+
+-- the file of this name, or the input where there is no name or it is `-`
+abbrev pub named_boards : Option Text → Option Text
+named_boards None = None
+named_boards (Some name) = if bytes_eq name (codes "-") then None else Some name
+
+-- the words name the file with the boards
+abbrev pub SaysBoards : List Row → Option (Bor Text) → Type 0
+SaysBoards said boards = option_map (λ t. t.now) boards ≡ named_boards (first_of (codes "BOARDS") said)
+
 -- the words say the options of `table`
 abbrev pub SaysTable : List Row → ℕ → TableOptions → Type 0
 SaysTable said processors options = SaysSettings said processors options.settings
     × SaysFlag said progress_option options.progress
-    × SaysFlag said whole_option options.whole
+    × SaysPage said options.page
+    × SaysBoards said options.boards
     × SaysText said evidence_option options.evidence
+
+-- the words say the options of `audit`
+abbrev pub SaysAudit : List Row → AuditOptions → Type 0
+SaysAudit said options = (first_of (codes "FILE") said ≡ Some options.file.now)
+    × SaysPage said options.page
+    × SaysBoards said options.boards
 
 -- the words say the options of `play`
 abbrev pub SaysPlay : List Row → PlayOptions → Type 0
@@ -109,8 +136,8 @@ SaysNamed (Some line_name) said processors asked = (deal : NamedDeal)
     × (asked ≡ Line deal.layout deal.seat deal.trump) × SaysDeal said (codes "DECLARER") deal
 SaysNamed (Some play_name) said processors asked = (options : PlayOptions)
     × (asked ≡ Play options) × SaysPlay said options
-SaysNamed (Some audit_name) said processors asked = (file : Bor Text) × (whole : Bool)
-    × (asked ≡ Audit file whole) × (first_of (codes "FILE") said ≡ Some file.now) × SaysFlag said whole_option whole
+SaysNamed (Some audit_name) said processors asked = (options : AuditOptions)
+    × (asked ≡ Audit options) × SaysAudit said options
 SaysNamed None said processors asked = ⊥
 
 abbrev pub Says : Text → List Row → ℕ → Subcommand → Type 0

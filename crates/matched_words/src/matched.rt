@@ -4,12 +4,14 @@ ghost use Rattle.std.specs.Prelude.{◌≡◌, ◌↔◌, ℕ, Some, codes, opti
 ghost use Rattle.clap.specs.Words.{first_of, found_of, rows_of, subcommand_rows_of};
 ghost use Rattle.cards.specs.Seats.{seat_letter};
 ghost use Rattle.cards.specs.Pack.{trump_letters};
-ghost use Rattle.asked.specs.Options.{numbers_of, side_option, side_word};
-ghost use Rattle.matched_words.specs.Matches.{IsRead, flag_letters, Says, SaysDeal, SaysMatched, SaysNumber};
-ghost use Rattle.matched_words.specs.Matches.{SaysSettings, SaysThreads};
+ghost use Rattle.asked.specs.Options.{numbers_of, side_option, side_word, whole_option};
+ghost use Rattle.matched_words.specs.Matches.{IsRead, flag_letters, named_boards, page_letters, Says, SaysDeal};
+ghost use Rattle.matched_words.specs.Matches.{SaysMatched, SaysNumber, SaysSettings, SaysThreads};
 
 use asked::options::{self, NumberOption};
-use asked::{ContractSide, PlayOptions, Settings, Subcommand, TableOptions};
+use asked::{
+    AuditOptions, ContractSide, PageForm, PlayOptions, Settings, Subcommand, TableOptions,
+};
 use cards::{Seat, Trump};
 use clap::ArgMatches;
 
@@ -70,12 +72,14 @@ fn table_subcommand<'a>(said: &ArgMatches<'a>, processors: usize) -> Option<Subc
 {
     let settings = settings_of(said, processors)?;
     let progress = flag_of(said, options::PROGRESS.name)?;
-    let whole = flag_of(said, options::WHOLE.name)?;
+    let page = page_of(said)?;
+    let boards = boards_of(said);
     let evidence = word_of(said, options::EVIDENCE.name);
     Some(Subcommand::Table(TableOptions {
         settings,
         progress,
-        whole,
+        page,
+        boards,
         evidence,
     }))
 }
@@ -140,8 +144,39 @@ fn audit_subcommand<'a>(said: &ArgMatches<'a>) -> Option<Subcommand<'a>>
     ensures { (processors : ℕ) → IsRead (Says (codes "audit") (rows_of (found_of said.now)) processors) result }
 {
     let file = word_of(said, "FILE")?;
-    let whole = flag_of(said, options::WHOLE.name)?;
-    Some(Subcommand::Audit { file, whole })
+    let page = page_of(said)?;
+    let boards = boards_of(said);
+    Some(Subcommand::Audit(AuditOptions { file, page, boards }))
+}
+
+/// Which page of the tables is asked for.
+fn page_of(said: &ArgMatches<'_>) -> Option<PageForm>
+    ensures { (page : _) → (result ≡ Some page)
+        ↔ (first_of whole_option (rows_of (found_of said.now)) ≡ Some (page_letters page)) }
+{
+    page_of_letters(word_of(said, options::WHOLE.name)?)
+}
+
+/// The page for what `clap` writes for the option `--whole`.
+fn page_of_letters(letters: &str) -> Option<PageForm>
+    ensures { (page : _) → (result ≡ Some page) ↔ (letters.now ≡ page_letters page) }
+{
+    match letters {
+        "false" => Some(PageForm::Tables),
+        "true" => Some(PageForm::Whole),
+        _ => None,
+    }
+}
+
+/// The file that is named for the boards. The name `-` is that of the input.
+fn boards_of<'a>(said: &ArgMatches<'a>) -> Option<&'a str>
+    ensures { option_map (λ text. text.now) result
+        ≡ named_boards (first_of (codes "BOARDS") (rows_of (found_of said.now))) }
+{
+    match word_of(said, "BOARDS")? {
+        "-" => None,
+        name => Some(name),
+    }
 }
 
 /// The layout, the seat of this name and the denomination.

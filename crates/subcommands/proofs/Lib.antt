@@ -1,6 +1,5 @@
 pub mod TellLemmas
 pub mod RunLemmas
-pub mod PutLaws
 pub mod BesideLaws
 pub mod ExplainLaws
 pub mod ReportLaws

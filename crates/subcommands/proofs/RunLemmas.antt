@@ -1,10 +1,11 @@
--- How a run ends, by the name of the file that is asked for.
-use Rattle.std.proofs.Common.{◌≡◌, ℕ, List, Option, Result, subst}
+-- How a run ends, by what was asked.
+use Rattle.std.proofs.Common.{◌≡◌, Result, subst}
 use Rattle.cards.specs.Devices.{Device}
+use Rattle.asked.specs.declared.subcommands.Subcommand.{Subcommand}
 use Rattle.subcommands.specs.declared.faults.RunFault.{RunFault}
 use Rattle.subcommands.specs.declared.outcomes.Outcome.{Outcome}
 use Rattle.answer_subcommands.specs.declared.statuses.Status.{Status}
 use Rattle.subcommands.specs.Runs.{Ends}
 
-pub ends-file : (answer : Result Outcome RunFault) (errors errors' : Device) (status : Status) → {one other : Option (List ℕ)} → one ≡ other → Ends one answer errors errors' status → Ends other answer errors errors' status
-ends-file answer errors errors' status is ends = subst (λ (file : Option (List ℕ)). Ends file answer errors errors' status) is ends
+pub ends_of : (answer : Result Outcome RunFault) (errors errors' : Device) (status : Status) → {one other : Subcommand} → one ≡ other → Ends one answer errors errors' status → Ends other answer errors errors' status
+ends_of answer errors errors' status is ends = subst (λ (run : Subcommand). Ends run answer errors errors' status) is ends

@@ -1,5 +1,6 @@
 -- What `audit` does with the name of a file and the input.
-use Rattle.std.specs.Prelude.{◌≡◌, ℕ, Bool, List, [], Result, Ok, Err, ◌⊎◌}
+use Rattle.std.specs.Prelude.{◌≡◌, ℕ, List, [], Result, Ok, Err, ◌⊎◌}
+use Rattle.asked.specs.declared.subcommands.PageForm.{PageForm}
 use Rattle.cards.specs.Devices.{Device}
 use Rattle.streams.specs.RunStreams.{Devices}
 use Rattle.lease_book.specs.Books.{Ledger}
@@ -15,7 +16,7 @@ use Rattle.answer_subcommands.specs.declared.named_files.FileFault.TheVariants.{
 use Rattle.subcommands.specs.declared.outcomes.Outcome.{Outcome}
 use Rattle.answer_subcommands.specs.NamedFiles.{Opens}
 use Rattle.subcommands.specs.Outcomes.{quiet}
-use Rattle.subcommands.specs.Pages.{page_fact}
+use Rattle.tournaments.specs.Putting.{page_fact}
 use Rattle.subcommands.specs.Reports.{page_status, unshown_notes}
 use Rattle.subcommands.specs.Statuses.{audit_fault}
 
@@ -25,14 +26,14 @@ unread file = record { source = file; held = []; before = 0 }
 
 -- The file of this name was opened, and this came of the audit of the input by what the file tells, from its first byte
 -- on.
-pub record AuditsOpened (opens : Opens) (name : List ℕ) (whole : Bool) (old new : Devices)
+pub record AuditsOpened (opens : Opens) (name : List ℕ) (page : PageForm) (old new : Devices)
     (audited : Result (Report × Ledger × Damage) AuditFault)
     : Type 0 where
   pub file : Device
   pub opened : opens name (Ok file)
   pub none_failed : file.failed ≡ 0
   pub left : Whole
-  pub audits : AuditsTables (page_fact whole) old new (unread file) left audited
+  pub audits : AuditsTables (page_fact page) old new (unread file) left audited
 
 -- the file of this name can't be opened, for this reason, and nothing was read or written
 pub record OpensNothing (opens : Opens) (name : List ℕ) (why : CannotOpen) (old new : Devices)
@@ -42,16 +43,16 @@ pub record OpensNothing (opens : Opens) (name : List ℕ) (why : CannotOpen) (ol
 
 -- What was answered, what the input has given and what the output has got: the page is that of the audit, which counts
 -- the damage.
-abbrev pub AuditsFile : Opens → List ℕ → Bool → Devices → Devices → Result Outcome RunFault → Type 0
-AuditsFile opens name whole old new (Ok outcome) =
+abbrev pub AuditsFile : Opens → List ℕ → PageForm → Devices → Devices → Result Outcome RunFault → Type 0
+AuditsFile opens name page old new (Ok outcome) =
     (report : Report) × (book : Ledger)
-    × (outcome ≡ record (quiet (page_status whole report book.terms.boards)) {
+    × (outcome ≡ record (quiet (page_status page report book.terms.boards)) {
       damage = outcome.damage;
       notes = unshown_notes report book.terms.boards;
     })
-    × AuditsOpened opens name whole old new (Ok (report, book, outcome.damage))
-AuditsFile opens name whole old new (Err fault) =
+    × AuditsOpened opens name page old new (Ok (report, book, outcome.damage))
+AuditsFile opens name page old new (Err fault) =
     ((why : CannotOpen) × (fault ≡ Evidence (Open why))
     × OpensNothing opens name why old new)
     ⊎ ((audited : AuditFault) × (fault ≡ audit_fault audited)
-    × AuditsOpened opens name whole old new (Err audited))
+    × AuditsOpened opens name page old new (Err audited))

@@ -1,7 +1,8 @@
 -- Tables of a run that begins with what a file of evidence shows.
-use Rattle.std.specs.Prelude.{◌≡◌, ℕ, ◌+◌, ◌≤◌, min, Bool, true, false, List, ◌++◌, Option, Some, Result, Ok, Err}
+use Rattle.std.specs.Prelude.{◌≡◌, ℕ, ◌+◌, ◌≤◌, min, true, false, List, ◌++◌, Option, Some, Result, Ok, Err}
 use Rattle.std.proofs.Common.{Vec, Global}
 use Rattle.asked.specs.declared.settings.Settings.{Settings}
+use Rattle.asked.specs.declared.subcommands.PageForm.{PageForm}
 use Rattle.asked.specs.declared.subcommands.TableOptions.{TableOptions}
 use Rattle.cards.specs.Devices.{Device, one_more}
 use Rattle.pbn_deals.specs.declared.boards.Board.{Board}
@@ -23,13 +24,14 @@ use Rattle.tables.specs.declared.sheets.Report.{Report}
 use Rattle.tournaments.specs.declared.faults.MakeFault.{MakeFault}
 use Rattle.tournaments.specs.declared.faults.MakeFault.TheVariants.{OutOfMemory, Read, Pbn, NoThread, Write}
 use Rattle.tournaments.specs.Making.{RunFact, HasBoards, MakesPage}
+use Rattle.tournaments.specs.Putting.{page_fact}
 use Rattle.audits.specs.declared.reading.EvidenceRead.{EvidenceRead}
 use Rattle.audits.specs.Reads.{sections_of, ReadsUntil}
 use Rattle.audits.specs.Shown.{PublishesShown}
 use Rattle.subcommands.specs.declared.faults.RunFault.{RunFault}
 use Rattle.subcommands.specs.declared.outcomes.Outcome.{Outcome}
 use Rattle.subcommands.specs.Auditing.{unread}
-use Rattle.subcommands.specs.Pages.{IsOutcomeOf, page_fact}
+use Rattle.subcommands.specs.Pages.{IsOutcomeOf}
 use Rattle.subcommands.specs.Statuses.{make_fault}
 
 -- How often an entry is leased at most: once for what evidence shows, and then as often as settings say, but never more
@@ -94,7 +96,7 @@ MakesBookBeside told may_tell settings source source' (Err Write) = ⊥
 abbrev pub MakesPageBeside : RunFact → TableOptions → Devices → Devices
     → Result (Report × Ledger) MakeFault → Type 0
 MakesPageBeside is_run options old new made =
-    MakesPage is_run (page_fact options.whole) options.settings.term (tries_beside options.settings.tries) old
+    MakesPage is_run (page_fact options.page) options.settings.term (tries_beside options.settings.tries) old
     new made
 
 -- a run beside a file which tells this, wherever reading it ended
@@ -102,17 +104,17 @@ abbrev pub IsRunBesideSome : Option (List ℕ) → MayTell → RunFact
 IsRunBesideSome told may_tell terms events = (read : EvidenceRead) × IsRunBesideFile told read may_tell terms events
 
 -- what came of a page beside a file: but for what is said of the file, it is what comes of one without
-abbrev pub IsOutcomeBeside : Bool → Report → Ledger → Outcome → Type 0
-IsOutcomeBeside whole report book outcome =
-    (page : Outcome) × IsOutcomeOf whole report book page × (outcome.status ≡ page.status)
-    × (record outcome.notes { read_only = false } ≡ page.notes)
+abbrev pub IsOutcomeBeside : PageForm → Report → Ledger → Outcome → Type 0
+IsOutcomeBeside page report book outcome =
+    (plain : Outcome) × IsOutcomeOf page report book plain × (outcome.status ≡ plain.status)
+    × (record outcome.notes { read_only = false } ≡ plain.notes)
 
 -- The tables of the boards of the input beside a file that tells this: how far it was read, and this is the damage of
 -- what was read.
 abbrev pub WritesBeside : Option (List ℕ) → MayTell → TableOptions → Devices → Devices
     → Result Outcome RunFault → Type 0
 WritesBeside told may_tell options old new (Ok outcome) =
-    (report : Report) × (book : Ledger) × IsOutcomeBeside options.whole report book outcome
+    (report : Report) × (book : Ledger) × IsOutcomeBeside options.page report book outcome
     × MakesPageBeside (IsRunBesideFile told (record { damage = outcome.damage; ended = outcome.read }) may_tell)
     options old new (Ok (report, book))
 WritesBeside told may_tell options old new (Err fault) =

@@ -21,6 +21,7 @@ second_line (byte ∷ more) = codes "  " ++ (byte ∷ more) ++ 10 ∷ []
 
 -- ---- a file that can't be opened
 abbrev pub opening_of : RunFault → Option CannotOpen
+opening_of (fault.Boards (file.Open why)) = Some why
 opening_of (fault.Evidence (file.Open why)) = Some why
 opening_of (fault.AnswerFile (file.Open why)) = Some why
 opening_of _ = None
@@ -93,6 +94,7 @@ explanation_of (fault.Layout refusal) = layout_explanation refusal
 explanation_of (fault.Pbn refusal) = text_explanation refusal
 explanation_of fault.NoResult = codes "an answer begins with a line as solve prints it: result 9"
 explanation_of fault.NoAnswer = codes "--budget gives the search more steps"
+explanation_of (fault.Boards why) = file_explanation why
 explanation_of (fault.Evidence why) = file_explanation why
 explanation_of (fault.AnswerFile why) = file_explanation why
 explanation_of (fault.Unkept why) = keep_explanation why

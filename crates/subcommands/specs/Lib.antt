@@ -11,4 +11,5 @@ pub mod Pages
 pub mod Auditing
 pub mod Beside
 pub mod KeptTables
+pub mod NamedBoards
 pub mod Runs

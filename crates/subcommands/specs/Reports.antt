@@ -1,6 +1,8 @@
 -- How a run ends with a page, and what is said of it.
 use Rattle.std.specs.Prelude.{ℕ, ◌-◌, Bool, true, false, List, length, count_by, is_some, nat_eq, nat_lt}
 use Rattle.std.specs.Prelude.{if◌then◌else◌}
+use Rattle.asked.specs.declared.subcommands.PageForm.{PageForm}
+use Rattle.asked.specs.declared.subcommands.PageForm.TheVariants.{Tables, Whole}
 use Rattle.pbn_deals.specs.declared.boards.Board.{Board}
 use Rattle.lease_book.specs.declared.events.Event.{Event}
 use Rattle.lease_book.specs.declared.events.Reply.{Reply}
@@ -27,14 +29,14 @@ refusal_count events = count_by (λ event. is_refused_reply event.reply) events
 
 -- how many boards are to have a complete table: those of the input that have a deal, or all in a page of tables alone,
 -- which says of each other one that it is incomplete
-abbrev pub wanted_tables : Bool → Report → List Board → ℕ
-wanted_tables true report boards = deal_count boards
-wanted_tables false report boards = report.boards
+abbrev pub wanted_tables : PageForm → Report → List Board → ℕ
+wanted_tables Tables report boards = report.boards
+wanted_tables Whole report boards = deal_count boards
 
 -- a table of the page is incomplete, or all are complete
-abbrev pub page_status : Bool → Report → List Board → Status
-page_status whole report boards =
-    if nat_lt report.complete (wanted_tables whole report boards) then Incomplete else Done
+abbrev pub page_status : PageForm → Report → List Board → Status
+page_status page report boards =
+    if nat_lt report.complete (wanted_tables page report boards) then Incomplete else Done
 
 -- how many tables of boards with a deal are incomplete
 abbrev pub lacking_tables : Report → List Board → ℕ

@@ -8,7 +8,7 @@ use Rattle.cards.specs.Devices.{Device, Fails, Adds, AddsBeginning}
 use Rattle.streams.specs.declared.inputs.InputFault.{InputFault}
 use Rattle.evidence_solvers.specs.declared.faults.KeepFault.{KeepFault}
 use Rattle.subcommands.specs.declared.faults.RunFault.{RunFault}
-use Rattle.subcommands.specs.declared.faults.RunFault.TheVariants.{Write, Unkept}
+use Rattle.subcommands.specs.declared.faults.RunFault.TheVariants.{Boards, Write, Unkept}
 use Rattle.subcommands.specs.declared.outcomes.Outcome.{Outcome}
 use Rattle.answer_subcommands.specs.declared.statuses.Status.{Status}
 use Rattle.answer_subcommands.specs.declared.statuses.Status.TheVariants.{Done, Failed, Refused, Incomplete, Rejected}
@@ -27,6 +27,7 @@ use Rattle.answer_subcommands.specs.Lines.{FollowsAnswer}
 use Rattle.answer_subcommands.specs.Playing.{PlaysAnswer}
 use Rattle.subcommands.specs.Auditing.{AuditsFile}
 use Rattle.subcommands.specs.KeptTables.{FillsTables}
+use Rattle.subcommands.specs.NamedBoards.{DoesOn}
 
 -- What came of a run, by what the solver may find, the clock may tell and the opening of a file may come to, and what
 -- its devices have given and got. A single layout leaves the input as it was.
@@ -38,15 +39,16 @@ Does may_find may_tell may_open (Solve layout declarer trump budget) old new ans
     (new.source ≡ old.source)
     × DoneQuietly (SolvesLayout may_find layout.now declarer trump budget old.sink new.sink) answer
 Does may_find may_tell may_open (Table options) old new answer =
-    FillsTables may_open.to_keep may_tell options options.evidence old new answer
+    DoesOn may_open.to_read options.boards
+    (FillsTables may_open.to_keep may_tell options options.evidence) old new answer
 Does may_find may_tell may_open (Check layout declarer trump) old new answer =
     Quietly (ChecksAnswer layout.now declarer trump old new) answer
 Does may_find may_tell may_open (Line layout declarer trump) old new answer =
     Quietly (FollowsAnswer layout.now declarer trump old new) answer
 Does may_find may_tell may_open (Play options) old new answer =
     Quietly (PlaysAnswer may_open.to_read options old new) answer
-Does may_find may_tell may_open (Audit file whole) old new answer =
-    AuditsFile may_open.to_read file.now whole old new answer
+Does may_find may_tell may_open (Audit options) old new answer =
+    DoesOn may_open.to_read options.boards (AuditsFile may_open.to_read options.file.now options.page) old new answer
 
 -- how a run that was done ends: as it does where all was kept, or that not all was is told
 abbrev pub EndsKept : Result Unit KeepFault → Status → Device → Device → Status → Type 0
@@ -60,7 +62,7 @@ EndsRead (Ok done) kept reached errors errors' status = EndsKept kept reached er
 EndsRead (Err fault) kept reached errors errors' status =
     (status ≡ Failed) × IsTold errors errors' (told_text None (shelf_fault fault))
 
--- the name of the file that is asked for, if one is
+-- the name of the file with evidence or an answer that is asked for, if one is
 abbrev pub file_of : Subcommand → Option (List ℕ)
 file_of (Plain layout leader trump) = None
 file_of (Solve layout declarer trump budget) = None
@@ -68,17 +70,28 @@ file_of (Table options) = option_map (λ name. name.now) options.evidence
 file_of (Check layout declarer trump) = None
 file_of (Line layout declarer trump) = None
 file_of (Play options) = Some options.answer.now
-file_of (Audit file whole) = Some file.now
+file_of (Audit options) = Some options.file.now
 
--- How the run ends, which was to open the file of this name. The error output gets what was passed over of evidence, the
+-- the name of the file with the boards, if one is asked for
+abbrev pub boards_of : Subcommand → Option (List ℕ)
+boards_of (Table options) = option_map (λ name. name.now) options.boards
+boards_of (Audit options) = option_map (λ name. name.now) options.boards
+boards_of _ = None
+
+-- the name of the file that a fault speaks of, if it speaks of one
+abbrev pub file_named : Subcommand → RunFault → Option (List ℕ)
+file_named run (Boards why) = boards_of run
+file_named run _ = file_of run
+
+-- How the run ends. The error output gets what was passed over of evidence, the
 -- notes, and that not all of it was read or kept; or a fault, with what explains it. Nothing else touches it.
-abbrev pub Ends : Option (List ℕ) → Result Outcome RunFault → Device → Device → Status → Type 0
-Ends file (Ok outcome) errors errors' status =
+abbrev pub Ends : Subcommand → Result Outcome RunFault → Device → Device → Status → Type 0
+Ends run (Ok outcome) errors errors' status =
     (between : Device) × (noted : Device) × TellsDamage outcome.damage errors between
     × TellsNotes outcome.notes between noted
     × EndsRead outcome.read outcome.kept outcome.status noted errors' status
-Ends file (Err fault) errors errors' status =
-    (status ≡ fault_status fault) × IsTold errors errors' (told_text file fault)
+Ends run (Err fault) errors errors' status =
+    (status ≡ fault_status fault) × IsTold errors errors' (told_text (file_named run fault) fault)
 
 -- a whole run
 pub record RunsSubcommand (may_find : MayFind) (may_tell : MayTell) (may_open : MayOpen) (run : Subcommand)
@@ -86,7 +99,7 @@ pub record RunsSubcommand (may_find : MayFind) (may_tell : MayTell) (may_open : 
     : Type 0 where
   pub answer : Result Outcome RunFault
   pub does : Does may_find may_tell may_open run old.both new.both answer
-  pub ends : Ends (file_of run) answer old.errors new.errors status
+  pub ends : Ends run answer old.errors new.errors status
 
 -- A text was written on the output, or a beginning of it, and that it failed was told. The input stays as it was.
 abbrev pub Shows : RunDevices → RunDevices → List ℕ → Status → Type 0

@@ -8,7 +8,6 @@ use crate::faults::RunFault;
 use crate::making::halted;
 use crate::outcomes::Outcome;
 use crate::pages::outcome_of;
-use crate::putting::put_page;
 use crate::searches::{Counted, Tally};
 use asked::{Settings, TableOptions};
 use audits::{EvidenceRead, show_evidence};
@@ -22,11 +21,11 @@ use std::io::Read;
 use std::sync::Wait;
 use std::thread::Threads;
 use streams::{ReaderSource, read_all};
-use tournaments::{MakeFault, open_book, take_boards};
+use tournaments::{MakeFault, open_book, put_page, take_boards};
 
 /// How tables are made.
 #[derive(Drop)]
-pub(crate) struct Work<'a, P, G, C> {
+pub(crate) struct Making<'a, P, G, C> {
     pub(crate) options: TableOptions<'a>,
     pub(crate) means: &'a Means<'a, P, G, C>,
 }
@@ -87,16 +86,16 @@ pub(crate) fn write_tables_beside<
 >(
     rt: &R,
     alloc: Global,
-    work: Work<'_, S, G, C>,
+    making: Making<'_, S, G, C>,
     file: F,
     input: &mut I,
     output: &mut O,
 ) -> Result<Outcome, RunFault>
-    ensures { WritesBeside (F.remaining file) (C.may_tell work.entry.means.now.clock.now) work.entry.options
+    ensures { WritesBeside (F.remaining file) (C.may_tell making.entry.means.now.clock.now) making.entry.options
         (devices (I.state input.old) (O.state output.old))
         (devices (I.state input.new) (O.state output.new)) result }
 {
-    let Work { options, means } = work;
+    let Making { options, means } = making;
     let tally = Tally::new();
     let solver = &Counted {
         solver: means.solver,
@@ -108,10 +107,10 @@ pub(crate) fn write_tables_beside<
         clock: means.clock,
     };
     let (text, book, read) = make_book_beside(rt, alloc, file, input, options.settings, means)?;
-    let report = put_page(text.as_slice(), &book, options.whole, output)?;
+    let report = put_page(text.as_slice(), &book, options.page, output)?;
     Ok(Outcome {
         damage: read.damage,
         read: read.ended,
-        ..outcome_of(options.whole, report, &book, &tally)
+        ..outcome_of(options.page, report, &book, &tally)
     })
 }

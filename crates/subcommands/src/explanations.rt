@@ -34,8 +34,9 @@ fn opening_of(fault: RunFault) -> Option<CannotOpen>
     ensures { result ≡ opening_of fault }
 {
     match fault {
-        RunFault::Evidence(FileFault::Open(why)) | RunFault::AnswerFile(FileFault::Open(why)) =>
-            Some(why),
+        RunFault::Boards(FileFault::Open(why))
+        | RunFault::Evidence(FileFault::Open(why))
+        | RunFault::AnswerFile(FileFault::Open(why)) => Some(why),
         _ => None,
     }
 }
@@ -173,7 +174,9 @@ fn explanation_of(fault: RunFault) -> &'static str
         RunFault::Pbn(refusal) => text_explanation(refusal),
         RunFault::NoResult => "an answer begins with a line as solve prints it: result 9",
         RunFault::NoAnswer => "--budget gives the search more steps",
-        RunFault::Evidence(fault) | RunFault::AnswerFile(fault) => file_explanation(fault),
+        RunFault::Boards(fault) | RunFault::Evidence(fault) | RunFault::AnswerFile(fault) => {
+            file_explanation(fault)
+        }
         RunFault::Unkept(fault) => keep_explanation(fault),
     }
 }

@@ -39,6 +39,8 @@ pub enum RunFault {
     NoResult,
     /// The solver has found no answer.
     NoAnswer,
+    /// The file with the boards is of no use.
+    Boards(FileFault),
     /// The file of evidence is of no use.
     Evidence(FileFault),
     /// The file with an answer is of no use.
@@ -116,6 +118,7 @@ pub(crate) fn tell_of_file<E: Sink>(fault: RunFault, name: Option<&str>, errors:
         | RunFault::Read
         | RunFault::NoThread
         | RunFault::Write
+        | RunFault::Boards(_)
         | RunFault::Evidence(_)
         | RunFault::AnswerFile(_)
         | RunFault::Unkept(_) => Status::Failed,
@@ -165,39 +168,14 @@ fn write_fault<E: Sink>(fault: RunFault, errors: &mut E) -> Result<(), DeviceFau
         RunFault::Pbn(refusal) => write_text_refusal(refusal, errors),
         RunFault::NoResult => write_all(errors, b"first line is not a result line"),
         RunFault::NoAnswer => write_all(errors, b"no answer"),
-        RunFault::Evidence(fault) => write_file_fault(fault, errors),
-        RunFault::AnswerFile(fault) => write_answer_fault(fault, errors),
-        RunFault::Unkept(fault) => write_keep_fault(fault, errors),
-    }
-}
-
-/// Writes why the file of evidence is of no use.
-fn write_file_fault<E: Sink>(fault: FileFault, errors: &mut E) -> Result<(), DeviceFault>
-    ensures { Writes (E.state errors.old) (E.state errors.new) (said_of (faults.Evidence fault)) result }
-{
-    match fault {
-        FileFault::Open(_) => write_all(errors, b"evidence: cannot open"),
-        FileFault::Read => write_all(errors, b"evidence: reading failed"),
-    }
-}
-
-/// Writes why the file with an answer is of no use.
-fn write_answer_fault<E: Sink>(fault: FileFault, errors: &mut E) -> Result<(), DeviceFault>
-    ensures { Writes (E.state errors.old) (E.state errors.new) (said_of (faults.AnswerFile fault)) result }
-{
-    match fault {
-        FileFault::Open(_) => write_all(errors, b"answer: cannot open"),
-        FileFault::Read => write_all(errors, b"answer: reading failed"),
-    }
-}
-
-/// Writes why not all evidence was kept.
-fn write_keep_fault<E: Sink>(fault: KeepFault, errors: &mut E) -> Result<(), DeviceFault>
-    ensures { Writes (E.state errors.old) (E.state errors.new) (said_of (faults.Unkept fault)) result }
-{
-    match fault {
-        KeepFault::OutOfMemory => write_all(errors, b"evidence: out of memory"),
-        KeepFault::Write => write_all(errors, b"evidence: writing failed"),
+        RunFault::Boards(FileFault::Open(_)) => write_all(errors, b"boards: cannot open"),
+        RunFault::Boards(FileFault::Read) => write_all(errors, b"boards: reading failed"),
+        RunFault::Evidence(FileFault::Open(_)) => write_all(errors, b"evidence: cannot open"),
+        RunFault::Evidence(FileFault::Read) => write_all(errors, b"evidence: reading failed"),
+        RunFault::AnswerFile(FileFault::Open(_)) => write_all(errors, b"answer: cannot open"),
+        RunFault::AnswerFile(FileFault::Read) => write_all(errors, b"answer: reading failed"),
+        RunFault::Unkept(KeepFault::OutOfMemory) => write_all(errors, b"evidence: out of memory"),
+        RunFault::Unkept(KeepFault::Write) => write_all(errors, b"evidence: writing failed"),
     }
 }
 

@@ -7,7 +7,7 @@ ghost use Rattle.streams.specs.RunStreams.{devices};
 ghost use Rattle.subcommands.specs.Beside.{WritesBeside};
 ghost use Rattle.subcommands.specs.KeptTables.{FillsTables, HasKept, IsSaidOf, with_file};
 
-use crate::beside::{Work, write_tables_beside};
+use crate::beside::{Making, write_tables_beside};
 use crate::faults::RunFault;
 use crate::kept_files::KeptFiles;
 use crate::notes::Notes;
@@ -65,20 +65,20 @@ fn write_beside<
 >(
     rt: &R,
     alloc: Global,
-    work: Work<'_, P, G, C>,
+    making: Making<'_, P, G, C>,
     opened: Opened<R::Kept>,
     input: &mut I,
     output: &mut O,
 ) -> Ended<R::Kept>
     requires { tail_contents R.Kept.contents opened.tail ≡ T.held }
     ensures tables { WritesBeside (take_remaining R.Kept.remaining opened.front)
-        (C.may_tell work.entry.means.now.clock.now) work.entry.options
+        (C.may_tell making.entry.means.now.clock.now) making.entry.options
         (devices (I.state input.old) (O.state output.old)) (devices (I.state input.new) (O.state output.new))
         result.answer }
     ensures said { IsSaidOf opened.access result.answer }
     ensures kept { HasKept T.held (R.Kept.contents result.file) result.answer }
 {
-    let Work { options, means } = work;
+    let Making { options, means } = making;
     let Opened {
         front,
         tail,
@@ -91,8 +91,8 @@ fn write_beside<
             gate: means.gate,
             clock: means.clock,
         };
-        let work = Work { options, means };
-        write_tables_beside(rt, alloc, work, front, input, output)
+        let making = Making { options, means };
+        write_tables_beside(rt, alloc, making, front, input, output)
     };
     let Closed { file, kept } = keeping.close();
     Ended {
@@ -131,8 +131,8 @@ fn fill_tables<
         Ok(opened) => opened,
         Err(why) => return Err(RunFault::Evidence(FileFault::Open(why))),
     };
-    let work = Work { options, means };
-    write_beside::<P, G, C, I, O, R, Brand>(rt, alloc, work, opened, input, output).answer
+    let making = Making { options, means };
+    write_beside::<P, G, C, I, O, R, Brand>(rt, alloc, making, opened, input, output).answer
 }
 
 /// The same, and the gate is told of the work if progress is asked for.

@@ -5,11 +5,10 @@ ghost use Rattle.farm.specs.Runs.{IsRun};
 ghost use Rattle.streams.specs.RunStreams.{devices};
 ghost use Rattle.subcommands.specs.Halts.{halted_fault};
 ghost use Rattle.tournaments.specs.Making.{MakesPage};
-ghost use Rattle.tournaments.specs.Pages.{IsTablesPage};
-ghost use Rattle.tournaments.specs.WholePages.{IsWholePage};
+ghost use Rattle.tournaments.specs.Putting.{page_fact};
 ghost use Rattle.subcommands.specs.Made.{MakesBook};
 
-use crate::putting::{put_tables, put_whole};
+use asked::TableOptions;
 use cards::{Sink, Source};
 use certificate_graph::Solver;
 use farm::{Clock, FarmFault, Means, Settings, run_farm};
@@ -19,7 +18,7 @@ use std::sync::Wait;
 use std::thread::Threads;
 use streams::read_all;
 use tables::Report;
-use tournaments::{MakeFault, take_boards};
+use tournaments::{MakeFault, put_page, take_boards};
 
 /// Why nothing is made where a farm over boards of a text was halted.
 pub(crate) fn halted(fault: FarmFault) -> MakeFault
@@ -58,8 +57,9 @@ fn make_book<
     }
 }
 
-/// Reads the boards of a PBN text to its end, has a farm work through them as the settings say, and writes the tables
-/// of what was shown. The book of the run is handed out.
+/// Reads the boards of a PBN text to its end, has a farm work through them, and writes the page of what was shown, as
+/// the settings and the page of the options say. (The other options are not looked at.) The book of the run is handed
+/// out.
 ///
 /// Whatever the solver answers, the gate does and the clock tells, and in whatever order the threads work, a number
 /// that is written is the double-dummy value of its deal, and is written once: an answer whose certificates don't show
@@ -75,43 +75,16 @@ pub fn make_tables<
 >(
     rt: &R,
     alloc: Global,
+    options: TableOptions<'_>,
+    means: &Means<'_, S, G, C>,
     input: &mut I,
     output: &mut O,
-    settings: Settings,
-    means: &Means<'_, S, G, C>,
 ) -> Result<(Report, Book), MakeFault>
-    ensures { MakesPage (IsRun (C.may_tell means.now.clock.now)) IsTablesPage settings.term settings.tries
-        (devices (I.state input.old) (O.state output.old))
+    ensures { MakesPage (IsRun (C.may_tell means.now.clock.now)) (page_fact options.entry.page)
+        options.entry.settings.term options.entry.settings.tries (devices (I.state input.old) (O.state output.old))
         (devices (I.state input.new) (O.state output.new)) result }
 {
-    let (_, book) = make_book(rt, alloc, input, settings, means)?;
-    let report = put_tables(&book, output)?;
-    Ok((report, book))
-}
-
-/// Reads the boards of a PBN text to its end, has a farm work through them as the settings say, and writes the text as
-/// it was read, with the tables of what was shown in it. The book of the run is handed out. Of each number that is
-/// written, of leases and of refusals holds what [`make_tables`] says.
-pub fn make_whole<
-    I: Source,
-    O: Sink,
-    S: Solver + Sync,
-    G: Gate + Sync,
-    C: Clock + Sync,
-    R: Threads + Wait + Sync,
->(
-    rt: &R,
-    alloc: Global,
-    input: &mut I,
-    output: &mut O,
-    settings: Settings,
-    means: &Means<'_, S, G, C>,
-) -> Result<(Report, Book), MakeFault>
-    ensures { MakesPage (IsRun (C.may_tell means.now.clock.now)) IsWholePage settings.term settings.tries
-        (devices (I.state input.old) (O.state output.old))
-        (devices (I.state input.new) (O.state output.new)) result }
-{
-    let (text, book) = make_book(rt, alloc, input, settings, means)?;
-    let report = put_whole(text.as_slice(), &book, output)?;
+    let (text, book) = make_book(rt, alloc, input, options.settings, means)?;
+    let report = put_page(text.as_slice(), &book, options.page, output)?;
     Ok((report, book))
 }

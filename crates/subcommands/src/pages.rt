@@ -1,17 +1,15 @@
 //! The page of tables by many threads, alone or in the input.
 
 ghost use Rattle.std.specs.Prelude.{◌≡◌};
-ghost use Rattle.farm.specs.Runs.{IsRun};
 ghost use Rattle.streams.specs.RunStreams.{devices};
-ghost use Rattle.subcommands.specs.Pages.{IsOutcomeOf, WritesTables, page_fact};
-ghost use Rattle.tournaments.specs.Making.{MakesPage};
+ghost use Rattle.subcommands.specs.Pages.{IsOutcomeOf, WritesTables};
 
 use crate::faults::RunFault;
-use crate::making::{make_tables, make_whole};
+use crate::making::make_tables;
 use crate::outcomes::Outcome;
 use crate::reports::{count_refusals, page_status, searched_notes};
 use crate::searches::{Counted, Tally};
-use asked::TableOptions;
+use asked::{PageForm, TableOptions};
 use cards::{Sink, Source};
 use certificate_graph::Solver;
 use evidence::Damage;
@@ -21,7 +19,6 @@ use std::alloc::Global;
 use std::sync::Wait;
 use std::thread::Threads;
 use tables::Report;
-use tournaments::MakeFault;
 
 /// Nobody is told of the work.
 #[derive(Drop)]
@@ -31,33 +28,6 @@ impl Gate for Unwatched {
     fn before_solve(&self, _lease: u64) {}
 
     fn before_check(&self, _lease: u64) {}
-}
-
-/// Makes the tables of the boards of the input, alone or in the input.
-fn make_page<
-    P: Solver + Sync,
-    G: Gate + Sync,
-    C: Clock + Sync,
-    I: Source,
-    O: Sink,
-    R: Threads + Wait + Sync,
->(
-    rt: &R,
-    alloc: Global,
-    options: TableOptions<'_>,
-    means: &Means<'_, P, G, C>,
-    input: &mut I,
-    output: &mut O,
-) -> Result<(Report, Book), MakeFault>
-    ensures { MakesPage (IsRun (C.may_tell means.now.clock.now)) (page_fact options.entry.whole)
-        options.entry.settings.term options.entry.settings.tries (devices (I.state input.old) (O.state output.old))
-        (devices (I.state input.new) (O.state output.new)) result }
-{
-    if options.whole {
-        make_whole(rt, alloc, input, output, options.settings, means)
-    } else {
-        make_tables(rt, alloc, input, output, options.settings, means)
-    }
 }
 
 /// Writes the tables of the boards of the input, alone or in the input.
@@ -89,17 +59,17 @@ pub(crate) fn write_page<
         gate: means.gate,
         clock: means.clock,
     };
-    let (report, book) = make_page(rt, alloc, options, means, input, output)?;
-    Ok(outcome_of(options.whole, report, &book, &tally))
+    let (report, book) = make_tables(rt, alloc, options, means, input, output)?;
+    Ok(outcome_of(options.page, report, &book, &tally))
 }
 
 /// What came of a page that was written for the book of a run.
-pub(crate) fn outcome_of(whole: bool, report: Report, book: &Book, tally: &Tally) -> Outcome
-    ensures { IsOutcomeOf whole report book.now result }
+pub(crate) fn outcome_of(page: PageForm, report: Report, book: &Book, tally: &Tally) -> Outcome
+    ensures { IsOutcomeOf page report book.now result }
 {
     let searches = tally.with_refused(count_refusals(book.history()));
     Outcome {
-        status: page_status(whole, report, book.boards()),
+        status: page_status(page, report, book.boards()),
         damage: Damage { count: 0, first: 0 },
         notes: searched_notes(report, book, searches),
         read: Ok(()),

@@ -6,6 +6,7 @@ ghost use Rattle.subcommands.specs.Reports.{is_refused_reply, searched_notes, un
 
 use crate::notes::{Lacking, Notes, Searches};
 use answer_subcommands::Status;
+use asked::PageForm;
 use lease_book::{Book, Event, Reply};
 use pbn_deals::Board;
 use tables::Report;
@@ -51,13 +52,12 @@ fn lacking_tables(report: Report, boards: &[Board]) -> u64
 
 /// Whether the page shows an incomplete table. The tables alone show one for a board without a deal too; the whole input
 /// stays as it is there.
-pub(crate) fn page_status(whole: bool, report: Report, boards: &[Board]) -> Status
-    ensures { result ≡ page_status whole report boards.now }
+pub(crate) fn page_status(page: PageForm, report: Report, boards: &[Board]) -> Status
+    ensures { result ≡ page_status page report boards.now }
 {
-    let wanted = if whole {
-        count_deals(boards)
-    } else {
-        report.boards
+    let wanted = match page {
+        PageForm::Tables => report.boards,
+        PageForm::Whole => count_deals(boards),
     };
     if report.complete < wanted {
         Status::Incomplete

@@ -7,13 +7,12 @@ ghost use Rattle.answer_subcommands.specs.declared.statuses.Status.TheVariants.{
 ghost use Rattle.subcommands.specs.Outcomes.{shelf_fault};
 ghost use Rattle.subcommands.specs.Explanations.{told_text};
 ghost use Rattle.subcommands.specs.Statuses.{IsTold};
-ghost use Rattle.subcommands.specs.Runs.{Closes, Ends, EndsRead, RunsSubcommand, Shows, file_of};
+ghost use Rattle.subcommands.specs.Runs.{Closes, Ends, EndsRead, RunsSubcommand, Shows, boards_of, file_named, file_of};
 
-use crate::auditing::audit_file;
 use crate::damage_lines::tell_damage;
 use crate::faults::{RunFault, tell, tell_of_file};
 use crate::kept_files::KeptFiles;
-use crate::kept_tables::keep_tables;
+use crate::named_boards::{audit_boards, table_boards};
 use crate::notes::tell_notes;
 use crate::outcomes::{Outcome, done_quietly, quietly};
 use answer_subcommands::{
@@ -75,7 +74,7 @@ pub fn run_subcommand<
             let (value, solver) = (layout.as_bytes(), means.solver);
             done_quietly(solve_layout(alloc, value, declarer, trump, budget, solver, output))
         }
-        Subcommand::Table(options) => keep_tables(rt, alloc, options, means, input, output),
+        Subcommand::Table(options) => table_boards(rt, alloc, options, means, input, output),
         Subcommand::Check {
             layout,
             declarer,
@@ -87,19 +86,19 @@ pub fn run_subcommand<
             trump,
         } => quietly(follow_answer(alloc, layout.as_bytes(), declarer, trump, input, output)),
         Subcommand::Play(options) => quietly(play_answer(rt, alloc, options, input, output)),
-        Subcommand::Audit { file, whole } => audit_file(rt, alloc, file, whole, input, output),
+        Subcommand::Audit(options) => audit_boards(rt, alloc, options, input, output),
     };
-    end(answer, file_of(asked), &mut streams.errors)
+    end(asked, answer, &mut streams.errors)
 }
 
-/// The name of the file that is asked for, if one is.
+/// The name of the file with evidence or an answer that is asked for, if one is.
 fn file_of(asked: Subcommand<'_>) -> Option<&str>
     ensures { option_map (λ name. name.now) result ≡ file_of asked.entry }
 {
     match asked {
         Subcommand::Table(options) => options.evidence,
         Subcommand::Play(options) => Some(options.answer),
-        Subcommand::Audit { file, whole: _ } => Some(file),
+        Subcommand::Audit(options) => Some(options.file),
         Subcommand::Plain { .. }
         | Subcommand::Solve { .. }
         | Subcommand::Check { .. }
@@ -107,9 +106,30 @@ fn file_of(asked: Subcommand<'_>) -> Option<&str>
     }
 }
 
-/// Writes what there is to say of a run, which was to open the file of this name, and answers how it ends.
-fn end<E: Sink>(answer: Result<Outcome, RunFault>, file: Option<&str>, errors: &mut E) -> Status
-    ensures { Ends (option_map (λ name. name.now) file.entry) answer (E.state errors.old) (E.state errors.new) result }
+/// The name of the file with the boards, if one is asked for.
+fn boards_of(asked: Subcommand<'_>) -> Option<&str>
+    ensures { option_map (λ name. name.now) result ≡ boards_of asked.entry }
+{
+    match asked {
+        Subcommand::Table(options) => options.boards,
+        Subcommand::Audit(options) => options.boards,
+        _ => None,
+    }
+}
+
+/// The name of the file that a fault speaks of, if it speaks of one.
+fn file_named(asked: Subcommand<'_>, fault: RunFault) -> Option<&str>
+    ensures { option_map (λ name. name.now) result ≡ file_named asked.entry fault }
+{
+    match fault {
+        RunFault::Boards(_) => boards_of(asked),
+        _ => file_of(asked),
+    }
+}
+
+/// Writes what there is to say of a run, and answers how it ends.
+fn end<E: Sink>(asked: Subcommand<'_>, answer: Result<Outcome, RunFault>, errors: &mut E) -> Status
+    ensures { Ends asked.entry answer (E.state errors.old) (E.state errors.new) result }
 {
     match answer {
         Ok(outcome) => {
@@ -117,7 +137,7 @@ fn end<E: Sink>(answer: Result<Outcome, RunFault>, file: Option<&str>, errors: &
             tell_notes(outcome.notes, errors);
             end_done(outcome, errors)
         }
-        Err(fault) => tell_of_file(fault, file, errors),
+        Err(fault) => tell_of_file(fault, file_named(asked, fault), errors),
     }
 }
 

@@ -1,3 +1,4 @@
 pub mod WorkLaws
 pub mod PageLaws
 pub mod WholePageLaws
+pub mod PutLaws

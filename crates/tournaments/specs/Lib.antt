@@ -6,3 +6,4 @@ pub mod Asking
 pub mod Working
 pub mod Pages
 pub mod WholePages
+pub mod Putting

@@ -2,11 +2,13 @@
 //!
 //! [`make_single`] reads the boards, works on one entry after another and writes the tables. The solver and the clock
 //! may answer anything: a number is written only if its certificates were accepted. [`replay_tables`] writes the tables
-//! of a whole list of requests. [`tables_are_read`] says what every such page is.
+//! of a whole list of requests. [`put_page`] writes the page of any book, and [`tables_are_read`] says what every such page
+//! is.
 #![tactic(auto)]
 
 mod faults;
 mod laws;
+mod putting;
 mod replaying;
 mod single;
 mod texts;
@@ -14,6 +16,7 @@ mod working;
 
 pub use faults::{MakeFault, write_failed};
 pub use laws::{tables_are_read, whole_pages_are_read};
+pub use putting::put_page;
 pub use replaying::replay_tables;
 pub use single::make_single;
 pub use texts::{open_book, take_boards};

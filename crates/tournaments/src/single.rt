@@ -7,13 +7,14 @@ ghost use Rattle.streams.specs.RunStreams.{devices};
 ghost use Rattle.tournaments.specs.Making.{MakesPage, IsWholeRun};
 ghost use Rattle.tournaments.specs.Pages.{IsTablesPage};
 
-use crate::faults::{MakeFault, write_failed};
-use crate::laws::tables_are_read;
+use crate::faults::MakeFault;
+use crate::putting::put_page;
 use crate::texts::{open_book, take_boards};
 use crate::working::work_through;
+use asked::PageForm;
 use cards::{Sink, Source};
 use certificate_graph::Solver;
-use lease_book::{Book, Clock, is_true_history, write_tables};
+use lease_book::{Book, Clock, is_true_history};
 use std::alloc::Global;
 use streams::read_all;
 use tables::Report;
@@ -46,7 +47,6 @@ pub fn make_single<I: Source, O: Sink, S: Solver, C: Clock>(
     let mut book = open_book(alloc, boards, term, tries)?;
     work_through(alloc, &mut book, budget, solver, clock)?;
     is_true_history(&book);
-    tables_are_read();
-    let report = write_tables(&book, output).map_err(write_failed)?;
+    let report = put_page(text.as_slice(), &book, PageForm::Tables, output)?;
     Ok((report, book))
 }

@@ -1,29 +1,29 @@
--- The page is read as the law says, since its history is true over the boards of the text.
-use Rattle.std.proofs.Common.{refl, subst}
-use Rattle.cards.specs.Devices.{Adds, AddsBeginning}
-use Rattle.lease_book.specs.Histories.{Terms}
-use Rattle.lease_book.specs.BookResults.{book_results}
-use Rattle.tables.specs.TablesText.{tables_text}
-use Rattle.tournaments.specs.Pages.{history_text, IsTablesPage}
-use Rattle.audits.specs.Audits.{audit_terms}
-use Rattle.audits.proofs.PageLaws.{fills, begins_page}
+-- The book is one over the boards of the text after the audit, and its page was put.
+use Rattle.std.proofs.Common.{ℕ, List, Ok, Err, sym, subst}
+use Rattle.pbn_deals.specs.Reading.{TextAnswers}
+use Rattle.tournaments.specs.Putting.{PutsPage, page_fact}
+use Rattle.audits.proofs.PageLaws.{is_audit, says, fills, begins_page}
 use Rattle.audits.proofs.auditing.audit_tables.Goals as goal
+
+pub put_page-requires-clause-boards : goal.put_page-requires-clause-boards
+put_page-requires-clause-boards g c =
+    subst (λ (text : List ℕ). TextAnswers text (Ok c.in_ok-text.book.terms.boards)) (sym c.as_slice.ensures.value)
+    (says (page_fact c.args.page) _ _ (g.O.Sink.state c.args.output.now) (g.O.Sink.state c.args.output.now) _ _ c.in_ok-text.text.items c.in_ok-text.book c.in_ok-text.damage c.in_ok-text.ensures)
+
+pub put_page-requires-clause-history : goal.put_page-requires-clause-history
+put_page-requires-clause-history g c =
+    (is_audit (page_fact c.args.page) _ _ (g.O.Sink.state c.args.output.now) (g.O.Sink.state c.args.output.now) _ _ c.in_ok-text.text.items c.in_ok-text.book c.in_ok-text.damage c.in_ok-text.ensures).history
 
 pub returns-in-Ok : goal.returns-in-Ok
 returns-in-Ok g c =
-    let made = c.in_ok-book.ensures in
-    let text = c.in_ok-book.field-0-0.items in
-    let events = c.in_ok-book.book.events in
-    fills IsTablesPage _ _ _ _ text c.in_ok-book.book c.in_ok-book.damage made _ _ (history_text made.boards events)
-    (refl, c.tables_are_read.ensures text (audit_terms made.boards) events made.read made.audits.audit.history) c.in-Ok.report
-    (subst (λ (t : Terms). Adds (g.O.Sink.state c.args.output.now) (g.O.Sink.state c.write_tables.new.sink) (tables_text t.boards (book_results t.boards events))) made.audits.terms_are c.in-Ok.ensures.writes)
-    c.in-Ok.ensures.boards c.in-Ok.ensures.complete
+    let book = c.in_ok-text.book in
+    let sink' = g.O.Sink.state c.put_page.new.output in
+    let put = subst (λ (t : List ℕ). PutsPage (page_fact c.args.page) t book (g.O.Sink.state c.args.output.now) sink' (Ok c.in-Ok.report)) c.as_slice.ensures.value c.in-Ok.ensures in
+    fills (page_fact c.args.page) _ _ _ _ _ _ c.in_ok-text.text.items book c.in_ok-text.damage c.in_ok-text.ensures c.in-Ok.report put
 
-pub returns-in-Err : goal.returns-in-Err
-returns-in-Err g c =
-    let made = c.in_ok-book.ensures in
-    let text = c.in_ok-book.field-0-0.items in
-    let events = c.in_ok-book.book.events in
-    begins_page IsTablesPage _ _ _ _ text c.in_ok-book.book c.in_ok-book.damage made _ _ (history_text made.boards events)
-    (refl, c.tables_are_read.ensures text (audit_terms made.boards) events made.read made.audits.audit.history)
-    (subst (λ (t : Terms). AddsBeginning (g.O.Sink.state c.args.output.now) (g.O.Sink.state c.write_tables.new.sink) (tables_text t.boards (book_results t.boards events))) made.audits.terms_are c.in-Err.ensures.writes)
+pub returns : goal.returns
+returns g c =
+    let book = c.in_ok-text.book in
+    let sink' = g.O.Sink.state c.put_page.new.output in
+    let put = subst (λ (t : List ℕ). PutsPage (page_fact c.args.page) t book (g.O.Sink.state c.args.output.now) sink' (Err c.in-Err.fault)) c.as_slice.ensures.value c.in-Err.ensures in
+    begins_page (page_fact c.args.page) _ _ _ _ _ _ c.in_ok-text.text.items book c.in_ok-text.damage c.in_ok-text.ensures c.in-Err.fault put

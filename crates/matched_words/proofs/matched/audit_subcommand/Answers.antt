@@ -4,5 +4,5 @@ use Rattle.matched_words.proofs.matched.audit_subcommand.Goals as goal
 pub returns-in_err-file : goal.returns-in_err-file
 returns-in_err-file c = search rules
 
-pub returns-in_err-whole : goal.returns-in_err-whole
-returns-in_err-whole c = search rules
+pub returns-in_err-page : goal.returns-in_err-page
+returns-in_err-page c = search rules

@@ -8,8 +8,8 @@ returns-in_err-settings c = nothing_read _ _ c.from_residual.ensures (λ read sa
 pub returns-in_err-progress : goal.returns-in_err-progress
 returns-in_err-progress c = search rules
 
-pub returns-in_err-whole : goal.returns-in_err-whole
-returns-in_err-whole c = search rules
+pub returns-in_err-page : goal.returns-in_err-page
+returns-in_err-page c = search rules
 
 pub returns : goal.returns
-returns c = (_, refl, (c.in_ok-settings.ensures, search rules, search rules, search rules))
+returns c = (_, refl, (c.in_ok-settings.ensures, search rules, search rules, search rules, search rules))

@@ -1,6 +1,6 @@
 -- One page is written of the text, and it is read as the law says, since its history is true over the text's boards.
 use Rattle.lease_book.specs.BookResults.{book_results}
-use Rattle.subcommands.proofs.putting.put_whole.Goals as goal
+use Rattle.tournaments.proofs.putting.put_whole.Goals as goal
 
 pub write_whole-requires : goal.write_whole-requires
 write_whole-requires g c =
@@ -26,6 +26,6 @@ returns-in-Err g c =
     let terms = c.args.book.now.terms in
     let events = c.args.book.now.events in
     let one = c.one_is_written.ensures text terms.boards (book_results terms.boards events) c.requires.boards in (
-      c.sink_failed.ensures,
+      c.write_failed.ensures,
       (one.written, c.whole_pages_are_read.ensures text terms events one.written c.requires.boards c.requires.history one.whole, c.in-Err.ensures.writes one.written one.whole),
     )
