@@ -3,6 +3,7 @@
 use crate::outcomes::{Outcome, Told};
 use crate::spending::Spending;
 use crate::texts::{HEAD, ONE_NUMBER};
+use asked::PageForm;
 use audits::{AuditFault, audit_tables};
 use cards::{Buffer, Bytes};
 use evidence::Sections;
@@ -21,7 +22,8 @@ pub fn audit<R: Threads + Sync>(
     let mut source = Bytes::new(BOARD.as_bytes(), 7);
     spending.spend(alloc)?;
     let mut sections = Sections::new(alloc, Bytes::new(RUFFS.as_bytes(), 100));
-    let made = audit_tables(rt, alloc, &mut source, &mut sections, &mut sink);
+    let page = PageForm::Tables;
+    let made = audit_tables(rt, alloc, page, &mut source, &mut sections, &mut sink);
     let left = spending.left(alloc);
     let outcome = match made {
         Ok(_) if sink.bytes().strip_prefix(HEAD) == Some(ONE_NUMBER) => Outcome::Answer,

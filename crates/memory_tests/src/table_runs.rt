@@ -14,7 +14,7 @@ use subcommands::make_tables;
 use tables::Report;
 use test_support::four_suits::{BOARD, TABLE};
 use test_support::idle::{LetsPass, StandsStill};
-use test_support::settings::one_of_each;
+use test_support::settings::{one_of_each, tables_by};
 use tournaments::MakeFault;
 
 /// How many steps the search has.
@@ -112,7 +112,8 @@ pub fn tables<R: Threads + Wait + Sync>(
         gate: &LetsPass,
         clock: &StandsStill,
     };
-    let made = make_tables(rt, alloc, &mut source, &mut sink, settings, &means);
+    let options = tables_by(settings);
+    let made = make_tables(rt, alloc, options, &means, &mut source, &mut sink);
     let left = spending.left(alloc);
     let outcome = match made {
         Ok((report, book)) => written(alloc, report, &book, sink.bytes())?,

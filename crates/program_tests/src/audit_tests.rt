@@ -1,107 +1,14 @@
 //! Audits, and tables whose evidence is kept, where the input, the output or the file with the evidence fails.
 
-use crate::disks::{Disk, NAME, System};
-use crate::expect::{End, ROOM, expect_bytes, expect_eq, means};
+use crate::disks::EVIDENCE;
+use crate::expect::End;
+use crate::file_runs::{Devices, SOUND, audit, expect_end, table};
 use crate::sections::{NO_TRUMP, ONE, TWO};
-use cards::{Buffer, Bytes, Layout, Seat, Suit, Trump};
-use certificate_graph::{Bundle, Solver};
-use evidence::read_section;
-use farm::SettingsFault;
 use std::alloc::{AllocError, Global};
-use std::process::Abort;
-use std::sync::Wait;
 use std::test::Fail;
-use std::thread::Threads;
-use streams::Streams;
-use subcommands::{Status, Subcommand, TableOptions, run_subcommand};
+use subcommands::Status;
 use test_support::four_suits::{BOARD, RUFFS};
-use test_support::idle::LetsPass;
-use test_support::settings::once;
 use test_support::texts::joined;
-
-/// A solver that finds what is shown of North's spades, and nothing else.
-#[derive(Drop)]
-struct FindsSpades;
-
-impl Solver for FindsSpades {
-    fn solve(
-        &self,
-        alloc: Global,
-        _layout: &Layout,
-        declarers: &[Seat],
-        trump: Trump,
-        _budget: u64,
-    ) -> Result<Option<Bundle>, AllocError> {
-        if declarers != [Seat::North].as_slice() || trump != Trump::Suit(Suit::Spades) {
-            return Ok(None);
-        }
-        match read_section(alloc, RUFFS.as_bytes()) {
-            Ok(Some(section)) => Ok(Some(section.into_bundle())),
-            _ => Err(AllocError),
-        }
-    }
-}
-
-/// The devices of a run: what the file holds, how many bytes more it has room for and which of its calls fails, which
-/// call of the input fails, and how many bytes the output takes.
-#[derive(Clone, Copy)]
-struct Devices<'a> {
-    file: &'a [u8],
-    file_room: usize,
-    file_fails: u64,
-    input_fails: u64,
-    output_room: usize,
-}
-
-/// Devices of which none fails. The file shows that North takes no trick without trumps.
-const SOUND: Devices<'static> = Devices {
-    file: NO_TRUMP,
-    file_room: RUFFS.len(),
-    file_fails: u64::MAX,
-    input_fails: u64::MAX,
-    output_room: ROOM,
-};
-
-/// The audit of a file.
-fn audit(file: &str) -> Subcommand<'_> {
-    Subcommand::Audit { file, whole: false }
-}
-
-/// The tables whose evidence is kept in a file, where each entry is looked for once.
-fn table(file: &str) -> Result<Subcommand<'_>, SettingsFault> {
-    Ok(Subcommand::Table(TableOptions {
-        settings: once(1, 1, 10_000_000, 1)?,
-        progress: false,
-        whole: false,
-        evidence: Some(file),
-    }))
-}
-
-/// How the run ends over these devices, and what the file holds then.
-fn expect_end<R: Abort + Threads + Wait + Sync>(
-    rt: &R,
-    alloc: Global,
-    asked: Subcommand<'_>,
-    devices: Devices<'_>,
-    wanted: End<'_>,
-    kept: &[u8],
-) -> Result<(), Fail> {
-    let disk = Disk::new(alloc, devices.file, devices.file_room, devices.file_fails)?;
-    let system = System { rt, disk: &disk };
-    let mut streams = Streams {
-        input: Bytes::failing_after(BOARD.as_bytes(), 1, devices.input_fails),
-        output: Buffer::new(alloc, devices.output_room, 3)?,
-        errors: Buffer::new(alloc, ROOM, 7)?,
-    };
-    let means = means(&FindsSpades, &LetsPass);
-    let status = run_subcommand(&system, alloc, asked, &means, &mut streams);
-    let printed = str::from_utf8(streams.output.bytes())?;
-    let told = str::from_utf8(streams.errors.bytes())?;
-    expect_eq(rt, &(status, printed, told), &wanted);
-    let held = disk.bytes(alloc)?;
-    expect_bytes(rt, held.as_slice(), kept);
-    Ok(())
-}
 
 const READING: &str = "ddfarm: reading failed\n";
 
@@ -152,8 +59,8 @@ fn no_file(rt: HostRuntime) -> Result<(), Fail> {
         };
         let told = format!(in alloc; "ddfarm: evidence: cannot open\n  {shown}: no such file\n")?;
         let wanted = (Status::Failed, "", told.as_str());
-        expect_end(&rt, alloc, audit(name), devices, wanted, NO_TRUMP)?;
-        expect_end(&rt, alloc, table(name)?, devices, wanted, NO_TRUMP)?;
+        expect_end(&rt, alloc, audit(name, None), devices, wanted, NO_TRUMP)?;
+        expect_end(&rt, alloc, table(name, None)?, devices, wanted, NO_TRUMP)?;
     }
     Ok(())
 }
@@ -168,8 +75,15 @@ fn torn_inputs(rt: HostRuntime) -> Result<(), Fail> {
             input_fails,
             ..SOUND
         };
-        expect_end(&rt, alloc, audit(NAME), devices, wanted, NO_TRUMP)?;
-        expect_end(&rt, alloc, table(NAME)?, devices, wanted, NO_TRUMP)?;
+        expect_end(&rt, alloc, audit(EVIDENCE, None), devices, wanted, NO_TRUMP)?;
+        expect_end(
+            &rt,
+            alloc,
+            table(EVIDENCE, None)?,
+            devices,
+            wanted,
+            NO_TRUMP,
+        )?;
     }
     Ok(())
 }
@@ -187,9 +101,16 @@ fn full_outputs(rt: HostRuntime) -> Result<(), Fail> {
         let one = ONE.get(..output_room).ok_or("a longer page")?;
         let two = TWO.get(..output_room).ok_or("a longer page")?;
         let wanted = (Status::Failed, one, WRITING);
-        expect_end(&rt, alloc, audit(NAME), devices, wanted, NO_TRUMP)?;
+        expect_end(&rt, alloc, audit(EVIDENCE, None), devices, wanted, NO_TRUMP)?;
         let wanted = (Status::Failed, two, WRITING);
-        expect_end(&rt, alloc, table(NAME)?, devices, wanted, both.as_slice())?;
+        expect_end(
+            &rt,
+            alloc,
+            table(EVIDENCE, None)?,
+            devices,
+            wanted,
+            both.as_slice(),
+        )?;
     }
     Ok(())
 }
@@ -216,7 +137,7 @@ fn full_files(rt: HostRuntime) -> Result<(), Fail> {
         } else {
             (Status::Incomplete, ONE, done.as_str())
         };
-        expect_end(&rt, alloc, table(NAME)?, devices, wanted, kept)?;
+        expect_end(&rt, alloc, table(EVIDENCE, None)?, devices, wanted, kept)?;
     }
     Ok(())
 }
@@ -240,7 +161,14 @@ fn false_claims(rt: HostRuntime) -> Result<(), Fail> {
     let wanted = (Status::Incomplete, TWO, noted.as_str());
     for file in [lies.as_slice(), all.as_slice()] {
         let devices = Devices { file, ..SOUND };
-        expect_end(&rt, alloc, table(NAME)?, devices, wanted, all.as_slice())?;
+        expect_end(
+            &rt,
+            alloc,
+            table(EVIDENCE, None)?,
+            devices,
+            wanted,
+            all.as_slice(),
+        )?;
     }
     Ok(())
 }
@@ -278,7 +206,7 @@ fn failing_files(rt: HostRuntime) -> Result<(), Fail> {
     };
     for (calls, wanted) in OF_AUDIT {
         for _ in 0..calls {
-            expect_end(&rt, alloc, audit(NAME), devices, wanted, NO_TRUMP)?;
+            expect_end(&rt, alloc, audit(EVIDENCE, None), devices, wanted, NO_TRUMP)?;
             devices.file_fails = devices.file_fails.saturating_add(1);
         }
     }
@@ -293,7 +221,7 @@ fn failing_files(rt: HostRuntime) -> Result<(), Fail> {
         told.push_str(fault)?;
         let wanted = (status, page, told.as_str());
         for _ in 0..calls {
-            expect_end(&rt, alloc, table(NAME)?, devices, wanted, kept)?;
+            expect_end(&rt, alloc, table(EVIDENCE, None)?, devices, wanted, kept)?;
             devices.file_fails = devices.file_fails.saturating_add(1);
         }
     }

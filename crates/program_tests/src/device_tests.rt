@@ -13,7 +13,7 @@ use subcommands::make_tables;
 use tables::Report;
 use test_support::four_suits::{BOARD, TABLE};
 use test_support::idle::{LetsPass, StandsStill};
-use test_support::settings::one_of_each;
+use test_support::settings::{one_of_each, tables_by};
 use tournaments::MakeFault;
 
 /// How many steps the solver has for an entry.
@@ -28,13 +28,13 @@ fn expect_made<R: Abort + Threads + Wait + Sync>(
     wanted: Result<Report, MakeFault>,
     written: &[u8],
 ) -> Result<(), Fail> {
-    let settings = one_of_each(1, BUDGET)?;
+    let options = tables_by(one_of_each(1, BUDGET)?);
     let means = Means {
         solver: &Partition::new(),
         gate: &LetsPass,
         clock: &StandsStill,
     };
-    let made = make_tables(rt, alloc, source, sink, settings, &means);
+    let made = make_tables(rt, alloc, options, &means, source, sink);
     expect_eq(rt, &made.map(|made| made.0), &wanted);
     expect_bytes(rt, sink.bytes(), written);
     Ok(())

@@ -1,4 +1,5 @@
-//! A system in memory with one file, which gives a byte a call and has room for some more. One of the calls fails.
+//! A system in memory with two files, which give a byte a call and have room for some more. One of the calls of each
+//! fails.
 
 use std::alloc::{AllocError, Allocator, Global};
 use std::fs::{Files, Metadata, OpenFile, OpenOptions};
@@ -9,8 +10,11 @@ use std::sync::atomic::Ordering::SeqCst;
 use std::sync::atomic::{AtomicU8, AtomicU64, AtomicUsize};
 use std::thread::Threads;
 
-/// The name of the file.
-pub const NAME: &str = "club.dde";
+/// The name of the file with evidence.
+pub const EVIDENCE: &str = "club.dde";
+
+/// The name of the file with boards.
+pub const BOARDS: &str = "club.pbn";
 
 /// A disk with one file.
 #[derive(Drop)]
@@ -143,11 +147,12 @@ impl OpenFile for Open<'_> {
     }
 }
 
-/// A system whose one file is that of a disk.
+/// A system with two files.
 #[derive(Drop)]
 pub struct System<'a, R> {
     pub rt: &'a R,
-    pub disk: &'a Disk,
+    pub evidence: &'a Disk,
+    pub boards: &'a Disk,
 }
 
 impl<R: Threads> Threads for System<'_, R> {}
@@ -166,14 +171,13 @@ impl<'a, R> Files for System<'a, R> {
 
     fn open_file(&self, how: &OpenOptions, path: &str) -> io::Result<Open<'a>> {
         how.check()?;
-        self.disk.call()?;
-        if path != NAME {
-            return Err(Error::from(ErrorKind::NotFound));
-        }
-        Ok(Open {
-            disk: self.disk,
-            at: 0,
-        })
+        let disk = match path {
+            EVIDENCE => self.evidence,
+            BOARDS => self.boards,
+            _ => return Err(Error::from(ErrorKind::NotFound)),
+        };
+        disk.call()?;
+        Ok(Open { disk, at: 0 })
     }
 
     fn open_dir(&self, _path: &str) -> io::Result<io::Empty> {

@@ -16,9 +16,13 @@ mod disks;
 #[cfg(test)]
 mod expect;
 #[cfg(test)]
+mod file_runs;
+#[cfg(test)]
 mod full_tests;
 #[cfg(test)]
 mod line_tests;
+#[cfg(test)]
+mod named_tests;
 #[cfg(test)]
 mod plain_tests;
 #[cfg(test)]

@@ -17,6 +17,7 @@ use std::thread::Threads;
 use streams::Streams;
 use subcommands::{KeptFiles, NamedFiles, Status, Subcommand, TableOptions, run_subcommand};
 use test_support::idle::LetsPass;
+use test_support::settings::tables_by;
 
 /// Makes the tables of a board, and answers how that ends.
 fn status_of<
@@ -25,10 +26,8 @@ fn status_of<
     G: Gate + Sync,
 >(rt: &R, alloc: Global, settings: Settings, solver: &S, gate: &G) -> Result<Status, Fail> {
     let run = Subcommand::Table(TableOptions {
-        settings,
         progress: true,
-        whole: false,
-        evidence: None,
+        ..tables_by(settings)
     });
     let mut streams = Streams {
         input: Bytes::new(BOARD, 7),

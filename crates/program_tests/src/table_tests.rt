@@ -17,6 +17,7 @@ use subcommands::{Status, Subcommand, TableOptions};
 use tables::Report;
 use test_support::graphs::{ACE_WINS, NOTHING};
 use test_support::idle::{FindsNothing, StandsStill};
+use test_support::settings::tables_by;
 use tournaments::{MakeFault, make_single};
 
 const TERM: u64 = 600;
@@ -35,10 +36,8 @@ pub fn tables(progress: bool, batch: usize) -> Result<Subcommand<'static>, Setti
         .with_budget(STEPS)?
         .with_batch(batch)?;
     Ok(Subcommand::Table(TableOptions {
-        settings,
         progress,
-        whole: false,
-        evidence: None,
+        ..tables_by(settings)
     }))
 }
 

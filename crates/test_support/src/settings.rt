@@ -1,6 +1,6 @@
 //! Settings that several tests run farms with.
 
-use asked::{Settings, SettingsFault};
+use asked::{PageForm, Settings, SettingsFault, TableOptions};
 
 /// Settings with so many solvers and checkers, by which each entry is leased once, with this budget, in batches of so
 /// many.
@@ -25,4 +25,15 @@ pub fn one_of_each(tries: u32, budget: u64) -> Result<Settings, SettingsFault> {
         .with_checkers(1)?
         .with_tries(tries)?
         .with_budget(budget)
+}
+
+/// The tables alone of the boards of the input, by these settings.
+pub fn tables_by(settings: Settings) -> TableOptions<'static> {
+    TableOptions {
+        settings,
+        progress: false,
+        page: PageForm::Tables,
+        boards: None,
+        evidence: None,
+    }
 }
