@@ -6,7 +6,7 @@ ghost use Rattle.asked.specs.Options.{numbers_of};
 ghost use Rattle.arguments.specs.CommandLine.{AddsRules, AreLetters, IsArg, IsLeaf, audit, check, choice, choice_rule};
 ghost use Rattle.arguments.specs.CommandLine.{command_line, flag, hand_words, line};
 ghost use Rattle.arguments.specs.CommandLine.{number_rule, optional_word, plain, play, settings, solve, table};
-ghost use Rattle.arguments.specs.CommandLine.{text_rule, word};
+ghost use Rattle.arguments.specs.CommandLine.{page_rules, text_rule, word};
 
 use crate::help;
 use asked::options::{self, ChoiceOption, FlagOption, NumberOption, TextOption};
@@ -77,10 +77,9 @@ fn audit_command<'a>(alloc: Global) -> Result<Command<'a>, AllocError>
         .about(help::AUDIT_ABOUT)
         .override_usage(help::AUDIT_USAGE)
         .after_help(help::AUDIT_EXAMPLE);
-    command
+    with_page(alloc, command)?
         .arg(word_arg(alloc, "FILE", help::AUDIT_FILE))?
-        .arg(optional_word_arg(alloc, "BOARDS", help::BOARDS))?
-        .arg(flag_arg(alloc, &options::WHOLE))
+        .arg(optional_word_arg(alloc, "BOARDS", help::BOARDS))
 }
 
 fn solve_command<'a>(alloc: Global, letters: Letters<'a>) -> Result<Command<'a>, AllocError>
@@ -153,6 +152,15 @@ fn with_hand<'a>(
         .arg(choice_arg(alloc, "TRUMP", letters.trumps, help::TRUMP))
 }
 
+/// The command with the options that say which page is written.
+fn with_page<'a>(alloc: Global, command: Command<'a>) -> Result<Command<'a>, AllocError>
+    ensures { IfOk result (AddsRules command.entry page_rules) }
+{
+    command
+        .arg(flag_arg(alloc, &options::WHOLE))?
+        .arg(flag_arg(alloc, &options::PAR))
+}
+
 /// The command with the options that say how tables are made.
 fn with_settings<'a>(alloc: Global, command: Command<'a>) -> Result<Command<'a>, AllocError>
     ensures { IfOk result (AddsRules command.entry settings) }
@@ -160,6 +168,7 @@ fn with_settings<'a>(alloc: Global, command: Command<'a>) -> Result<Command<'a>,
     with_numbers(alloc, command, options::table_options())?
         .arg(flag_arg(alloc, &options::PROGRESS))?
         .arg(flag_arg(alloc, &options::WHOLE))?
+        .arg(flag_arg(alloc, &options::PAR))?
         .arg(text_arg(alloc, &options::EVIDENCE))?
         .arg(optional_word_arg(alloc, "BOARDS", help::BOARDS))
 }

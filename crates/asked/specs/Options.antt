@@ -75,6 +75,10 @@ progress_option = codes "progress"
 abbrev pub whole_option : List ℕ
 whole_option = codes "whole"
 
+-- another: whether the boards' pars stand before their tables
+abbrev pub par_option : List ℕ
+par_option = codes "par"
+
 -- an option of `table` that has a text: the file in which evidence is kept
 abbrev pub evidence_option : List ℕ
 evidence_option = codes "evidence"

@@ -8,4 +8,6 @@ mod subcommands;
 
 pub use settings::{Settings, SettingsFault};
 pub use sides::ContractSide;
-pub use subcommands::{AuditOptions, PageForm, PlayOptions, Subcommand, TableOptions};
+pub use subcommands::{
+    AuditOptions, Page, PageForm, ParTags, PlayOptions, Subcommand, TableOptions,
+};

@@ -166,6 +166,12 @@ pub const WHOLE: FlagOption = FlagOption {
     help: "Writes the input as it is, with its tables in it",
 };
 
+/// Whether the boards' pars stand before their tables.
+pub const PAR: FlagOption = FlagOption {
+    name: "par",
+    help: "Writes par and the par contracts before each table",
+};
+
 /// Where evidence is kept.
 pub const EVIDENCE: TextOption = TextOption {
     name: "evidence",

@@ -54,10 +54,28 @@ pub enum Subcommand<'a> {
 
 /// Which page of a text's tables is written.
 #[derive(Clone, Copy)]
+pub struct Page {
+    /// Whether they stand alone.
+    pub form: PageForm,
+    /// Whether the pars of the boards stand before their tables.
+    pub par: ParTags,
+}
+
+/// Whether pars are written.
+#[derive(Clone, Copy)]
+pub enum ParTags {
+    /// They are not.
+    Without,
+    /// They are.
+    With,
+}
+
+/// Where tables stand.
+#[derive(Clone, Copy)]
 pub enum PageForm {
-    /// The tables alone.
+    /// Alone.
     Tables,
-    /// The text as it is, with its tables in it.
+    /// In the text, which is as it was otherwise.
     Whole,
 }
 
@@ -84,7 +102,7 @@ pub struct TableOptions<'a> {
     /// Whether the gate is told of the work.
     pub progress: bool,
     /// Which page is written.
-    pub page: PageForm,
+    pub page: Page,
     /// The name of the file with the boards, if it isn't the input.
     pub boards: Option<&'a str>,
     /// The name of the file in which evidence is kept, where it is kept.
@@ -97,7 +115,7 @@ pub struct AuditOptions<'a> {
     /// The name of the file with the evidence.
     pub file: &'a str,
     /// Which page is written.
-    pub page: PageForm,
+    pub page: Page,
     /// The name of the file with the boards, if it isn't the input.
     pub boards: Option<&'a str>,
 }

@@ -10,7 +10,7 @@ use crate::faults::AuditFault;
 use crate::firsts::FirstProofs;
 use crate::publishing::publish_firsts;
 use crate::reading::read_firsts;
-use asked::PageForm;
+use asked::Page;
 use cards::{Sink, Source};
 use evidence::{Damage, Sections};
 use lease_book::{Book, is_true_history};
@@ -81,7 +81,7 @@ fn audit_text<R: Threads + Sync, I: Source, E: Source>(
 pub fn audit_tables<R: Threads + Sync, I: Source, E: Source, O: Sink>(
     rt: &R,
     alloc: Global,
-    page: PageForm,
+    page: Page,
     input: &mut I,
     evidence: &mut Sections<E>,
     output: &mut O,
@@ -90,7 +90,7 @@ pub fn audit_tables<R: Threads + Sync, I: Source, E: Source, O: Sink>(
         (devices (I.state input.new) (O.state output.new)) evidence.old evidence.new result }
 {
     let (text, book, damage) = audit_text(rt, alloc, input, evidence)?;
-    match put_page(text.as_slice(), &book, page, output) {
+    match put_page(alloc, text.as_slice(), &book, page, output) {
         Ok(report) => Ok((report, book, damage)),
         Err(fault) => Err(AuditFault::Page(fault)),
     }

@@ -9,7 +9,7 @@ use pbn_deals::{Board, BoardName, read_layout};
 use std::alloc::{AllocError, Global};
 use std::process::Abort;
 use std::test::Fail;
-use tables::{Report, Sheet, write_sheet};
+use tables::{BoardPar, Renews, Report, Sheet, write_sheet};
 use test_support::texts::joined;
 
 /// The board of four hands of one suit each, spades with North and then clockwise.
@@ -71,17 +71,30 @@ fn number_of(trump: Trump) -> usize
 }
 
 impl Sheet for TestSheet {
-    ghost use Rattle.std.specs.Prelude.{◌+◌, ◌*◌, min};
+    ghost use Rattle.std.specs.Prelude.{◌+◌, ◌*◌, min, None};
     ghost use Rattle.std.specs.List.{slice_get};
     ghost use Rattle.std.specs.Option.{option_map};
+    ghost use Rattle.tables.specs.declared.sheets.Renews.TheVariants as renews;
     ghost use Rattle.cards.specs.Orders.{trump_number};
     ghost use Rattle.cards.specs.Seats.{seat_number};
 
     ghost boards_of = { λ sheet. sheet.boards.items };
 
-    ghost results_of = { λ sheet board declarer trump.
-        option_map (λ tricks. min tricks 13)
-        (slice_get sheet.results.now (5 * seat_number declarer + trump_number trump)) };
+    ghost renews_of = { λ sheet. renews.Tables };
+
+    ghost printed_of = { λ sheet board. record {
+      results = λ declarer trump. option_map (λ tricks. min tricks 13)
+          (slice_get sheet.results.now (5 * seat_number declarer + trump_number trump));
+      par = None;
+    } };
+
+    fn renews(&self) -> Renews {
+        Renews::Tables
+    }
+
+    fn par(&self, _board: usize) -> Option<&BoardPar> {
+        None
+    }
 
     fn boards(&self) -> &[Board] {
         self.boards.as_slice()

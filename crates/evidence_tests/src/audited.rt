@@ -1,7 +1,6 @@
 //! An audit of the two boards over memory, and what it shows.
 
 use crate::two_boards::BOARDS;
-use asked::PageForm;
 use audits::audit_tables;
 use cards::{Buffer, Bytes, Seat, Suit, Trump};
 use evidence::{Damage, Sections};
@@ -9,6 +8,7 @@ use lease_book::{Book, Entry};
 use std::alloc::Global;
 use std::test::Fail;
 use std::thread::Threads;
+use test_support::settings::TABLES;
 
 /// Room for two tables.
 const ROOM: usize = 1000;
@@ -72,14 +72,7 @@ pub fn audit<R: Threads + Sync>(
     let mut input = Bytes::new(BOARDS.as_bytes(), ROOM);
     let mut sections = Sections::new(alloc, Bytes::new(evidence, greatest_piece));
     let mut output = Buffer::new(alloc, ROOM, ROOM)?;
-    match audit_tables(
-        rt,
-        alloc,
-        PageForm::Tables,
-        &mut input,
-        &mut sections,
-        &mut output,
-    ) {
+    match audit_tables(rt, alloc, TABLES, &mut input, &mut sections, &mut output) {
         Ok((_, book, damage)) => {
             let shown = Shown {
                 numbers: numbers_of(&book, 0).saturating_add(numbers_of(&book, 1)),

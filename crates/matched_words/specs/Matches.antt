@@ -12,11 +12,14 @@ use Rattle.asked.specs.declared.subcommands.Subcommand.{Subcommand}
 use Rattle.asked.specs.declared.subcommands.PlayOptions.{PlayOptions}
 use Rattle.asked.specs.declared.subcommands.TableOptions.{TableOptions}
 use Rattle.asked.specs.declared.subcommands.AuditOptions.{AuditOptions}
+use Rattle.asked.specs.declared.subcommands.Page.{Page}
 use Rattle.asked.specs.declared.subcommands.PageForm.{PageForm}
 use Rattle.asked.specs.declared.subcommands.PageForm.TheVariants.{Tables, Whole}
+use Rattle.asked.specs.declared.subcommands.ParTags.{ParTags}
+use Rattle.asked.specs.declared.subcommands.ParTags.TheVariants.{Without, With}
 use Rattle.asked.specs.declared.subcommands.Subcommand.TheVariants.{Plain, Solve, Table, Check, Line, Play, Audit}
 use Rattle.asked.specs.Options.{OptionNumbers, IsIn, nearest_in, budget_option, progress_option, whole_option}
-use Rattle.asked.specs.Options.{evidence_option, side_option, side_word}
+use Rattle.asked.specs.Options.{evidence_option, par_option, side_option, side_word}
 use Rattle.asked.specs.Settings.{OfEach, numbers_in}
 use Rattle.matched_words.specs.declared.matched.NamedDeal.{NamedDeal}
 
@@ -62,13 +65,19 @@ SaysFlag said name flag = first_of name said ≡ Some (flag_letters flag)
 abbrev pub SaysText : List Row → Text → Option (Bor Text) → Type 0
 SaysText said name text = option_map (λ t. t.now) text ≡ first_of name said
 
--- what stands for the option `--whole` among the words where this page is asked for
-abbrev pub page_letters : PageForm → Text
-page_letters Tables = flag_letters false
-page_letters Whole = flag_letters true
+-- what stands for the option `--whole` among the words where this page is asked for, and for `--par`
+abbrev pub form_letters : PageForm → Text
+form_letters Tables = flag_letters false
+form_letters Whole = flag_letters true
 
-abbrev pub SaysPage : List Row → PageForm → Type 0
-SaysPage said page = first_of whole_option said ≡ Some (page_letters page)
+abbrev pub par_letters : ParTags → Text
+par_letters Without = flag_letters false
+par_letters With = flag_letters true
+
+-- the words say which page is asked for
+pub record SaysPage (said : List Row) (page : Page) : Type 0 where
+  pub form : first_of whole_option said ≡ Some (form_letters page.form)
+  pub par : first_of par_option said ≡ Some (par_letters page.par)
 
 -- the file of this name, or the input where there is no name or it is `-`
 abbrev pub named_boards : Option Text → Option Text

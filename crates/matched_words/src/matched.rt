@@ -4,13 +4,15 @@ ghost use Rattle.std.specs.Prelude.{◌≡◌, ◌↔◌, ℕ, Some, codes, opti
 ghost use Rattle.clap.specs.Words.{first_of, found_of, rows_of, subcommand_rows_of};
 ghost use Rattle.cards.specs.Seats.{seat_letter};
 ghost use Rattle.cards.specs.Pack.{trump_letters};
-ghost use Rattle.asked.specs.Options.{numbers_of, side_option, side_word, whole_option};
-ghost use Rattle.matched_words.specs.Matches.{IsRead, flag_letters, named_boards, page_letters, Says, SaysDeal};
-ghost use Rattle.matched_words.specs.Matches.{SaysMatched, SaysNumber, SaysSettings, SaysThreads};
+ghost use Rattle.asked.specs.Options.{numbers_of, side_option, side_word};
+ghost use Rattle.matched_words.specs.Matches.{IsRead, flag_letters, form_letters, named_boards, par_letters};
+ghost use Rattle.matched_words.specs.Matches.{Says, SaysDeal, SaysMatched, SaysNumber, SaysPage, SaysSettings};
+ghost use Rattle.matched_words.specs.Matches.{SaysThreads};
 
 use asked::options::{self, NumberOption};
 use asked::{
-    AuditOptions, ContractSide, PageForm, PlayOptions, Settings, Subcommand, TableOptions,
+    AuditOptions, ContractSide, Page, PageForm, ParTags, PlayOptions, Settings, Subcommand,
+    TableOptions,
 };
 use cards::{Seat, Trump};
 use clap::ArgMatches;
@@ -150,16 +152,28 @@ fn audit_subcommand<'a>(said: &ArgMatches<'a>) -> Option<Subcommand<'a>>
 }
 
 /// Which page of the tables is asked for.
-fn page_of(said: &ArgMatches<'_>) -> Option<PageForm>
-    ensures { (page : _) → (result ≡ Some page)
-        ↔ (first_of whole_option (rows_of (found_of said.now)) ≡ Some (page_letters page)) }
+fn page_of(said: &ArgMatches<'_>) -> Option<Page>
+    ensures { IsRead (SaysPage (rows_of (found_of said.now))) result }
 {
-    page_of_letters(word_of(said, options::WHOLE.name)?)
+    let form = form_of(word_of(said, options::WHOLE.name)?)?;
+    let par = par_tags_of(word_of(said, options::PAR.name)?)?;
+    Some(Page { form, par })
 }
 
-/// The page for what `clap` writes for the option `--whole`.
-fn page_of_letters(letters: &str) -> Option<PageForm>
-    ensures { (page : _) → (result ≡ Some page) ↔ (letters.now ≡ page_letters page) }
+/// What `clap` writes for the option `--par`.
+fn par_tags_of(letters: &str) -> Option<ParTags>
+    ensures { (par : _) → (result ≡ Some par) ↔ (letters.now ≡ par_letters par) }
+{
+    match letters {
+        "false" => Some(ParTags::Without),
+        "true" => Some(ParTags::With),
+        _ => None,
+    }
+}
+
+/// What `clap` writes for the option `--whole`.
+fn form_of(letters: &str) -> Option<PageForm>
+    ensures { (form : _) → (result ≡ Some form) ↔ (letters.now ≡ form_letters form) }
 {
     match letters {
         "false" => Some(PageForm::Tables),

@@ -3,7 +3,7 @@
 use crate::outcomes::{Outcome, Told};
 use crate::spending::Spending;
 use crate::texts::{HEAD, ONE_NUMBER};
-use asked::PageForm;
+use asked::{Page, PageForm, ParTags};
 use audits::{AuditFault, audit_tables};
 use cards::{Buffer, Bytes};
 use evidence::Sections;
@@ -12,7 +12,7 @@ use std::thread::Threads;
 use test_support::four_suits::{BOARD, RUFFS, TABLE};
 use tournaments::MakeFault;
 
-/// `audit_tables` on the four hands of one suit each, by evidence for one of their numbers.
+/// `audit_tables`, with pars, on the four hands of one suit each, by evidence for one of their numbers.
 pub fn audit<R: Threads + Sync>(
     rt: &R,
     alloc: Global,
@@ -22,7 +22,10 @@ pub fn audit<R: Threads + Sync>(
     let mut source = Bytes::new(BOARD.as_bytes(), 7);
     spending.spend(alloc)?;
     let mut sections = Sections::new(alloc, Bytes::new(RUFFS.as_bytes(), 100));
-    let page = PageForm::Tables;
+    let page = Page {
+        form: PageForm::Tables,
+        par: ParTags::With,
+    };
     let made = audit_tables(rt, alloc, page, &mut source, &mut sections, &mut sink);
     let left = spending.left(alloc);
     let outcome = match made {

@@ -143,3 +143,6 @@ east_west_gain final side dealer x gain same is =
     kept-small (pos 0 -ℤ kept x) (small-neg (kept x) gain.small)
     ∙ (minus (kept x)
     ∙ (ap neg_ℤ (gain.gain ∙ ap (λ s. value final s (other_side s)) is) ∙ ap (north_south_value final) (sym is ∙ same)))
+
+pub negated_small : (x : ℤ) → IsSmall (kept x) → IsSmall (kept (pos 0 -ℤ kept x))
+negated_small x h = rw (kept-small (pos 0 -ℤ kept x) (small-neg (kept x) h)) (small-neg (kept x) h)

@@ -70,7 +70,8 @@ pub(crate) fn final_score(tricks: &Tricks, vulnerable: VulnerableSides, contract
 /// The loop goes from 7 no-trump down. It keeps what each side gains at best if it has to bid, and has the bids seen so
 /// far to choose from. After a bid the other side accepts its final score, or makes its own best higher bid.
 pub fn par_of(tricks: &Tricks, dealer: Seat, vulnerable: VulnerableSides) -> i32
-    ensures { IsPar (tricks_in tricks.now) dealer vulnerable result }
+    ensures par { IsPar (tricks_in tricks.now) dealer vulnerable result }
+    ensures small { unsigned_abs result < 2 ^ 16 }
 {
     let side = dealer.side();
     let other = side.other();

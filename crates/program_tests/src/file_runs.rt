@@ -3,7 +3,7 @@
 use crate::disks::{Disk, System};
 use crate::expect::{End, ROOM, expect_bytes, expect_eq, means};
 use crate::sections::NO_TRUMP;
-use asked::{AuditOptions, PageForm};
+use asked::AuditOptions;
 use cards::{Buffer, Bytes, Layout, Seat, Suit, Trump};
 use certificate_graph::{Bundle, Solver};
 use evidence::read_section;
@@ -17,7 +17,7 @@ use streams::Streams;
 use subcommands::{Subcommand, TableOptions, run_subcommand};
 use test_support::four_suits::{BOARD, RUFFS};
 use test_support::idle::LetsPass;
-use test_support::settings::{once, tables_by};
+use test_support::settings::{TABLES, once, tables_by};
 
 /// A solver that finds what is shown of North's spades, and nothing else.
 #[derive(Drop)]
@@ -67,8 +67,11 @@ pub const SOUND: Devices<'static> = Devices {
 
 /// The audit of a file, for the boards of this one, or of the input.
 pub fn audit<'a>(file: &'a str, boards: Option<&'a str>) -> Subcommand<'a> {
-    let page = PageForm::Tables;
-    Subcommand::Audit(AuditOptions { file, page, boards })
+    Subcommand::Audit(AuditOptions {
+        file,
+        page: TABLES,
+        boards,
+    })
 }
 
 /// The tables whose evidence is kept in a file, of the boards of that one or of the input. Each entry is looked for once.

@@ -24,6 +24,8 @@ mod line_tests;
 #[cfg(test)]
 mod named_tests;
 #[cfg(test)]
+mod par_pages;
+#[cfg(test)]
 mod plain_tests;
 #[cfg(test)]
 mod progress_tests;

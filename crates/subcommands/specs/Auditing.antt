@@ -1,6 +1,6 @@
 -- What `audit` does with the name of a file and the input.
 use Rattle.std.specs.Prelude.{◌≡◌, ℕ, List, [], Result, Ok, Err, ◌⊎◌}
-use Rattle.asked.specs.declared.subcommands.PageForm.{PageForm}
+use Rattle.asked.specs.declared.subcommands.Page.{Page}
 use Rattle.cards.specs.Devices.{Device}
 use Rattle.streams.specs.RunStreams.{Devices}
 use Rattle.lease_book.specs.Books.{Ledger}
@@ -26,7 +26,7 @@ unread file = record { source = file; held = []; before = 0 }
 
 -- The file of this name was opened, and this came of the audit of the input by what the file tells, from its first byte
 -- on.
-pub record AuditsOpened (opens : Opens) (name : List ℕ) (page : PageForm) (old new : Devices)
+pub record AuditsOpened (opens : Opens) (name : List ℕ) (page : Page) (old new : Devices)
     (audited : Result (Report × Ledger × Damage) AuditFault)
     : Type 0 where
   pub file : Device
@@ -43,10 +43,10 @@ pub record OpensNothing (opens : Opens) (name : List ℕ) (why : CannotOpen) (ol
 
 -- What was answered, what the input has given and what the output has got: the page is that of the audit, which counts
 -- the damage.
-abbrev pub AuditsFile : Opens → List ℕ → PageForm → Devices → Devices → Result Outcome RunFault → Type 0
+abbrev pub AuditsFile : Opens → List ℕ → Page → Devices → Devices → Result Outcome RunFault → Type 0
 AuditsFile opens name page old new (Ok outcome) =
     (report : Report) × (book : Ledger)
-    × (outcome ≡ record (quiet (page_status page report book.terms.boards)) {
+    × (outcome ≡ record (quiet (page_status page.form report book.terms.boards)) {
       damage = outcome.damage;
       notes = unshown_notes report book.terms.boards;
     })

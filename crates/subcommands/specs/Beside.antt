@@ -114,7 +114,7 @@ IsOutcomeBeside page report book outcome =
 abbrev pub WritesBeside : Option (List ℕ) → MayTell → TableOptions → Devices → Devices
     → Result Outcome RunFault → Type 0
 WritesBeside told may_tell options old new (Ok outcome) =
-    (report : Report) × (book : Ledger) × IsOutcomeBeside options.page report book outcome
+    (report : Report) × (book : Ledger) × IsOutcomeBeside options.page.form report book outcome
     × MakesPageBeside (IsRunBesideFile told (record { damage = outcome.damage; ended = outcome.read }) may_tell)
     options old new (Ok (report, book))
 WritesBeside told may_tell options old new (Err fault) =

@@ -29,7 +29,7 @@ pub record IsOutcomeOf (page : PageForm) (report : Report) (book : Ledger) (outc
 -- the tables of the boards of the input, and what came of them
 abbrev pub WritesTables : MayTell → TableOptions → Devices → Devices → Result Outcome RunFault → Type 0
 WritesTables may_tell options old new (Ok outcome) =
-    (report : Report) × (book : Ledger) × IsOutcomeOf options.page report book outcome
+    (report : Report) × (book : Ledger) × IsOutcomeOf options.page.form report book outcome
     × MakesPage (IsRun may_tell) (page_fact options.page) options.settings.term options.settings.tries old new
     (Ok (report, book))
 WritesTables may_tell options old new (Err fault) =

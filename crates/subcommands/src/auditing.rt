@@ -37,7 +37,7 @@ pub(crate) fn audit_file<R: Threads + Sync + NamedFiles, I: Source, O: Sink>(
     let mut evidence = Sections::new(alloc, file);
     match audit_tables(rt, alloc, options.page, input, &mut evidence, output) {
         Ok((report, book, damage)) => Ok(Outcome {
-            status: page_status(options.page, report, book.boards()),
+            status: page_status(options.page.form, report, book.boards()),
             damage,
             notes: unshown_notes(report, &book),
             read: Ok(()),

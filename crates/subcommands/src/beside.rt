@@ -107,10 +107,10 @@ pub(crate) fn write_tables_beside<
         clock: means.clock,
     };
     let (text, book, read) = make_book_beside(rt, alloc, file, input, options.settings, means)?;
-    let report = put_page(text.as_slice(), &book, options.page, output)?;
+    let report = put_page(alloc, text.as_slice(), &book, options.page, output)?;
     Ok(Outcome {
         damage: read.damage,
         read: read.ended,
-        ..outcome_of(options.page, report, &book, &tally)
+        ..outcome_of(options.page.form, report, &book, &tally)
     })
 }

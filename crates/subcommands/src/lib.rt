@@ -21,7 +21,7 @@ mod running;
 mod searches;
 
 pub use answer_subcommands::{FileFault, NamedFiles, Status};
-pub use asked::{AuditOptions, PageForm, Subcommand, TableOptions};
+pub use asked::{AuditOptions, Page, PageForm, ParTags, Subcommand, TableOptions};
 pub use faults::{RunFault, tell};
 pub use kept_files::KeptFiles;
 pub use making::make_tables;

@@ -85,6 +85,6 @@ pub fn make_tables<
         (devices (I.state input.new) (O.state output.new)) result }
 {
     let (text, book) = make_book(rt, alloc, input, options.settings, means)?;
-    let report = put_page(text.as_slice(), &book, options.page, output)?;
+    let report = put_page(alloc, text.as_slice(), &book, options.page, output)?;
     Ok((report, book))
 }

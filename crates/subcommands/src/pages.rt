@@ -60,7 +60,7 @@ pub(crate) fn write_page<
         clock: means.clock,
     };
     let (report, book) = make_tables(rt, alloc, options, means, input, output)?;
-    Ok(outcome_of(options.page, report, &book, &tally))
+    Ok(outcome_of(options.page.form, report, &book, &tally))
 }
 
 /// What came of a page that was written for the book of a run.

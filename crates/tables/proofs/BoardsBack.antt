@@ -19,12 +19,17 @@ use Rattle.pbn_deals.specs.Games.{Tags, no_tags, boards_of, SaysDeal, board_tag,
 use Rattle.pbn_deals.specs.Lines.{is_line_feed, without_return, lines_of, is_escaped, is_blank_line}
 use Rattle.pbn_deals.specs.Reading.{Ends, Scans, at_end, at_tag, at_line_comment, Answers, no_line, escaped_line, blank_line, whole_line, put_boards}
 use Rattle.pbn_deals.specs.DealText.{deal_text}
-use Rattle.tables.specs.TablesText.{Results, line_feed, tag_line, deal_value, row_text, result_row, entry_row, rows_text, entries, right_in_two, is_complete, published_count, table_tag, incomplete_text, table_text, board_text, numbered_text, tables_text}
+use Rattle.tables.specs.declared.pars.BoardPar.{BoardPar}
+use Rattle.tables.specs.declared.pars.BoardPar.TheVariants.{Known, NoDealer, NoVulnerability}
+use Rattle.par.specs.Texts.{score_text, contracts_text}
+use Rattle.tables.specs.ParText.{tag_text, body_line, IsSmallPar, par_bodies, par_text}
+use Rattle.tables.specs.TablesText.{Results, Printed, section_text, line_feed, tag_line, deal_value, row_text, result_row, entry_row, rows_text, entries, right_in_two, is_complete, published_count, table_tag, incomplete_text, table_text, board_text, numbered_text, tables_text}
 use Rattle.pbn_deals.specs.Printable.{IsBoardDeal, IsPrintable}
 use Rattle.tables.specs.ReadBack.{AreTricks, AreReadBack}
 use Rattle.pbn_deals.proofs.DealsBack.{reads_back}
 use Rattle.tables.proofs.LinesBack.{IsLine, lines_of-line, IsTame, IsLine-from_tame, IsTame-append, Scans-quiet}
-use Rattle.tables.proofs.CalmTexts.{is_calm, IsTame-from_calm, IsQuiet-from_calm, is_calm-append, NoQuote, seat_letter-calm, denomination-calm, right_in_two-calm, decimal-calm}
+use Rattle.tables.proofs.ParTexts.{score-calm, contracts-calm}
+use Rattle.tables.proofs.CalmTexts.{is_calm, IsTame-from_calm, IsQuiet-from_calm, is_calm-append, NoQuote, calm-no_quote, calm-no_feed, seat_letter-calm, denomination-calm, right_in_two-calm, decimal-calm}
 
 -- the answer for the lines of a text, whatever the number of its first line
 abbrev AnswersText : Tags → ℕ → List ℕ → Result (List Board) PbnFault → Type 0
@@ -148,11 +153,8 @@ table_step results rest tags count answer small more =
     ]
 
 -- ---- tag pairs with a value
-unfoldable pub tag_body : List ℕ → List ℕ → List ℕ
-tag_body name value = 91 ∷ (name ++ (32 ∷ 34 ∷ (value ++ (34 ∷ 93 ∷ []))))
-
-pub tag_line-is : (name value rest : List ℕ) → tag_line name value ++ rest ≡ tag_body name value ++ 10 ∷ rest
-unfolding tag_body
+pub tag_line-is : (name value rest : List ℕ) → tag_line name value ++ rest ≡ tag_text name value ++ 10 ∷ rest
+unfolding tag_text
 tag_line-is name value rest = simp append_assoc
 
 value_front-is : (value rest : List ℕ) → NoQuote value → value_front (value ++ 34 ∷ rest) ≡ value
@@ -184,8 +186,8 @@ feedless-append [] other a b = b
 feedless-append (byte ∷ bytes) other a b = (a.0, feedless-append bytes other a.1 b)
 
 -- the line of a tag pair whose name and value have no line feed
-pub tag-line : (name value : List ℕ) → AllByRecursion (λ byte. is_line_feed byte ≡ false) name → AllByRecursion (λ byte. is_line_feed byte ≡ false) value → IsLine (tag_body name value)
-unfolding tag_body
+pub tag-line : (name value : List ℕ) → AllByRecursion (λ byte. is_line_feed byte ≡ false) name → AllByRecursion (λ byte. is_line_feed byte ≡ false) value → IsLine (tag_text name value)
+unfolding tag_text
 tag-line name value a b = record {
   no_feed = All-from_recursion _ (91 ∷ (name ++ (32 ∷ 34 ∷ (value ++ (34 ∷ 93 ∷ []))))) (refl, feedless-append name (32 ∷ 34 ∷ (value ++ (34 ∷ 93 ∷ []))) a (refl, (refl, feedless-append value (34 ∷ 93 ∷ []) b (refl, (refl, tt)))));
   no_return = subst (λ (l : List ℕ). without_return l ≡ l) (append_assoc (91 ∷ (name ++ (32 ∷ 34 ∷ []))) value (34 ∷ 93 ∷ []) ∙ ap (λ (l : List ℕ). 91 ∷ l) (append_assoc name (32 ∷ 34 ∷ []) (value ++ (34 ∷ 93 ∷ [])))) (bracket-return ((91 ∷ (name ++ (32 ∷ 34 ∷ []))) ++ value));
@@ -199,25 +201,93 @@ no_quote (byte ∷ bytes) h = (h.0, no_quote bytes h.1)
 name_tags : List ℕ → Tags
 name_tags name = record { name = Some name; deal = None }
 
-board_line-read : (number count : ℕ) (name : List ℕ) → NoQuote name → is_inherited name ≡ false → Scans number count false no_tags (tag_body (codes "Board") name) (Ends (name_tags name) false)
-unfolding tag_body name_tags
+board_line-read : (number count : ℕ) (name : List ℕ) → NoQuote name → is_inherited name ≡ false → Scans number count false no_tags (tag_text (codes "Board") name) (Ends (name_tags name) false)
+unfolding tag_text name_tags
 board_line-read number count name h own = at_tag refl (board_tag_of name h) (board_tag refl (first_board own refl)) at_end
 
 -- the line of the Deal tag gives the deal
 both_tags : List ℕ → Option Deal → Tags
 both_tags name deal = record { name = Some name; deal = Some deal }
 
-deal_line-read : (number count : ℕ) (name value : List ℕ) (deal : Option Deal) → NoQuote value → ((line : ℕ) → SaysDeal line value (Ok deal)) → count < greatest_count → Scans number count false (name_tags name) (tag_body (codes "Deal") value) (Ends (both_tags name deal) false)
-unfolding tag_body name_tags both_tags
+deal_line-read : (number count : ℕ) (name value : List ℕ) (deal : Option Deal) → NoQuote value → ((line : ℕ) → SaysDeal line value (Ok deal)) → count < greatest_count → Scans number count false (name_tags name) (tag_text (codes "Deal") value) (Ends (both_tags name deal) false)
+unfolding tag_text name_tags both_tags
 deal_line-read number count name value deal h says room = at_tag refl (deal_tag_of value h) (deal_tag refl refl (only_deal refl (says number) room)) at_end
 
-tag_body-not_escaped : (name value : List ℕ) → is_escaped (tag_body name value) ≡ false
-unfolding tag_body
-tag_body-not_escaped name value = refl
+tag_text-not_escaped : (name value : List ℕ) → is_escaped (tag_text name value) ≡ false
+unfolding tag_text
+tag_text-not_escaped name value = refl
 
-tag_body-not_blank : (name value : List ℕ) → is_blank_line (tag_body name value) ≡ false
-unfolding tag_body
-tag_body-not_blank name value = refl
+tag_text-not_blank : (name value : List ℕ) → is_blank_line (tag_text name value) ≡ false
+unfolding tag_text
+tag_text-not_blank name value = refl
+
+-- ---- the lines of par
+pub score_tag_of : (value : List ℕ) → NoQuote value → tag_of (codes "OptimumScore" ++ (32 ∷ 34 ∷ (value ++ (34 ∷ 93 ∷ [])))) ≡ Some (record { name = codes "OptimumScore"; value = value; rest = [] })
+score_tag_of value h = rw (value_front-is value (93 ∷ []) h, after_value-is value (93 ∷ []) h) refl
+
+pub contracts_tag_of : (value : List ℕ) → NoQuote value → tag_of (codes "ParContract" ++ (32 ∷ 34 ∷ (value ++ (34 ∷ 93 ∷ [])))) ≡ Some (record { name = codes "ParContract"; value = value; rest = [] })
+contracts_tag_of value h = rw (value_front-is value (93 ∷ []) h, after_value-is value (93 ∷ []) h) refl
+
+score-read : (value : List ℕ) → NoQuote value → (number count : ℕ) (tags : Tags) → Scans number count false tags (tag_text (codes "OptimumScore") value) (Ends tags false)
+unfolding tag_text
+score-read value h number count tags = at_tag refl (score_tag_of value h) (other_tag refl refl) at_end
+
+contracts-read : (value : List ℕ) → NoQuote value → (number count : ℕ) (tags : Tags) → Scans number count false tags (tag_text (codes "ParContract") value) (Ends tags false)
+unfolding tag_text
+contracts-read value h number count tags = at_tag refl (contracts_tag_of value h) (other_tag refl refl) at_end
+
+score-idle : (value : List ℕ) → is_calm value ≡ true → IsIdle (tag_text (codes "OptimumScore") value)
+score-idle value calm = record {
+  as_line = tag-line (codes "OptimumScore") value (calm-no_feed (codes "OptimumScore") refl) (calm-no_feed value calm);
+  not_escaped = tag_text-not_escaped (codes "OptimumScore") value;
+  not_blank = tag_text-not_blank (codes "OptimumScore") value;
+  read = score-read value (calm-no_quote value calm);
+}
+
+contracts-idle : (value : List ℕ) → is_calm value ≡ true → IsIdle (tag_text (codes "ParContract") value)
+contracts-idle value calm = record {
+  as_line = tag-line (codes "ParContract") value (calm-no_feed (codes "ParContract") refl) (calm-no_feed value calm);
+  not_escaped = tag_text-not_escaped (codes "ParContract") value;
+  not_blank = tag_text-not_blank (codes "ParContract") value;
+  read = contracts-read value (calm-no_quote value calm);
+}
+
+no_dealer-idle : IsIdle (codes "; par unknown: no dealer")
+no_dealer-idle = record {
+  as_line = IsLine-from_tame _ (IsTame-from_test (codes "; par unknown: no dealer") refl);
+  not_escaped = refl;
+  not_blank = refl;
+  read = λ number count tags. at_line_comment refl;
+}
+
+no_vulnerability-idle : IsIdle (codes "; par unknown: no vulnerability")
+no_vulnerability-idle = record {
+  as_line = IsLine-from_tame _ (IsTame-from_test (codes "; par unknown: no vulnerability") refl);
+  not_escaped = refl;
+  not_blank = refl;
+  read = λ number count tags. at_line_comment refl;
+}
+
+pub par-idle : (par : Option BoardPar) → IfSome par IsSmallPar → AllByRecursion IsIdle (par_bodies par)
+par-idle None small = tt
+par-idle (Some (Known score contracts)) small = (score-idle (score_text score) (score-calm score small.0), (contracts-idle (contracts_text contracts.items) (contracts-calm contracts.items small.1), tt))
+par-idle (Some NoDealer) small = (no_dealer-idle, tt)
+par-idle (Some NoVulnerability) small = (no_vulnerability-idle, tt)
+
+bodies_step : (bodies : List (List ℕ)) (rest : List ℕ) (tags : Tags) (count : ℕ) (answer : Result (List Board) PbnFault) → AllByRecursion IsIdle bodies → AnswersText tags count rest answer → AnswersText tags count (flat_map (body_line line_feed) bodies ++ rest) answer
+bodies_step [] rest tags count answer idle more = more
+bodies_step (body ∷ bodies) rest tags count answer idle more =
+    subst (λ (text : List ℕ). AnswersText tags count text answer) (sym (line_more body (flat_map (body_line line_feed) bodies) rest))
+    (idle_step body (flat_map (body_line line_feed) bodies ++ rest) tags count answer idle.0 (bodies_step bodies rest tags count answer idle.1 more))
+
+pub section_text-is : (printed : Printed) (rest : List ℕ) → section_text line_feed printed ++ rest ≡ flat_map (body_line line_feed) (par_bodies printed.par) ++ (table_text line_feed printed.results ++ rest)
+unfolding section_text par_text
+section_text-is printed rest = append_assoc (flat_map (body_line line_feed) (par_bodies printed.par)) (table_text line_feed printed.results) rest
+
+section_step : (printed : Printed) (rest : List ℕ) (tags : Tags) (count : ℕ) (answer : Result (List Board) PbnFault) → ((declarer : Seat) (denomination : Trump) → IfSome (printed.results declarer denomination) (λ tricks. tricks ≤ 13)) → IfSome printed.par IsSmallPar → AnswersText tags count rest answer → AnswersText tags count (section_text line_feed printed ++ rest) answer
+section_step printed rest tags count answer small pars more =
+    subst (λ (text : List ℕ). AnswersText tags count text answer) (sym (section_text-is printed rest))
+    (bodies_step (par_bodies printed.par) (table_text line_feed printed.results ++ rest) tags count answer (par-idle printed.par pars) (table_step printed.results rest tags count answer small more))
 
 -- what is known of the printed deal
 pub record IsReadable (deal : Option Deal) : Type 0 where
@@ -230,37 +300,37 @@ blank_step rest tags count answer more = λ number.
     subst (λ (lines : List (List ℕ)). Answers number None tags count lines (put_boards (boards_of tags) answer)) (sym (lines_of-line [] rest (record { no_feed = All-from_recursion _ [] tt; no_return = refl })))
     (blank_line refl refl (more (number + 1)))
 
-pub board_text-is : (board : Board) (results : Results) (rest : List ℕ) → board_text board results ++ rest ≡ tag_body (codes "Board") board.name ++ 10 ∷ (tag_body (codes "Deal") (deal_value board.deal) ++ 10 ∷ (table_text line_feed results ++ 10 ∷ rest))
+pub board_text-is : (board : Board) (printed : Printed) (rest : List ℕ) → board_text board printed ++ rest ≡ tag_text (codes "Board") board.name ++ 10 ∷ (tag_text (codes "Deal") (deal_value board.deal) ++ 10 ∷ (section_text line_feed printed ++ 10 ∷ rest))
 unfolding board_text
-board_text-is board results rest =
-    let table = table_text line_feed results ++ (10 ∷ []) in
+board_text-is board printed rest =
+    let table = section_text line_feed printed ++ (10 ∷ []) in
     let deal = tag_line (codes "Deal") (deal_value board.deal) in
     append_assoc (tag_line (codes "Board") board.name) (deal ++ table) rest
     ∙ (tag_line-is (codes "Board") board.name ((deal ++ table) ++ rest)
-    ∙ ap (λ (l : List ℕ). tag_body (codes "Board") board.name ++ 10 ∷ l)
+    ∙ ap (λ (l : List ℕ). tag_text (codes "Board") board.name ++ 10 ∷ l)
     (append_assoc deal table rest
     ∙ (tag_line-is (codes "Deal") (deal_value board.deal) (table ++ rest)
-    ∙ ap (λ (l : List ℕ). tag_body (codes "Deal") (deal_value board.deal) ++ 10 ∷ l) (append_assoc (table_text line_feed results) (10 ∷ []) rest))))
+    ∙ ap (λ (l : List ℕ). tag_text (codes "Deal") (deal_value board.deal) ++ 10 ∷ l) (append_assoc (section_text line_feed printed) (10 ∷ []) rest))))
 
-board_step : (board : Board) (results : Results) (rest : List ℕ) (count : ℕ) (boards : List Board) → IsPrintable board → IsReadable board.deal → ((declarer : Seat) (denomination : Trump) → IfSome (results declarer denomination) (λ tricks. tricks ≤ 13)) → count < greatest_count → AnswersText no_tags (count + 1) rest (Ok boards) → AnswersText no_tags count (board_text board results ++ rest) (Ok (board ∷ boards))
+board_step : (board : Board) (printed : Printed) (rest : List ℕ) (count : ℕ) (boards : List Board) → IsPrintable board → IsReadable board.deal → ((declarer : Seat) (denomination : Trump) → IfSome (printed.results declarer denomination) (λ tricks. tricks ≤ 13)) → IfSome printed.par IsSmallPar → count < greatest_count → AnswersText no_tags (count + 1) rest (Ok boards) → AnswersText no_tags count (board_text board printed ++ rest) (Ok (board ∷ boards))
 unfolding board_text both_tags
-board_step board results rest count boards printable readable small room more = λ number.
+board_step board printed rest count boards printable readable small pars room more = λ number.
     let name = board.name in
     let value = deal_value board.deal in
     let tags = both_tags name board.deal in
     let quoteless = no_quote name (recursion_from_All _ name printable.no_quote) in
     let feed = feedless name (recursion_from_All _ name printable.one_line) in
     let ending : AnswersText tags count (10 ∷ rest) (Ok (board ∷ boards)) = blank_step rest tags count (Ok boards) more in
-    let table : AnswersText tags count (table_text line_feed results ++ 10 ∷ rest) (Ok (board ∷ boards)) = table_step results (10 ∷ rest) tags count (Ok (board ∷ boards)) small ending in
-    let deal_line = tag_body (codes "Deal") value in
-    let deal : AnswersText (name_tags name) count (deal_line ++ 10 ∷ (table_text line_feed results ++ 10 ∷ rest)) (Ok (board ∷ boards)) =
-    λ number. subst (λ (lines : List (List ℕ)). Answers number None (name_tags name) count lines (Ok (board ∷ boards))) (sym (lines_of-line deal_line (table_text line_feed results ++ 10 ∷ rest) (tag-line (codes "Deal") value (refl, (refl, (refl, (refl, tt)))) readable.one_line)))
-    (whole_line (tag_body-not_escaped (codes "Deal") value) (tag_body-not_blank (codes "Deal") value) (deal_line-read number count name value board.deal readable.quoteless readable.says room) (table (number + 1))) in
-    let board_line = tag_body (codes "Board") name in
-    let first : AnswersText no_tags count (board_line ++ 10 ∷ (deal_line ++ 10 ∷ (table_text line_feed results ++ 10 ∷ rest))) (Ok (board ∷ boards)) =
-    λ number. subst (λ (lines : List (List ℕ)). Answers number None no_tags count lines (Ok (board ∷ boards))) (sym (lines_of-line board_line (deal_line ++ 10 ∷ (table_text line_feed results ++ 10 ∷ rest)) (tag-line (codes "Board") name (refl, (refl, (refl, (refl, (refl, tt))))) feed)))
-    (whole_line (tag_body-not_escaped (codes "Board") name) (tag_body-not_blank (codes "Board") name) (board_line-read number count name quoteless printable.own_name) (deal (number + 1))) in
-    subst (λ (l : List ℕ). Answers number None no_tags count (lines_of l) (Ok (board ∷ boards))) (sym (board_text-is board results rest)) (first number)
+    let table : AnswersText tags count (section_text line_feed printed ++ 10 ∷ rest) (Ok (board ∷ boards)) = section_step printed (10 ∷ rest) tags count (Ok (board ∷ boards)) small pars ending in
+    let deal_line = tag_text (codes "Deal") value in
+    let deal : AnswersText (name_tags name) count (deal_line ++ 10 ∷ (section_text line_feed printed ++ 10 ∷ rest)) (Ok (board ∷ boards)) =
+    λ number. subst (λ (lines : List (List ℕ)). Answers number None (name_tags name) count lines (Ok (board ∷ boards))) (sym (lines_of-line deal_line (section_text line_feed printed ++ 10 ∷ rest) (tag-line (codes "Deal") value (refl, (refl, (refl, (refl, tt)))) readable.one_line)))
+    (whole_line (tag_text-not_escaped (codes "Deal") value) (tag_text-not_blank (codes "Deal") value) (deal_line-read number count name value board.deal readable.quoteless readable.says room) (table (number + 1))) in
+    let board_line = tag_text (codes "Board") name in
+    let first : AnswersText no_tags count (board_line ++ 10 ∷ (deal_line ++ 10 ∷ (section_text line_feed printed ++ 10 ∷ rest))) (Ok (board ∷ boards)) =
+    λ number. subst (λ (lines : List (List ℕ)). Answers number None no_tags count lines (Ok (board ∷ boards))) (sym (lines_of-line board_line (deal_line ++ 10 ∷ (section_text line_feed printed ++ 10 ∷ rest)) (tag-line (codes "Board") name (refl, (refl, (refl, (refl, (refl, tt))))) feed)))
+    (whole_line (tag_text-not_escaped (codes "Board") name) (tag_text-not_blank (codes "Board") name) (board_line-read number count name quoteless printable.own_name) (deal (number + 1))) in
+    subst (λ (l : List ℕ). Answers number None no_tags count (lines_of l) (Ok (board ∷ boards))) (sym (board_text-is board printed rest)) (first number)
 
 pub readable_deal : (deal : Option Deal) → IsBoardDeal deal → IsReadable deal
 readable_deal None h = record {
@@ -277,12 +347,12 @@ readable_deal (Some deal) h =
     }
 
 -- the boards from one place on
-boards_step : (boards : List Board) (results : ℕ → Results) (place count : ℕ) → AllByRecursion IsPrintable boards → ((deal : Option Deal) → IsBoardDeal deal → IsReadable deal) → AreTricks results → count + length boards ≤ greatest_count → AnswersText no_tags count (flat_map (numbered_text results) (enumerate_from place boards)) (Ok boards)
-boards_step [] results place count printable readable small room = λ number. blank_line refl refl no_line
-boards_step (board ∷ boards) results place count printable readable small room =
-    let rest = flat_map (numbered_text results) (enumerate_from (place + 1) boards) in
-    let more : AnswersText no_tags (count + 1) rest (Ok boards) = boards_step boards results (place + 1) (count + 1) printable.1 readable small (omega arith) in
-    board_step board (results place) rest count boards printable.0 (readable board.deal printable.0.deal) (small place) (omega arith) more
+boards_step : (boards : List Board) (printed : ℕ → Printed) (place count : ℕ) → AllByRecursion IsPrintable boards → ((deal : Option Deal) → IsBoardDeal deal → IsReadable deal) → AreTricks printed → count + length boards ≤ greatest_count → AnswersText no_tags count (flat_map (numbered_text printed) (enumerate_from place boards)) (Ok boards)
+boards_step [] printed place count printable readable small room = λ number. blank_line refl refl no_line
+boards_step (board ∷ boards) printed place count printable readable small room =
+    let rest = flat_map (numbered_text printed) (enumerate_from (place + 1) boards) in
+    let more : AnswersText no_tags (count + 1) rest (Ok boards) = boards_step boards printed (place + 1) (count + 1) printable.1 readable small (omega arith) in
+    board_step board (printed place) rest count boards printable.0 (readable board.deal printable.0.deal) (small.at_most place) (small.pars place) (omega arith) more
 
 unfoldable pub first_line : List ℕ
 first_line = codes "% PBN 2.1"
@@ -293,7 +363,7 @@ first_line-is = IsLine-from_tame first_line (IsTame-from_test first_line refl)
 
 pub are_read_back : AreReadBack
 unfolding tables_text first_line
-are_read_back boards results printable small room =
-    let rest = flat_map (numbered_text results) (enumerate_from 0 boards) in
-    let more = boards_step boards results 0 0 (recursion_from_All _ boards printable) readable_deal small (omega arith) in
+are_read_back boards printed printable small room =
+    let rest = flat_map (numbered_text printed) (enumerate_from 0 boards) in
+    let more = boards_step boards printed 0 0 (recursion_from_All _ boards printable) readable_deal small (omega arith) in
     subst (λ (lines : List (List ℕ)). Answers 1 None no_tags 0 lines (Ok boards)) (sym (lines_of-line first_line rest first_line-is)) (escaped_line refl (more 2))

@@ -1,6 +1,10 @@
 -- Bytes that end no line and have no meaning of their own.
-use Rattle.std.proofs.Common.{◌≡◌, ◌≢◌, ℕ, ◌≤◌, Bool, true, not, ◌&&◌, eqb, List, [], ◌∷◌, ◌++◌, length, refl, arith, inl, inr}
+use Rattle.std.specs.List.{AllByRecursion}
+use Rattle.pbn_deals.specs.Lines.{is_line_feed}
+use Rattle.std.proofs.Common.{◌≡◌, ◌≢◌, ℕ, ◌<◌, ◌≤◌, Bool, true, false, not, ◌&&◌, eqb, List, [], ◌∷◌, ◌++◌, length, refl, arith, inl, inr}
 use Rattle.std.specs.Fmt.{decimal}
+use Rattle.std.specs.Str.Parse.{AllDigits}
+use Rattle.std.proofs.lemmas.Str.Parse.{digit_at}
 use Rattle.std.proofs.lemmas.Bool.{cases_Bool, ne_eqb, eqb-false, and_parts, and_from, not-true, le-ltb}
 use Rattle.cards.specs.declared.seats.Seat.{Seat}
 use Rattle.cards.specs.declared.seats.Seat.TheVariants.{North, East, South, West}
@@ -90,3 +94,24 @@ right_in_two-calm (a ∷ b ∷ rest) h = rw (le-ltb (length (a ∷ b ∷ rest)) 
 
 pub decimal-calm : (n : ℕ) → n ≤ 20 → is_calm (decimal n) ≡ true
 decimal-calm = for_small (λ n text. is_calm text ≡ true) refl refl refl refl refl refl refl refl refl refl refl refl refl refl refl refl refl refl refl refl refl
+
+-- a text that is calm has no line feed
+pub calm-no_feed : (text : List ℕ) → is_calm text ≡ true → AllByRecursion (λ byte. is_line_feed byte ≡ false) text
+calm-no_feed [] h = tt
+calm-no_feed (byte ∷ bytes) h =
+    let parts = and_parts (is_calm_byte byte) (is_calm bytes) h in
+    let one = and_parts (not (eqb byte 10)) _ parts.0 in
+    (ne_eqb byte 10 (differs byte 10 one.0), calm-no_feed bytes parts.1)
+
+-- digits are calm
+calm_digit : (byte : ℕ) → 48 ≤ byte → byte ≤ 57 → is_calm_byte byte ≡ true
+calm_digit byte low high =
+    let apart : (other : ℕ) → other < 48 → byte ≢ other = λ other under e. absurd (omega (arith, under, e, low)) in
+    let above : (other : ℕ) → 57 < other → byte ≢ other = λ other over e. absurd (omega (arith, over, e, high)) in
+    rw (ne_eqb byte 10 (apart 10 (omega arith)), ne_eqb byte 13 (apart 13 (omega arith)), ne_eqb byte 34 (apart 34 (omega arith)), ne_eqb byte 59 (above 59 (omega arith)), ne_eqb byte 91 (above 91 (omega arith)), ne_eqb byte 123 (above 123 (omega arith))) refl
+
+pub digits-calm : (text : List ℕ) → AllDigits 10 text → is_calm text ≡ true
+digits-calm [] h = refl
+digits-calm (byte ∷ bytes) h =
+    let range = digit_at (byte ∷ bytes) 0 h (omega arith) in
+    and_from (is_calm_byte byte) (is_calm bytes) (calm_digit byte range.0 range.1) (digits-calm bytes h.1)

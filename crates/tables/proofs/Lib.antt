@@ -5,6 +5,8 @@ pub mod TableLemmas
 pub mod BoardLemmas
 pub mod LinesBack
 pub mod CalmTexts
+pub mod ParTexts
+pub mod ParLines
 pub mod BoardsBack
 pub mod PageLines
 pub mod PageBack

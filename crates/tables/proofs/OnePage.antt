@@ -11,9 +11,9 @@ use Rattle.pbn_deals.specs.declared.boards.Board.{Board}
 use Rattle.pbn_deals.specs.Games.{Tags, no_tags, SaysDeal, TakesTag, deal_tag, only_deal}
 use Rattle.pbn_deals.specs.Lines.{lines_of}
 use Rattle.pbn_deals.proofs.OneTag.{one_taking}
-use Rattle.tables.specs.TablesText.{Results, entries, published_count, is_complete}
-use Rattle.tables.specs.PageReading.{Row, Table, Rows, Incomplete, Block, page_in}
-use Rattle.tables.specs.WrittenOnce.{IsWrittenOnce, SaysResults, SayBoards, SaySame, PagesSayOneThing}
+use Rattle.tables.specs.TablesText.{Results, Printed, entries, published_count, is_complete}
+use Rattle.tables.specs.PageReading.{Row, Table, Rows, Incomplete, Section, Block, page_in}
+use Rattle.tables.specs.WrittenOnce.{IsWrittenOnce, SaysResults, SaysSection, SayBoards, SaySame, PagesSayOneThing}
 use Rattle.tables.proofs.PageBack.{pages_are_read}
 
 -- ---- a board
@@ -61,7 +61,11 @@ complete_count : (results : Results) → is_complete results ≡ true → publis
 unfolding is_complete
 complete_count results e = eqb-true (published_count results) 20 e
 
-same_results : (one other : Results) (table : Table) → SaysResults one table → SaysResults other table → SaySame one other
+record SameResults (one other : Results) : Type 0 where
+  counts : published_count one ≡ published_count other
+  numbers : is_complete one ≡ true → (declarer : Seat) (denomination : Trump) → one declarer denomination ≡ other declarer denomination
+
+same_results : (one other : Results) (table : Table) → SaysResults one table → SaysResults other table → SameResults one other
 same_results one other (Rows rows) h h' = record {
   counts = rows_published one rows h.1 ∙ sym (rows_published other rows h'.1);
   numbers = λ _ declarer denomination.
@@ -74,11 +78,16 @@ same_results one other (Incomplete count) h h' = record {
   numbers = λ complete declarer denomination. absurd (let all = complete_count one complete in let is = h.0 in let few = h.1 in omega (arith, all, is, few));
 }
 
+same_section : (one other : Printed) (section : Section) → SaysSection one section → SaysSection other section → SaySame one other
+same_section one other section h h' =
+    let same = same_results one.results other.results section.table h.table h'.table in
+    record { pars = sym h.par ∙ h'.par; counts = same.counts; numbers = same.numbers }
+
 -- ---- the boards
-abbrev SaysSameFrom : (ℕ → Results) → (ℕ → Results) → ℕ → List Board → Type 0
+abbrev SaysSameFrom : (ℕ → Printed) → (ℕ → Printed) → ℕ → List Board → Type 0
 SaysSameFrom results results' place boards = (i : ℕ) → i < length boards → SaySame (results (place + i)) (results' (place + i))
 
-same_boards : (boards others : List Board) (results results' : ℕ → Results) (place : ℕ) (blocks : List Block) → SayBoards results (enumerate_from place boards) blocks → SayBoards results' (enumerate_from place others) blocks → (boards ≡ others) × SaysSameFrom results results' place boards
+same_boards : (boards others : List Board) (results results' : ℕ → Printed) (place : ℕ) (blocks : List Block) → SayBoards results (enumerate_from place boards) blocks → SayBoards results' (enumerate_from place others) blocks → (boards ≡ others) × SaysSameFrom results results' place boards
 same_boards [] [] results results' place [] h h' = (refl, λ i within. absurd (omega (arith, within)))
 same_boards [] [] results results' place (block ∷ blocks) h h' = absurd h
 same_boards [] (other ∷ others) results results' place [] h h' = absurd h'
@@ -91,7 +100,7 @@ same_boards (board ∷ boards) (other ∷ others) results results' place (block 
     let says' = h'.0 in
     let first = one_board board other (sym says.name ∙ says'.name) (one_deal block.deal board.deal other.deal (says.deal 1) (says'.deal 1)) in
     let more = same_boards boards others results results' (place + 1) blocks h.1 h'.1 in
-    (ap (λ (b : Board). b ∷ boards) first ∙ ap (λ (l : List Board). other ∷ l) more.0, at (same_results (results place) (results' place) block.table says.table says'.table) more.1)
+    (ap (λ (b : Board). b ∷ boards) first ∙ ap (λ (l : List Board). other ∷ l) more.0, at (same_section (results place) (results' place) block.section says.section says'.section) more.1)
   where
     at : SaySame (results place) (results' place) → SaysSameFrom results results' (place + 1) boards → (i : ℕ) → i < length (board ∷ boards) → SaySame (results (place + i)) (results' (place + i))
     at one more zero within = let e : place ≡ place + 0 = omega arith in subst (λ n. SaySame (results n) (results' n)) e one

@@ -1,16 +1,17 @@
 -- The lines of a page, block by block.
 use Rattle.std.proofs.Common.{◌≡◌, ℕ, ◌≤◌, Bool, true, false, cond, List, [], ◌∷◌, ◌++◌, Option, None, Some, refl, ◌∙◌, ap, append_assoc}
 use Rattle.std.specs.Prelude.{codes, IfSome}
-use Rattle.std.specs.List.{flat_map, enumerate_from}
+use Rattle.std.specs.List.{AllByRecursion, flat_map, enumerate_from}
 use Rattle.std.proofs.lemmas.List.Elements.{recursion_from_All, All-from_recursion}
 use Rattle.cards.specs.declared.seats.Seat.{Seat}
 use Rattle.cards.specs.declared.suits.Trump.{Trump}
 use Rattle.pbn_deals.specs.declared.boards.Board.{Board}
 use Rattle.pbn_deals.specs.Lines.{lines_of}
 use Rattle.pbn_deals.specs.Printable.{IsPrintable}
-use Rattle.tables.specs.TablesText.{Results, line_feed, deal_value, row_text, result_row, entry_row, rows_text, entries, is_complete, published_count, table_tag, incomplete_text, table_text, board_text, numbered_text, tables_text}
+use Rattle.tables.specs.ParText.{tag_text, body_line, par_bodies}
+use Rattle.tables.specs.TablesText.{Results, Printed, section_text, line_feed, deal_value, row_text, result_row, entry_row, rows_text, entries, is_complete, published_count, table_tag, incomplete_text, table_text, board_text, numbered_text, tables_text}
 use Rattle.tables.proofs.LinesBack.{lines_of-line}
-use Rattle.tables.proofs.BoardsBack.{row-idle, line_more, table_tag-idle, incomplete-idle, published_count-le, tag_body, feedless, tag-line, IsReadable, board_text-is, first_line, first_line-is}
+use Rattle.tables.proofs.BoardsBack.{IsIdle, row-idle, line_more, table_tag-idle, incomplete-idle, published_count-le, section_text-is, feedless, tag-line, IsReadable, board_text-is, first_line, first_line-is}
 
 -- each known result is at most 13
 abbrev pub AreSmall : Results → Type 0
@@ -56,25 +57,36 @@ incomplete-lines results rest e =
     ap lines_of (ap (λ (l : List ℕ). l ++ rest) (table_text-at results false e) ∙ append_assoc (incomplete_text count) line_feed rest)
     ∙ lines_of-line (incomplete_text count) rest (incomplete-idle count (published_count-le results)).as_line
 
+-- the lines of par
+bodies-lines : (bodies : List (List ℕ)) (rest : List ℕ) → AllByRecursion IsIdle bodies → lines_of (flat_map (body_line line_feed) bodies ++ rest) ≡ bodies ++ lines_of rest
+bodies-lines [] rest idle = refl
+bodies-lines (body ∷ bodies) rest idle =
+    let more = flat_map (body_line line_feed) bodies in
+    ap lines_of (line_more body more rest)
+    ∙ (lines_of-line body (more ++ rest) idle.0.as_line ∙ ap (λ (lines : List (List ℕ)). body ∷ lines) (bodies-lines bodies rest idle.1))
+
+pub section-lines : (printed : Printed) (rest : List ℕ) → AllByRecursion IsIdle (par_bodies printed.par) → lines_of (section_text line_feed printed ++ rest) ≡ par_bodies printed.par ++ lines_of (table_text line_feed printed.results ++ rest)
+section-lines printed rest idle = ap lines_of (section_text-is printed rest) ∙ bodies-lines (par_bodies printed.par) (table_text line_feed printed.results ++ rest) idle
+
 -- an empty line
 pub empty-line : (rest : List ℕ) → lines_of (10 ∷ rest) ≡ [] ∷ lines_of rest
 empty-line rest = lines_of-line [] rest (record { no_feed = All-from_recursion _ [] tt; no_return = refl })
 
 -- the lines of a block
-pub board-lines : (board : Board) (results : Results) (rest : List ℕ) → IsPrintable board → IsReadable board.deal → lines_of (board_text board results ++ rest) ≡ tag_body (codes "Board") board.name ∷ tag_body (codes "Deal") (deal_value board.deal) ∷ lines_of (table_text line_feed results ++ 10 ∷ rest)
-board-lines board results rest printable readable =
+pub board-lines : (board : Board) (printed : Printed) (rest : List ℕ) → IsPrintable board → IsReadable board.deal → lines_of (board_text board printed ++ rest) ≡ tag_text (codes "Board") board.name ∷ tag_text (codes "Deal") (deal_value board.deal) ∷ lines_of (section_text line_feed printed ++ 10 ∷ rest)
+board-lines board printed rest printable readable =
     let name = board.name in
     let value = deal_value board.deal in
-    let board_line = tag_body (codes "Board") name in
-    let deal_line = tag_body (codes "Deal") value in
-    let below = table_text line_feed results ++ 10 ∷ rest in
+    let board_line = tag_text (codes "Board") name in
+    let deal_line = tag_text (codes "Deal") value in
+    let below = section_text line_feed printed ++ 10 ∷ rest in
     let feed = feedless name (recursion_from_All _ name printable.one_line) in
-    ap lines_of (board_text-is board results rest)
+    ap lines_of (board_text-is board printed rest)
     ∙ (lines_of-line board_line (deal_line ++ 10 ∷ below) (tag-line (codes "Board") name (refl, (refl, (refl, (refl, (refl, tt))))) feed)
     ∙ ap (λ (lines : List (List ℕ)). board_line ∷ lines)
     (lines_of-line deal_line below (tag-line (codes "Deal") value (refl, (refl, (refl, (refl, tt)))) readable.one_line)))
 
 -- the lines of the page
-pub page-lines : (boards : List Board) (results : ℕ → Results) → lines_of (tables_text boards results) ≡ codes "% PBN 2.1" ∷ lines_of (flat_map (numbered_text results) (enumerate_from 0 boards))
+pub page-lines : (boards : List Board) (printed : ℕ → Printed) → lines_of (tables_text boards printed) ≡ codes "% PBN 2.1" ∷ lines_of (flat_map (numbered_text printed) (enumerate_from 0 boards))
 unfolding tables_text first_line
-page-lines boards results = lines_of-line first_line (flat_map (numbered_text results) (enumerate_from 0 boards)) first_line-is
+page-lines boards printed = lines_of-line first_line (flat_map (numbered_text printed) (enumerate_from 0 boards)) first_line-is

@@ -1,3 +1,4 @@
+pub mod ParText
 pub mod TablesText
 pub mod ReadBack
 pub mod PageReading

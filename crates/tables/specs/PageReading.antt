@@ -113,19 +113,61 @@ table_in line below =
     if are_columns (value_in (codes "OptimumResultTable") line) then rows_table (all_items (map row_in below))
     else count_alone line below
 
--- ---- a block: the value of its Board tag, the value of its Deal tag, and its table
+-- ---- a section: what is said of par, and a table
+-- nothing is said of par, or the values of its tags OptimumScore and ParContract are, or what isn't known of the board
+pub data ParSaid : Type 0 where
+  Nothing : ParSaid
+  Values : List ℕ → List ℕ → ParSaid
+  DealerUnknown : ParSaid
+  VulnerabilityUnknown : ParSaid
+
+pub record Section : Type 0 where
+  pub par : ParSaid
+  pub table : Table
+
+abbrev pub section_of : ParSaid → Option Table → Option Section
+section_of par None = None
+section_of par (Some table) = Some (record { par = par; table = table })
+
+-- the table in these lines
+abbrev pub table_of_lines : List (List ℕ) → Option Table
+table_of_lines [] = None
+table_of_lines (line ∷ below) = table_in line below
+
+-- the second value, and the table below it
+abbrev pub section_of_values : List ℕ → Option (List ℕ) → List (List ℕ) → Option Section
+section_of_values score None below = None
+section_of_values score (Some contracts) below = section_of (Values score contracts) (table_of_lines below)
+
+-- a first line with a score, and one that begins the table
+abbrev pub section_of_score : Option (List ℕ) → List (List ℕ) → Option Section
+section_of_score None lines = section_of Nothing (table_of_lines lines)
+section_of_score (Some score) (line ∷ contracts ∷ below) =
+    section_of_values score (value_in (codes "ParContract") contracts) below
+section_of_score (Some score) _ = None
+
+abbrev pub section_in : List (List ℕ) → Option Section
+section_in [] = None
+section_in (line ∷ below) =
+    if bytes_eq line (codes "; par unknown: no dealer")
+    then section_of DealerUnknown (table_of_lines below) else
+    (if bytes_eq line (codes "; par unknown: no vulnerability")
+    then section_of VulnerabilityUnknown (table_of_lines below) else
+    section_of_score (value_in (codes "OptimumScore") line) (line ∷ below))
+
+-- ---- a block: the value of its Board tag, the value of its Deal tag, and its section
 pub record Block : Type 0 where
   pub name : List ℕ
   pub deal : List ℕ
-  pub table : Table
+  pub section : Section
 
-abbrev pub block_of : Option (List ℕ) → Option (List ℕ) → Option Table → Option Block
-block_of (Some name) (Some deal) (Some table) = Some (record { name = name; deal = deal; table = table })
+abbrev pub block_of : Option (List ℕ) → Option (List ℕ) → Option Section → Option Block
+block_of (Some name) (Some deal) (Some section) = Some (record { name = name; deal = deal; section = section })
 block_of _ _ _ = None
 
 abbrev pub block_in : List (List ℕ) → Option Block
-block_in (board ∷ deal ∷ table ∷ below) =
-    block_of (value_in (codes "Board") board) (value_in (codes "Deal") deal) (table_in table below)
+block_in (board ∷ deal ∷ below) =
+    block_of (value_in (codes "Board") board) (value_in (codes "Deal") deal) (section_in below)
 block_in _ = None
 
 -- the blocks: the parts between empty lines that have a line

@@ -1,6 +1,6 @@
 -- The text of the tables of a list of boards (PBN 2.1, the Board, Deal and OptimumResultTable tags).
 use Rattle.std.specs.Prelude.{ℕ, ◌==◌, List, [], ◌∷◌, ◌++◌, length, codes, map, Bool, count_by, Option, Some, None}
-use Rattle.std.specs.Prelude.{is_some, if◌then◌else◌, nat_lt}
+use Rattle.std.specs.Prelude.{is_some, if◌then◌else◌, nat_lt, slice_index_or}
 use Rattle.std.specs.List.{flat_map, enumerate_from}
 use Rattle.std.specs.Fmt.{decimal}
 use Rattle.cards.specs.declared.seats.Seat.{Seat}
@@ -13,10 +13,21 @@ use Rattle.cards.specs.Seats.{seat_letter}
 use Rattle.cards.specs.Deal.{Deal}
 use Rattle.pbn_deals.specs.declared.boards.Board.{Board}
 use Rattle.pbn_deals.specs.DealText.{deal_text}
+use Rattle.tables.specs.declared.pars.BoardPar.{BoardPar}
+use Rattle.tables.specs.ParText.{par_text}
 
 -- the results of one board that are known, by declarer and denomination
 abbrev pub Results : Type 0
 Results = Seat → Trump → Option ℕ
+
+-- what is printed of a board beside its name and its deal: its results, and its par, if that is printed
+pub record Printed : Type 0 where
+  pub results : Results
+  pub par : Option BoardPar
+
+-- the results, and these pars, one for each place, as far as there are any
+abbrev pub printed_with : List (Option BoardPar) → (ℕ → Results) → ℕ → Printed
+printed_with pars results place = record { results = results place; par = slice_index_or pars place None }
 
 abbrev pub line_feed : List ℕ
 line_feed = 10 ∷ []
@@ -99,21 +110,26 @@ table_text end results =
     if is_complete results then (table_tag ++ end) ++ rows_text end results
     else incomplete_text (published_count results) ++ end
 
--- one board: its name, its deal, its table, and an empty line
-unfoldable pub board_text : Board → Results → List ℕ
-board_text board results =
-    tag_line (codes "Board") board.name
-    ++ (tag_line (codes "Deal") (deal_value board.deal) ++ (table_text line_feed results ++ (10 ∷ [])))
+-- the par of a board, if it is printed, and its table, each line with this end
+unfoldable pub section_text : List ℕ → Printed → List ℕ
+section_text end printed = par_text end printed.par ++ table_text end printed.results
 
--- each board with its results, found by its place
-abbrev pub numbered_text : (ℕ → Results) → ℕ × Board → List ℕ
-numbered_text results numbered = board_text numbered.1 (results numbered.0)
+-- one board: its name, its deal, its par and its table, and an empty line
+unfoldable pub board_text : Board → Printed → List ℕ
+board_text board printed =
+    tag_line (codes "Board") board.name
+    ++ (tag_line (codes "Deal") (deal_value board.deal) ++ (section_text line_feed printed ++ (10 ∷ [])))
+
+-- each board with what is printed of it, found by its place
+abbrev pub numbered_text : (ℕ → Printed) → ℕ × Board → List ℕ
+numbered_text printed numbered = board_text numbered.1 (printed numbered.0)
 
 -- the whole text
-unfoldable pub tables_text : List Board → (ℕ → Results) → List ℕ
-tables_text boards results =
-    ended_line (codes "% PBN 2.1") ++ flat_map (numbered_text results) (enumerate_from 0 boards)
+unfoldable pub tables_text : List Board → (ℕ → Printed) → List ℕ
+tables_text boards printed =
+    ended_line (codes "% PBN 2.1") ++ flat_map (numbered_text printed) (enumerate_from 0 boards)
 
 -- how many boards have a complete table
-unfoldable pub complete_count : List Board → (ℕ → Results) → ℕ
-complete_count boards results = count_by (λ numbered. is_complete (results numbered.0)) (enumerate_from 0 boards)
+unfoldable pub complete_count : List Board → (ℕ → Printed) → ℕ
+complete_count boards printed =
+    count_by (λ numbered. is_complete (printed numbered.0).results) (enumerate_from 0 boards)

@@ -1,5 +1,6 @@
 -- What is printed of boards is read, line by line, as their names, their deals and their results, each once.
-use Rattle.std.specs.Prelude.{◌≡◌, ℕ, ◌<◌, true, ◌&&◌, List, [], ◌∷◌, length, map, filter, All, Some, Ok, Bool, false}
+use Rattle.std.specs.Prelude.{◌≡◌, ℕ, ◌<◌, true, ◌&&◌, List, [], ◌∷◌, length, map, filter, All, Option, None, Some}
+use Rattle.std.specs.Prelude.{Ok, Bool, false}
 use Rattle.std.specs.List.{enumerate_from}
 use Rattle.cards.specs.declared.seats.Seat.{Seat}
 use Rattle.cards.specs.declared.suits.Suit.TheVariants.{Spades, Hearts, Diamonds, Clubs}
@@ -10,9 +11,13 @@ use Rattle.pbn_deals.specs.declared.boards.Board.{Board}
 use Rattle.pbn_deals.specs.Games.{SaysDeal}
 use Rattle.pbn_deals.specs.Lines.{lines_of}
 use Rattle.pbn_deals.specs.Printable.{IsPrintable}
-use Rattle.tables.specs.TablesText.{Results, published_count, is_complete, tables_text}
+use Rattle.par.specs.Texts.{score_text, contracts_text}
+use Rattle.tables.specs.declared.pars.BoardPar.{BoardPar}
+use Rattle.tables.specs.declared.pars.BoardPar.TheVariants.{Known, NoDealer, NoVulnerability}
+use Rattle.tables.specs.TablesText.{Results, Printed, published_count, is_complete, tables_text}
 use Rattle.tables.specs.ReadBack.{AreTricks}
-use Rattle.tables.specs.PageReading.{Row, Table, Rows, Incomplete, Block, page_in}
+use Rattle.tables.specs.PageReading.{Row, Table, Rows, Incomplete, ParSaid, Nothing, Values, DealerUnknown}
+use Rattle.tables.specs.PageReading.{VulnerabilityUnknown, Section, Block, page_in}
 
 abbrev pub is_same_denomination : Trump → Trump → Bool
 is_same_denomination trump.Nt trump.Nt = true
@@ -42,38 +47,51 @@ SaysResults results (Rows rows) =
     (length rows ≡ 20) × ((declarer : Seat) (denomination : Trump) → IsWrittenOnce results rows declarer denomination)
 SaysResults results (Incomplete count) = (count ≡ published_count results) × (count < 20)
 
--- the board's name, a value of which a Deal tag says the board's deal and no other, and the board's results
-pub record SaysBoard (board : Board) (results : Results) (block : Block) : Type 0 where
+-- what is said of a par that is printed, or not
+abbrev pub par_said : Option BoardPar → ParSaid
+par_said None = Nothing
+par_said (Some (Known score contracts)) = Values (score_text score) (contracts_text contracts.items)
+par_said (Some NoDealer) = DealerUnknown
+par_said (Some NoVulnerability) = VulnerabilityUnknown
+
+-- the par and the results that are printed
+pub record SaysSection (printed : Printed) (section : Section) : Type 0 where
+  pub par : section.par ≡ par_said printed.par
+  pub table : SaysResults printed.results section.table
+
+-- the board's name, a value of which a Deal tag says the board's deal and no other, and the board's par and results
+pub record SaysBoard (board : Board) (printed : Printed) (block : Block) : Type 0 where
   pub name : block.name ≡ board.name
   pub deal : (line : ℕ) → SaysDeal line block.deal (Ok board.deal)
-  pub table : SaysResults results block.table
+  pub section : SaysSection printed block.section
 
 -- a block for each board, in their order, and no other
-abbrev pub SayBoards : (ℕ → Results) → List (ℕ × Board) → List Block → Type 0
-SayBoards results [] [] = Unit {0}
-SayBoards results (numbered ∷ more) (block ∷ blocks) =
-    SaysBoard numbered.1 (results numbered.0) block × SayBoards results more blocks
-SayBoards results _ _ = ⊥
+abbrev pub SayBoards : (ℕ → Printed) → List (ℕ × Board) → List Block → Type 0
+SayBoards printed [] [] = Unit {0}
+SayBoards printed (numbered ∷ more) (block ∷ blocks) =
+    SaysBoard numbered.1 (printed numbered.0) block × SayBoards printed more blocks
+SayBoards printed _ _ = ⊥
 
--- the page is read as blocks that say the boards and their results
+-- the page is read as blocks that say the boards and what is printed of them
 abbrev pub PagesAreRead : Type 0
 PagesAreRead =
-    (boards : List Board) (results : ℕ → Results) →
-    All IsPrintable boards → AreTricks results →
-    (blocks : List Block) × (page_in (lines_of (tables_text boards results)) ≡ Some blocks)
-    × SayBoards results (enumerate_from 0 boards) blocks
+    (boards : List Board) (printed : ℕ → Printed) →
+    All IsPrintable boards → AreTricks printed →
+    (blocks : List Block) × (page_in (lines_of (tables_text boards printed)) ≡ Some blocks)
+    × SayBoards printed (enumerate_from 0 boards) blocks
 
--- the same results, where they are all known, and else as many
-pub record SaySame (one other : Results) : Type 0 where
-  pub counts : published_count one ≡ published_count other
+-- the same par, and the same results, where they are all known, and else as many
+pub record SaySame (one other : Printed) : Type 0 where
+  pub pars : par_said one.par ≡ par_said other.par
+  pub counts : published_count one.results ≡ published_count other.results
   pub numbers :
-      is_complete one ≡ true → (declarer : Seat) (denomination : Trump) →
-      one declarer denomination ≡ other declarer denomination
+      is_complete one.results ≡ true → (declarer : Seat) (denomination : Trump) →
+      one.results declarer denomination ≡ other.results declarer denomination
 
--- one page says one list of boards, and of each of them the same results
+-- one page says one list of boards, and of each of them the same
 abbrev pub PagesSayOneThing : Type 0
 PagesSayOneThing =
-    (boards others : List Board) (results results' : ℕ → Results) →
-    All IsPrintable boards → All IsPrintable others → AreTricks results → AreTricks results' →
-    tables_text boards results ≡ tables_text others results' →
-    (boards ≡ others) × ((place : ℕ) → place < length boards → SaySame (results place) (results' place))
+    (boards others : List Board) (printed printed' : ℕ → Printed) →
+    All IsPrintable boards → All IsPrintable others → AreTricks printed → AreTricks printed' →
+    tables_text boards printed ≡ tables_text others printed' →
+    (boards ≡ others) × ((place : ℕ) → place < length boards → SaySame (printed place) (printed' place))

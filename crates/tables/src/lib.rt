@@ -1,10 +1,11 @@
 //! The tables of boards as a PBN text.
 //!
-//! [`write_sheet`] writes the boards of a [`Sheet`] with the results that are known of them, [`write_table`] the table
-//! of one board. They take no memory. After a fault of the sink a beginning of the text has been written.
+//! [`write_sheet`] writes the boards of a [`Sheet`] with the results that are known of them, [`write_section`] the par
+//! and the table of one board. They take no memory. After a fault of the sink a beginning of the text has been written.
 #![tactic(auto)]
 
 mod laws;
+mod pars;
 mod pieces;
 mod rows;
 mod sheet_text;
@@ -14,6 +15,7 @@ mod tables;
 pub use laws::{
     boards_are_read_back, pages_are_read, pages_say_one_thing, said_boards_are_read_back,
 };
+pub use pars::BoardPar;
 pub use sheet_text::write_sheet;
-pub use sheets::{Report, Sheet};
-pub use tables::{count_complete, write_table};
+pub use sheets::{Renews, Report, Sheet};
+pub use tables::{count_complete, write_section};

@@ -6,7 +6,7 @@ ghost use Rattle.tables.specs.TablesText.{tag_line, deal_value, board_text, tabl
 
 use crate::pieces::write_pieces;
 use crate::sheets::{Report, Sheet};
-use crate::tables::{count_complete, write_table};
+use crate::tables::{count_complete, write_section};
 use cards::{DeviceFault, Layout, Sink, write_all};
 use pbn_deals::{Board, write_layout};
 
@@ -31,11 +31,11 @@ fn write_board<S: Sink, T: Sheet>(
     place: usize,
     board: &Board,
 ) -> Result<(), DeviceFault>
-    ensures { Writes (S.state sink.old) (S.state sink.new) (board_text board.now (T.results_of sheet.now place)) result }
+    ensures { Writes (S.state sink.old) (S.state sink.new) (board_text board.now (T.printed_of sheet.now place)) result }
 {
     write_pieces(sink, &[b"[Board \"", board.name.as_bytes(), b"\"]\n"])?;
     write_deal(sink, &board.deal)?;
-    write_table(sink, sheet, place, b"\n")?;
+    write_section(sink, sheet, place, b"\n")?;
     write_all(sink, b"\n")
 }
 
@@ -43,10 +43,10 @@ fn write_board<S: Sink, T: Sheet>(
 /// complete. After a fault of the sink a beginning of the text has gone out. Takes no memory.
 pub fn write_sheet<T: Sheet, S: Sink>(sheet: &T, sink: &mut S) -> Result<Report, DeviceFault>
     ensures writes { Writes (S.state sink.old) (S.state sink.new)
-        (tables_text (T.boards_of sheet.now) (T.results_of sheet.now)) result }
+        (tables_text (T.boards_of sheet.now) (T.printed_of sheet.now)) result }
     ensures boards { IfOk result (λ report. report.boards ≡ length (T.boards_of sheet.now)) }
     ensures complete { IfOk result (λ report. report.complete
-        ≡ complete_count (T.boards_of sheet.now) (T.results_of sheet.now)) }
+        ≡ complete_count (T.boards_of sheet.now) (T.printed_of sheet.now)) }
 {
     write_all(sink, b"% PBN 2.1\n")?;
     let boards = sheet.boards();

@@ -5,7 +5,9 @@ ghost use Rattle.std.specs.List.{flat_map};
 ghost use Rattle.cards.specs.Devices.{Writes};
 ghost use Rattle.tables.specs.TablesText.{entry_row, entries_of, rows_text, table_text};
 ghost use Rattle.tables.specs.TablesText.{published_among, published_count, complete_count, incomplete_text};
+ghost use Rattle.tables.specs.TablesText.{section_text};
 
+use crate::pars::write_par;
 use crate::pieces::write_line;
 use crate::rows::{two_places, write_row};
 use crate::sheets::Sheet;
@@ -26,7 +28,7 @@ fn write_declarer_rows<S: Sink, T: Sheet>(
     end: &[u8],
 ) -> Result<(), DeviceFault>
     ensures { Writes (S.state sink.old) (S.state sink.new)
-        (flat_map (entry_row end.now (T.results_of sheet.now board)) (entries_of declarer)) result }
+        (flat_map (entry_row end.now (T.printed_of sheet.now board).results) (entries_of declarer)) result }
 {
     for trump in Trump::ALL {
         if let Some(tricks) = sheet.result(board, declarer, trump) {
@@ -43,7 +45,7 @@ fn write_rows<S: Sink, T: Sheet>(
     board: usize,
     end: &[u8],
 ) -> Result<(), DeviceFault>
-    ensures { Writes (S.state sink.old) (S.state sink.new) (rows_text end.now (T.results_of sheet.now board)) result }
+    ensures { Writes (S.state sink.old) (S.state sink.new) (rows_text end.now (T.printed_of sheet.now board).results) result }
 {
     for declarer in DECLARERS {
         write_declarer_rows(sink, sheet, board, declarer, end)?;
@@ -53,7 +55,7 @@ fn write_rows<S: Sink, T: Sheet>(
 
 /// How many results a declarer has.
 fn count_declarer_results<T: Sheet>(sheet: &T, board: usize, declarer: Seat) -> u8
-    ensures count { result ≡ published_among (T.results_of sheet.now board) (entries_of declarer) }
+    ensures count { result ≡ published_among (T.printed_of sheet.now board).results (entries_of declarer) }
     ensures at_most_5 { result ≤ 5 }
 {
     let mut count = 0;
@@ -67,7 +69,7 @@ fn count_declarer_results<T: Sheet>(sheet: &T, board: usize, declarer: Seat) -> 
 
 /// How many results a board has.
 fn count_results<T: Sheet>(sheet: &T, board: usize) -> u8
-    ensures count { result ≡ published_count (T.results_of sheet.now board) }
+    ensures count { result ≡ published_count (T.printed_of sheet.now board).results }
     ensures at_most_20 { result ≤ 20 }
 {
     let mut count = 0;
@@ -93,7 +95,7 @@ fn write_incomplete<S: Sink>(sink: &mut S, published: u8, end: &[u8]) -> Result<
 
 /// How many boards of the sheet have all twenty results.
 pub fn count_complete<T: Sheet>(sheet: &T) -> usize
-    ensures { result ≡ complete_count (T.boards_of sheet.now) (T.results_of sheet.now) }
+    ensures { result ≡ complete_count (T.boards_of sheet.now) (T.printed_of sheet.now) }
 {
     let mut complete = 0;
     for place in 0..sheet.boards().len() {
@@ -104,15 +106,14 @@ pub fn count_complete<T: Sheet>(sheet: &T) -> usize
     complete
 }
 
-/// Writes the table of a board of the sheet, by its place from 0, each line with this end. After a fault of the sink a
-/// beginning of the text has gone out. Takes no memory.
-pub fn write_table<S: Sink, T: Sheet>(
+/// Writes the table of a board of the sheet, by its place from 0, each line with this end.
+fn write_table<S: Sink, T: Sheet>(
     sink: &mut S,
     sheet: &T,
     board: usize,
     end: &[u8],
 ) -> Result<(), DeviceFault>
-    ensures { Writes (S.state sink.old) (S.state sink.new) (table_text end.now (T.results_of sheet.now board)) result }
+    ensures { Writes (S.state sink.old) (S.state sink.new) (table_text end.now (T.printed_of sheet.now board).results) result }
 {
     let published = count_results(sheet, board);
     if published < 20 {
@@ -120,4 +121,18 @@ pub fn write_table<S: Sink, T: Sheet>(
     }
     write_line(sink, &[TABLE_TAG], end)?;
     write_rows(sink, sheet, board, end)
+}
+
+/// Writes the par of a board of the sheet, by its place from 0, if it is printed, and its table, each line with this
+/// end. After a fault of the sink a beginning of the text has gone out. Takes no memory.
+pub fn write_section<S: Sink, T: Sheet>(
+    sink: &mut S,
+    sheet: &T,
+    board: usize,
+    end: &[u8],
+) -> Result<(), DeviceFault>
+    ensures { Writes (S.state sink.old) (S.state sink.new) (section_text end.now (T.printed_of sheet.now board)) result }
+{
+    write_par(sink, sheet.par(board), end)?;
+    write_table(sink, sheet, board, end)
 }

@@ -1,6 +1,12 @@
 //! Settings that several tests run farms with.
 
-use asked::{PageForm, Settings, SettingsFault, TableOptions};
+use asked::{Page, PageForm, ParTags, Settings, SettingsFault, TableOptions};
+
+/// The tables alone.
+pub const TABLES: Page = Page {
+    form: PageForm::Tables,
+    par: ParTags::Without,
+};
 
 /// Settings with so many solvers and checkers, by which each entry is leased once, with this budget, in batches of so
 /// many.
@@ -32,7 +38,7 @@ pub fn tables_by(settings: Settings) -> TableOptions<'static> {
     TableOptions {
         settings,
         progress: false,
-        page: PageForm::Tables,
+        page: TABLES,
         boards: None,
         evidence: None,
     }

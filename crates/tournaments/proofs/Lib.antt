@@ -2,3 +2,4 @@ pub mod WorkLaws
 pub mod PageLaws
 pub mod WholePageLaws
 pub mod PutLaws
+pub mod ParLaws

@@ -1,9 +1,9 @@
 -- The page of a tournament is read as its boards, each with the double-dummy values of its deal.
-use Rattle.std.proofs.Common.{◌≡◌, ℕ, suc, ◌+◌, ◌<◌, ◌≤◌, Bool, true, false, cond, List, [], ◌∷◌, length, map, get_or, Option, None, Some, IfSome, refl, sym, ◌∙◌, ap, subst, arith, All}
+use Rattle.std.proofs.Common.{◌≡◌, ℕ, suc, ◌+◌, ◌<◌, ◌≤◌, Bool, true, false, cond, zero, List, [], ◌∷◌, length, map, get_or, Option, None, Some, IfSome, refl, sym, ◌∙◌, ap, subst, arith, All}
 use Rattle.std.specs.Prelude.{filter, slice_get}
 use Rattle.std.specs.List.{AllZip, AllByRecursion, enumerate_from}
 use Rattle.std.proofs.lemmas.Bool.{both_ways, and_from}
-use Rattle.std.proofs.lemmas.List.Elements.{All-get_or, All-from_recursion}
+use Rattle.std.proofs.lemmas.List.Elements.{All-get_or, All-from_recursion, All-head, All-tail}
 use Rattle.std.proofs.lemmas.Option.{slice_get_within, get_or_from_slice_get}
 use Rattle.cards.specs.declared.seats.Seat.{Seat}
 use Rattle.cards.specs.declared.suits.Suit.TheVariants.{Spades, Hearts, Diamonds, Clubs}
@@ -22,11 +22,14 @@ use Rattle.lease_book.specs.Histories.{deal_of, published_in}
 use Rattle.lease_book.proofs.TwinLaws.{board_with}
 use Rattle.lease_book.specs.TrueHistories.{AreValues}
 use Rattle.lease_book.specs.BookResults.{book_results}
+use Rattle.tables.specs.declared.pars.BoardPar.{BoardPar}
+use Rattle.tables.specs.ParText.{IsSmallPar}
+use Rattle.tables.specs.TablesText.{Results, printed_with, complete_count}
 use Rattle.tables.specs.ReadBack.{AreTricks}
 use Rattle.tables.specs.PageReading.{Row, Table, Rows, Incomplete, Block}
 use Rattle.tables.specs.WrittenOnce.{is_same_denomination, is_row_of, numbers_in, SaysResults, SayBoards}
 use Rattle.tables.proofs.PageBack.{pages_are_read}
-use Rattle.tournaments.specs.Pages.{IsTrueRow, IsTrueTable, TablesAreRead}
+use Rattle.tournaments.specs.Pages.{Pars, AreSmallPars, IsTrueRow, IsTrueTable, TablesAreRead}
 
 -- ---- a number that is published is at most 13
 at_most_13 : (deal : Option Deal) (dealt : Deal) (declarer : Seat) (denomination : Trump) (tricks : ℕ) → deal ≡ Some dealt → IsBoardDeal deal → IsValue dealt declarer denomination tricks → tricks ≤ 13
@@ -39,8 +42,8 @@ printable_at boards number board printable there =
     subst IsPrintable (get_or_from_slice_get boards number board board there)
     (All-get_or IsPrintable boards number board (slice_get_within boards number board there) printable)
 
-pub are_tricks : (boards : List Board) (events : List Event) → All IsPrintable boards → AreValues boards events → AreTricks (book_results boards events)
-are_tricks boards events printable values place declarer denomination = go (published_in boards events entry) refl
+are_at_most_13 : (boards : List Board) (events : List Event) → All IsPrintable boards → AreValues boards events → (place : ℕ) (declarer : Seat) (denomination : Trump) → IfSome (book_results boards events place declarer denomination) (λ tricks. tricks ≤ 13)
+are_at_most_13 boards events printable values place declarer denomination = go (published_in boards events entry) refl
   where
     entry : Entry
     entry = record { board = place; declarer = declarer; trump = denomination }
@@ -51,6 +54,21 @@ are_tricks boards events printable values place declarer denomination = go (publ
         let value = values entry tricks is in
         let board = board_with boards place value.0 value.1 in
         at_most_13 (board.0).deal value.0 declarer denomination tricks board.2 (printable_at boards place board.0 printable board.1).deal value.2
+
+-- where there is no par, none is large
+small_at : (pars : Pars) → AreSmallPars pars → (place : ℕ) → IfSome (get_or pars place None) IsSmallPar
+small_at [] small place = tt
+small_at (par ∷ pars) small zero = All-head (λ (par : Option BoardPar). IfSome par IsSmallPar) par pars small
+small_at (par ∷ pars) small (suc place) = small_at pars (All-tail (λ (par : Option BoardPar). IfSome par IsSmallPar) par pars small) place
+
+pub are_tricks : (boards : List Board) (events : List Event) (pars : Pars) → All IsPrintable boards → AreValues boards events → AreSmallPars pars → AreTricks (printed_with pars (book_results boards events))
+are_tricks boards events pars printable values small =
+    record { at_most = are_at_most_13 boards events printable values; pars = small_at pars small }
+
+-- the pars don't count
+pub complete_alike : (boards : List Board) (pars : Pars) (results : ℕ → Results) → complete_count boards (printed_with pars results) ≡ complete_count boards (printed_with [] results)
+unfolding complete_count
+complete_alike boards pars results = refl
 
 -- ---- a row is the one of its declarer and denomination
 same_denomination : (denomination : Trump) → is_same_denomination denomination denomination ≡ true
@@ -109,23 +127,23 @@ true_table : (all : List Board) (events : List Event) (place : ℕ) (board : Boa
 true_table all events place board (Rows rows) values here says = true_row all events place board rows values here says
 true_table all events place board (Incomplete count) values here says = tt
 
-true_tables : (all : List Board) (events : List Event) → AreValues all events → (place : ℕ) (boards : List Board) (blocks : List Block) → StandAt all place boards → SayBoards (book_results all events) (enumerate_from place boards) blocks → AllZip (λ board block. IsTrueTable board block.table) boards blocks
-true_tables all events values place [] [] stand says = tt
-true_tables all events values place [] (block ∷ blocks) stand says = absurd says
-true_tables all events values place (board ∷ boards) [] stand says = absurd says
-true_tables all events values place (board ∷ boards) (block ∷ blocks) stand says = (
-  true_table all events place board block.table values (stand_here all place board boards stand) says.0.table,
-  true_tables all events values (place + 1) boards blocks (stand_later all place board boards stand) says.1,
+true_tables : (all : List Board) (events : List Event) (pars : Pars) → AreValues all events → (place : ℕ) (boards : List Board) (blocks : List Block) → StandAt all place boards → SayBoards (printed_with pars (book_results all events)) (enumerate_from place boards) blocks → AllZip (λ board block. IsTrueTable board block.section.table) boards blocks
+true_tables all events pars values place [] [] stand says = tt
+true_tables all events pars values place [] (block ∷ blocks) stand says = absurd says
+true_tables all events pars values place (board ∷ boards) [] stand says = absurd says
+true_tables all events pars values place (board ∷ boards) (block ∷ blocks) stand says = (
+  true_table all events place board block.section.table values (stand_here all place board boards stand) says.0.section.table,
+  true_tables all events pars values (place + 1) boards blocks (stand_later all place board boards stand) says.1,
 )
 
 pub tables_are_read : TablesAreRead
-tables_are_read text terms events says history =
+tables_are_read text terms events pars says history small =
     let boards = terms.boards in
     let printable = (boards_are_printable text boards says).0 in
-    let page = pages_are_read boards (book_results boards events) printable (are_tricks boards events printable history.values) in
+    let page = pages_are_read boards (printed_with pars (book_results boards events)) printable (are_tricks boards events pars printable history.values small) in
     record {
       blocks = page.0;
       read = page.1;
       boards_said = page.2;
-      values = true_tables boards events history.values 0 boards page.0 (λ i. let e : 0 + i ≡ i = omega arith in ap (deal_of boards) e) page.2;
+      values = true_tables boards events pars history.values 0 boards page.0 (λ i. let e : 0 + i ≡ i = omega arith in ap (deal_of boards) e) page.2;
     }

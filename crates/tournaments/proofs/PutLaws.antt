@@ -5,10 +5,12 @@ use Rattle.pbn_deals.specs.declared.boards.Board.{Board}
 use Rattle.pbn_deals.specs.Reading.{TextAnswers}
 use Rattle.streams.specs.Inputs.{IsReadToEnd}
 use Rattle.streams.specs.RunStreams.{devices}
+use Rattle.streams.proofs.ReadLaws.{Loses-all}
 use Rattle.lease_book.specs.Books.{Ledger}
 use Rattle.lease_book.specs.Histories.{Terms}
 use Rattle.tables.specs.declared.sheets.Report.{Report}
 use Rattle.tournaments.specs.declared.faults.MakeFault.{MakeFault}
+use Rattle.tournaments.specs.declared.faults.MakeFault.TheVariants.{OutOfMemory, Read, Pbn, NoThread, Write}
 use Rattle.tournaments.specs.Making.{RunFact, PageFact, AreReported, FillsPage, BeginsPage, MakesPage}
 use Rattle.tournaments.specs.Putting.{PutsPage}
 
@@ -32,16 +34,20 @@ module _ (is_run : RunFact) (is_page : PageFact) (boards : List Board) (term tri
     counts = subst (λ (b : List Board). AreReported b book.events report) boards_are put.3;
   }
 
-  pub page_beginning : is_run book.terms book.events → (fault : MakeFault) → PutsPage is_page text book sink sink' (Err fault) → BeginsPage is_run is_page term tries (devices source sink) (devices source' sink')
-  page_beginning run fault put = record {
+  page_beginning : is_run book.terms book.events → PutsPage is_page text book sink sink' (Err Write) → BeginsPage is_run is_page term tries (devices source sink) (devices source' sink')
+  page_beginning run put = record {
     boards = boards;
     read = record { text = text; all = all; read = read };
     events = book.events;
     run = subst (λ (t : Terms). is_run t book.events) terms run;
-    page = put.1.0;
-    is = subst (λ (b : List Board). is_page text b book.events put.1.0) boards_are put.1.1;
-    written = put.1.2;
+    page = put.0;
+    is = subst (λ (b : List Board). is_page text b book.events put.0) boards_are put.1;
+    written = put.2;
   }
 
   pub page_begun : is_run book.terms book.events → (fault : MakeFault) → PutsPage is_page text book sink sink' (Err fault) → MakesPage is_run is_page term tries (devices source sink) (devices source' sink') (Err fault)
-  page_begun run fault put = subst (λ (f : MakeFault). MakesPage is_run is_page term tries (devices source sink) (devices source' sink') (Err f)) (sym put.0) (page_beginning run fault put)
+  page_begun run OutOfMemory put = (Loses-all all, put)
+  page_begun run Read put = absurd put
+  page_begun run (Pbn fault) put = absurd put
+  page_begun run NoThread put = absurd put
+  page_begun run Write put = page_beginning run put

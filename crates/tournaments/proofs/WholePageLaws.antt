@@ -4,7 +4,8 @@ use Rattle.std.specs.List.{AllZip, enumerate_from, filter}
 use Rattle.pbn_deals.specs.declared.boards.Board.{Board}
 use Rattle.pbn_deals.proofs.PrintableBoards.{boards_are_printable}
 use Rattle.lease_book.specs.BookResults.{book_results}
-use Rattle.tables.specs.TablesText.{Results}
+use Rattle.tables.specs.declared.sheets.Renews.{Renews}
+use Rattle.tables.specs.TablesText.{Printed, printed_with}
 use Rattle.whole_texts.specs.OldTables.{has_deal}
 use Rattle.whole_texts.specs.WholeText.{Game}
 use Rattle.whole_texts.specs.Laws.{Where, ShowsBoard, ShowGames}
@@ -15,19 +16,19 @@ use Rattle.tournaments.specs.WholePages.{WholePagesAreRead}
 use Rattle.tournaments.proofs.PageLaws.{are_tricks}
 
 -- ---- the games with a Deal tag
-module _ (results : ℕ → Results) where
+module _ (renews : Renews) (printed : ℕ → Printed) where
   abbrev Shows : ℕ × Board → Game → Type 0
-  Shows numbered game = ShowsBoard results numbered game.lines
+  Shows numbered game = ShowsBoard renews printed numbered game.lines
 
   abbrev is_dealt : Game → Bool
   is_dealt game = has_deal game.lines
 
   -- one game more, by whether it has a Deal tag
-  one_more : (dealt : Bool) (numbered : ℕ × Board) (more : List (ℕ × Board)) (game : Game) (games rest : List Game) → (ShowGames results more games → AllZip Shows more rest) → (ShowGames results (numbered ∷ more) games → AllZip Shows (numbered ∷ more) rest) → Where dealt (ShowsBoard results numbered game.lines × ShowGames results more games) (ShowGames results (numbered ∷ more) games) → AllZip Shows (numbered ∷ more) (cond dealt (game ∷ rest) rest)
+  one_more : (dealt : Bool) (numbered : ℕ × Board) (more : List (ℕ × Board)) (game : Game) (games rest : List Game) → (ShowGames renews printed more games → AllZip Shows more rest) → (ShowGames renews printed (numbered ∷ more) games → AllZip Shows (numbered ∷ more) rest) → Where dealt (ShowsBoard renews printed numbered game.lines × ShowGames renews printed more games) (ShowGames renews printed (numbered ∷ more) games) → AllZip Shows (numbered ∷ more) (cond dealt (game ∷ rest) rest)
   one_more true numbered more game games rest with_it without shown = (shown.0, with_it shown.1)
   one_more false numbered more game games rest with_it without shown = without shown
 
-  in_order : (boards : List (ℕ × Board)) (games : List Game) → ShowGames results boards games → AllZip Shows boards (filter is_dealt games)
+  in_order : (boards : List (ℕ × Board)) (games : List Game) → ShowGames renews printed boards games → AllZip Shows boards (filter is_dealt games)
   in_order [] [] shown = tt
   in_order (numbered ∷ more) [] shown = absurd shown
   in_order [] (game ∷ games) shown = subst (λ (dealt : Bool). AllZip Shows [] (cond dealt (game ∷ filter is_dealt games) (filter is_dealt games))) (sym shown.0) (in_order [] games shown.1)
@@ -35,18 +36,18 @@ module _ (results : ℕ → Results) where
 
 -- ---- the law
 pub whole_pages_are_read : WholePagesAreRead
-whole_pages_are_read text terms events page says history whole =
+whole_pages_are_read renews text terms events pars page says history small whole =
     let boards = terms.boards in
-    let results = book_results boards events in
-    let small = are_tricks boards events (boards_are_printable text boards says).0 history.values in
-    let shown = show_each_once text boards results page says small whole in
+    let printed = printed_with pars (book_results boards events) in
+    let tricks = are_tricks boards events pars (boards_are_printable text boards says).0 history.values small in
+    let shown = show_each_once renews text boards printed page says tricks whole in
     record {
       whole = whole;
-      same_boards = keep_boards text boards results page says small whole;
-      nothing_lost = lose_nothing text boards results page whole;
+      same_boards = keep_boards renews text boards printed page says tricks whole;
+      nothing_lost = lose_nothing renews text boards printed page whole;
       lines = shown.0;
       read = shown.1;
       shown = shown.2;
-      in_order = in_order results (enumerate_from 0 boards) _ shown.2;
+      in_order = in_order renews printed (enumerate_from 0 boards) _ shown.2;
       values = history.values;
     }

@@ -1,5 +1,5 @@
 -- The page that is made of a tournament's text.
-use Rattle.std.specs.Prelude.{◌≡◌, ℕ, List, length, Result, Ok, Err}
+use Rattle.std.specs.Prelude.{◌≡◌, ℕ, List, [], length, Result, Ok, Err}
 use Rattle.cards.specs.Devices.{Device, Adds, AddsBeginning, one_more}
 use Rattle.pbn_deals.specs.declared.boards.Board.{Board}
 use Rattle.pbn_deals.specs.Reading.{TextAnswers}
@@ -10,7 +10,7 @@ use Rattle.lease_book.specs.Books.{Ledger}
 use Rattle.lease_book.specs.Histories.{Terms}
 use Rattle.tables.specs.declared.sheets.Report.{Report}
 use Rattle.lease_book.specs.BookResults.{book_results}
-use Rattle.tables.specs.TablesText.{complete_count}
+use Rattle.tables.specs.TablesText.{printed_with, complete_count}
 use Rattle.tournaments.specs.declared.faults.MakeFault.{MakeFault}
 use Rattle.tournaments.specs.declared.faults.MakeFault.TheVariants.{OutOfMemory, Read, Pbn, NoThread, Write}
 use Rattle.lease_book.specs.TrueHistories.{IsTrueHistory, IsGivenOut}
@@ -36,7 +36,7 @@ pub record HasBoards (old new : Device) (boards : List Board) : Type 0 where
 -- the report counts the boards, and the boards with all twenty numbers published
 pub record AreReported (boards : List Board) (events : List Event) (report : Report) : Type 0 where
   pub boards_are : report.boards ≡ length boards
-  pub complete_are : report.complete ≡ complete_count boards (book_results boards events)
+  pub complete_are : report.complete ≡ complete_count boards (printed_with [] (book_results boards events))
 
 -- A whole run over the boards: a true history in which all entries were given out, until each was done. The solver's
 -- answer for each lease was handed in, and the clock told the moments.

@@ -1,5 +1,5 @@
 -- How the page of a whole tournament is read, line by line (`PageReading` of `tables` has the rules).
-use Rattle.std.specs.Prelude.{◌≡◌, ℕ, List, Some, Ok, All, ⊤}
+use Rattle.std.specs.Prelude.{◌≡◌, ℕ, List, Option, Some, Ok, All, IfSome, ⊤}
 use Rattle.std.specs.List.{AllZip, enumerate_from}
 use Rattle.cards.specs.Deal.{Deal}
 use Rattle.pbn_deals.specs.declared.boards.Board.{Board}
@@ -10,13 +10,23 @@ use Rattle.lease_book.specs.declared.events.Event.{Event}
 use Rattle.lease_book.specs.Histories.{Terms}
 use Rattle.lease_book.specs.TrueHistories.{IsTrueHistory}
 use Rattle.lease_book.specs.BookResults.{book_results}
-use Rattle.tables.specs.TablesText.{tables_text}
+use Rattle.tables.specs.declared.pars.BoardPar.{BoardPar}
+use Rattle.tables.specs.ParText.{IsSmallPar}
+use Rattle.tables.specs.TablesText.{printed_with, tables_text}
 use Rattle.tables.specs.PageReading.{Row, Table, Rows, Incomplete, Block, page_in}
 use Rattle.tables.specs.WrittenOnce.{SayBoards}
 
--- the text of the boards, with the numbers that the history publishes
-abbrev pub history_text : List Board → List Event → List ℕ
-history_text boards events = tables_text boards (book_results boards events)
+-- pars of boards, in their order
+abbrev pub Pars : Type 0
+Pars = List (Option BoardPar)
+
+-- their numbers are small enough to be printed
+abbrev pub AreSmallPars : Pars → Type 0
+AreSmallPars pars = All (λ par. IfSome par IsSmallPar) pars
+
+-- the text of the boards, with these pars and the numbers that the history publishes
+abbrev pub history_text : Pars → List Board → List Event → List ℕ
+history_text pars boards events = tables_text boards (printed_with pars (book_results boards events))
 
 -- the row's number is the double-dummy value of the board's deal, for the row's declarer and denomination
 abbrev pub IsTrueRow : Board → Row → Type 0
@@ -29,21 +39,23 @@ IsTrueTable board (Rows rows) = All (IsTrueRow board) rows
 IsTrueTable board (Incomplete count) = ⊤
 
 -- The page is read as one block for each board, in their order, and nothing else. A block has the board's name and its
--- deal. Then it has twenty rows, one for each declarer and denomination, with the number that the history publishes, or
--- it says how many of the twenty are published (`SaysBoard`). Each number in it is the double-dummy value.
-pub record IsReadOnce (boards : List Board) (events : List Event) (page : List ℕ) : Type 0 where
+-- deal. Then it has its par, if it has one, and twenty rows, one for each declarer and denomination, with the number that
+-- the history publishes, or it says how many of the twenty are published (`SaysBoard`). Each number in it is the
+-- double-dummy value.
+pub record IsReadOnce (pars : Pars) (boards : List Board) (events : List Event) (page : List ℕ) : Type 0 where
   pub blocks : List Block
   pub read : page_in (lines_of page) ≡ Some blocks
-  pub boards_said : SayBoards (book_results boards events) (enumerate_from 0 boards) blocks
-  pub values : AllZip (λ board block. IsTrueTable board block.table) boards blocks
+  pub boards_said : SayBoards (printed_with pars (book_results boards events)) (enumerate_from 0 boards) blocks
+  pub values : AllZip (λ board block. IsTrueTable board block.section.table) boards blocks
 
--- the page is the text of all boards, and is read so
-abbrev pub IsTablesPage : List ℕ → List Board → List Event → List ℕ → Type 0
-IsTablesPage text boards events page = (page ≡ history_text boards events) × IsReadOnce boards events page
+-- the page is the text of all boards with these pars, and is read so
+abbrev pub IsTablesPage : Pars → List ℕ → List Board → List Event → List ℕ → Type 0
+IsTablesPage pars text boards events page =
+    (page ≡ history_text pars boards events) × IsReadOnce pars boards events page
 
--- the page of the boards that any text says, after any true history over them, is read so
+-- the page of the boards that any text says, after any true history over them, is read so, whatever small pars it has
 abbrev pub TablesAreRead : Type 0
 TablesAreRead =
-    (text : List ℕ) (terms : Terms) (events : List Event) →
-    TextAnswers text (Ok terms.boards) → IsTrueHistory terms events →
-    IsReadOnce terms.boards events (history_text terms.boards events)
+    (text : List ℕ) (terms : Terms) (events : List Event) (pars : Pars) →
+    TextAnswers text (Ok terms.boards) → IsTrueHistory terms events → AreSmallPars pars →
+    IsReadOnce pars terms.boards events (history_text pars terms.boards events)

@@ -1,27 +1,47 @@
 -- The page of a book: which one is asked for, and how it is put into a sink.
-use Rattle.std.specs.Prelude.{◌≡◌, ℕ, List, Result, Ok, Err}
+use Rattle.std.specs.Prelude.{◌≡◌, ℕ, List, [], Result, Ok, Err}
+use Rattle.asked.specs.declared.subcommands.Page.{Page}
 use Rattle.asked.specs.declared.subcommands.PageForm.{PageForm}
-use Rattle.asked.specs.declared.subcommands.PageForm.TheVariants.{Tables, Whole}
+use Rattle.asked.specs.declared.subcommands.PageForm.TheVariants as form
+use Rattle.asked.specs.declared.subcommands.ParTags.{ParTags}
+use Rattle.asked.specs.declared.subcommands.ParTags.TheVariants.{Without, With}
 use Rattle.cards.specs.Devices.{Device, Adds, AddsBeginning}
 use Rattle.lease_book.specs.Books.{Ledger}
+use Rattle.lease_book.specs.BookResults.{book_results}
 use Rattle.tables.specs.declared.sheets.Report.{Report}
+use Rattle.tables.specs.declared.sheets.Renews.{Renews}
+use Rattle.tables.specs.declared.sheets.Renews.TheVariants.{Tables, TablesAndPars}
 use Rattle.tournaments.specs.declared.faults.MakeFault.{MakeFault}
-use Rattle.tournaments.specs.declared.faults.MakeFault.TheVariants.{Write}
+use Rattle.tournaments.specs.declared.faults.MakeFault.TheVariants.{OutOfMemory, Read, Pbn, NoThread, Write}
 use Rattle.tournaments.specs.Making.{PageFact, AreReported}
-use Rattle.tournaments.specs.Pages.{IsTablesPage}
+use Rattle.tournaments.specs.Pages.{Pars, IsTablesPage}
 use Rattle.tournaments.specs.WholePages.{IsWholePage}
+use Rattle.tournaments.specs.Pars.{AreBoardPars}
 
--- the tables alone, or the text with them in it
-abbrev pub page_fact : PageForm → PageFact
-page_fact Tables = IsTablesPage
-page_fact Whole = IsWholePage
+-- the tables with these pars alone, or the text with them in it
+abbrev pub form_fact : PageForm → Renews → Pars → PageFact
+form_fact form.Tables renews pars = IsTablesPage pars
+form_fact form.Whole renews pars = IsWholePage renews pars
+
+-- the page without pars, or with those of the boards
+abbrev pub par_fact : ParTags → PageForm → PageFact
+par_fact Without form text boards events page = form_fact form Tables [] text boards events page
+par_fact With form text boards events page =
+    (pars : Pars) × AreBoardPars text (book_results boards events) pars
+    × form_fact form TablesAndPars pars text boards events page
+
+abbrev pub page_fact : Page → PageFact
+page_fact page = par_fact page.par page.form
 
 -- Such a page of a text and the book over its boards was written, which the report counts, or a beginning of it before
--- the sink failed.
+-- the sink failed, or nothing, since memory ran out.
 abbrev pub PutsPage : PageFact → List ℕ → Ledger → Device → Device → Result Report MakeFault → Type 0
 PutsPage is_page text book sink sink' (Ok report) =
     (page : List ℕ) × is_page text book.terms.boards book.events page × Adds sink sink' page
     × AreReported book.terms.boards book.events report
-PutsPage is_page text book sink sink' (Err fault) =
-    (fault ≡ Write)
-    × ((page : List ℕ) × is_page text book.terms.boards book.events page × AddsBeginning sink sink' page)
+PutsPage is_page text book sink sink' (Err OutOfMemory) = sink' ≡ sink
+PutsPage is_page text book sink sink' (Err Read) = ⊥
+PutsPage is_page text book sink sink' (Err (Pbn fault)) = ⊥
+PutsPage is_page text book sink sink' (Err NoThread) = ⊥
+PutsPage is_page text book sink sink' (Err Write) =
+    (page : List ℕ) × is_page text book.terms.boards book.events page × AddsBeginning sink sink' page

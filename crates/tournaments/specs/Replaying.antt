@@ -1,5 +1,5 @@
 -- The text of tables that is made of a text and a whole list of requests.
-use Rattle.std.specs.Prelude.{◌≡◌, ℕ, List, Result, Ok, Err}
+use Rattle.std.specs.Prelude.{[], ◌≡◌, ℕ, List, Result, Ok, Err}
 use Rattle.cards.specs.Devices.{Device, Adds, AddsBeginning}
 use Rattle.pbn_deals.specs.declared.boards.Board.{Board}
 use Rattle.pbn_deals.specs.Reading.{TextAnswers}
@@ -33,8 +33,8 @@ pub record FillsFromRequests (text : List ℕ) (term tries : ℕ) (requests : Li
   pub boards : List Board
   pub events : List Event
   pub history : IsHistoryOf text term tries requests boards events
-  pub written : Adds sink sink' (history_text boards events)
-  pub page : IsReadOnce boards events (history_text boards events)
+  pub written : Adds sink sink' (history_text [] boards events)
+  pub page : IsReadOnce [] boards events (history_text [] boards events)
   pub counts : AreReported boards events report
 
 -- a beginning of that text was written, and then the sink failed
@@ -43,7 +43,7 @@ pub record BeginsFromRequests (text : List ℕ) (term tries : ℕ) (requests : L
   pub boards : List Board
   pub events : List Event
   pub history : IsHistoryOf text term tries requests boards events
-  pub written : AddsBeginning sink sink' (history_text boards events)
+  pub written : AddsBeginning sink sink' (history_text [] boards events)
 
 -- The answer, and the bytes in the sink. After a fault something was written only if the sink failed.
 abbrev pub ReplaysTables : List ℕ → ℕ → ℕ → List Request → Device → Device → Result Report MakeFault → Type 0

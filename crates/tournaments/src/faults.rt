@@ -89,7 +89,7 @@ impl From<OutOfMemory> for MakeFault {
 }
 
 /// Makes the fault of a sink. (The fault of a source is an `InputFault`.)
-pub fn write_failed(_fault: DeviceFault) -> MakeFault
+pub(crate) fn write_failed(_fault: DeviceFault) -> MakeFault
     ensures { result ≡ faults.Write }
 {
     MakeFault::Write

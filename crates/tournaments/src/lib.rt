@@ -8,13 +8,15 @@
 
 mod faults;
 mod laws;
+mod pars;
 mod putting;
 mod replaying;
+mod sheets;
 mod single;
 mod texts;
 mod working;
 
-pub use faults::{MakeFault, write_failed};
+pub use faults::MakeFault;
 pub use laws::{tables_are_read, whole_pages_are_read};
 pub use putting::put_page;
 pub use replaying::replay_tables;

@@ -3,56 +3,98 @@
 ghost use Rattle.std.specs.Prelude.{◌≡◌, ℕ, List, Ok};
 ghost use Rattle.lease_book.specs.TrueHistories.{IsTrueHistory};
 ghost use Rattle.pbn_deals.specs.Reading.{TextAnswers};
-ghost use Rattle.tournaments.specs.Pages.{IsTablesPage};
+ghost use Rattle.tournaments.specs.Pages.{AreSmallPars, IsTablesPage};
 ghost use Rattle.tournaments.specs.WholePages.{IsWholePage};
-ghost use Rattle.tournaments.specs.Putting.{PutsPage, page_fact};
+ghost use Rattle.tournaments.specs.Putting.{PutsPage, form_fact, page_fact};
 
 use crate::faults::{MakeFault, write_failed};
 use crate::laws::{tables_are_read, whole_pages_are_read};
-use asked::PageForm;
+use crate::pars::board_pars;
+use crate::sheets::BookSheet;
+use asked::{Page, PageForm, ParTags};
 use cards::Sink;
-use lease_book::{Book, write_tables};
-use tables::Report;
+use lease_book::Book;
+use std::alloc::Global;
+use tables::{Renews, Report, write_sheet};
 use whole_texts::{one_is_written, write_whole};
 
 /// Writes the tables of the boards of a book, with the numbers that it publishes.
-fn put_tables<O: Sink>(book: &Book, output: &mut O) -> Result<Report, MakeFault>
-    requires { IsTrueHistory book.now.terms book.now.events }
-    ensures { (text : List ℕ) → TextAnswers text (Ok book.now.terms.boards)
-        → PutsPage IsTablesPage text book.now (O.state output.old) (O.state output.new) result }
+fn put_tables<O: Sink>(sheet: &BookSheet<'_>, output: &mut O) -> Result<Report, MakeFault>
+    requires history { IsTrueHistory sheet.now.book.terms sheet.now.book.events }
+    requires small { AreSmallPars sheet.now.pars }
+    ensures { (text : List ℕ) → TextAnswers text (Ok sheet.now.book.terms.boards)
+        → PutsPage (IsTablesPage sheet.now.pars) text sheet.now.book (O.state output.old) (O.state output.new)
+        result }
 {
     tables_are_read();
-    write_tables(book, output).map_err(write_failed)
-}
-
-/// Writes a text of which the book's boards were read, with such tables in it.
-fn put_whole<O: Sink>(text: &[u8], book: &Book, output: &mut O) -> Result<Report, MakeFault>
-    requires boards { TextAnswers text.now (Ok book.now.terms.boards) }
-    requires history { IsTrueHistory book.now.terms book.now.events }
-    ensures { PutsPage IsWholePage text.now book.now (O.state output.old) (O.state output.new) result }
-{
-    one_is_written();
-    whole_pages_are_read();
-    match write_whole(text, book, output) {
+    match write_sheet(sheet, output) {
         Ok(report) => Ok(report),
         Err(fault) => Err(write_failed(fault)),
     }
 }
 
+/// Writes a text of which the boards were read, with such tables in it.
+fn put_whole<O: Sink>(
+    text: &[u8],
+    sheet: &BookSheet<'_>,
+    output: &mut O,
+) -> Result<Report, MakeFault>
+    requires boards { TextAnswers text.now (Ok sheet.now.book.terms.boards) }
+    requires history { IsTrueHistory sheet.now.book.terms sheet.now.book.events }
+    requires small { AreSmallPars sheet.now.pars }
+    ensures { PutsPage (IsWholePage sheet.now.renews sheet.now.pars) text.now sheet.now.book (O.state output.old)
+        (O.state output.new) result }
+{
+    one_is_written();
+    whole_pages_are_read();
+    match write_whole(text, sheet, output) {
+        Ok(report) => Ok(report),
+        Err(fault) => Err(write_failed(fault)),
+    }
+}
+
+/// Writes such tables alone or in the text.
+fn put_form<O: Sink>(
+    text: &[u8],
+    sheet: &BookSheet<'_>,
+    form: PageForm,
+    output: &mut O,
+) -> Result<Report, MakeFault>
+    requires boards { TextAnswers text.now (Ok sheet.now.book.terms.boards) }
+    requires history { IsTrueHistory sheet.now.book.terms sheet.now.book.events }
+    requires small { AreSmallPars sheet.now.pars }
+    ensures { PutsPage (form_fact form sheet.now.renews sheet.now.pars) text.now sheet.now.book (O.state output.old)
+        (O.state output.new) result }
+{
+    match form {
+        PageForm::Tables => put_tables(sheet, output),
+        PageForm::Whole => put_whole(text, sheet, output),
+    }
+}
+
 /// Writes the page that is asked for: the tables of the boards of a book, with the numbers that it publishes, alone or
-/// in the text of which the boards were read. Fails only if the sink fails: then it has got a beginning of the page.
+/// in the text of which the boards were read, and with the boards' pars or without. Fails if the sink fails: then it has
+/// got a beginning of the page. Fails if memory runs out for the pars: then it has got nothing.
 pub fn put_page<O: Sink>(
+    alloc: Global,
     text: &[u8],
     book: &Book,
-    page: PageForm,
+    page: Page,
     output: &mut O,
 ) -> Result<Report, MakeFault>
     requires boards { TextAnswers text.now (Ok book.now.terms.boards) }
     requires history { IsTrueHistory book.now.terms book.now.events }
     ensures { PutsPage (page_fact page) text.now book.now (O.state output.old) (O.state output.new) result }
 {
-    match page {
-        PageForm::Tables => put_tables(book, output),
-        PageForm::Whole => put_whole(text, book, output),
+    match page.par {
+        ParTags::Without => {
+            let sheet = BookSheet::new(book, Renews::Tables, &[]);
+            put_form(text, &sheet, page.form, output)
+        }
+        ParTags::With => {
+            let pars = board_pars(alloc, text, book)?;
+            let sheet = BookSheet::new(book, Renews::TablesAndPars, pars.as_slice());
+            put_form(text, &sheet, page.form, output)
+        }
     }
 }

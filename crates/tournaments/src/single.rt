@@ -1,6 +1,6 @@
 //! The tables on one thread.
 
-ghost use Rattle.std.specs.Prelude.{◌<◌, ◌≢◌, IfErr};
+ghost use Rattle.std.specs.Prelude.{[], ◌<◌, ◌≢◌, IfErr};
 ghost use Rattle.lease_book.specs.Books.{AreTries};
 ghost use Rattle.tournaments.specs.declared.faults.MakeFault.TheVariants.{NoThread};
 ghost use Rattle.streams.specs.RunStreams.{devices};
@@ -11,7 +11,7 @@ use crate::faults::MakeFault;
 use crate::putting::put_page;
 use crate::texts::{open_book, take_boards};
 use crate::working::work_through;
-use asked::PageForm;
+use asked::{Page, PageForm, ParTags};
 use cards::{Sink, Source};
 use certificate_graph::Solver;
 use lease_book::{Book, Clock, is_true_history};
@@ -37,7 +37,7 @@ pub fn make_single<I: Source, O: Sink, S: Solver, C: Clock>(
 ) -> Result<(Report, Book), MakeFault>
     requires tries { AreTries tries }
     requires budget { 0 < budget }
-    ensures made { MakesPage (IsWholeRun (S.may_find solver.now) (C.may_tell clock.now) budget) IsTablesPage
+    ensures made { MakesPage (IsWholeRun (S.may_find solver.now) (C.may_tell clock.now) budget) (IsTablesPage [])
         term tries (devices (I.state input.old) (O.state output.old))
         (devices (I.state input.new) (O.state output.new)) result }
     ensures one_thread { IfErr result (λ fault. fault ≢ NoThread) }
@@ -47,6 +47,10 @@ pub fn make_single<I: Source, O: Sink, S: Solver, C: Clock>(
     let mut book = open_book(alloc, boards, term, tries)?;
     work_through(alloc, &mut book, budget, solver, clock)?;
     is_true_history(&book);
-    let report = put_page(text.as_slice(), &book, PageForm::Tables, output)?;
+    let page = Page {
+        form: PageForm::Tables,
+        par: ParTags::Without,
+    };
+    let report = put_page(alloc, text.as_slice(), &book, page, output)?;
     Ok((report, book))
 }

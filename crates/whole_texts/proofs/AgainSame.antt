@@ -9,31 +9,32 @@ use Rattle.pbn_deals.specs.Pieces.{Piece, Space, Comment, Pair, Data, NoPair, en
 use Rattle.pbn_deals.specs.Tags.{is_deal}
 use Rattle.pbn_deals.proofs.LinesOfText.{marked}
 use Rattle.pbn_deals.proofs.RowsBack.{IsEnded, row_of}
-use Rattle.tables.specs.TablesText.{Results}
-use Rattle.whole_texts.specs.OldTables.{is_table, left_pieces, has_more, put_left, table_behind_line, without_tables, is_count, is_escaped_kind, without_counts, left_of, is_deal_pair, is_deal_kind, has_deal}
+use Rattle.tables.specs.TablesText.{Printed}
+use Rattle.whole_texts.specs.OldTables.{is_old, left_pieces, has_more, put_left, table_behind_line, without_tables, is_count, is_escaped_kind, without_counts, left_of, is_deal_pair, is_deal_kind, has_deal}
 use Rattle.whole_texts.specs.WholeText.{Game, put_line, games_of, section_lines, if_none, first_end, new_end, deal_end, with_ends, with_section, dealt_lines, behind, games_lines, whole_lines}
-use Rattle.whole_texts.specs.Laws.{StayTheSame, IsLineEnd}
+use Rattle.whole_texts.specs.Laws.{RenewsPrinted, StayTheSame, IsLineEnd}
 use Rattle.whole_texts.proofs.LeftLines.{Ended}
 use Rattle.whole_texts.proofs.SectionLines.{AllEnded}
 use Rattle.whole_texts.proofs.WholeLines.{GamesFollow, games_follow, games_whole, lines_of_games, given_ends, deal_ended, left_of_ended, first_ended, ended_split}
 use Rattle.whole_texts.proofs.SameBoards.{no_deal, AddsLines, adds_none, adds_escaped, adds_line, dealt_adds, GamesHave, last_game, next_game, games_have}
 use Rattle.whole_texts.proofs.CleanLines.{left_of_clean, ends_clean, counts_twice, counts_ends, section_goes, left_twice}
 use Rattle.whole_texts.proofs.WrittenLines.{have_boards, lines_follow, lines_ended, lines_whole, out_lines}
+use Rattle.tables.specs.declared.sheets.Renews.{Renews}
 
 -- ---- the Deal tag stays
-pub left_deal : (in_table : Bool) (pieces : List Piece) → list_any is_deal_pair pieces ≡ true → (list_any is_deal_pair (left_pieces in_table pieces) ≡ true) × (has_more (left_pieces in_table pieces) ≡ true)
-left_deal in_table [] e = absurd (cc)
-left_deal in_table (Space byte ∷ pieces) e = left_deal in_table pieces e
-left_deal in_table (Comment bytes ∷ pieces) e = ((left_deal in_table pieces e).0, refl)
-left_deal in_table (Pair name value bytes ∷ pieces) e = go (is_table name) refl (is_deal name) refl e (left_deal true pieces) (left_deal false pieces) where
-  go : (t : Bool) → is_table name ≡ t → (d : Bool) → is_deal name ≡ d → (d || list_any is_deal_pair pieces) ≡ true → (list_any is_deal_pair pieces ≡ true → (list_any is_deal_pair (left_pieces true pieces) ≡ true) × (has_more (left_pieces true pieces) ≡ true)) → (list_any is_deal_pair pieces ≡ true → (list_any is_deal_pair (left_pieces false pieces) ≡ true) × (has_more (left_pieces false pieces) ≡ true)) → (list_any is_deal_pair (cond t (left_pieces true pieces) (Pair name value bytes ∷ left_pieces false pieces)) ≡ true) × (has_more (cond t (left_pieces true pieces) (Pair name value bytes ∷ left_pieces false pieces)) ≡ true)
-  go true t true d f gone kept = absurd (no_deal name t d)
+pub left_deal : (old : Renews) (in_table : Bool) (pieces : List Piece) → list_any is_deal_pair pieces ≡ true → (list_any is_deal_pair (left_pieces old in_table pieces) ≡ true) × (has_more (left_pieces old in_table pieces) ≡ true)
+left_deal old in_table [] e = absurd (cc)
+left_deal old in_table (Space byte ∷ pieces) e = left_deal old in_table pieces e
+left_deal old in_table (Comment bytes ∷ pieces) e = ((left_deal old in_table pieces e).0, refl)
+left_deal old in_table (Pair name value bytes ∷ pieces) e = go (is_old old name) refl (is_deal name) refl e (left_deal old true pieces) (left_deal old false pieces) where
+  go : (t : Bool) → is_old old name ≡ t → (d : Bool) → is_deal name ≡ d → (d || list_any is_deal_pair pieces) ≡ true → (list_any is_deal_pair pieces ≡ true → (list_any is_deal_pair (left_pieces old true pieces) ≡ true) × (has_more (left_pieces old true pieces) ≡ true)) → (list_any is_deal_pair pieces ≡ true → (list_any is_deal_pair (left_pieces old false pieces) ≡ true) × (has_more (left_pieces old false pieces) ≡ true)) → (list_any is_deal_pair (cond t (left_pieces old true pieces) (Pair name value bytes ∷ left_pieces old false pieces)) ≡ true) × (has_more (cond t (left_pieces old true pieces) (Pair name value bytes ∷ left_pieces old false pieces)) ≡ true)
+  go true t true d f gone kept = absurd (no_deal old name t d)
   go true t false d f gone kept = gone f
-  go false t true d f gone kept = (ap (λ b. b || list_any is_deal_pair (left_pieces false pieces)) d, refl)
-  go false t false d f gone kept = (ap (λ b. b || list_any is_deal_pair (left_pieces false pieces)) d ∙ (kept f).0, refl)
-left_deal true (Data bytes ∷ pieces) e = left_deal true pieces e
-left_deal false (Data bytes ∷ pieces) e = ((left_deal false pieces e).0, refl)
-left_deal in_table (NoPair bytes ∷ pieces) e = ((left_deal in_table pieces e).0, refl)
+  go false t true d f gone kept = (ap (λ b. b || list_any is_deal_pair (left_pieces old false pieces)) d, refl)
+  go false t false d f gone kept = (ap (λ b. b || list_any is_deal_pair (left_pieces old false pieces)) d ∙ (kept f).0, refl)
+left_deal old true (Data bytes ∷ pieces) e = left_deal old true pieces e
+left_deal old false (Data bytes ∷ pieces) e = ((left_deal old false pieces e).0, refl)
+left_deal old in_table (NoPair bytes ∷ pieces) e = ((left_deal old in_table pieces e).0, refl)
 
 abbrev any_deal : List Line → Bool
 any_deal lines = list_any (λ line. is_deal_kind line.kind) lines
@@ -42,44 +43,44 @@ or_right : (a b : Bool) → b ≡ true → (a || b) ≡ true
 or_right true b e = refl
 or_right false b e = e
 
-put_deal : (in_table : Bool) (kind : Kind) (end : List ℕ) (lines rest : List Line) → (is_deal_kind kind || any_deal lines) ≡ true → (any_deal lines ≡ true → any_deal rest ≡ true) → any_deal (put_left in_table kind end rest) ≡ true
-put_deal in_table (Gap bytes) end lines rest e more = more e
-put_deal in_table (Escaped bytes) end lines rest e more = more e
-put_deal in_table (OfGame pieces) end lines rest e more = go (list_any is_deal_pair pieces) refl (has_more (left_pieces in_table pieces)) refl e where
-  go : (d : Bool) → list_any is_deal_pair pieces ≡ d → (b : Bool) → has_more (left_pieces in_table pieces) ≡ b → (d || any_deal lines) ≡ true → any_deal (cond b (record { kind = OfGame (left_pieces in_table pieces); end = end } ∷ rest) rest) ≡ true
-  go true d true m f = ap (λ x. x || any_deal rest) (left_deal in_table pieces d).0
-  go true d false m f = let k = (left_deal in_table pieces d).1 in absurd (let x : true ≡ false = sym k ∙ m in cc)
-  go false d true m f = or_right (list_any is_deal_pair (left_pieces in_table pieces)) (any_deal rest) (more f)
+put_deal : (old : Renews) (in_table : Bool) (kind : Kind) (end : List ℕ) (lines rest : List Line) → (is_deal_kind kind || any_deal lines) ≡ true → (any_deal lines ≡ true → any_deal rest ≡ true) → any_deal (put_left old in_table kind end rest) ≡ true
+put_deal old in_table (Gap bytes) end lines rest e more = more e
+put_deal old in_table (Escaped bytes) end lines rest e more = more e
+put_deal old in_table (OfGame pieces) end lines rest e more = go (list_any is_deal_pair pieces) refl (has_more (left_pieces old in_table pieces)) refl e where
+  go : (d : Bool) → list_any is_deal_pair pieces ≡ d → (b : Bool) → has_more (left_pieces old in_table pieces) ≡ b → (d || any_deal lines) ≡ true → any_deal (cond b (record { kind = OfGame (left_pieces old in_table pieces); end = end } ∷ rest) rest) ≡ true
+  go true d true m f = ap (λ x. x || any_deal rest) (left_deal old in_table pieces d).0
+  go true d false m f = let k = (left_deal old in_table pieces d).1 in absurd (let x : true ≡ false = sym k ∙ m in cc)
+  go false d true m f = or_right (list_any is_deal_pair (left_pieces old in_table pieces)) (any_deal rest) (more f)
   go false d false m f = more f
 
-tables_deal : (in_table : Bool) (lines : List Line) → any_deal lines ≡ true → any_deal (without_tables in_table lines) ≡ true
-tables_deal in_table [] e = e
-tables_deal in_table (line ∷ lines) e = put_deal in_table line.kind line.end lines (without_tables (table_behind_line in_table line.kind) lines) e (tables_deal (table_behind_line in_table line.kind) lines)
+tables_deal : (old : Renews) (in_table : Bool) (lines : List Line) → any_deal lines ≡ true → any_deal (without_tables old in_table lines) ≡ true
+tables_deal old in_table [] e = e
+tables_deal old in_table (line ∷ lines) e = put_deal old in_table line.kind line.end lines (without_tables old (table_behind_line old in_table line.kind) lines) e (tables_deal old (table_behind_line old in_table line.kind) lines)
 
-pub count_no_deal : (kind : Kind) → is_count kind ≡ true → is_deal_kind kind ≡ false
-count_no_deal (OfGame (Comment bytes ∷ [])) e = refl
-count_no_deal (Gap bytes) e = refl
-count_no_deal (Escaped bytes) e = refl
-count_no_deal (OfGame []) e = refl
-count_no_deal (OfGame (Comment bytes ∷ piece ∷ pieces)) e = absurd (cc)
-count_no_deal (OfGame (Space byte ∷ pieces)) e = absurd (cc)
-count_no_deal (OfGame (Pair name value bytes ∷ pieces)) e = absurd (cc)
-count_no_deal (OfGame (Data bytes ∷ pieces)) e = absurd (cc)
-count_no_deal (OfGame (NoPair bytes ∷ pieces)) e = absurd (cc)
+pub count_no_deal : (old : Renews) (kind : Kind) → is_count old kind ≡ true → is_deal_kind kind ≡ false
+count_no_deal old (OfGame (Comment bytes ∷ [])) e = refl
+count_no_deal old (Gap bytes) e = refl
+count_no_deal old (Escaped bytes) e = refl
+count_no_deal old (OfGame []) e = refl
+count_no_deal old (OfGame (Comment bytes ∷ piece ∷ pieces)) e = absurd (cc)
+count_no_deal old (OfGame (Space byte ∷ pieces)) e = absurd (cc)
+count_no_deal old (OfGame (Pair name value bytes ∷ pieces)) e = absurd (cc)
+count_no_deal old (OfGame (Data bytes ∷ pieces)) e = absurd (cc)
+count_no_deal old (OfGame (NoPair bytes ∷ pieces)) e = absurd (cc)
 
-counts_deal : (lines : List Line) → any_deal lines ≡ true → any_deal (without_counts lines) ≡ true
-counts_deal [] e = e
-counts_deal (line ∷ lines) e = go (is_count line.kind) refl (list_all (λ other. is_escaped_kind other.kind) (without_counts lines)) (is_deal_kind line.kind) refl e (counts_deal lines) where
-  go : (c : Bool) → is_count line.kind ≡ c → (a d : Bool) → is_deal_kind line.kind ≡ d → (d || any_deal lines) ≡ true → (any_deal lines ≡ true → any_deal (without_counts lines) ≡ true) → any_deal (cond (c && a) (without_counts lines) (line ∷ without_counts lines)) ≡ true
-  go true c true true d f more = let x : true ≡ false = sym d ∙ count_no_deal line.kind c in absurd (cc)
+counts_deal : (old : Renews) (lines : List Line) → any_deal lines ≡ true → any_deal (without_counts old lines) ≡ true
+counts_deal old [] e = e
+counts_deal old (line ∷ lines) e = go (is_count old line.kind) refl (list_all (λ other. is_escaped_kind other.kind) (without_counts old lines)) (is_deal_kind line.kind) refl e (counts_deal old lines) where
+  go : (c : Bool) → is_count old line.kind ≡ c → (a d : Bool) → is_deal_kind line.kind ≡ d → (d || any_deal lines) ≡ true → (any_deal lines ≡ true → any_deal (without_counts old lines) ≡ true) → any_deal (cond (c && a) (without_counts old lines) (line ∷ without_counts old lines)) ≡ true
+  go true c true true d f more = let x : true ≡ false = sym d ∙ count_no_deal old line.kind c in absurd (cc)
   go true c true false d f more = more f
-  go true c false true d f more = ap (λ x. x || any_deal (without_counts lines)) d
-  go true c false false d f more = or_right (is_deal_kind line.kind) (any_deal (without_counts lines)) (more f)
-  go false c a true d f more = ap (λ x. x || any_deal (without_counts lines)) d
-  go false c a false d f more = or_right (is_deal_kind line.kind) (any_deal (without_counts lines)) (more f)
+  go true c false true d f more = ap (λ x. x || any_deal (without_counts old lines)) d
+  go true c false false d f more = or_right (is_deal_kind line.kind) (any_deal (without_counts old lines)) (more f)
+  go false c a true d f more = ap (λ x. x || any_deal (without_counts old lines)) d
+  go false c a false d f more = or_right (is_deal_kind line.kind) (any_deal (without_counts old lines)) (more f)
 
-pub left_of_deal : (lines : List Line) → has_deal lines ≡ true → has_deal (left_of lines) ≡ true
-left_of_deal lines e = counts_deal (without_tables false lines) (tables_deal false lines e)
+pub left_of_deal : (old : Renews) (lines : List Line) → has_deal lines ≡ true → has_deal (left_of old lines) ≡ true
+left_of_deal old lines e = counts_deal old (without_tables old false lines) (tables_deal old false lines e)
 
 ends_deal : (end : List ℕ) (lines : List Line) → any_deal (with_ends end lines) ≡ any_deal lines
 ends_deal end [] = refl
@@ -93,15 +94,15 @@ append_deal (line ∷ lines) others e = go (is_deal_kind line.kind) e (append_de
   go true f more = refl
   go false f more = more f
 
-pub dealt_deal : (other : List ℕ) (results : ℕ → Results) (boards : List (ℕ × Board)) (lines : List Line) → has_deal lines ≡ true → has_deal (dealt_lines other results boards lines) ≡ true
-dealt_deal other results [] lines e = left_of_deal lines e
-dealt_deal other results (numbered ∷ more) lines e = go (is_some numbered.1.deal) where
+pub dealt_deal : (old : Renews) (other : List ℕ) (results : ℕ → Printed) (boards : List (ℕ × Board)) (lines : List Line) → has_deal lines ≡ true → has_deal (dealt_lines old other results boards lines) ≡ true
+dealt_deal old other results [] lines e = left_of_deal old lines e
+dealt_deal old other results (numbered ∷ more) lines e = go (is_some numbered.1.deal) where
   end : List ℕ
-  end = deal_end other (left_of lines)
+  end = deal_end other (left_of old lines)
 
-  go : (b : Bool) → has_deal (cond b (with_section other (results numbered.0) (left_of lines)) (left_of lines)) ≡ true
-  go true = append_deal (with_ends end (left_of lines)) (section_lines end (results numbered.0)) (ends_deal end (left_of lines) ∙ left_of_deal lines e)
-  go false = left_of_deal lines e
+  go : (b : Bool) → has_deal (cond b (with_section other (results numbered.0) (left_of old lines)) (left_of old lines)) ≡ true
+  go true = append_deal (with_ends end (left_of old lines)) (section_lines end (results numbered.0)) (ends_deal end (left_of old lines) ∙ left_of_deal old lines e)
+  go false = left_of_deal old lines e
 
 -- ---- ends
 -- an end that a line has
@@ -157,14 +158,14 @@ deal_again other other' (line ∷ next ∷ lines) e (inl (is, more)) d = go (is_
   go false f later = later f
 
 -- ---- a game with a Deal tag
-dealt_again : (other other' : List ℕ) (results : ℕ → Results) (boards : List (ℕ × Board)) (lines : List Line) → IsLineEnd other → Ended (left_of lines) → has_deal lines ≡ true → dealt_lines other' results boards (dealt_lines other results boards lines) ≡ dealt_lines other results boards lines
-dealt_again other other' results [] lines e h d = left_twice lines
-dealt_again other other' results (numbered ∷ more) lines e h d = go (is_some numbered.1.deal) where
-  those : Results
+dealt_again : (old : Renews) (other other' : List ℕ) (results : ℕ → Printed) (boards : List (ℕ × Board)) (lines : List Line) → RenewsPrinted old results → IsLineEnd other → Ended (left_of old lines) → has_deal lines ≡ true → dealt_lines old other' results boards (dealt_lines old other results boards lines) ≡ dealt_lines old other results boards lines
+dealt_again old other other' results [] lines renews e h d = left_twice old lines
+dealt_again old other other' results (numbered ∷ more) lines renews e h d = go (is_some numbered.1.deal) where
+  those : Printed
   those = results numbered.0
 
   left : List Line
-  left = left_of lines
+  left = left_of old lines
 
   end : List ℕ
   end = deal_end other left
@@ -175,81 +176,81 @@ dealt_again other other' results (numbered ∷ more) lines e h d = go (is_some n
   is_end : IsLineEnd end
   is_end = deal_ended other left e h
 
-  goes : left_of (kept ++ section_lines end those) ≡ kept
-  goes = section_goes end those kept (ends_clean end left (left_of_clean lines)) (counts_ends end left (counts_twice (without_tables false lines)))
+  goes : left_of old (kept ++ section_lines end those) ≡ kept
+  goes = section_goes old end those kept (renews numbered.0) (ends_clean old end left (left_of_clean old lines)) (counts_ends old end left (counts_twice old (without_tables old false lines)))
 
   again : deal_end other' kept ≡ end
-  again = deal_again other other' left e h (left_of_deal lines d)
+  again = deal_again other other' left e h (left_of_deal old lines d)
 
-  go : (b : Bool) → cond b (with_section other' those (left_of (cond b (with_section other those left) left))) (left_of (cond b (with_section other those left) left)) ≡ cond b (with_section other those left) left
+  go : (b : Bool) → cond b (with_section other' those (left_of old (cond b (with_section other those left) left))) (left_of old (cond b (with_section other those left) left)) ≡ cond b (with_section other those left) left
   go true =
       ap (with_section other' those) goes
       ∙ (ap (λ x. with_ends x kept ++ section_lines x those) again
       ∙ ap (λ k. k ++ section_lines end those) (ends_stay end kept (given_ends end left is_end h)))
-  go false = left_twice lines
+  go false = left_twice old lines
 
 -- ---- games
 -- lines without a gap stand in one game
-adds_games : {count : ℕ} {tags last : Tags} {lines : List Line} → AddsLines count tags lines last → (rest : List Line) (game : Game) (games : List Game) → games_of rest ≡ game ∷ games → games_of (lines ++ rest) ≡ record { lines = lines ++ game.lines; gap = game.gap } ∷ games
-adds_games adds_none rest game games e = e
-adds_games (adds_escaped {bytes = bytes} {end} r) rest game games e = ap (put_line (record { kind = Escaped bytes; end = end })) (adds_games r rest game games e)
-adds_games (adds_line {pieces = pieces} {end} a r) rest game games e = ap (put_line (record { kind = OfGame pieces; end = end })) (adds_games r rest game games e)
+adds_games : (old : Renews) {count : ℕ} {tags last : Tags} {lines : List Line} → AddsLines old count tags lines last → (rest : List Line) (game : Game) (games : List Game) → games_of rest ≡ game ∷ games → games_of (lines ++ rest) ≡ record { lines = lines ++ game.lines; gap = game.gap } ∷ games
+adds_games old adds_none rest game games e = e
+adds_games old (adds_escaped {bytes = bytes} {end} r) rest game games e = ap (put_line (record { kind = Escaped bytes; end = end })) (adds_games old r rest game games e)
+adds_games old (adds_line {pieces = pieces} {end} a r) rest game games e = ap (put_line (record { kind = OfGame pieces; end = end })) (adds_games old r rest game games e)
 
-pub games_back : {count : ℕ} {tags : Tags} {games : List Game} {boards : List Board} → GamesHave count tags games boards → games_of (lines_of_games games) ≡ games
-games_back (last_game {lines = lines} a) =
+pub games_back : (old : Renews) {count : ℕ} {tags : Tags} {games : List Game} {boards : List Board} → GamesHave old count tags games boards → games_of (lines_of_games games) ≡ games
+games_back old (last_game {lines = lines} a) =
     ap games_of (append-nil (lines ++ []))
-    ∙ (adds_games a [] (record { lines = []; gap = [] }) [] refl ∙ ap (λ l. record { lines = l; gap = [] } ∷ []) (append-nil lines))
-games_back (next_game {lines = lines} {bytes} {end} {games} a g) =
+    ∙ (adds_games old a [] (record { lines = []; gap = [] }) [] refl ∙ ap (λ l. record { lines = l; gap = [] } ∷ []) (append-nil lines))
+games_back old (next_game {lines = lines} {bytes} {end} {games} a g) =
     let gap : Line = record { kind = Gap bytes; end = end } in
     ap games_of (append_assoc lines (gap ∷ []) (lines_of_games games))
-    ∙ (adds_games a (gap ∷ lines_of_games games) (record { lines = []; gap = gap ∷ [] }) games (ap (λ g. record { lines = []; gap = gap ∷ [] } ∷ g) (games_back g))
+    ∙ (adds_games old a (gap ∷ lines_of_games games) (record { lines = []; gap = gap ∷ [] }) games (ap (λ g. record { lines = []; gap = gap ∷ [] } ∷ g) (games_back old g))
     ∙ ap (λ l. record { lines = l; gap = gap ∷ [] } ∷ games) (append-nil lines))
 
 -- the games that are written
-abbrev pub game_written : List ℕ → (ℕ → Results) → List (ℕ × Board) → Game → Game
-game_written other results boards game = record { lines = cond (has_deal game.lines) (dealt_lines other results boards game.lines) game.lines; gap = game.gap }
+abbrev pub game_written : (old : Renews) → List ℕ → (ℕ → Printed) → List (ℕ × Board) → Game → Game
+game_written old other results boards game = record { lines = cond (has_deal game.lines) (dealt_lines old other results boards game.lines) game.lines; gap = game.gap }
 
 abbrev boards_behind : List (ℕ × Board) → Game → List (ℕ × Board)
 boards_behind boards game = cond (has_deal game.lines) (behind boards) boards
 
-abbrev pub games_written : List ℕ → (ℕ → Results) → List (ℕ × Board) → List Game → List Game
-games_written other results boards [] = []
-games_written other results boards (game ∷ games) = game_written other results boards game ∷ games_written other results (boards_behind boards game) games
+abbrev pub games_written : (old : Renews) → List ℕ → (ℕ → Printed) → List (ℕ × Board) → List Game → List Game
+games_written old other results boards [] = []
+games_written old other results boards (game ∷ games) = game_written old other results boards game ∷ games_written old other results (boards_behind boards game) games
 
-pub written_lines : (other : List ℕ) (results : ℕ → Results) (boards : List (ℕ × Board)) (games : List Game) → lines_of_games (games_written other results boards games) ≡ games_lines other results boards games
-written_lines other results boards [] = refl
-written_lines other results boards (game ∷ games) = go (has_deal game.lines) (written_lines other results (behind boards) games) (written_lines other results boards games) where
-  go : (b : Bool) → lines_of_games (games_written other results (behind boards) games) ≡ games_lines other results (behind boards) games → lines_of_games (games_written other results boards games) ≡ games_lines other results boards games → (cond b (dealt_lines other results boards game.lines) game.lines ++ game.gap) ++ lines_of_games (games_written other results (cond b (behind boards) boards) games) ≡ cond b (dealt_lines other results boards game.lines ++ (game.gap ++ games_lines other results (behind boards) games)) (game.lines ++ (game.gap ++ games_lines other results boards games))
-  go true next same = append_assoc (dealt_lines other results boards game.lines) game.gap (lines_of_games (games_written other results (behind boards) games)) ∙ ap (λ r. dealt_lines other results boards game.lines ++ (game.gap ++ r)) next
-  go false next same = append_assoc game.lines game.gap (lines_of_games (games_written other results boards games)) ∙ ap (λ r. game.lines ++ (game.gap ++ r)) same
+pub written_lines : (old : Renews) (other : List ℕ) (results : ℕ → Printed) (boards : List (ℕ × Board)) (games : List Game) → lines_of_games (games_written old other results boards games) ≡ games_lines old other results boards games
+written_lines old other results boards [] = refl
+written_lines old other results boards (game ∷ games) = go (has_deal game.lines) (written_lines old other results (behind boards) games) (written_lines old other results boards games) where
+  go : (b : Bool) → lines_of_games (games_written old other results (behind boards) games) ≡ games_lines old other results (behind boards) games → lines_of_games (games_written old other results boards games) ≡ games_lines old other results boards games → (cond b (dealt_lines old other results boards game.lines) game.lines ++ game.gap) ++ lines_of_games (games_written old other results (cond b (behind boards) boards) games) ≡ cond b (dealt_lines old other results boards game.lines ++ (game.gap ++ games_lines old other results (behind boards) games)) (game.lines ++ (game.gap ++ games_lines old other results boards games))
+  go true next same = append_assoc (dealt_lines old other results boards game.lines) game.gap (lines_of_games (games_written old other results (behind boards) games)) ∙ ap (λ r. dealt_lines old other results boards game.lines ++ (game.gap ++ r)) next
+  go false next same = append_assoc game.lines game.gap (lines_of_games (games_written old other results boards games)) ∙ ap (λ r. game.lines ++ (game.gap ++ r)) same
 
 -- they are games of lines with tags
-line_of : (other : List ℕ) (results : ℕ → Results) (numbered : List (ℕ × Board)) {count : ℕ} {tags last : Tags} (lines : List Line) → AddsLines count tags lines last → AddsLines count tags (cond (has_deal lines) (dealt_lines other results numbered lines) lines) last
-line_of other results numbered {count} {tags} {last} lines a = go (has_deal lines) where
-  go : (b : Bool) → AddsLines count tags (cond b (dealt_lines other results numbered lines) lines) last
-  go true = dealt_adds count other results numbered a
+line_of : (old : Renews) (other : List ℕ) (results : ℕ → Printed) (numbered : List (ℕ × Board)) {count : ℕ} {tags last : Tags} (lines : List Line) → AddsLines old count tags lines last → AddsLines old count tags (cond (has_deal lines) (dealt_lines old other results numbered lines) lines) last
+line_of old other results numbered {count} {tags} {last} lines a = go (has_deal lines) where
+  go : (b : Bool) → AddsLines old count tags (cond b (dealt_lines old other results numbered lines) lines) last
+  go true = dealt_adds old count other results numbered a
   go false = a
 
-pub written_have : (other : List ℕ) (results : ℕ → Results) (numbered : List (ℕ × Board)) {count : ℕ} {tags : Tags} {games : List Game} {boards : List Board} → GamesHave count tags games boards → GamesHave count tags (games_written other results numbered games) boards
-written_have other results numbered (last_game {lines = lines} a) = last_game (line_of other results numbered lines a)
-written_have other results numbered (next_game {lines = lines} {games = games} a g) = next_game (line_of other results numbered lines a) (written_have other results (cond (has_deal lines) (behind numbered) numbered) g)
+pub written_have : (old : Renews) (other : List ℕ) (results : ℕ → Printed) (numbered : List (ℕ × Board)) {count : ℕ} {tags : Tags} {games : List Game} {boards : List Board} → GamesHave old count tags games boards → GamesHave old count tags (games_written old other results numbered games) boards
+written_have old other results numbered (last_game {lines = lines} a) = last_game (line_of old other results numbered lines a)
+written_have old other results numbered (next_game {lines = lines} {games = games} a g) = next_game (line_of old other results numbered lines a) (written_have old other results (cond (has_deal lines) (behind numbered) numbered) g)
 
 -- what was written of each game stays
-abbrev pub GamesEnded : List Game → Type 0
-GamesEnded [] = Unit {0}
-GamesEnded (game ∷ games) = Ended (left_of game.lines) × GamesEnded games
+abbrev pub GamesEnded : (old : Renews) → List Game → Type 0
+GamesEnded old [] = Unit {0}
+GamesEnded old (game ∷ games) = Ended (left_of old game.lines) × GamesEnded old games
 
-again_lines : (other other' : List ℕ) (results : ℕ → Results) (boards : List (ℕ × Board)) (games : List Game) → IsLineEnd other → GamesEnded games → games_lines other' results boards (games_written other results boards games) ≡ games_lines other results boards games
-again_lines other other' results boards [] e h = refl
-again_lines other other' results boards (game ∷ games) e h = go (has_deal game.lines) refl (again_lines other other' results (behind boards) games e h.1) (again_lines other other' results boards games e h.1) where
-  go : (b : Bool) → has_deal game.lines ≡ b → games_lines other' results (behind boards) (games_written other results (behind boards) games) ≡ games_lines other results (behind boards) games → games_lines other' results boards (games_written other results boards games) ≡ games_lines other results boards games → games_lines other' results boards (record { lines = cond b (dealt_lines other results boards game.lines) game.lines; gap = game.gap } ∷ games_written other results (cond b (behind boards) boards) games) ≡ cond b (dealt_lines other results boards game.lines ++ (game.gap ++ games_lines other results (behind boards) games)) (game.lines ++ (game.gap ++ games_lines other results boards games))
+again_lines : (old : Renews) (other other' : List ℕ) (results : ℕ → Printed) (boards : List (ℕ × Board)) (games : List Game) → RenewsPrinted old results → IsLineEnd other → GamesEnded old games → games_lines old other' results boards (games_written old other results boards games) ≡ games_lines old other results boards games
+again_lines old other other' results boards [] renews e h = refl
+again_lines old other other' results boards (game ∷ games) renews e h = go (has_deal game.lines) refl (again_lines old other other' results (behind boards) games renews e h.1) (again_lines old other other' results boards games renews e h.1) where
+  go : (b : Bool) → has_deal game.lines ≡ b → games_lines old other' results (behind boards) (games_written old other results (behind boards) games) ≡ games_lines old other results (behind boards) games → games_lines old other' results boards (games_written old other results boards games) ≡ games_lines old other results boards games → games_lines old other' results boards (record { lines = cond b (dealt_lines old other results boards game.lines) game.lines; gap = game.gap } ∷ games_written old other results (cond b (behind boards) boards) games) ≡ cond b (dealt_lines old other results boards game.lines ++ (game.gap ++ games_lines old other results (behind boards) games)) (game.lines ++ (game.gap ++ games_lines old other results boards games))
   go true d next same =
-      let dealt = dealt_lines other results boards game.lines in
-      ap (λ b. cond b (dealt_lines other' results boards dealt ++ (game.gap ++ games_lines other' results (behind boards) (games_written other results (behind boards) games))) (dealt ++ (game.gap ++ games_lines other' results boards (games_written other results (behind boards) games)))) (dealt_deal other results boards game.lines d)
-      ∙ (ap (λ l. l ++ (game.gap ++ games_lines other' results (behind boards) (games_written other results (behind boards) games))) (dealt_again other other' results boards game.lines e h.0 d)
+      let dealt = dealt_lines old other results boards game.lines in
+      ap (λ b. cond b (dealt_lines old other' results boards dealt ++ (game.gap ++ games_lines old other' results (behind boards) (games_written old other results (behind boards) games))) (dealt ++ (game.gap ++ games_lines old other' results boards (games_written old other results (behind boards) games)))) (dealt_deal old other results boards game.lines d)
+      ∙ (ap (λ l. l ++ (game.gap ++ games_lines old other' results (behind boards) (games_written old other results (behind boards) games))) (dealt_again old other other' results boards game.lines renews e h.0 d)
       ∙ ap (λ r. dealt ++ (game.gap ++ r)) next)
   go false d next same =
-      ap (λ b. cond b (dealt_lines other' results boards game.lines ++ (game.gap ++ games_lines other' results (behind boards) (games_written other results boards games))) (game.lines ++ (game.gap ++ games_lines other' results boards (games_written other results boards games)))) d
+      ap (λ b. cond b (dealt_lines old other' results boards game.lines ++ (game.gap ++ games_lines old other' results (behind boards) (games_written old other results boards games))) (game.lines ++ (game.gap ++ games_lines old other' results boards (games_written old other results boards games)))) d
       ∙ ap (λ r. game.lines ++ (game.gap ++ r)) same
 
 all_of : (lines : List Line) → AllEnded lines → Ended lines
@@ -270,27 +271,27 @@ back_ended lines others h =
       | inr both ↦ subst Ended (sym both.1) tt
     ]
 
-pub games_ended : (games : List Game) → GamesFollow false games → Ended (lines_of_games games) → GamesEnded games
-games_ended [] f h = tt
-games_ended (game ∷ games) f h =
+pub games_ended : (old : Renews) (games : List Game) → GamesFollow false games → Ended (lines_of_games games) → GamesEnded old games
+games_ended old [] f h = tt
+games_ended old (game ∷ games) f h =
     let here = front_ended (game.lines ++ game.gap) (lines_of_games games) h in
-    (left_of_ended f.0 (front_ended game.lines game.gap here), games_ended games f.2 (back_ended (game.lines ++ game.gap) (lines_of_games games) h))
+    (left_of_ended old f.0 (front_ended game.lines game.gap here), games_ended old games f.2 (back_ended (game.lines ++ game.gap) (lines_of_games games) h))
 
 -- ---- the text
 pub stay_the_same : StayTheSame
-stay_the_same text boards results written answer small whole =
+stay_the_same old text boards results written answer small renews whole =
     let lines = whole.lines in
     let numbered = enumerate_from 0 boards in
-    let out = whole_lines boards results lines in
-    let have = games_have (have_boards text boards lines answer whole.read) in
-    let gs = games_written (first_end lines) results numbered (games_of lines) in
-    let flat : lines_of_games gs ≡ out = written_lines (first_end lines) results numbered (games_of lines) in
-    let back : games_of out ≡ gs = ap games_of (sym flat) ∙ games_back (written_have (first_end lines) results numbered have) in
-    let ended = games_ended (games_of lines) (games_follow refl (lines_follow text lines whole.read)) (subst Ended (sym (games_whole lines)) (lines_ended text lines whole.read)) in
-    let same : whole_lines boards results out ≡ out =
-    ap (games_lines (first_end out) results numbered) back
-    ∙ again_lines (first_end lines) (first_end out) results numbered (games_of lines) (first_ended lines (lines_ended text lines whole.read)) ended in
-    let read : HasLines written out = subst (λ t. HasLines t out) (sym whole.is) (out_lines text boards results lines answer small whole.read) in
+    let out = whole_lines old boards results lines in
+    let have = games_have old (have_boards text boards lines answer whole.read) in
+    let gs = games_written old (first_end lines) results numbered (games_of lines) in
+    let flat : lines_of_games gs ≡ out = written_lines old (first_end lines) results numbered (games_of lines) in
+    let back : games_of out ≡ gs = ap games_of (sym flat) ∙ games_back old (written_have old (first_end lines) results numbered have) in
+    let ended = games_ended old (games_of lines) (games_follow refl (lines_follow text lines whole.read)) (subst Ended (sym (games_whole lines)) (lines_ended text lines whole.read)) in
+    let same : whole_lines old boards results out ≡ out =
+    ap (games_lines old (first_end out) results numbered) back
+    ∙ again_lines old (first_end lines) (first_end out) results numbered (games_of lines) renews (first_ended lines (lines_ended text lines whole.read)) ended in
+    let read : HasLines written out = subst (λ t. HasLines t out) (sym whole.is) (out_lines old text boards results lines answer small whole.read) in
     let rest : without_mark written ≡ flat_map line_bytes out = lines_whole written out read in
     let mark : mark_of text ≡ mark_of written =
     append_cancel_right (mark_of text) (mark_of written) (flat_map line_bytes out) (sym whole.is ∙ (marked written ∙ ap (λ r. mark_of written ++ r) rest)) in

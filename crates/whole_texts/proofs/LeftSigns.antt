@@ -10,9 +10,10 @@ use Rattle.pbn_deals.specs.Pieces.{Piece, Space, Comment, Pair, Data, NoPair, by
 use Rattle.pbn_deals.proofs.TagMoved.{pair_closed}
 use Rattle.pbn_deals.proofs.SomePieces.{bytes_of-pieces}
 use Rattle.pbn_deals.proofs.LineParts.{lacks_rest, lacks_front}
-use Rattle.whole_texts.specs.OldTables.{is_table, left_pieces, has_more}
+use Rattle.whole_texts.specs.OldTables.{is_old, left_pieces, has_more}
 use Rattle.whole_texts.proofs.LeftPieces.{left_bytes, data_stays}
 use Rattle.pbn_deals.proofs.LinesOfText.{true_or_false}
+use Rattle.tables.specs.declared.sheets.Renews.{Renews}
 
 -- ---- meanings of bytes
 pub blank_means : (byte : ℕ) → is_blank byte ≡ true → meaning_of byte ≡ IsSpace
@@ -51,44 +52,44 @@ starts_not sign byte meaning d m n = go (eqb byte sign) refl where
 
 -- ---- the first byte
 -- what is left behind a table's tag pair has no section data at its beginning
-pub none_starts : (sign : ℕ) → meaning_of sign ≡ IsData → {in_data is_open : Bool} {line : List ℕ} {pieces : List Piece} → HasPieces in_data line pieces is_open → starts sign (left_bytes true pieces) ≡ false
-none_starts sign i at_line_end = refl
-none_starts sign i (space {byte} m r) = starts_not sign byte IsSpace i m (λ e. cc)
-none_starts sign i (section_data d r) = none_starts sign i r
-none_starts sign i (quoted_text text m e l r) = none_starts sign i r
-none_starts sign i (unended_text m l) = refl
-none_starts sign i (line_comment {byte = byte} m) = starts_not sign byte EndsLine i m (λ e. cc)
-none_starts sign i (brace_comment {byte = byte} text m e l r) = starts_not sign byte OpensComment i m (λ e. cc)
-none_starts sign i (open_comment {byte = byte} m l) = starts_not sign byte OpensComment i m (λ e. cc)
-none_starts sign i (tag_pair {byte} inside {tag = tag} {pieces} m g e r) = go (is_table tag.name) (none_starts sign i r) where
-  go : (b : Bool) → starts sign (left_bytes true pieces) ≡ false → starts sign (flat_map bytes_of (cond b (left_pieces true pieces) (Pair tag.name tag.value (byte ∷ inside) ∷ left_pieces false pieces))) ≡ false
+pub none_starts : (old : Renews) (sign : ℕ) → meaning_of sign ≡ IsData → {in_data is_open : Bool} {line : List ℕ} {pieces : List Piece} → HasPieces in_data line pieces is_open → starts sign (left_bytes old true pieces) ≡ false
+none_starts old sign i at_line_end = refl
+none_starts old sign i (space {byte} m r) = starts_not sign byte IsSpace i m (λ e. cc)
+none_starts old sign i (section_data d r) = none_starts old sign i r
+none_starts old sign i (quoted_text text m e l r) = none_starts old sign i r
+none_starts old sign i (unended_text m l) = refl
+none_starts old sign i (line_comment {byte = byte} m) = starts_not sign byte EndsLine i m (λ e. cc)
+none_starts old sign i (brace_comment {byte = byte} text m e l r) = starts_not sign byte OpensComment i m (λ e. cc)
+none_starts old sign i (open_comment {byte = byte} m l) = starts_not sign byte OpensComment i m (λ e. cc)
+none_starts old sign i (tag_pair {byte} inside {tag = tag} {pieces} m g e r) = go (is_old old tag.name) (none_starts old sign i r) where
+  go : (b : Bool) → starts sign (left_bytes old true pieces) ≡ false → starts sign (flat_map bytes_of (cond b (left_pieces old true pieces) (Pair tag.name tag.value (byte ∷ inside) ∷ left_pieces old false pieces))) ≡ false
   go true h = h
   go false h = starts_not sign byte OpensTag i m (λ e. cc)
-none_starts sign i (no_tag_pair {byte} m g) = starts_not sign byte OpensTag i m (λ e. cc)
+none_starts old sign i (no_tag_pair {byte} m g) = starts_not sign byte OpensTag i m (λ e. cc)
 
 escaped_starts : (text : List ℕ) → is_escaped text ≡ starts 37 text
 escaped_starts [] = refl
 escaped_starts (byte ∷ bytes) = refl
 
-none_escaped : {in_data is_open : Bool} {line : List ℕ} {pieces : List Piece} → HasPieces in_data line pieces is_open → is_escaped (left_bytes true pieces) ≡ false
-none_escaped {pieces = pieces} h = escaped_starts (left_bytes true pieces) ∙ none_starts 37 refl h
+none_escaped : (old : Renews) {in_data is_open : Bool} {line : List ℕ} {pieces : List Piece} → HasPieces in_data line pieces is_open → is_escaped (left_bytes old true pieces) ≡ false
+none_escaped old {pieces = pieces} h = escaped_starts (left_bytes old true pieces) ∙ none_starts old 37 refl h
 
 -- what is left of a line that isn't escaped
-pub still_of_game : (in_table : Bool) {in_data is_open : Bool} {line : List ℕ} {pieces : List Piece} → HasPieces in_data line pieces is_open → is_escaped line ≡ false → is_escaped (left_bytes in_table pieces) ≡ false
-still_of_game true h n = none_escaped h
-still_of_game false at_line_end n = refl
-still_of_game false (space m r) n = n
-still_of_game false (section_data d r) n = n
-still_of_game false (quoted_text text m e l r) n = n
-still_of_game false (unended_text m l) n = n
-still_of_game false (line_comment m) n = n
-still_of_game false (brace_comment text m e l r) n = n
-still_of_game false (open_comment m l) n = n
-still_of_game false (tag_pair {byte} inside {tag = tag} {pieces} m g e r) n = go (is_table tag.name) (none_escaped r) where
-  go : (b : Bool) → is_escaped (left_bytes true pieces) ≡ false → is_escaped (flat_map bytes_of (cond b (left_pieces true pieces) (Pair tag.name tag.value (byte ∷ inside) ∷ left_pieces false pieces))) ≡ false
+pub still_of_game : (old : Renews) (in_table : Bool) {in_data is_open : Bool} {line : List ℕ} {pieces : List Piece} → HasPieces in_data line pieces is_open → is_escaped line ≡ false → is_escaped (left_bytes old in_table pieces) ≡ false
+still_of_game old true h n = none_escaped old h
+still_of_game old false at_line_end n = refl
+still_of_game old false (space m r) n = n
+still_of_game old false (section_data d r) n = n
+still_of_game old false (quoted_text text m e l r) n = n
+still_of_game old false (unended_text m l) n = n
+still_of_game old false (line_comment m) n = n
+still_of_game old false (brace_comment text m e l r) n = n
+still_of_game old false (open_comment m l) n = n
+still_of_game old false (tag_pair {byte} inside {tag = tag} {pieces} m g e r) n = go (is_old old tag.name) (none_escaped old r) where
+  go : (b : Bool) → is_escaped (left_bytes old true pieces) ≡ false → is_escaped (flat_map bytes_of (cond b (left_pieces old true pieces) (Pair tag.name tag.value (byte ∷ inside) ∷ left_pieces old false pieces))) ≡ false
   go true h = h
   go false h = n
-still_of_game false (no_tag_pair m g) n = n
+still_of_game old false (no_tag_pair m g) n = n
 
 -- more than blanks
 word_begins : (byte : ℕ) (rest : List ℕ) → is_blank byte ≡ false → is_blank_line (byte ∷ rest) ≡ false
@@ -132,54 +133,54 @@ pub sign_ends : (front : List ℕ) (sign : ℕ) → eqb sign 13 ≡ false → en
 sign_ends front sign n = return_behind front (sign ∷ []) refl ∙ n
 
 -- a line of which all is left
-all_left : {in_data is_open : Bool} {line : List ℕ} {pieces : List Piece} → in_data ≡ true → HasPieces in_data line pieces is_open → left_bytes false pieces ≡ line
-all_left d h = ap (flat_map bytes_of) (data_stays d h) ∙ bytes_of-pieces h
+all_left : (old : Renews) {in_data is_open : Bool} {line : List ℕ} {pieces : List Piece} → in_data ≡ true → HasPieces in_data line pieces is_open → left_bytes old false pieces ≡ line
+all_left old d h = ap (flat_map bytes_of) (data_stays old d h) ∙ bytes_of-pieces h
 
-pub left_return : (in_table : Bool) {in_data is_open : Bool} {line : List ℕ} {pieces : List Piece} → HasPieces in_data line pieces is_open → ends_with_return (left_bytes in_table pieces) ≡ true → ends_with_return line ≡ true
-left_return in_table at_line_end h = h
-left_return in_table (space {byte} {rest} {pieces} m r) h =
-    return_more (byte ∷ []) rest (byte ∷ rest) refl (left_return in_table r (return_left (byte ∷ []) (left_bytes in_table pieces) (go (eqb byte 13) refl) h))
+pub left_return : (old : Renews) (in_table : Bool) {in_data is_open : Bool} {line : List ℕ} {pieces : List Piece} → HasPieces in_data line pieces is_open → ends_with_return (left_bytes old in_table pieces) ≡ true → ends_with_return line ≡ true
+left_return old in_table at_line_end h = h
+left_return old in_table (space {byte} {rest} {pieces} m r) h =
+    return_more (byte ∷ []) rest (byte ∷ rest) refl (left_return old in_table r (return_left (byte ∷ []) (left_bytes old in_table pieces) (go (eqb byte 13) refl) h))
   where
     go : (b : Bool) → eqb byte 13 ≡ b → eqb byte 13 ≡ false
     go true e = let x : IsData ≡ IsSpace = sym (ap meaning_of (eqb-true byte 13 e)) ∙ m in absurd (cc)
     go false e = e
-left_return true (section_data {byte = byte} {rest} d r) h = return_more (byte ∷ []) rest (byte ∷ rest) refl (left_return true r h)
-left_return false (section_data {byte = byte} d r) h = sym (ap (λ x. ends_with_return (byte ∷ x)) (all_left refl r)) ∙ h
-left_return true (quoted_text {byte = byte} text {rest} {after} m e l r) h =
-    return_more (byte ∷ (text ++ 34 ∷ [])) after (byte ∷ rest) (ap (λ x. byte ∷ x) (e ∙ sym (append_assoc text (34 ∷ []) after))) (left_return true r h)
-left_return false (quoted_text {byte = byte} text {rest} {after} m e l r) h =
-    sym (ap (λ x. ends_with_return (byte ∷ ((text ++ 34 ∷ []) ++ x))) (all_left refl r) ∙ ap (λ x. ends_with_return (byte ∷ x)) (append_assoc text (34 ∷ []) after ∙ sym e)) ∙ h
-left_return true (unended_text m l) h = absurd (cc)
-left_return false (unended_text {byte = byte} {rest} m l) h = sym (ap ends_with_return (append-nil (byte ∷ rest))) ∙ h
-left_return in_table (line_comment {byte = byte} {rest} m) h = sym (ap ends_with_return (append-nil (byte ∷ rest))) ∙ h
-left_return in_table (brace_comment {byte = byte} text {rest} {after} {pieces} m e l r) h =
+left_return old true (section_data {byte = byte} {rest} d r) h = return_more (byte ∷ []) rest (byte ∷ rest) refl (left_return old true r h)
+left_return old false (section_data {byte = byte} d r) h = sym (ap (λ x. ends_with_return (byte ∷ x)) (all_left old refl r)) ∙ h
+left_return old true (quoted_text {byte = byte} text {rest} {after} m e l r) h =
+    return_more (byte ∷ (text ++ 34 ∷ [])) after (byte ∷ rest) (ap (λ x. byte ∷ x) (e ∙ sym (append_assoc text (34 ∷ []) after))) (left_return old true r h)
+left_return old false (quoted_text {byte = byte} text {rest} {after} m e l r) h =
+    sym (ap (λ x. ends_with_return (byte ∷ ((text ++ 34 ∷ []) ++ x))) (all_left old refl r) ∙ ap (λ x. ends_with_return (byte ∷ x)) (append_assoc text (34 ∷ []) after ∙ sym e)) ∙ h
+left_return old true (unended_text m l) h = absurd (cc)
+left_return old false (unended_text {byte = byte} {rest} m l) h = sym (ap ends_with_return (append-nil (byte ∷ rest))) ∙ h
+left_return old in_table (line_comment {byte = byte} {rest} m) h = sym (ap ends_with_return (append-nil (byte ∷ rest))) ∙ h
+left_return old in_table (brace_comment {byte = byte} text {rest} {after} {pieces} m e l r) h =
     return_more (byte ∷ (text ++ 125 ∷ [])) after (byte ∷ rest) (ap (λ x. byte ∷ x) (e ∙ sym (append_assoc text (125 ∷ []) after)))
-    (left_return in_table r (return_left (byte ∷ (text ++ 125 ∷ [])) (left_bytes in_table pieces) (sign_ends (byte ∷ text) 125 refl) h))
-left_return in_table (open_comment {byte = byte} {rest} m l) h = sym (ap ends_with_return (append-nil (byte ∷ rest))) ∙ h
-left_return in_table (tag_pair {byte} inside {rest} {tag} {pieces} m g e r) h = go (is_table tag.name) (left_return true r) (left_return false r) h where
+    (left_return old in_table r (return_left (byte ∷ (text ++ 125 ∷ [])) (left_bytes old in_table pieces) (sign_ends (byte ∷ text) 125 refl) h))
+left_return old in_table (open_comment {byte = byte} {rest} m l) h = sym (ap ends_with_return (append-nil (byte ∷ rest))) ∙ h
+left_return old in_table (tag_pair {byte} inside {rest} {tag} {pieces} m g e r) h = go (is_old old tag.name) (left_return old true r) (left_return old false r) h where
   last_sign : ends_with_return (byte ∷ inside) ≡ false
   last_sign = let c = pair_closed rest inside tag g e in ap (λ x. ends_with_return (byte ∷ x)) c.1 ∙ sign_ends (byte ∷ c.0) 93 refl
 
   more : ends_with_return tag.rest ≡ true → ends_with_return (byte ∷ rest) ≡ true
   more f = return_more (byte ∷ inside) tag.rest (byte ∷ rest) (ap (λ x. byte ∷ x) e) f
 
-  go : (b : Bool) → (ends_with_return (left_bytes true pieces) ≡ true → ends_with_return tag.rest ≡ true) → (ends_with_return (left_bytes false pieces) ≡ true → ends_with_return tag.rest ≡ true) → ends_with_return (flat_map bytes_of (cond b (left_pieces true pieces) (Pair tag.name tag.value (byte ∷ inside) ∷ left_pieces false pieces))) ≡ true → ends_with_return (byte ∷ rest) ≡ true
+  go : (b : Bool) → (ends_with_return (left_bytes old true pieces) ≡ true → ends_with_return tag.rest ≡ true) → (ends_with_return (left_bytes old false pieces) ≡ true → ends_with_return tag.rest ≡ true) → ends_with_return (flat_map bytes_of (cond b (left_pieces old true pieces) (Pair tag.name tag.value (byte ∷ inside) ∷ left_pieces old false pieces))) ≡ true → ends_with_return (byte ∷ rest) ≡ true
   go true gone kept f = more (gone f)
-  go false gone kept f = more (kept (return_left (byte ∷ inside) (left_bytes false pieces) last_sign f))
-left_return in_table (no_tag_pair {byte} {rest} m g) h = sym (ap ends_with_return (append-nil (byte ∷ rest))) ∙ h
+  go false gone kept f = more (kept (return_left (byte ∷ inside) (left_bytes old false pieces) last_sign f))
+left_return old in_table (no_tag_pair {byte} {rest} m g) h = sym (ap ends_with_return (append-nil (byte ∷ rest))) ∙ h
 
 -- ---- all bytes
 put_lacks : (sign : ℕ) (piece rest left : List ℕ) → Lacks sign (piece ++ rest) → (Lacks sign rest → Lacks sign left) → Lacks sign (piece ++ left)
 put_lacks sign piece rest left h more = All-append (λ other. other ≢ sign) piece left (lacks_front sign piece rest h) (more (lacks_rest sign piece rest h))
 
-pub left_lacks : (in_table : Bool) (sign : ℕ) (pieces : List Piece) → Lacks sign (flat_map bytes_of pieces) → Lacks sign (left_bytes in_table pieces)
-left_lacks in_table sign [] h = h
-left_lacks in_table sign (Space byte ∷ pieces) h = put_lacks sign (byte ∷ []) (flat_map bytes_of pieces) (left_bytes in_table pieces) h (left_lacks in_table sign pieces)
-left_lacks in_table sign (Comment bytes ∷ pieces) h = put_lacks sign bytes (flat_map bytes_of pieces) (left_bytes in_table pieces) h (left_lacks in_table sign pieces)
-left_lacks in_table sign (Pair name value bytes ∷ pieces) h = go (is_table name) (left_lacks true sign pieces) (left_lacks false sign pieces) where
-  go : (b : Bool) → (Lacks sign (flat_map bytes_of pieces) → Lacks sign (left_bytes true pieces)) → (Lacks sign (flat_map bytes_of pieces) → Lacks sign (left_bytes false pieces)) → Lacks sign (flat_map bytes_of (cond b (left_pieces true pieces) (Pair name value bytes ∷ left_pieces false pieces)))
+pub left_lacks : (old : Renews) (in_table : Bool) (sign : ℕ) (pieces : List Piece) → Lacks sign (flat_map bytes_of pieces) → Lacks sign (left_bytes old in_table pieces)
+left_lacks old in_table sign [] h = h
+left_lacks old in_table sign (Space byte ∷ pieces) h = put_lacks sign (byte ∷ []) (flat_map bytes_of pieces) (left_bytes old in_table pieces) h (left_lacks old in_table sign pieces)
+left_lacks old in_table sign (Comment bytes ∷ pieces) h = put_lacks sign bytes (flat_map bytes_of pieces) (left_bytes old in_table pieces) h (left_lacks old in_table sign pieces)
+left_lacks old in_table sign (Pair name value bytes ∷ pieces) h = go (is_old old name) (left_lacks old true sign pieces) (left_lacks old false sign pieces) where
+  go : (b : Bool) → (Lacks sign (flat_map bytes_of pieces) → Lacks sign (left_bytes old true pieces)) → (Lacks sign (flat_map bytes_of pieces) → Lacks sign (left_bytes old false pieces)) → Lacks sign (flat_map bytes_of (cond b (left_pieces old true pieces) (Pair name value bytes ∷ left_pieces old false pieces)))
   go true gone kept = gone (lacks_rest sign bytes (flat_map bytes_of pieces) h)
-  go false gone kept = put_lacks sign bytes (flat_map bytes_of pieces) (left_bytes false pieces) h kept
-left_lacks true sign (Data bytes ∷ pieces) h = left_lacks true sign pieces (lacks_rest sign bytes (flat_map bytes_of pieces) h)
-left_lacks false sign (Data bytes ∷ pieces) h = put_lacks sign bytes (flat_map bytes_of pieces) (left_bytes false pieces) h (left_lacks false sign pieces)
-left_lacks in_table sign (NoPair bytes ∷ pieces) h = put_lacks sign bytes (flat_map bytes_of pieces) (left_bytes in_table pieces) h (left_lacks in_table sign pieces)
+  go false gone kept = put_lacks sign bytes (flat_map bytes_of pieces) (left_bytes old false pieces) h kept
+left_lacks old true sign (Data bytes ∷ pieces) h = left_lacks old true sign pieces (lacks_rest sign bytes (flat_map bytes_of pieces) h)
+left_lacks old false sign (Data bytes ∷ pieces) h = put_lacks sign bytes (flat_map bytes_of pieces) (left_bytes old false pieces) h (left_lacks old false sign pieces)
+left_lacks old in_table sign (NoPair bytes ∷ pieces) h = put_lacks sign bytes (flat_map bytes_of pieces) (left_bytes old in_table pieces) h (left_lacks old in_table sign pieces)

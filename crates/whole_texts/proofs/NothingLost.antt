@@ -1,5 +1,5 @@
 -- What is written of a text is the text without its old tables, and what was put between.
-use Rattle.std.proofs.Common.{◌≡◌, ℕ, Bool, true, false, cond, List, [], ◌∷◌, ◌++◌, Option, Some, None, is_some, refl, sym, ◌∙◌, ap, subst, append_assoc, append-nil, flat_map, inl, inr, All}
+use Rattle.std.proofs.Common.{◌≡◌, ℕ, Bool, true, false, cond, List, [], ◌∷◌, ◌++◌, Option, Some, None, is_some, refl, sym, ◌∙◌, ap, subst, append_assoc, append-nil, flat_map, map, inl, inr, All}
 use Rattle.std.specs.List.{enumerate_from}
 use Rattle.std.proofs.lemmas.Grind.{flat_map-append}
 use Rattle.std.proofs.lemmas.List.Elements.{All-nil, All-cons, All-append}
@@ -7,14 +7,20 @@ use Rattle.cards.specs.declared.seats.Seat.{Seat}
 use Rattle.cards.specs.declared.suits.Trump.{Trump}
 use Rattle.pbn_deals.specs.declared.boards.Board.{Board}
 use Rattle.pbn_deals.specs.Pieces.{Comment, bytes_of, ends_with_return, OfGame, body_of, Line, line_bytes, mark_of}
-use Rattle.tables.specs.TablesText.{Results, entries, row_text, result_row, entry_row, rows_text, is_complete, published_count, table_tag, incomplete_text, table_text}
+use Rattle.tables.specs.TablesText.{Results, Printed, entries, row_text, result_row, entry_row, rows_text, is_complete, published_count, table_tag, incomplete_text, table_text, section_text}
+use Rattle.std.specs.Prelude.{codes}
+use Rattle.par.specs.Texts.{score_text, contracts_text}
+use Rattle.tables.specs.declared.pars.BoardPar.{BoardPar}
+use Rattle.tables.specs.declared.pars.BoardPar.TheVariants.{Known, NoDealer, NoVulnerability}
+use Rattle.tables.specs.ParText.{tag_text, body_line, par_bodies, par_text}
 use Rattle.whole_texts.specs.OldTables.{left_of, has_deal}
-use Rattle.whole_texts.specs.WholeText.{Game, games_of, as_data, row_lines, entry_lines, table_pair, section_lines, if_none, first_end, new_end, deal_end, with_ends, with_section, dealt_lines, behind, games_lines}
+use Rattle.whole_texts.specs.WholeText.{Game, games_of, as_data, row_lines, entry_lines, table_pair, table_lines, with_end, par_kinds, section_lines, if_none, first_end, new_end, deal_end, with_ends, with_section, dealt_lines, behind, games_lines}
 use Rattle.whole_texts.specs.Laws.{Part, OfText, Put, part_bytes, text_bytes, IsLineEnd, IsPut, game_without, LoseNothing}
 use Rattle.whole_texts.proofs.LeftLines.{Ended}
 use Rattle.whole_texts.proofs.WholeLines.{games_follow, games_whole, deal_ended, first_ended}
 use Rattle.whole_texts.proofs.WrittenLines.{lines_follow, lines_ended}
 use Rattle.whole_texts.proofs.AgainSame.{GamesEnded, games_ended}
+use Rattle.tables.specs.declared.sheets.Renews.{Renews}
 
 -- ---- the text of a section
 pub as_data-bytes : (bytes : List ℕ) → flat_map bytes_of (as_data bytes) ≡ bytes
@@ -28,9 +34,9 @@ rows-text end results (entry ∷ some) = go (results entry.0 entry.1) (rows-text
   go None more = more
   go (Some tricks) more = ap (λ b. (b ++ end) ++ flat_map line_bytes (flat_map (entry_lines end results) some)) (as_data-bytes (row_text entry.0 entry.1 tricks)) ∙ ap (λ r. (row_text entry.0 entry.1 tricks ++ end) ++ r) more
 
-pub section-text : (end : List ℕ) (results : Results) → flat_map line_bytes (section_lines end results) ≡ table_text end results
+pub table-text : (end : List ℕ) (results : Results) → flat_map line_bytes (table_lines end results) ≡ table_text end results
 unfolding table_text rows_text
-section-text end results = go (is_complete results) where
+table-text end results = go (is_complete results) where
   count : List ℕ
   count = incomplete_text (published_count results)
 
@@ -41,14 +47,31 @@ section-text end results = go (is_complete results) where
   go true = ap (λ t. (t ++ end) ++ flat_map line_bytes (flat_map (entry_lines end results) entries)) (append-nil table_tag) ∙ ap (λ r. (table_tag ++ end) ++ r) (rows-text end results entries)
   go false = append-nil ((count ++ []) ++ end) ∙ ap (λ t. t ++ end) (append-nil count)
 
+-- the lines of a par
+par-text : (end : List ℕ) (par : Option BoardPar) → flat_map line_bytes (map (with_end end) (par_kinds par)) ≡ flat_map (body_line end) (par_bodies par)
+par-text end None = refl
+par-text end (Some (Known score contracts)) =
+    let one = tag_text (codes "OptimumScore") (score_text score) in
+    let two = tag_text (codes "ParContract") (contracts_text contracts.items) in
+    ap (λ (t : List ℕ). (t ++ end) ++ (((two ++ []) ++ end) ++ [])) (append-nil one) ∙ ap (λ (t : List ℕ). (one ++ end) ++ ((t ++ end) ++ [])) (append-nil two)
+par-text end (Some NoDealer) = ap (λ (t : List ℕ). (t ++ end) ++ []) (append-nil (codes "; par unknown: no dealer"))
+par-text end (Some NoVulnerability) = ap (λ (t : List ℕ). (t ++ end) ++ []) (append-nil (codes "; par unknown: no vulnerability"))
+
+pub section-text : (end : List ℕ) (printed : Printed) → flat_map line_bytes (section_lines end printed) ≡ section_text end printed
+unfolding section_text par_text
+section-text end printed =
+    flat_map-append line_bytes (map (with_end end) (par_kinds printed.par)) (table_lines end printed.results)
+    ∙ (ap (λ (t : List ℕ). t ++ flat_map line_bytes (table_lines end printed.results)) (par-text end printed.par)
+    ∙ ap (λ (t : List ℕ). flat_map (body_line end) (par_bodies printed.par) ++ t) (table-text end printed.results))
+
 -- ---- parts
-record Parted (results : ℕ → Results) (written kept : List ℕ) : Type 0 where
+record Parted (results : ℕ → Printed) (written kept : List ℕ) : Type 0 where
   parts : List Part
   whole : flat_map part_bytes parts ≡ written
   kept_is : flat_map text_bytes parts ≡ kept
   put : All (IsPut results) parts
 
-module _ (results : ℕ → Results) where
+module _ (old : Renews) (results : ℕ → Printed) where
   of_text : (bytes : List ℕ) → Parted results bytes bytes
   of_text bytes = record { parts = OfText bytes ∷ []; whole = append-nil bytes; kept_is = append-nil bytes; put = All-cons (IsPut results) (OfText bytes) [] tt (All-nil (IsPut results)) }
 
@@ -82,11 +105,11 @@ module _ (results : ℕ → Results) where
 
   module _ (other : List ℕ) (is_end : IsLineEnd other) where
     -- what is left of a game with a Deal tag, and its section
-    dealt_parted : (boards : List (ℕ × Board)) (lines : List Line) → Ended (left_of lines) → Parted results (flat_map line_bytes (dealt_lines other results boards lines)) (flat_map line_bytes (left_of lines))
-    dealt_parted [] lines h = of_text (flat_map line_bytes (left_of lines))
+    dealt_parted : (boards : List (ℕ × Board)) (lines : List Line) → Ended (left_of old lines) → Parted results (flat_map line_bytes (dealt_lines old other results boards lines)) (flat_map line_bytes (left_of old lines))
+    dealt_parted [] lines h = of_text (flat_map line_bytes (left_of old lines))
     dealt_parted (numbered ∷ more) lines h = go (is_some numbered.1.deal) where
       left : List Line
-      left = left_of lines
+      left = left_of old lines
 
       end : List ℕ
       end = deal_end other left
@@ -106,31 +129,31 @@ module _ (results : ℕ → Results) where
     apart : (lines gap rest : List Line) → flat_map line_bytes (lines ++ (gap ++ rest)) ≡ flat_map line_bytes lines ++ (flat_map line_bytes gap ++ flat_map line_bytes rest)
     apart lines gap rest = flat_map-append line_bytes lines (gap ++ rest) ∙ ap (λ r. flat_map line_bytes lines ++ r) (flat_map-append line_bytes gap rest)
 
-    games_parted : (boards : List (ℕ × Board)) (games : List Game) → GamesEnded games → Parted results (flat_map line_bytes (games_lines other results boards games)) (flat_map line_bytes (flat_map game_without games))
+    games_parted : (boards : List (ℕ × Board)) (games : List Game) → GamesEnded old games → Parted results (flat_map line_bytes (games_lines old other results boards games)) (flat_map line_bytes (flat_map (game_without old) games))
     games_parted boards [] h = of_text []
     games_parted boards (game ∷ games) h = go (has_deal game.lines) (games_parted (behind boards) games h.1) (games_parted boards games h.1) where
       without : List Line
-      without = flat_map game_without games
+      without = flat_map (game_without old) games
 
       put_game : {written : List ℕ} (lines rest : List Line) → Parted results written (flat_map line_bytes lines) → Parted results (flat_map line_bytes rest) (flat_map line_bytes without) → Parted results (written ++ (flat_map line_bytes game.gap ++ flat_map line_bytes rest)) (flat_map line_bytes ((lines ++ game.gap) ++ without))
       put_game lines rest one more =
           same refl (sym (apart lines game.gap without) ∙ ap (flat_map line_bytes) (sym (append_assoc lines game.gap without))) (join one (join (of_text (flat_map line_bytes game.gap)) more))
 
-      go : (b : Bool) → Parted results (flat_map line_bytes (games_lines other results (behind boards) games)) (flat_map line_bytes without) → Parted results (flat_map line_bytes (games_lines other results boards games)) (flat_map line_bytes without) → Parted results (flat_map line_bytes (cond b (dealt_lines other results boards game.lines ++ (game.gap ++ games_lines other results (behind boards) games)) (game.lines ++ (game.gap ++ games_lines other results boards games)))) (flat_map line_bytes ((cond b (left_of game.lines) game.lines ++ game.gap) ++ without))
+      go : (b : Bool) → Parted results (flat_map line_bytes (games_lines old other results (behind boards) games)) (flat_map line_bytes without) → Parted results (flat_map line_bytes (games_lines old other results boards games)) (flat_map line_bytes without) → Parted results (flat_map line_bytes (cond b (dealt_lines old other results boards game.lines ++ (game.gap ++ games_lines old other results (behind boards) games)) (game.lines ++ (game.gap ++ games_lines old other results boards games)))) (flat_map line_bytes ((cond b (left_of old game.lines) game.lines ++ game.gap) ++ without))
       go true next here =
-          same (sym (apart (dealt_lines other results boards game.lines) game.gap (games_lines other results (behind boards) games))) refl
-          (put_game (left_of game.lines) (games_lines other results (behind boards) games) (dealt_parted boards game.lines h.0) next)
+          same (sym (apart (dealt_lines old other results boards game.lines) game.gap (games_lines old other results (behind boards) games))) refl
+          (put_game (left_of old game.lines) (games_lines old other results (behind boards) games) (dealt_parted boards game.lines h.0) next)
       go false next here =
-          same (sym (apart game.lines game.gap (games_lines other results boards games))) refl
-          (put_game game.lines (games_lines other results boards games) (of_text (flat_map line_bytes game.lines)) here)
+          same (sym (apart game.lines game.gap (games_lines old other results boards games))) refl
+          (put_game game.lines (games_lines old other results boards games) (of_text (flat_map line_bytes game.lines)) here)
 
 -- ---- the text
 pub lose_nothing : LoseNothing
-lose_nothing text boards results written whole =
+lose_nothing old text boards results written whole =
     let lines = whole.lines in
-    let ended = games_ended (games_of lines) (games_follow refl (lines_follow text lines whole.read)) (subst Ended (sym (games_whole lines)) (lines_ended text lines whole.read)) in
-    let games = games_parted results (first_end lines) (first_ended lines (lines_ended text lines whole.read)) (enumerate_from 0 boards) (games_of lines) ended in
-    let it = join results (of_text results (mark_of text)) games in
+    let ended = games_ended old (games_of lines) (games_follow refl (lines_follow text lines whole.read)) (subst Ended (sym (games_whole lines)) (lines_ended text lines whole.read)) in
+    let games = games_parted old results (first_end lines) (first_ended lines (lines_ended text lines whole.read)) (enumerate_from 0 boards) (games_of lines) ended in
+    let it = join old results (of_text old results (mark_of text)) games in
     record {
       lines = lines;
       read = whole.read;

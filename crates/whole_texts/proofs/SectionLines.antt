@@ -1,5 +1,5 @@
 -- The lines of a section can stand in a text, and are read as what they are.
-use Rattle.std.proofs.Common.{◌≡◌, ◌≢◌, ℕ, ◌≤◌, Bool, true, false, cond, List, [], ◌∷◌, ◌++◌, Option, Some, None, refl, sym, ◌∙◌, ap, subst, flat_map, inl, inr}
+use Rattle.std.proofs.Common.{◌≡◌, ◌≢◌, ℕ, ◌≤◌, Bool, true, false, cond, List, [], ◌∷◌, ◌++◌, Option, Some, None, refl, sym, ◌∙◌, ap, subst, append-nil, flat_map, map, inl, inr}
 use Rattle.std.specs.Prelude.{codes, IfSome}
 use Rattle.std.proofs.lemmas.Bool.{eqb-false, cases_Bool}
 use Rattle.std.proofs.lemmas.List.Elements.{All-weaker}
@@ -8,16 +8,22 @@ use Rattle.cards.specs.declared.seats.Seat.TheVariants.{North, East, South, West
 use Rattle.cards.specs.declared.suits.Trump.{Trump}
 use Rattle.pbn_deals.specs.Lines.{is_line_feed, without_return}
 use Rattle.pbn_deals.specs.Reading.{Lacks, IsData, meaning_of}
-use Rattle.pbn_deals.specs.Pieces.{Comment, is_data, ends_with_return, HasPieces, at_line_end, section_data, line_comment, tag_pair, OfGame, LineIs, is_of_game, Line}
+use Rattle.pbn_deals.specs.Pieces.{Comment, is_data, ends_with_return, HasPieces, at_line_end, section_data, line_comment, tag_pair, Kind, OfGame, LineIs, is_of_game, Line}
 use Rattle.pbn_deals.proofs.LinesOfText.{body_of-line}
 use Rattle.pbn_deals.proofs.RowsBack.{IsEnded, row_of, Follow, follow_none, follow_line}
-use Rattle.tables.specs.TablesText.{Results, entries, row_text, is_complete, published_count, table_tag, incomplete_text}
+use Rattle.std.specs.List.{AllZip}
+use Rattle.par.specs.Texts.{score_text, contracts_text}
+use Rattle.tables.specs.declared.pars.BoardPar.{BoardPar}
+use Rattle.tables.specs.declared.pars.BoardPar.TheVariants.{Known, NoDealer, NoVulnerability}
+use Rattle.tables.specs.ParText.{tag_text, IsSmallPar, par_bodies}
+use Rattle.tables.proofs.ParTexts.{score-calm, contracts-calm}
+use Rattle.tables.specs.TablesText.{Results, Printed, entries, row_text, is_complete, published_count, table_tag, incomplete_text}
 use Rattle.tables.proofs.LinesBack.{IsLine, IsQuiet}
-use Rattle.tables.proofs.CalmTexts.{IsQuiet-from_calm}
-use Rattle.tables.proofs.BoardsBack.{row_text-calm, row-idle, table_tag-idle, incomplete-idle, published_count-le}
+use Rattle.tables.proofs.CalmTexts.{is_calm, IsQuiet-from_calm, calm-no_quote}
+use Rattle.tables.proofs.BoardsBack.{IsIdle, par-idle, score_tag_of, contracts_tag_of, row_text-calm, row-idle, table_tag-idle, incomplete-idle, published_count-le}
 use Rattle.tables.proofs.PageLines.{AreSmall}
 use Rattle.whole_texts.specs.Laws.{IsLineEnd}
-use Rattle.whole_texts.specs.WholeText.{as_data, row_lines, entry_lines, table_pair, section_lines}
+use Rattle.whole_texts.specs.WholeText.{as_data, row_lines, entry_lines, table_pair, table_lines, par_pair, with_end, par_kinds, section_lines}
 
 abbrev pub AllEnded : List Line → Type 0
 AllEnded [] = Unit {0}
@@ -83,7 +89,7 @@ count_line : (count : ℕ) → LineIs false (incomplete_text count) (OfGame (Com
 unfolding incomplete_text
 count_line count = is_of_game refl refl (line_comment refl)
 
--- ---- a section
+-- ---- a table
 rows_follow : (end : List ℕ) (results : Results) (some : List (Seat × Trump)) → AreSmall results → Follow false (flat_map (entry_lines end results) some) false
 rows_follow end results [] small = follow_none
 rows_follow end results (entry ∷ some) small = go (results entry.0 entry.1) (small entry.0 entry.1) (rows_follow end results some small) where
@@ -91,8 +97,8 @@ rows_follow end results (entry ∷ some) small = go (results entry.0 entry.1) (s
   go None h more = more
   go (Some tricks) h more = follow_line (row_line entry.0 entry.1 tricks h) more
 
-pub section_follows : (end : List ℕ) (results : Results) → AreSmall results → Follow false (section_lines end results) false
-section_follows end results small = go (is_complete results) where
+table_follows : (end : List ℕ) (results : Results) → AreSmall results → Follow false (table_lines end results) false
+table_follows end results small = go (is_complete results) where
   go : (b : Bool) → Follow false (cond b (record { kind = OfGame (table_pair ∷ []); end = end } ∷ flat_map (entry_lines end results) entries) (record { kind = OfGame (Comment (incomplete_text (published_count results)) ∷ []); end = end } ∷ [])) false
   go true = follow_line table_line (rows_follow end results entries small)
   go false = follow_line (count_line (published_count results)) follow_none
@@ -107,8 +113,8 @@ rows_ended end results (entry ∷ some) e small = go (results entry.0 entry.1) (
       let ended = printed_ended text end (row-idle entry.0 entry.1 tricks h).as_line e in
       (subst (λ b. IsEnded (record { bytes = b; end = end })) (sym (body_of-line (row_line entry.0 entry.1 tricks h))) ended, more)
 
-pub section_ended : (end : List ℕ) (results : Results) → IsLineEnd end → AreSmall results → AllEnded (section_lines end results)
-section_ended end results e small = go (is_complete results) where
+table_ended : (end : List ℕ) (results : Results) → IsLineEnd end → AreSmall results → AllEnded (table_lines end results)
+table_ended end results e small = go (is_complete results) where
   count : ℕ
   count = published_count results
 
@@ -119,3 +125,59 @@ section_ended end results e small = go (is_complete results) where
   go false =
       let ended = printed_ended (incomplete_text count) end (incomplete-idle count (published_count-le results)).as_line e in
       (subst (λ b. IsEnded (record { bytes = b; end = end })) (sym (body_of-line (count_line count))) ended, tt)
+
+-- ---- the lines of par
+score_line : (value : List ℕ) → is_calm value ≡ true → LineIs false (tag_text (codes "OptimumScore") value) (par_pair (codes "OptimumScore") value) false
+unfolding tag_text
+score_line value calm =
+    is_of_game refl refl
+    (tag_pair (codes "OptimumScore " ++ (34 ∷ (value ++ (34 ∷ 93 ∷ []))))
+    {tag = record { name = codes "OptimumScore"; value = value; rest = [] }}
+    refl (score_tag_of value (calm-no_quote value calm)) (sym (append-nil (codes "OptimumScore " ++ (34 ∷ (value ++ (34 ∷ 93 ∷ [])))))) at_line_end)
+
+contracts_line : (value : List ℕ) → is_calm value ≡ true → LineIs false (tag_text (codes "ParContract") value) (par_pair (codes "ParContract") value) false
+unfolding tag_text
+contracts_line value calm =
+    is_of_game refl refl
+    (tag_pair (codes "ParContract " ++ (34 ∷ (value ++ (34 ∷ 93 ∷ []))))
+    {tag = record { name = codes "ParContract"; value = value; rest = [] }}
+    refl (contracts_tag_of value (calm-no_quote value calm)) (sym (append-nil (codes "ParContract " ++ (34 ∷ (value ++ (34 ∷ 93 ∷ [])))))) at_line_end)
+
+no_dealer_line : LineIs false (codes "; par unknown: no dealer") (OfGame (Comment (codes "; par unknown: no dealer") ∷ [])) false
+no_dealer_line = is_of_game refl refl (line_comment refl)
+
+no_vulnerability_line : LineIs false (codes "; par unknown: no vulnerability") (OfGame (Comment (codes "; par unknown: no vulnerability") ∷ [])) false
+no_vulnerability_line = is_of_game refl refl (line_comment refl)
+
+-- a line of par: it is read as what it is, and was printed as one line
+record IsParLine (body : List ℕ) (kind : Kind) : Type 0 where
+  read : LineIs false body kind false
+  idle : IsIdle body
+
+par_lines_are : (par : Option BoardPar) → IfSome par IsSmallPar → AllZip IsParLine (par_bodies par) (par_kinds par)
+par_lines_are None small = tt
+par_lines_are (Some (Known score contracts)) small =
+    let idle = par-idle (Some (Known score contracts)) small in
+    (record { read = score_line (score_text score) (score-calm score small.0); idle = idle.0 }, (record { read = contracts_line (contracts_text contracts.items) (contracts-calm contracts.items small.1); idle = idle.1.0 }, tt))
+par_lines_are (Some NoDealer) small = let idle = par-idle (Some NoDealer) small in (record { read = no_dealer_line; idle = idle.0 }, tt)
+par_lines_are (Some NoVulnerability) small = let idle = par-idle (Some NoVulnerability) small in (record { read = no_vulnerability_line; idle = idle.0 }, tt)
+
+lines_follow_bodies : (end : List ℕ) (bodies : List (List ℕ)) (kinds : List Kind) (others : List Line) → AllZip IsParLine bodies kinds → Follow false others false → Follow false (map (with_end end) kinds ++ others) false
+lines_follow_bodies end [] [] others all more = more
+lines_follow_bodies end [] (kind ∷ kinds) others all more = absurd all
+lines_follow_bodies end (body ∷ bodies) [] others all more = absurd all
+lines_follow_bodies end (body ∷ bodies) (kind ∷ kinds) others all more = follow_line all.0.read (lines_follow_bodies end bodies kinds others all.1 more)
+
+lines_ended_bodies : (end : List ℕ) (bodies : List (List ℕ)) (kinds : List Kind) → IsLineEnd end → AllZip IsParLine bodies kinds → AllEnded (map (with_end end) kinds)
+lines_ended_bodies end [] [] e all = tt
+lines_ended_bodies end [] (kind ∷ kinds) e all = absurd all
+lines_ended_bodies end (body ∷ bodies) [] e all = absurd all
+lines_ended_bodies end (body ∷ bodies) (kind ∷ kinds) e all =
+    (subst (λ b. IsEnded (record { bytes = b; end = end })) (sym (body_of-line all.0.read)) (printed_ended body end all.0.idle.as_line e), lines_ended_bodies end bodies kinds e all.1)
+
+-- ---- a section
+pub section_follows : (end : List ℕ) (printed : Printed) → AreSmall printed.results → IfSome printed.par IsSmallPar → Follow false (section_lines end printed) false
+section_follows end printed small pars = lines_follow_bodies end (par_bodies printed.par) (par_kinds printed.par) (table_lines end printed.results) (par_lines_are printed.par pars) (table_follows end printed.results small)
+
+pub section_ended : (end : List ℕ) (printed : Printed) → IsLineEnd end → AreSmall printed.results → IfSome printed.par IsSmallPar → AllEnded (section_lines end printed)
+section_ended end printed e small pars = all_append (map (with_end end) (par_kinds printed.par)) (table_lines end printed.results) (lines_ended_bodies end (par_bodies printed.par) (par_kinds printed.par) e (par_lines_are printed.par pars)) (table_ended end printed.results e small)

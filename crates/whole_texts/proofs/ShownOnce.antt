@@ -1,6 +1,14 @@
 -- What is written shows the results of each board once.
 use Rattle.std.proofs.Common.{◌≡◌, ℕ, ◌+◌, Bool, true, false, cond, ◌||◌, List, [], ◌∷◌, ◌++◌, Option, Some, None, is_some, Ok, refl, sym, ◌∙◌, ap, subst, arith, append-nil, flat_map, inl, inr}
-use Rattle.std.specs.Prelude.{codes, unwrap_or}
+use Rattle.std.specs.Prelude.{codes, unwrap_or, map, IfSome}
+use Rattle.std.proofs.lemmas.List.{map-append}
+use Rattle.par.specs.Texts.{score_text, contracts_text}
+use Rattle.tables.specs.declared.pars.BoardPar.{BoardPar}
+use Rattle.tables.specs.declared.pars.BoardPar.TheVariants.{Known, NoDealer, NoVulnerability}
+use Rattle.tables.specs.ParText.{tag_text, IsSmallPar, par_bodies}
+use Rattle.tables.specs.ReadBack.{AreTricks}
+use Rattle.tables.specs.PageReading.{Table, table_in, Nothing, section_of, section_in}
+use Rattle.tables.specs.WrittenOnce.{SaysResults, par_said}
 use Rattle.std.specs.List.{list_any, enumerate_from}
 use Rattle.std.proofs.lemmas.Bool.{cases_Bool}
 use Rattle.cards.specs.declared.seats.Seat.{Seat}
@@ -9,20 +17,21 @@ use Rattle.cards.specs.Deal.{Deal}
 use Rattle.pbn_deals.specs.declared.boards.Board.{Board}
 use Rattle.pbn_deals.specs.Tags.{is_board, is_deal}
 use Rattle.pbn_deals.specs.Games.{Tags, boards_of, board_of, TakesTag, board_tag, deal_tag, other_tag, TakesBoard, first_board, later_board, TakesDeal, only_deal}
-use Rattle.pbn_deals.specs.Pieces.{Piece, Space, Comment, Pair, Data, NoPair, Gap, OfGame, Line, HasLines}
+use Rattle.pbn_deals.specs.Pieces.{Piece, Space, Comment, Pair, Data, NoPair, Gap, OfGame, body_of, Line, HasLines}
 use Rattle.pbn_deals.specs.LineBoards.{AddsPieces, adds_nothing, adds_pair, adds_silent}
-use Rattle.tables.specs.TablesText.{Results, entries, row_text, is_complete, published_count, table_tag, incomplete_text}
+use Rattle.tables.specs.TablesText.{Results, Printed, entries, row_text, is_complete, published_count, table_tag, incomplete_text}
 use Rattle.tables.proofs.PageLines as page
 use Rattle.tables.proofs.PageLines.{AreSmall}
-use Rattle.tables.proofs.PageBack.{complete_read, incomplete_read}
+use Rattle.tables.proofs.PageBack.{complete_read, incomplete_read, table_tag-begins, incomplete-begins, reads_below}
 use Rattle.whole_texts.specs.OldTables.{left_of, without_tables, without_counts, is_deal_pair, has_deal}
-use Rattle.whole_texts.specs.WholeText.{Game, games_of, row_lines, entry_lines, table_pair, section_lines, first_end, deal_end, with_ends, with_section, dealt_lines, behind, whole_lines}
+use Rattle.whole_texts.specs.WholeText.{Game, games_of, row_lines, entry_lines, table_pair, table_lines, with_end, par_kinds, section_lines, first_end, deal_end, with_ends, with_section, dealt_lines, behind, whole_lines}
 use Rattle.whole_texts.specs.Laws.{bodies, ShowsOnce, Where, ShowsBoard, ShowGames, ShowEachOnce}
 use Rattle.whole_texts.proofs.SameBoards.{same_length, AddsLines, adds_none, adds_escaped, adds_line, GamesHave, last_game, next_game, games_have}
 use Rattle.whole_texts.proofs.CleanLines.{left_of_clean, ends_clean, clean_stays, counts_twice, counts_ends, left_twice}
 use Rattle.whole_texts.proofs.AgainSame.{dealt_deal, games_written, written_lines, written_have, games_back}
 use Rattle.whole_texts.proofs.NothingLost.{as_data-bytes}
 use Rattle.whole_texts.proofs.WrittenLines.{have_boards, out_lines}
+use Rattle.tables.specs.declared.sheets.Renews.{Renews}
 
 -- ---- the lines of a section
 rows-bodies : (end : List ℕ) (results : Results) (some : List (Seat × Trump)) → bodies (flat_map (entry_lines end results) some) ≡ flat_map (page.entry_lines results) some
@@ -32,49 +41,82 @@ rows-bodies end results (entry ∷ some) = go (results entry.0 entry.1) (rows-bo
   go None more = more
   go (Some tricks) more = ap (λ b. b ∷ bodies (flat_map (entry_lines end results) some)) (as_data-bytes (row_text entry.0 entry.1 tricks)) ∙ ap (λ r. row_text entry.0 entry.1 tricks ∷ r) more
 
--- what stands before a section has no table
-shows_section : (end : List ℕ) (results : Results) (before : List Line) → AreSmall results → left_of before ≡ before → ShowsOnce results (before ++ section_lines end results)
-shows_section end results before small none = go (is_complete results) refl where
-  table_lines : List Line
-  table_lines = record { kind = OfGame (table_pair ∷ []); end = end } ∷ flat_map (entry_lines end results) entries
+-- how the lines of a table are read
+record ShownTable (results : Results) (lines : List Line) : Type 0 where
+  line : List ℕ
+  below : List (List ℕ)
+  table : Table
+  are : bodies lines ≡ line ∷ below
+  begins : section_in (line ∷ below) ≡ section_of Nothing (table_in line below)
+  read : table_in line below ≡ Some table
+  says : SaysResults results table
 
-  count_lines : List Line
-  count_lines = record { kind = OfGame (Comment (incomplete_text (published_count results)) ∷ []); end = end } ∷ []
+shown_table : (end : List ℕ) (results : Results) → AreSmall results → ShownTable results (table_lines end results)
+shown_table end results small = go (is_complete results) refl where
+  rows : List Line
+  rows = record { kind = OfGame (table_pair ∷ []); end = end } ∷ flat_map (entry_lines end results) entries
 
-  go : (b : Bool) → is_complete results ≡ b → ShowsOnce results (before ++ cond b table_lines count_lines)
+  count : List Line
+  count = record { kind = OfGame (Comment (incomplete_text (published_count results)) ∷ []); end = end } ∷ []
+
+  go : (b : Bool) → is_complete results ≡ b → ShownTable results (cond b rows count)
   go true e =
       let it = complete_read results small e in
       record {
-        before = before;
-        shown = table_lines;
-        parts = refl;
-        none_before = none;
-        first = table_tag;
+        line = table_tag;
         below = flat_map (page.entry_lines results) entries;
-        as_lines = ap (λ b. b ∷ bodies (flat_map (entry_lines end results) entries)) (append-nil table_tag) ∙ ap (λ r. table_tag ∷ r) (rows-bodies end results entries);
         table = it.0;
+        are = ap (λ b. b ∷ bodies (flat_map (entry_lines end results) entries)) (append-nil table_tag) ∙ ap (λ r. table_tag ∷ r) (rows-bodies end results entries);
+        begins = table_tag-begins (flat_map (page.entry_lines results) entries);
         read = it.1;
         says = it.2;
       }
   go false e =
       let it = incomplete_read results e in
       record {
-        before = before;
-        shown = count_lines;
-        parts = refl;
-        none_before = none;
-        first = incomplete_text (published_count results);
+        line = incomplete_text (published_count results);
         below = [];
-        as_lines = ap (λ b. b ∷ []) (append-nil (incomplete_text (published_count results)));
         table = it.0;
+        are = ap (λ b. b ∷ []) (append-nil (incomplete_text (published_count results)));
+        begins = incomplete-begins (published_count results) [];
         read = it.1;
         says = it.2;
       }
 
-shows_board : (other : List ℕ) (results : ℕ → Results) (numbered : ℕ × Board) (more : List (ℕ × Board)) (lines : List Line) → AreSmall (results numbered.0) → ShowsBoard results numbered (dealt_lines other results (numbered ∷ more) lines)
-shows_board other results numbered more lines small = go (is_some numbered.1.deal) where
+-- the lines of a par
+par-lines : (end : List ℕ) (par : Option BoardPar) → bodies (map (with_end end) (par_kinds par)) ≡ par_bodies par
+par-lines end None = refl
+par-lines end (Some (Known score contracts)) =
+    let one = tag_text (codes "OptimumScore") (score_text score) in
+    let two = tag_text (codes "ParContract") (contracts_text contracts.items) in
+    ap (λ (l : List ℕ). l ∷ (two ++ []) ∷ []) (append-nil one) ∙ ap (λ (l : List ℕ). one ∷ l ∷ []) (append-nil two)
+par-lines end (Some NoDealer) = ap (λ (l : List ℕ). l ∷ []) (append-nil (codes "; par unknown: no dealer"))
+par-lines end (Some NoVulnerability) = ap (λ (l : List ℕ). l ∷ []) (append-nil (codes "; par unknown: no vulnerability"))
+
+-- what stands before a section has nothing that goes
+shows_section : (old : Renews) (end : List ℕ) (printed : Printed) (before : List Line) → AreSmall printed.results → IfSome printed.par IsSmallPar → left_of old before ≡ before → ShowsOnce old printed (before ++ section_lines end printed)
+shows_section old end printed before small pars none =
+    let t = shown_table end printed.results small in
+    let pars_at = map (with_end end) (par_kinds printed.par) in
+    let table_at = table_lines end printed.results in
+    let lines : bodies (section_lines end printed) ≡ par_bodies printed.par ++ t.line ∷ t.below =
+    map-append (λ (line : Line). body_of line.kind) pars_at table_at
+    ∙ (ap (λ (l : List (List ℕ)). l ++ bodies table_at) (par-lines end printed.par)
+    ∙ ap (λ (l : List (List ℕ)). par_bodies printed.par ++ l) t.are) in
+    record {
+      before = before;
+      shown = section_lines end printed;
+      parts = refl;
+      none_before = none;
+      section = record { par = par_said printed.par; table = t.table };
+      read = ap section_in lines ∙ reads_below printed.par t.line t.below t.table pars t.begins t.read;
+      says = record { par = refl; table = t.says };
+    }
+
+shows_board : (old : Renews) (other : List ℕ) (results : ℕ → Printed) (numbered : ℕ × Board) (more : List (ℕ × Board)) (lines : List Line) → AreSmall (results numbered.0).results → IfSome (results numbered.0).par IsSmallPar → ShowsBoard old results numbered (dealt_lines old other results (numbered ∷ more) lines)
+shows_board old other results numbered more lines small pars = go (is_some numbered.1.deal) where
   left : List Line
-  left = left_of lines
+  left = left_of old lines
 
   end : List ℕ
   end = deal_end other left
@@ -82,15 +124,15 @@ shows_board other results numbered more lines small = go (is_some numbered.1.dea
   kept : List Line
   kept = with_ends end left
 
-  stays : left_of kept ≡ kept
+  stays : left_of old kept ≡ kept
   stays =
-      ap (λ l. left_of l) (sym (append-nil kept))
-      ∙ (ap without_counts (clean_stays kept [] (ends_clean end left (left_of_clean lines)) ∙ append-nil kept)
-      ∙ counts_ends end left (counts_twice (without_tables false lines)))
+      ap (λ l. left_of old l) (sym (append-nil kept))
+      ∙ (ap (without_counts old) (clean_stays old kept [] (ends_clean old end left (left_of_clean old lines)) ∙ append-nil kept)
+      ∙ counts_ends old end left (counts_twice old (without_tables old false lines)))
 
-  go : (b : Bool) → Where b (ShowsOnce (results numbered.0) (cond b (with_section other (results numbered.0) left) left)) (left_of (cond b (with_section other (results numbered.0) left) left) ≡ cond b (with_section other (results numbered.0) left) left)
-  go true = shows_section end (results numbered.0) kept small stays
-  go false = left_twice lines
+  go : (b : Bool) → Where b (ShowsOnce old (results numbered.0) (cond b (with_section other (results numbered.0) left) left)) (left_of old (cond b (with_section other (results numbered.0) left) left) ≡ cond b (with_section other (results numbered.0) left) left)
+  go true = shows_section old end (results numbered.0) kept small pars stays
+  go false = left_twice old lines
 
 -- ---- which games have a Deal tag
 no_both : (name : List ℕ) → is_board name ≡ true → is_deal name ≡ false
@@ -133,21 +175,21 @@ pieces_deal (Comment bytes ∷ pieces) (adds_silent s a) = pieces_deal pieces a
 pieces_deal (Data bytes ∷ pieces) (adds_silent s a) = pieces_deal pieces a
 pieces_deal (NoPair bytes ∷ pieces) (adds_silent s a) = absurd (cc)
 
-lines_deal : {count : ℕ} {tags last : Tags} {lines : List Line} → AddsLines count tags lines last → is_some last.deal ≡ (is_some tags.deal || has_deal lines)
-lines_deal (adds_none {tags}) = or_false (is_some tags.deal)
-lines_deal (adds_escaped r) = lines_deal r
-lines_deal {tags = tags} (adds_line {pieces = pieces} {lines = lines} a r) =
-    lines_deal r ∙ (ap (λ d. d || has_deal lines) (pieces_deal pieces a) ∙ or_assoc (is_some tags.deal) (list_any is_deal_pair pieces) (has_deal lines))
+lines_deal : (old : Renews) {count : ℕ} {tags last : Tags} {lines : List Line} → AddsLines old count tags lines last → is_some last.deal ≡ (is_some tags.deal || has_deal lines)
+lines_deal old (adds_none {tags}) = or_false (is_some tags.deal)
+lines_deal old (adds_escaped r) = lines_deal old r
+lines_deal old {tags = tags} (adds_line {pieces = pieces} {lines = lines} a r) =
+    lines_deal old r ∙ (ap (λ d. d || has_deal lines) (pieces_deal pieces a) ∙ or_assoc (is_some tags.deal) (list_any is_deal_pair pieces) (has_deal lines))
 
 -- ---- the games
-module _ (other : List ℕ) (results : ℕ → Results) (small : (place : ℕ) → AreSmall (results place)) where
+module _ (old : Renews) (other : List ℕ) (results : ℕ → Printed) (small : AreTricks results) where
   -- a game, by what its tags say, and the games behind it
-  show_game : (place : ℕ) (name : Option (List ℕ)) (deal : Option (Option Deal)) (game : Game) (games : List Game) (boards : List Board) → is_some deal ≡ has_deal game.lines → ((place' : ℕ) → ShowGames results (enumerate_from place' boards) (games_written other results (enumerate_from place' boards) games)) → ShowGames results (enumerate_from place (board_of name deal ++ boards)) (games_written other results (enumerate_from place (board_of name deal ++ boards)) (game ∷ games))
+  show_game : (place : ℕ) (name : Option (List ℕ)) (deal : Option (Option Deal)) (game : Game) (games : List Game) (boards : List Board) → is_some deal ≡ has_deal game.lines → ((place' : ℕ) → ShowGames old results (enumerate_from place' boards) (games_written old other results (enumerate_from place' boards) games)) → ShowGames old results (enumerate_from place (board_of name deal ++ boards)) (games_written old other results (enumerate_from place (board_of name deal ++ boards)) (game ∷ games))
   show_game place name None game games boards e more = skip (enumerate_from place boards) (has_deal game.lines) (sym e) (more place) where
-    skip : (numbered : List (ℕ × Board)) (b : Bool) → b ≡ false → ShowGames results numbered (games_written other results numbered games) → ShowGames results numbered (record { lines = cond b (dealt_lines other results numbered game.lines) game.lines; gap = game.gap } ∷ games_written other results (cond b (behind numbered) numbered) games)
+    skip : (numbered : List (ℕ × Board)) (b : Bool) → b ≡ false → ShowGames old results numbered (games_written old other results numbered games) → ShowGames old results numbered (record { lines = cond b (dealt_lines old other results numbered game.lines) game.lines; gap = game.gap } ∷ games_written old other results (cond b (behind numbered) numbered) games)
     skip numbered true f more = absurd (cc)
     skip [] false f more = (sym e, more)
-    skip (one ∷ rest) false f more = subst (λ d. Where d (ShowsBoard results one game.lines × ShowGames results rest (games_written other results (one ∷ rest) games)) (ShowGames results (one ∷ rest) (games_written other results (one ∷ rest) games))) e more
+    skip (one ∷ rest) false f more = subst (λ d. Where d (ShowsBoard old results one game.lines × ShowGames old results rest (games_written old other results (one ∷ rest) games)) (ShowGames old results (one ∷ rest) (games_written old other results (one ∷ rest) games))) e more
   show_game place name (Some deal) game games boards e more = show (has_deal game.lines) (sym e) (more (place + 1)) where
     board : Board
     board = record { name = unwrap_or name []; deal = deal }
@@ -156,32 +198,32 @@ module _ (other : List ℕ) (results : ℕ → Results) (small : (place : ℕ) �
     rest = enumerate_from (place + 1) boards
 
     dealt : List Line
-    dealt = dealt_lines other results ((place, board) ∷ rest) game.lines
+    dealt = dealt_lines old other results ((place, board) ∷ rest) game.lines
 
-    show : (b : Bool) → b ≡ true → ShowGames results rest (games_written other results rest games) → ShowGames results ((place, board) ∷ rest) (record { lines = cond b dealt game.lines; gap = game.gap } ∷ games_written other results (cond b rest ((place, board) ∷ rest)) games)
+    show : (b : Bool) → b ≡ true → ShowGames old results rest (games_written old other results rest games) → ShowGames old results ((place, board) ∷ rest) (record { lines = cond b dealt game.lines; gap = game.gap } ∷ games_written old other results (cond b rest ((place, board) ∷ rest)) games)
     show true f more =
-        subst (λ d. Where d (ShowsBoard results (place, board) dealt × ShowGames results rest (games_written other results rest games)) (ShowGames results ((place, board) ∷ rest) (games_written other results rest games)))
-        (sym (dealt_deal other results ((place, board) ∷ rest) game.lines (sym e))) (shows_board other results (place, board) rest game.lines (small place), more)
+        subst (λ d. Where d (ShowsBoard old results (place, board) dealt × ShowGames old results rest (games_written old other results rest games)) (ShowGames old results ((place, board) ∷ rest) (games_written old other results rest games)))
+        (sym (dealt_deal old other results ((place, board) ∷ rest) game.lines (sym e))) (shows_board old other results (place, board) rest game.lines (small.at_most place) (small.pars place), more)
     show false f more = absurd (cc)
 
-  show_games : {count : ℕ} {tags : Tags} {games : List Game} {boards : List Board} → GamesHave count tags games boards → tags.deal ≡ None → (place : ℕ) → ShowGames results (enumerate_from place boards) (games_written other results (enumerate_from place boards) games)
+  show_games : {count : ℕ} {tags : Tags} {games : List Game} {boards : List Board} → GamesHave old count tags games boards → tags.deal ≡ None → (place : ℕ) → ShowGames old results (enumerate_from place boards) (games_written old other results (enumerate_from place boards) games)
   show_games {tags = tags} (last_game {tags' = tags'} {lines} a) n place =
-      let deal : is_some tags'.deal ≡ has_deal lines = lines_deal a ∙ ap (λ (d : Option (Option Deal)). is_some d || has_deal lines) n in
-      subst (λ bs. ShowGames results (enumerate_from place bs) (games_written other results (enumerate_from place bs) (record { lines = lines; gap = [] } ∷ []))) (append-nil (boards_of tags'))
+      let deal : is_some tags'.deal ≡ has_deal lines = lines_deal old a ∙ ap (λ (d : Option (Option Deal)). is_some d || has_deal lines) n in
+      subst (λ bs. ShowGames old results (enumerate_from place bs) (games_written old other results (enumerate_from place bs) (record { lines = lines; gap = [] } ∷ []))) (append-nil (boards_of tags'))
       (show_game place tags'.name tags'.deal (record { lines = lines; gap = [] }) [] [] deal (λ place'. tt))
   show_games {tags = tags} (next_game {tags' = tags'} {lines} {bytes} {end} {games} {boards} a g) n place =
-      let deal : is_some tags'.deal ≡ has_deal lines = lines_deal a ∙ ap (λ (d : Option (Option Deal)). is_some d || has_deal lines) n in
+      let deal : is_some tags'.deal ≡ has_deal lines = lines_deal old a ∙ ap (λ (d : Option (Option Deal)). is_some d || has_deal lines) n in
       show_game place tags'.name tags'.deal (record { lines = lines; gap = record { kind = Gap bytes; end = end } ∷ [] }) games boards deal (show_games g refl)
 
 pub show_each_once : ShowEachOnce
-show_each_once text boards results written answer small whole =
+show_each_once old text boards results written answer small whole =
     let lines = whole.lines in
     let numbered = enumerate_from 0 boards in
-    let out = whole_lines boards results lines in
-    let have = games_have (have_boards text boards lines answer whole.read) in
-    let gs = games_written (first_end lines) results numbered (games_of lines) in
-    let back : games_of out ≡ gs = ap games_of (sym (written_lines (first_end lines) results numbered (games_of lines))) ∙ games_back (written_have (first_end lines) results numbered have) in (
+    let out = whole_lines old boards results lines in
+    let have = games_have old (have_boards text boards lines answer whole.read) in
+    let gs = games_written old (first_end lines) results numbered (games_of lines) in
+    let back : games_of out ≡ gs = ap games_of (sym (written_lines old (first_end lines) results numbered (games_of lines))) ∙ games_back old (written_have old (first_end lines) results numbered have) in (
       out,
-      subst (λ t. HasLines t out) (sym whole.is) (out_lines text boards results lines answer small whole.read),
-      subst (λ g. ShowGames results numbered g) (sym back) (show_games (first_end lines) results small have refl 0),
+      subst (λ t. HasLines t out) (sym whole.is) (out_lines old text boards results lines answer small whole.read),
+      subst (λ g. ShowGames old results numbered g) (sym back) (show_games old (first_end lines) results small have refl 0),
     )

@@ -15,6 +15,7 @@ use Rattle.whole_texts.specs.declared.games.GameText.{GameText}
 use Rattle.whole_texts.proofs.LineCuts.{cut_lines}
 use Rattle.pbn_deals.proofs.RowsInTurn.{HasFirst, has_first}
 use Rattle.whole_texts.proofs.SolidLines.{behind-append, is_minor, EndsSolid, left_parts, ends_solid, stays_minor}
+use Rattle.tables.specs.declared.sheets.Renews.{Renews}
 
 -- ---- the first line with a Deal tag
 any-append : (p : Line → Bool) (one other : List Line) → list_any p (one ++ other) ≡ (list_any p one || list_any p other)
@@ -54,7 +55,7 @@ deal_kept lines kind end None deal d = none_more (λ line. is_deal_kind line.kin
 deal_kept lines kind end (Some old) deal d = same_deal lines (record { kind = kind; end = end }) old.now deal
 
 -- ---- the lines so far
-pub record Surveyed (text : List ℕ) (lines : List Line) (back rest : List ℕ) (is_open in_table : Bool) (deal_end : Option (Bor (List ℕ))) : Type 0 where
+pub record Surveyed (renews : Renews) (text : List ℕ) (lines : List Line) (back rest : List ℕ) (is_open in_table : Bool) (deal_end : Option (Bor (List ℕ))) : Type 0 where
   pub front : List Line
   pub behind : List Line
   pub more : List Line
@@ -62,14 +63,14 @@ pub record Surveyed (text : List ℕ) (lines : List Line) (back rest : List ℕ)
   pub front_bytes : text ≡ flat_map line_bytes front ++ back
   pub back_bytes : back ≡ flat_map line_bytes behind ++ rest
   pub has : AreLines is_open (rows_of rest) more false
-  pub table : in_table ≡ tables_behind false (front ++ behind)
+  pub table : in_table ≡ tables_behind renews false (front ++ behind)
   pub no_gap : list_any (λ line. is_gap_kind line.kind) (front ++ behind) ≡ false
   pub deal : IsDealEnd deal_end (front ++ behind)
-  pub solid : EndsSolid (without_tables false front)
-  pub minor : list_all is_minor (without_tables (tables_behind false front) behind) ≡ true
+  pub solid : EndsSolid renews (without_tables renews false front)
+  pub minor : list_all (is_minor renews) (without_tables renews (tables_behind renews false front) behind) ≡ true
 
-pub survey_begins : (text : List ℕ) (lines : List Line) → AreLines false (rows_of text) lines false → Surveyed text lines text text false false None
-survey_begins text lines h = record {
+pub survey_begins : (renews : Renews) (text : List ℕ) (lines : List Line) → AreLines false (rows_of text) lines false → Surveyed renews text lines text text false false None
+survey_begins renews text lines h = record {
   front = [];
   behind = [];
   more = lines;
@@ -84,8 +85,8 @@ survey_begins text lines h = record {
   minor = refl;
 }
 
-module _ {text back rest : List ℕ} (after : List ℕ) {lines : List Line} {is_open in_table : Bool} {deal_end : Option (Bor (List ℕ))} {row : Row}
-    (s : Surveyed text lines back rest is_open in_table deal_end) (rows : rows_of rest ≡ row ∷ rows_of after) (bytes : rest ≡ (row.bytes ++ row.end) ++ after) where
+module _ (renews : Renews) {text back rest : List ℕ} (after : List ℕ) {lines : List Line} {is_open in_table : Bool} {deal_end : Option (Bor (List ℕ))} {row : Row}
+    (s : Surveyed renews text lines back rest is_open in_table deal_end) (rows : rows_of rest ≡ row ∷ rows_of after) (bytes : rest ≡ (row.bytes ++ row.end) ++ after) where
   pub next_line : HasFirst is_open row (rows_of after) s.more false
   next_line = has_first (subst (λ r. AreLines is_open r s.more false) rows s.has)
 
@@ -109,17 +110,17 @@ module _ {text back rest : List ℕ} (after : List ℕ) {lines : List Line} {is_
       ∙ ap (λ b. b ++ after) (ap (λ b. flat_map line_bytes some ++ b) (sym (append-nil (line_bytes own_line))) ∙ sym (flat_map-append line_bytes some (own_line ∷ []))))
 
   module _ (deal_end' : Option (Bor (List ℕ))) {is_open' in_table' : Bool} (no_gap : is_gap_kind next_line.kind ≡ false)
-      (opened : is_open' ≡ next_line.behind) (table : in_table' ≡ table_behind_line in_table next_line.kind) (deal : IsDealEnd deal_end' (own ++ own_line ∷ [])) where
+      (opened : is_open' ≡ next_line.behind) (table : in_table' ≡ table_behind_line renews in_table next_line.kind) (deal : IsDealEnd deal_end' (own ++ own_line ∷ [])) where
     has_rest : AreLines is_open' (rows_of after) next_line.others false
     has_rest = subst (λ o. AreLines o (rows_of after) next_line.others false) (sym opened) next_line.are
 
-    table_rest : in_table' ≡ tables_behind false (own ++ own_line ∷ [])
-    table_rest = table ∙ (ap (λ t. table_behind_line t next_line.kind) s.table ∙ sym (behind-append false own (own_line ∷ [])))
+    table_rest : in_table' ≡ tables_behind renews false (own ++ own_line ∷ [])
+    table_rest = table ∙ (ap (λ t. table_behind_line renews t next_line.kind) s.table ∙ sym (behind-append renews false own (own_line ∷ [])))
 
     no_gap_yet : list_any (λ line. is_gap_kind line.kind) (own ++ own_line ∷ []) ≡ false
     no_gap_yet = none_more (λ line. is_gap_kind line.kind) own own_line s.no_gap no_gap
 
-    pub solid_line : is_solid in_table next_line.kind ≡ true → Surveyed text lines after after is_open' in_table' deal_end'
+    pub solid_line : is_solid renews in_table next_line.kind ≡ true → Surveyed renews text lines after after is_open' in_table' deal_end'
     solid_line solid =
         let same = append-nil (own ++ own_line ∷ []) in
         record {
@@ -134,14 +135,14 @@ module _ {text back rest : List ℕ} (after : List ℕ) {lines : List Line} {is_
               ∙ (ap (λ b. b ++ rest) (sym (flat_map-append line_bytes s.front s.behind)) ∙ one_more_bytes own)));
           back_bytes = refl;
           has = has_rest;
-          table = table_rest ∙ ap (tables_behind false) (sym same);
+          table = table_rest ∙ ap (tables_behind renews false) (sym same);
           no_gap = ap (list_any (λ line. is_gap_kind line.kind)) same ∙ no_gap_yet;
           deal = subst (IsDealEnd deal_end') (sym same) deal;
-          solid = ends_solid own own_line in_table s.table solid;
+          solid = ends_solid renews own own_line in_table s.table solid;
           minor = refl;
         }
 
-    pub minor_line : is_solid in_table next_line.kind ≡ false → Surveyed text lines back after is_open' in_table' deal_end'
+    pub minor_line : is_solid renews in_table next_line.kind ≡ false → Surveyed renews text lines back after is_open' in_table' deal_end'
     minor_line minor =
         let same = append_assoc s.front s.behind (own_line ∷ []) in
         record {
@@ -152,11 +153,11 @@ module _ {text back rest : List ℕ} (after : List ℕ) {lines : List Line} {is_
           front_bytes = s.front_bytes;
           back_bytes = s.back_bytes ∙ one_more_bytes s.behind;
           has = has_rest;
-          table = table_rest ∙ ap (tables_behind false) same;
+          table = table_rest ∙ ap (tables_behind renews false) same;
           no_gap = ap (list_any (λ line. is_gap_kind line.kind)) (sym same) ∙ no_gap_yet;
           deal = subst (IsDealEnd deal_end') same deal;
           solid = s.solid;
-          minor = stays_minor (tables_behind false s.front) s.behind own_line in_table (s.table ∙ behind-append false s.front s.behind) no_gap minor s.minor;
+          minor = stays_minor renews (tables_behind renews false s.front) s.behind own_line in_table (s.table ∙ behind-append renews false s.front s.behind) no_gap minor s.minor;
         }
 
 -- ---- the whole game
@@ -178,13 +179,13 @@ closed {mid} {rows} gap more (inl (line, is, g)) h = line_closed (subst (λ l. A
 closed {mid} {rows} gap more (inr (n, m)) h =
     no_lines_closed (subst (λ l. AreLines mid rows l false) (ap (λ l. l ++ more) n ∙ m) h)
 
-module _ {text back rest : List ℕ} {lines : List Line} {is_open in_table : Bool} (game : GameText)
-    (h : AreLines false (rows_of text) lines false) (s : Surveyed text lines back rest is_open in_table game.deal_end) where
+module _ (renews : Renews) {text back rest : List ℕ} {lines : List Line} {is_open in_table : Bool} (game : GameText)
+    (h : AreLines false (rows_of text) lines false) (s : Surveyed renews text lines back rest is_open in_table game.deal_end) where
   module _ (gap more : List Line) (is : s.more ≡ gap ++ more) (ends : EndsGame gap more)
       (front : game.front.now ≡ flat_map line_bytes s.front) (behind : game.back.now ≡ flat_map line_bytes s.behind)
       (gap_bytes : game.gap.now ≡ flat_map line_bytes gap) (rest_is : rest ≡ game.gap.now ++ game.rest.now)
       (rest_lines : AreLines false (rows_of game.rest.now) more false) where
-    pub game_is_first : IsFirstGame text lines game
+    pub game_is_first : IsFirstGame renews text lines game
     game_is_first =
         let own = s.front ++ s.behind in
         let all : lines ≡ own ++ (gap ++ more) = s.all ∙ ap (λ m. own ++ m) is in
@@ -214,7 +215,7 @@ module _ {text back rest : List ℕ} {lines : List Line} {is_open in_table : Boo
             is_open = two.mid;
             front_lines = subst (λ t. AreLines false (rows_of t) s.front two.mid) (sym front) two.first;
             back_lines = subst (λ t. AreLines two.mid (rows_of t) s.behind false) (sym behind) two.second;
-            left = left_parts s.front s.behind s.solid s.minor;
+            left = left_parts renews s.front s.behind s.solid s.minor;
             deal = s.deal;
           };
           gap_bytes = gap_bytes;
@@ -222,7 +223,7 @@ module _ {text back rest : List ℕ} {lines : List Line} {is_open in_table : Boo
         }
 
   -- at the end of the text
-  pub ends_with_text : rest ≡ [] → game.front.now ≡ flat_map line_bytes s.front → game.back.now ≡ back → game.gap.now ≡ [] → game.rest.now ≡ [] → IsFirstGame text lines game
+  pub ends_with_text : rest ≡ [] → game.front.now ≡ flat_map line_bytes s.front → game.back.now ≡ back → game.gap.now ≡ [] → game.rest.now ≡ [] → IsFirstGame renews text lines game
   ends_with_text none front behind no_gap no_rest =
       let no_more = no_lines (subst (λ t. AreLines is_open (rows_of t) s.more false) none s.has) in
       game_is_first [] [] no_more (inr (refl, refl)) front
@@ -237,12 +238,12 @@ module _ {text back rest : List ℕ} {lines : List Line} {is_open in_table : Boo
 
   -- at a line of blanks
   module _ {row : Row} {after : List ℕ} (rows : rows_of rest ≡ row ∷ rows_of after) (bytes : rest ≡ (row.bytes ++ row.end) ++ after) where
-    pub ends_at_gap : is_gap_kind (next_line after s rows bytes).kind ≡ true → game.front.now ≡ flat_map line_bytes s.front → game.back.now ≡ flat_map line_bytes s.behind → game.gap.now ≡ line_bytes (own_line after s rows bytes) → game.rest.now ≡ after → IsFirstGame text lines game
+    pub ends_at_gap : is_gap_kind (next_line renews after s rows bytes).kind ≡ true → game.front.now ≡ flat_map line_bytes s.front → game.back.now ≡ flat_map line_bytes s.behind → game.gap.now ≡ line_bytes (own_line renews after s rows bytes) → game.rest.now ≡ after → IsFirstGame renews text lines game
     ends_at_gap g front behind gap rest_is =
-        let line = next_line after s rows bytes in
-        let own = own_line after s rows bytes in
+        let line = next_line renews after s rows bytes in
+        let own = own_line renews after s rows bytes in
         game_is_first (own ∷ []) line.others line.all (inl (own, refl, g)) front behind (gap ∙ sym (append-nil (line_bytes own)))
-        (line_is after s rows bytes ∙ sym (ap (λ b. b ++ game.rest.now) gap ∙ ap (λ r. line_bytes own ++ r) rest_is))
+        (line_is renews after s rows bytes ∙ sym (ap (λ b. b ++ game.rest.now) gap ∙ ap (λ r. line_bytes own ++ r) rest_is))
         (subst (λ t. AreLines false (rows_of t) line.others false) (sym rest_is) (subst (λ o. AreLines o (rows_of after) line.others false) (gap_closed line.is g).1 line.are))
 
 pub some_text : (text : List ℕ) → text ≢ [] → 0 < length text

@@ -4,45 +4,46 @@ use Rattle.std.specs.List.{list_all}
 use Rattle.pbn_deals.specs.declared.boards.Board.{Board}
 use Rattle.pbn_deals.specs.Pieces.{Piece, bytes_of, ends_with_return, Kind, OfGame, body_of, LineIs, is_escaped_line, is_gap, is_of_game, is_in_comment, closes_comment, Line}
 use Rattle.pbn_deals.proofs.RowsBack.{IsEnded, row_of, Follow, follow_none, follow_line, follow_append}
-use Rattle.tables.specs.TablesText.{Results, line_feed}
-use Rattle.tables.proofs.PageLines.{AreSmall}
+use Rattle.tables.specs.ReadBack.{AreTricks}
+use Rattle.tables.specs.TablesText.{Printed, line_feed}
 use Rattle.whole_texts.specs.Laws.{IsLineEnd}
 use Rattle.whole_texts.specs.OldTables.{left_pieces, table_behind, has_more, without_tables, is_count, is_escaped_kind, without_counts, left_of, is_deal_kind, has_deal}
 use Rattle.whole_texts.specs.WholeText.{Game, put_line, is_gap_kind, games_of, section_lines, if_none, first_end, new_end, deal_end, with_ends, with_section, dealt_lines, behind, games_lines}
 use Rattle.whole_texts.proofs.LeftLines.{Ended, left_follows, left_ended, counts_follow, counts_ended, ended_line}
 use Rattle.whole_texts.proofs.SectionLines.{AllEnded, all_append, section_follows, section_ended}
+use Rattle.tables.specs.declared.sheets.Renews.{Renews}
 
 -- ---- what is left of a game
-pub left_of_follows : {lines : List Line} → Follow false lines false → Follow false (left_of lines) false
-left_of_follows h = counts_follow (left_follows false h)
+pub left_of_follows : (old : Renews) {lines : List Line} → Follow false lines false → Follow false (left_of old lines) false
+left_of_follows old h = counts_follow old (left_follows old false h)
 
-pub left_of_ended : {lines : List Line} → Follow false lines false → Ended lines → Ended (left_of lines)
-left_of_ended {lines} f h = counts_ended (without_tables false lines) (left_ended false f h)
+pub left_of_ended : (old : Renews) {lines : List Line} → Follow false lines false → Ended lines → Ended (left_of old lines)
+left_of_ended old {lines} f h = counts_ended old (without_tables old false lines) (left_ended old false f h)
 
 -- all of them have ends
-line_all : (in_table : Bool) {is_open last : Bool} {line : List ℕ} {those : List Piece} (end : List ℕ) (left : List Line) (b : Bool) → LineIs is_open line (OfGame those) last → IsEnded (record { bytes = flat_map bytes_of those; end = end }) → AllEnded left → AllEnded (cond b (record { kind = OfGame (left_pieces in_table those); end = end } ∷ left) left)
-line_all in_table end left true l h more = (ended_line in_table end l h, more)
-line_all in_table end left false l h more = more
+line_all : (old : Renews) (in_table : Bool) {is_open last : Bool} {line : List ℕ} {those : List Piece} (end : List ℕ) (left : List Line) (b : Bool) → LineIs is_open line (OfGame those) last → IsEnded (record { bytes = flat_map bytes_of those; end = end }) → AllEnded left → AllEnded (cond b (record { kind = OfGame (left_pieces old in_table those); end = end } ∷ left) left)
+line_all old in_table end left true l h more = (ended_line old in_table end l h, more)
+line_all old in_table end left false l h more = more
 
-left_all : (in_table : Bool) {is_open last : Bool} {lines : List Line} → Follow is_open lines last → AllEnded lines → AllEnded (without_tables in_table lines)
-left_all in_table follow_none h = tt
-left_all in_table (follow_line (is_escaped_line e) r) h = (h.0, left_all in_table r h.1)
-left_all in_table (follow_line (is_gap e b) r) h = (h.0, left_all in_table r h.1)
-left_all in_table (follow_line {end = end} {lines} (is_of_game {pieces = those} e b p) r) h =
-    line_all in_table end (without_tables (table_behind in_table those) lines) (has_more (left_pieces in_table those)) (is_of_game e b p) h.0 (left_all (table_behind in_table those) r h.1)
-left_all in_table (follow_line (is_in_comment l) r) h = (h.0, left_all in_table r h.1)
-left_all in_table (follow_line {end = end} {lines} (closes_comment text {pieces = those} e l p) r) h =
-    (ended_line in_table end (closes_comment text e l p) h.0, left_all (table_behind in_table those) r h.1)
+left_all : (old : Renews) (in_table : Bool) {is_open last : Bool} {lines : List Line} → Follow is_open lines last → AllEnded lines → AllEnded (without_tables old in_table lines)
+left_all old in_table follow_none h = tt
+left_all old in_table (follow_line (is_escaped_line e) r) h = (h.0, left_all old in_table r h.1)
+left_all old in_table (follow_line (is_gap e b) r) h = (h.0, left_all old in_table r h.1)
+left_all old in_table (follow_line {end = end} {lines} (is_of_game {pieces = those} e b p) r) h =
+    line_all old in_table end (without_tables old (table_behind old in_table those) lines) (has_more (left_pieces old in_table those)) (is_of_game e b p) h.0 (left_all old (table_behind old in_table those) r h.1)
+left_all old in_table (follow_line (is_in_comment l) r) h = (h.0, left_all old in_table r h.1)
+left_all old in_table (follow_line {end = end} {lines} (closes_comment text {pieces = those} e l p) r) h =
+    (ended_line old in_table end (closes_comment text e l p) h.0, left_all old (table_behind old in_table those) r h.1)
 
-counts_all : (lines : List Line) → AllEnded lines → AllEnded (without_counts lines)
-counts_all [] h = tt
-counts_all (line ∷ lines) h = go (is_count line.kind && list_all (λ other. is_escaped_kind other.kind) (without_counts lines)) (counts_all lines h.1) where
-  go : (b : Bool) → AllEnded (without_counts lines) → AllEnded (cond b (without_counts lines) (line ∷ without_counts lines))
+counts_all : (old : Renews) (lines : List Line) → AllEnded lines → AllEnded (without_counts old lines)
+counts_all old [] h = tt
+counts_all old (line ∷ lines) h = go (is_count old line.kind && list_all (λ other. is_escaped_kind other.kind) (without_counts old lines)) (counts_all old lines h.1) where
+  go : (b : Bool) → AllEnded (without_counts old lines) → AllEnded (cond b (without_counts old lines) (line ∷ without_counts old lines))
   go true more = more
   go false more = (h.0, more)
 
-left_of_all : {lines : List Line} → Follow false lines false → AllEnded lines → AllEnded (left_of lines)
-left_of_all {lines} f h = counts_all (without_tables false lines) (left_all false f h)
+left_of_all : (old : Renews) {lines : List Line} → Follow false lines false → AllEnded lines → AllEnded (left_of old lines)
+left_of_all old {lines} f h = counts_all old (without_tables old false lines) (left_all old false f h)
 
 -- ---- ends
 pub ends_follow : (end : List ℕ) {is_open last : Bool} {lines : List Line} → Follow is_open lines last → Follow is_open (with_ends end lines) last
@@ -154,58 +155,55 @@ games_whole (line ∷ lines) = go (is_gap_kind line.kind) (games_whole lines) (s
   go false whole more = ap (λ g. lines_of_games (put_line line g)) more.2 ∙ ap (λ x. line ∷ x) (sym (ap lines_of_games more.2) ∙ whole)
 
 -- ---- the whole
-abbrev pub AreSmallAll : (ℕ → Results) → Type 0
-AreSmallAll results = (place : ℕ) → AreSmall (results place)
-
-module _ (other : List ℕ) (results : ℕ → Results) (small : AreSmallAll results) where
-  dealt_follows : (boards : List (ℕ × Board)) {lines : List Line} → Follow false lines false → Follow false (dealt_lines other results boards lines) false
-  dealt_follows [] h = left_of_follows h
+module _ (old : Renews) (other : List ℕ) (results : ℕ → Printed) (small : AreTricks results) where
+  dealt_follows : (boards : List (ℕ × Board)) {lines : List Line} → Follow false lines false → Follow false (dealt_lines old other results boards lines) false
+  dealt_follows [] h = left_of_follows old h
   dealt_follows (numbered ∷ more) {lines} h = go (is_some numbered.1.deal) where
-    go : (b : Bool) → Follow false (cond b (with_section other (results numbered.0) (left_of lines)) (left_of lines)) false
-    go true = follow_append (ends_follow (deal_end other (left_of lines)) (left_of_follows h)) (section_follows (deal_end other (left_of lines)) (results numbered.0) (small numbered.0))
-    go false = left_of_follows h
+    go : (b : Bool) → Follow false (cond b (with_section other (results numbered.0) (left_of old lines)) (left_of old lines)) false
+    go true = follow_append (ends_follow (deal_end other (left_of old lines)) (left_of_follows old h)) (section_follows (deal_end other (left_of old lines)) (results numbered.0) (small.at_most numbered.0) (small.pars numbered.0))
+    go false = left_of_follows old h
 
-  pub whole_follows : (boards : List (ℕ × Board)) (games : List Game) → GamesFollow false games → Follow false (games_lines other results boards games) false
+  pub whole_follows : (boards : List (ℕ × Board)) (games : List Game) → GamesFollow false games → Follow false (games_lines old other results boards games) false
   whole_follows boards [] h = follow_none
   whole_follows boards (game ∷ games) h = go (has_deal game.lines) (whole_follows (behind boards) games h.2) (whole_follows boards games h.2) where
-    go : (b : Bool) → Follow false (games_lines other results (behind boards) games) false → Follow false (games_lines other results boards games) false → Follow false (cond b (dealt_lines other results boards game.lines ++ (game.gap ++ games_lines other results (behind boards) games)) (game.lines ++ (game.gap ++ games_lines other results boards games))) false
+    go : (b : Bool) → Follow false (games_lines old other results (behind boards) games) false → Follow false (games_lines old other results boards games) false → Follow false (cond b (dealt_lines old other results boards game.lines ++ (game.gap ++ games_lines old other results (behind boards) games)) (game.lines ++ (game.gap ++ games_lines old other results boards games))) false
     go true next same = follow_append (dealt_follows boards h.0) (follow_append h.1 next)
     go false next same = follow_append h.0 (follow_append h.1 same)
 
   module _ (is_end : IsLineEnd other) where
-    section_all : (place : ℕ) {lines : List Line} → Follow false lines false → Ended lines → AllEnded (with_section other (results place) (left_of lines))
+    section_all : (place : ℕ) {lines : List Line} → Follow false lines false → Ended lines → AllEnded (with_section other (results place) (left_of old lines))
     section_all place {lines} f h =
-        let left = left_of_ended f h in
-        let end = deal_ended other (left_of lines) is_end left in
-        all_append (with_ends (deal_end other (left_of lines)) (left_of lines)) (section_lines (deal_end other (left_of lines)) (results place)) (given_ends (deal_end other (left_of lines)) (left_of lines) end left) (section_ended (deal_end other (left_of lines)) (results place) end (small place))
+        let left = left_of_ended old f h in
+        let end = deal_ended other (left_of old lines) is_end left in
+        all_append (with_ends (deal_end other (left_of old lines)) (left_of old lines)) (section_lines (deal_end other (left_of old lines)) (results place)) (given_ends (deal_end other (left_of old lines)) (left_of old lines) end left) (section_ended (deal_end other (left_of old lines)) (results place) end (small.at_most place) (small.pars place))
 
-    dealt_all : (boards : List (ℕ × Board)) {lines : List Line} → Follow false lines false → AllEnded lines → AllEnded (dealt_lines other results boards lines)
-    dealt_all [] f h = left_of_all f h
+    dealt_all : (boards : List (ℕ × Board)) {lines : List Line} → Follow false lines false → AllEnded lines → AllEnded (dealt_lines old other results boards lines)
+    dealt_all [] f h = left_of_all old f h
     dealt_all (numbered ∷ more) {lines} f h = go (is_some numbered.1.deal) where
-      go : (b : Bool) → AllEnded (cond b (with_section other (results numbered.0) (left_of lines)) (left_of lines))
+      go : (b : Bool) → AllEnded (cond b (with_section other (results numbered.0) (left_of old lines)) (left_of old lines))
       go true = section_all numbered.0 f (all_ended lines h)
-      go false = left_of_all f h
+      go false = left_of_all old f h
 
-    dealt_ended : (boards : List (ℕ × Board)) {lines : List Line} → Follow false lines false → Ended lines → Ended (dealt_lines other results boards lines)
-    dealt_ended [] f h = left_of_ended f h
+    dealt_ended : (boards : List (ℕ × Board)) {lines : List Line} → Follow false lines false → Ended lines → Ended (dealt_lines old other results boards lines)
+    dealt_ended [] f h = left_of_ended old f h
     dealt_ended (numbered ∷ more) {lines} f h = go (is_some numbered.1.deal) where
-      go : (b : Bool) → Ended (cond b (with_section other (results numbered.0) (left_of lines)) (left_of lines))
-      go true = all_ended (with_section other (results numbered.0) (left_of lines)) (section_all numbered.0 f h)
-      go false = left_of_ended f h
+      go : (b : Bool) → Ended (cond b (with_section other (results numbered.0) (left_of old lines)) (left_of old lines))
+      go true = all_ended (with_section other (results numbered.0) (left_of old lines)) (section_all numbered.0 f h)
+      go false = left_of_ended old f h
 
     -- where there are no lines, none are written
     no_rest : (lines others : List Line) → lines ++ others ≡ [] → (lines ≡ []) × (others ≡ [])
     no_rest [] others e = (refl, e)
     no_rest (line ∷ lines) others e = absurd (cc)
 
-    none_whole : (boards : List (ℕ × Board)) (games : List Game) → lines_of_games games ≡ [] → games_lines other results boards games ≡ []
+    none_whole : (boards : List (ℕ × Board)) (games : List Game) → lines_of_games games ≡ [] → games_lines old other results boards games ≡ []
     none_whole boards [] e = refl
     none_whole boards (game ∷ games) e =
         let here = no_rest (game.lines ++ game.gap) (lines_of_games games) e in
         let parts = no_rest game.lines game.gap here.0 in
-        let next = games_lines other results (behind boards) games in
-        let same = games_lines other results boards games in
-        subst (λ l. cond (has_deal l) (dealt_lines other results boards l ++ (game.gap ++ next)) (l ++ (game.gap ++ same)) ≡ []) (sym parts.0)
+        let next = games_lines old other results (behind boards) games in
+        let same = games_lines old other results boards games in
+        subst (λ l. cond (has_deal l) (dealt_lines old other results boards l ++ (game.gap ++ next)) (l ++ (game.gap ++ same)) ≡ []) (sym parts.0)
         (ap (λ g. g ++ same) parts.1 ∙ none_whole boards games here.1)
 
     -- the gap behind a game, and the games behind it
@@ -219,7 +217,7 @@ module _ (other : List ℕ) (results : ℕ → Results) (small : AreSmallAll res
     nothing_behind : (lines rest : List Line) → rest ≡ [] → Ended lines → Ended (lines ++ rest)
     nothing_behind lines rest e h = subst (λ r. Ended (lines ++ r)) (sym e) (subst Ended (sym (append-nil lines)) h)
 
-    pub whole_ended : (boards : List (ℕ × Board)) (games : List Game) → GamesFollow false games → Ended (lines_of_games games) → Ended (games_lines other results boards games)
+    pub whole_ended : (boards : List (ℕ × Board)) (games : List Game) → GamesFollow false games → Ended (lines_of_games games) → Ended (games_lines old other results boards games)
     whole_ended boards [] f h = tt
     whole_ended boards (game ∷ games) f h =
         go (has_deal game.lines) (ended_split game.lines (game.gap ++ rest) (subst Ended (append_assoc game.lines game.gap rest) h)) (whole_ended (behind boards) games f.2) (whole_ended boards games f.2)
@@ -228,16 +226,16 @@ module _ (other : List ℕ) (results : ℕ → Results) (small : AreSmallAll res
         rest = lines_of_games games
 
         next : List Line
-        next = games_lines other results (behind boards) games
+        next = games_lines old other results (behind boards) games
 
         same : List Line
-        same = games_lines other results boards games
+        same = games_lines old other results boards games
 
-        none_behind : (boards' : List (ℕ × Board)) → game.gap ++ rest ≡ [] → game.gap ++ games_lines other results boards' games ≡ []
-        none_behind boards' e = let parts = no_rest game.gap rest e in ap (λ g. g ++ games_lines other results boards' games) parts.0 ∙ none_whole boards' games parts.1
+        none_behind : (boards' : List (ℕ × Board)) → game.gap ++ rest ≡ [] → game.gap ++ games_lines old other results boards' games ≡ []
+        none_behind boards' e = let parts = no_rest game.gap rest e in ap (λ g. g ++ games_lines old other results boards' games) parts.0 ∙ none_whole boards' games parts.1
 
-        go : (b : Bool) → (AllEnded game.lines × Ended (game.gap ++ rest)) ⊎ (Ended game.lines × (game.gap ++ rest ≡ [])) → (Ended rest → Ended next) → (Ended rest → Ended same) → Ended (cond b (dealt_lines other results boards game.lines ++ (game.gap ++ next)) (game.lines ++ (game.gap ++ same)))
-        go true (inl (all, more)) to_next to_same = ended_join (dealt_lines other results boards game.lines) (game.gap ++ next) (dealt_all boards f.0 all) (rest_ended game.gap rest next more to_next (none_whole (behind boards) games))
+        go : (b : Bool) → (AllEnded game.lines × Ended (game.gap ++ rest)) ⊎ (Ended game.lines × (game.gap ++ rest ≡ [])) → (Ended rest → Ended next) → (Ended rest → Ended same) → Ended (cond b (dealt_lines old other results boards game.lines ++ (game.gap ++ next)) (game.lines ++ (game.gap ++ same)))
+        go true (inl (all, more)) to_next to_same = ended_join (dealt_lines old other results boards game.lines) (game.gap ++ next) (dealt_all boards f.0 all) (rest_ended game.gap rest next more to_next (none_whole (behind boards) games))
         go false (inl (all, more)) to_next to_same = ended_join game.lines (game.gap ++ same) all (rest_ended game.gap rest same more to_same (none_whole boards games))
-        go true (inr (some, none)) to_next to_same = nothing_behind (dealt_lines other results boards game.lines) (game.gap ++ next) (none_behind (behind boards) none) (dealt_ended boards f.0 some)
+        go true (inr (some, none)) to_next to_same = nothing_behind (dealt_lines old other results boards game.lines) (game.gap ++ next) (none_behind (behind boards) none) (dealt_ended boards f.0 some)
         go false (inr (some, none)) to_next to_same = nothing_behind game.lines (game.gap ++ same) (none_behind boards none) some

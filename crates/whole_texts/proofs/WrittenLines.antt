@@ -10,7 +10,7 @@ use Rattle.pbn_deals.specs.Reading.{TextAnswers}
 use Rattle.pbn_deals.proofs.LinesOfText.{text_lines, bytes_of-lines, bytes_of-rows}
 use Rattle.pbn_deals.proofs.LinesRead.{boards_of_lines}
 use Rattle.pbn_deals.proofs.RowsBack.{AreEnded, text_ended, Follow, follow, rows_are, lines_back}
-use Rattle.tables.specs.TablesText.{Results}
+use Rattle.tables.specs.TablesText.{Printed}
 use Rattle.tables.specs.ReadBack.{AreTricks}
 use Rattle.whole_texts.specs.WholeText.{games_of, first_end, whole_lines}
 use Rattle.whole_texts.specs.Laws.{AreWrittenOne, KeepBoards, IsLineEnd}
@@ -18,6 +18,7 @@ use Rattle.whole_texts.proofs.LeftLines.{Ended}
 use Rattle.whole_texts.proofs.WholeLines.{GamesFollow, games_follow, games_whole, first_ended, whole_follows, whole_ended}
 use Rattle.whole_texts.proofs.SameBoards.{GamesHave, games_have, whole_have}
 use Rattle.whole_texts.proofs.FirstBytes.{FirstOf, whole_first, unmarked}
+use Rattle.tables.specs.declared.sheets.Renews.{Renews}
 
 -- a text's lines are one list
 pub same_lines : (text : List ℕ) (lines others : List Line) → HasLines text lines → HasLines text others → lines ≡ others
@@ -40,9 +41,9 @@ module _ (text : List ℕ) (lines : List Line) (has : HasLines text lines) where
   pub lines_whole : without_mark text ≡ flat_map line_bytes lines
   lines_whole = sym (bytes_of-lines has ∙ bytes_of-rows (without_mark text))
 
-module _ (text : List ℕ) (boards : List Board) (results : ℕ → Results) (lines : List Line) (answer : TextAnswers text (Ok boards)) (small : AreTricks results) (has : HasLines text lines) where
+module _ (old : Renews) (text : List ℕ) (boards : List Board) (results : ℕ → Printed) (lines : List Line) (answer : TextAnswers text (Ok boards)) (small : AreTricks results) (has : HasLines text lines) where
   abbrev out : List Line
-  out = whole_lines boards results lines
+  out = whole_lines old boards results lines
 
   games_are : GamesFollow false (games_of lines)
   games_are = games_follow refl (lines_follow text lines has)
@@ -51,21 +52,21 @@ module _ (text : List ℕ) (boards : List Board) (results : ℕ → Results) (li
   is_end = first_ended lines (lines_ended text lines has)
 
   out_follows : Follow false out false
-  out_follows = whole_follows (first_end lines) results small (enumerate_from 0 boards) (games_of lines) games_are
+  out_follows = whole_follows old (first_end lines) results small (enumerate_from 0 boards) (games_of lines) games_are
 
   pub out_ended : Ended out
   out_ended =
-      whole_ended (first_end lines) results small is_end (enumerate_from 0 boards) (games_of lines) games_are
+      whole_ended old (first_end lines) results small is_end (enumerate_from 0 boards) (games_of lines) games_are
       (subst Ended (sym (games_whole lines)) (lines_ended text lines has))
 
-  out_have : GamesHave 0 no_tags (games_of lines) boards
-  out_have = games_have (have_boards text boards lines answer has)
+  out_have : GamesHave old 0 no_tags (games_of lines) boards
+  out_have = games_have old (have_boards text boards lines answer has)
 
   pub out_boards : HaveBoards 0 no_tags out boards
-  out_boards = whole_have (first_end lines) results (enumerate_from 0 boards) out_have
+  out_boards = whole_have old (first_end lines) results (enumerate_from 0 boards) out_have
 
   out_first : FirstOf lines out
-  out_first = subst (λ l. FirstOf l out) (games_whole lines) (whole_first (first_end lines) results (enumerate_from 0 boards) out_have games_are)
+  out_first = subst (λ l. FirstOf l out) (games_whole lines) (whole_first old (first_end lines) results (enumerate_from 0 boards) out_have games_are)
 
   pub out_lines : HasLines (mark_of text ++ flat_map line_bytes out) out
   out_lines =
@@ -73,15 +74,15 @@ module _ (text : List ℕ) (boards : List Board) (results : ℕ → Results) (li
       (lines_back out out_follows out_ended)
 
 pub one_is_written : AreWrittenOne
-one_is_written text boards results answer =
+one_is_written old text boards results answer =
     let said = boards_of_lines.said text boards answer in
     record {
-      written = mark_of text ++ flat_map line_bytes (whole_lines boards results said.0);
+      written = mark_of text ++ flat_map line_bytes (whole_lines old boards results said.0);
       whole = record { lines = said.0; read = said.1; is = refl };
-      one = λ other whole. whole.is ∙ ap (λ l. mark_of text ++ flat_map line_bytes (whole_lines boards results l)) (same_lines text whole.lines said.0 whole.read said.1);
+      one = λ other whole. whole.is ∙ ap (λ l. mark_of text ++ flat_map line_bytes (whole_lines old boards results l)) (same_lines text whole.lines said.0 whole.read said.1);
     }
 
 pub keep_boards : KeepBoards
-keep_boards text boards results written answer small whole =
+keep_boards old text boards results written answer small whole =
     subst (λ t. TextAnswers t (Ok boards)) (sym whole.is)
-    (boards_of_lines.says (mark_of text ++ flat_map line_bytes (whole_lines boards results whole.lines)) (whole_lines boards results whole.lines) boards (out_lines text boards results whole.lines answer small whole.read) (out_boards text boards results whole.lines answer small whole.read))
+    (boards_of_lines.says (mark_of text ++ flat_map line_bytes (whole_lines old boards results whole.lines)) (whole_lines old boards results whole.lines) boards (out_lines old text boards results whole.lines answer small whole.read) (out_boards old text boards results whole.lines answer small whole.read))

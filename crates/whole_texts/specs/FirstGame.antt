@@ -7,6 +7,7 @@ use Rattle.whole_texts.specs.OldTables.{without_tables, left_of, is_deal_kind, h
 use Rattle.whole_texts.specs.WholeText.{is_gap_kind}
 use Rattle.whole_texts.specs.LeftText.{without_any_count, tables_behind}
 use Rattle.whole_texts.specs.declared.games.GameText.{GameText}
+use Rattle.tables.specs.declared.sheets.Renews.{Renews}
 
 -- the first line with a Deal tag has this end
 pub record HasDealLine (lines : List Line) (end : List ℕ) : Type 0 where
@@ -25,7 +26,7 @@ abbrev pub EndsGame : List Line → List Line → Type 0
 EndsGame gap more = ((line : Line) × (gap ≡ line ∷ []) × (is_gap_kind line.kind ≡ true)) ⊎ ((gap ≡ []) × (more ≡ []))
 
 -- the lines of a game, and what is left of them
-pub record HasGameLines (lines : List Line) (game : GameText) : Type 0 where
+pub record HasGameLines (old : Renews) (lines : List Line) (game : GameText) : Type 0 where
   pub front : List Line
   pub back : List Line
   pub parts : lines ≡ front ++ back
@@ -34,12 +35,12 @@ pub record HasGameLines (lines : List Line) (game : GameText) : Type 0 where
   pub front_lines : AreLines false (rows_of game.front.now) front is_open
   pub back_lines : AreLines is_open (rows_of game.back.now) back false
   pub left :
-      left_of lines
-      ≡ without_tables false front ++ without_any_count (without_tables (tables_behind false front) back)
+      left_of old lines
+      ≡ without_tables old false front ++ without_any_count old (without_tables old (tables_behind old false front) back)
   pub deal : IsDealEnd game.deal_end lines
 
 -- the first of the games of these lines, and the lines behind it
-pub record IsFirstGame (text : List ℕ) (lines : List Line) (game : GameText) : Type 0 where
+pub record IsFirstGame (old : Renews) (text : List ℕ) (lines : List Line) (game : GameText) : Type 0 where
   pub whole : text ≡ (game.front.now ++ game.back.now) ++ (game.gap.now ++ game.rest.now)
   pub own : List Line
   pub gap : List Line
@@ -47,6 +48,6 @@ pub record IsFirstGame (text : List ℕ) (lines : List Line) (game : GameText) :
   pub all : lines ≡ own ++ (gap ++ more)
   pub no_gap : list_any (λ line. is_gap_kind line.kind) own ≡ false
   pub ends : EndsGame gap more
-  pub has : HasGameLines own game
+  pub has : HasGameLines old own game
   pub gap_bytes : game.gap.now ≡ flat_map line_bytes gap
   pub rest_lines : AreLines false (rows_of game.rest.now) more false

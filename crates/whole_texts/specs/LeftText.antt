@@ -6,27 +6,28 @@ use Rattle.pbn_deals.specs.Pieces.{Kind, Gap, Escaped, OfGame, Line}
 use Rattle.whole_texts.specs.OldTables.{left_pieces, table_behind_line, is_count}
 use Rattle.whole_texts.specs.LineEnds.{last_of}
 use Rattle.whole_texts.specs.declared.leaving.Before.{Before}
+use Rattle.tables.specs.declared.sheets.Renews.{Renews}
 
-abbrev pub kind_left : Bool → Kind → Kind
-kind_left in_table (Gap bytes) = Gap bytes
-kind_left in_table (Escaped bytes) = Escaped bytes
-kind_left in_table (OfGame pieces) = OfGame (left_pieces in_table pieces)
+abbrev pub kind_left : Renews → Bool → Kind → Kind
+kind_left old in_table (Gap bytes) = Gap bytes
+kind_left old in_table (Escaped bytes) = Escaped bytes
+kind_left old in_table (OfGame pieces) = OfGame (left_pieces old in_table pieces)
 
 -- lines without those that tell how many results were known, wherever they stand
-abbrev pub without_any_count : List Line → List Line
-without_any_count [] = []
-without_any_count (line ∷ lines) =
-    if is_count line.kind then without_any_count lines else (line ∷ without_any_count lines)
+abbrev pub without_any_count : Renews → List Line → List Line
+without_any_count old [] = []
+without_any_count old (line ∷ lines) =
+    if is_count old line.kind then without_any_count old lines else (line ∷ without_any_count old lines)
 
 -- such lines go, or stay
-abbrev pub kept : Bool → List Line → List Line
-kept true lines = without_any_count lines
-kept false lines = lines
+abbrev pub kept : Renews → Bool → List Line → List Line
+kept old true lines = without_any_count old lines
+kept old false lines = lines
 
 -- whether section data behind the lines is a table's
-abbrev pub tables_behind : Bool → List Line → Bool
-tables_behind in_table [] = in_table
-tables_behind in_table (line ∷ lines) = tables_behind (table_behind_line in_table line.kind) lines
+abbrev pub tables_behind : Renews → Bool → List Line → Bool
+tables_behind old in_table [] = in_table
+tables_behind old in_table (line ∷ lines) = tables_behind old (table_behind_line old in_table line.kind) lines
 
 -- the text was written behind a text with this last byte, and its own is answered
 abbrev pub WritesLast : Device → Device → Option ℕ → List ℕ → Result (Option ℕ) DeviceFault → Type 0

@@ -7,13 +7,14 @@ use Rattle.whole_texts.specs.declared.lefts.Left.{Left}
 use Rattle.whole_texts.specs.declared.lefts.Left.TheVariants.{Nothing, Blanks, Count, More}
 use Rattle.whole_texts.specs.declared.line_facts.LineFacts.{LineFacts}
 use Rattle.whole_texts.specs.declared.line_facts.LineFacts.TheVariants as fact
+use Rattle.tables.specs.declared.sheets.Renews.{Renews}
 
 -- the flags tell that section data before it is a table's, and that a brace comment is open behind it
-abbrev pub FactsOfLine : Bool → Kind → Bool → LineFacts → Type 0
-FactsOfLine in_table kind is_open fact.Gap = (bytes : List ℕ) × (kind ≡ Gap bytes) × (is_open ≡ false)
-FactsOfLine in_table kind is_open fact.Escaped = (bytes : List ℕ) × (kind ≡ Escaped bytes) × (is_open ≡ false)
-FactsOfLine in_table kind is_open (fact.OfGame facts) =
-    (pieces : List Piece) × (kind ≡ OfGame pieces) × AreFacts in_table pieces is_open facts
+abbrev pub FactsOfLine : Renews → Bool → Kind → Bool → LineFacts → Type 0
+FactsOfLine old in_table kind is_open fact.Gap = (bytes : List ℕ) × (kind ≡ Gap bytes) × (is_open ≡ false)
+FactsOfLine old in_table kind is_open fact.Escaped = (bytes : List ℕ) × (kind ≡ Escaped bytes) × (is_open ≡ false)
+FactsOfLine old in_table kind is_open (fact.OfGame facts) =
+    (pieces : List Piece) × (kind ≡ OfGame pieces) × AreFacts old in_table pieces is_open facts
 
 -- whether such a line goes whole, where lines that tell how many results were known go or stay
 abbrev pub left_goes : Bool → Left → Bool
@@ -28,8 +29,8 @@ line_goes counts_go fact.Escaped = false
 line_goes counts_go (fact.OfGame facts) = left_goes counts_go facts.left
 
 -- a line of the game of which more is left than how many results were known
-abbrev pub is_solid : Bool → Kind → Bool
-is_solid in_table (Gap bytes) = false
-is_solid in_table (Escaped bytes) = false
-is_solid in_table (OfGame pieces) =
-    if is_count (OfGame (left_pieces in_table pieces)) then false else has_more (left_pieces in_table pieces)
+abbrev pub is_solid : Renews → Bool → Kind → Bool
+is_solid old in_table (Gap bytes) = false
+is_solid old in_table (Escaped bytes) = false
+is_solid old in_table (OfGame pieces) =
+    if is_count old (OfGame (left_pieces old in_table pieces)) then false else has_more (left_pieces old in_table pieces)

@@ -7,9 +7,14 @@ use Rattle.cards.specs.declared.suits.Trump.{Trump}
 use Rattle.pbn_deals.specs.declared.boards.Board.{Board}
 use Rattle.pbn_deals.specs.Pieces.{Piece, Comment, Pair, Data, Kind, Gap, Escaped, OfGame, body_of, Line, line_bytes}
 use Rattle.pbn_deals.specs.Pieces.{ends_with_return, mark_of, HasLines}
-use Rattle.tables.specs.TablesText.{Results, entries, row_text, is_complete, published_count, table_tag}
+use Rattle.par.specs.Texts.{score_text, contracts_text}
+use Rattle.tables.specs.declared.pars.BoardPar.{BoardPar}
+use Rattle.tables.specs.declared.pars.BoardPar.TheVariants.{Known, NoDealer, NoVulnerability}
+use Rattle.tables.specs.ParText.{tag_text}
+use Rattle.tables.specs.TablesText.{Results, Printed, entries, row_text, is_complete, published_count, table_tag}
 use Rattle.tables.specs.TablesText.{incomplete_text, line_feed}
 use Rattle.whole_texts.specs.OldTables.{is_deal_kind, has_deal, left_of}
+use Rattle.tables.specs.declared.sheets.Renews.{Renews}
 
 -- ---- games
 -- the lines of a game, and the line behind them that ends it, if there is one
@@ -53,11 +58,31 @@ table_pair =
     (codes "Declarer;Denomination" ++ (92 ∷ codes "2R;Result") ++ (92 ∷ codes "2R")) table_tag
 
 -- the table where all twenty results are known, else how many are, in lines with this end
-abbrev pub section_lines : List ℕ → Results → List Line
-section_lines end results =
+abbrev pub table_lines : List ℕ → Results → List Line
+table_lines end results =
     if is_complete results
     then (record { kind = OfGame (table_pair ∷ []); end = end } ∷ flat_map (entry_lines end results) entries)
     else (record { kind = OfGame (Comment (incomplete_text (published_count results)) ∷ []); end = end } ∷ [])
+
+-- a tag pair of a par
+abbrev pub par_pair : List ℕ → List ℕ → Kind
+par_pair name value = OfGame (Pair name value (tag_text name value) ∷ [])
+
+-- the lines of a par that is printed, without their ends
+abbrev pub par_kinds : Option BoardPar → List Kind
+par_kinds None = []
+par_kinds (Some (Known score contracts)) =
+    par_pair (codes "OptimumScore") (score_text score)
+    ∷ par_pair (codes "ParContract") (contracts_text contracts.items) ∷ []
+par_kinds (Some NoDealer) = OfGame (Comment (codes "; par unknown: no dealer") ∷ []) ∷ []
+par_kinds (Some NoVulnerability) = OfGame (Comment (codes "; par unknown: no vulnerability") ∷ []) ∷ []
+
+abbrev pub with_end : List ℕ → Kind → Line
+with_end end kind = record { kind = kind; end = end }
+
+-- the section: the par, if it is printed, and the table
+abbrev pub section_lines : List ℕ → Printed → List Line
+section_lines end printed = map (with_end end) (par_kinds printed.par) ++ table_lines end printed.results
 
 -- ---- ends of lines
 -- an end, or another where there is none
@@ -88,38 +113,38 @@ with_ends end (line ∷ next ∷ lines) = line ∷ with_ends end (next ∷ lines
 
 -- ---- the whole
 -- what is left of a game whose board has a deal, and the section
-abbrev pub with_section : List ℕ → Results → List Line → List Line
+abbrev pub with_section : List ℕ → Printed → List Line → List Line
 with_section other results left =
     with_ends (deal_end other left) left ++ section_lines (deal_end other left) results
 
 -- a game with a Deal tag
-abbrev pub dealt_lines : List ℕ → (ℕ → Results) → List (ℕ × Board) → List Line → List Line
-dealt_lines other results [] lines = left_of lines
-dealt_lines other results (numbered ∷ more) lines =
-    if is_some numbered.1.deal then with_section other (results numbered.0) (left_of lines) else left_of lines
+abbrev pub dealt_lines : Renews → List ℕ → (ℕ → Printed) → List (ℕ × Board) → List Line → List Line
+dealt_lines old other results [] lines = left_of old lines
+dealt_lines old other results (numbered ∷ more) lines =
+    if is_some numbered.1.deal then with_section other (results numbered.0) (left_of old lines) else left_of old lines
 
 abbrev pub behind : List (ℕ × Board) → List (ℕ × Board)
 behind [] = []
 behind (numbered ∷ more) = more
 
 -- games one after another: those with a Deal tag are the boards', in their order
-abbrev pub games_lines : List ℕ → (ℕ → Results) → List (ℕ × Board) → List Game → List Line
-games_lines other results boards [] = []
-games_lines other results boards (game ∷ games) =
+abbrev pub games_lines : Renews → List ℕ → (ℕ → Printed) → List (ℕ × Board) → List Game → List Line
+games_lines old other results boards [] = []
+games_lines old other results boards (game ∷ games) =
     if has_deal game.lines
-    then dealt_lines other results boards game.lines ++ (game.gap ++ games_lines other results (behind boards) games)
-    else game.lines ++ (game.gap ++ games_lines other results boards games)
+    then dealt_lines old other results boards game.lines ++ (game.gap ++ games_lines old other results (behind boards) games)
+    else game.lines ++ (game.gap ++ games_lines old other results boards games)
 
-abbrev pub whole_lines : List Board → (ℕ → Results) → List Line → List Line
-whole_lines boards results lines =
-    games_lines (first_end lines) results (enumerate_from 0 boards) (games_of lines)
+abbrev pub whole_lines : Renews → List Board → (ℕ → Printed) → List Line → List Line
+whole_lines old boards results lines =
+    games_lines old (first_end lines) results (enumerate_from 0 boards) (games_of lines)
 
 -- the text is cut into lines, and no comment is open at its end
 abbrev pub IsOfLines : List ℕ → Type 0
 IsOfLines text = (lines : List Line) × HasLines text lines
 
 -- what is written of a text that is read as these boards, with their results
-pub record WholeText (text : List ℕ) (boards : List Board) (results : ℕ → Results) (written : List ℕ) : Type 0 where
+pub record WholeText (old : Renews) (text : List ℕ) (boards : List Board) (results : ℕ → Printed) (written : List ℕ) : Type 0 where
   pub lines : List Line
   pub read : HasLines text lines
-  pub is : written ≡ mark_of text ++ flat_map line_bytes (whole_lines boards results lines)
+  pub is : written ≡ mark_of text ++ flat_map line_bytes (whole_lines old boards results lines)

@@ -6,26 +6,27 @@ use Rattle.cards.specs.declared.devices.DeviceFault.{DeviceFault}
 use Rattle.cards.specs.Devices.{Device, Writes}
 use Rattle.pbn_deals.specs.declared.boards.Board.{Board}
 use Rattle.pbn_deals.specs.Pieces.{Line, line_bytes}
-use Rattle.tables.specs.TablesText.{Results}
+use Rattle.tables.specs.TablesText.{Printed}
 use Rattle.whole_texts.specs.OldTables.{has_deal}
 use Rattle.whole_texts.specs.WholeText.{dealt_lines, behind}
+use Rattle.tables.specs.declared.sheets.Renews.{Renews}
 
 -- the boards from this place on, with their places
 abbrev pub boards_from : List Board → ℕ → List (ℕ × Board)
 boards_from boards place = drop place (enumerate_from 0 boards)
 
 -- what is written of the lines of a game
-abbrev pub game_lines : List ℕ → (ℕ → Results) → List (ℕ × Board) → List Line → List Line
-game_lines other results boards lines =
-    if has_deal lines then dealt_lines other results boards lines else lines
+abbrev pub game_lines : Renews → List ℕ → (ℕ → Printed) → List (ℕ × Board) → List Line → List Line
+game_lines renews other results boards lines =
+    if has_deal lines then dealt_lines renews other results boards lines else lines
 
 -- the boards behind it
 abbrev pub boards_behind : List (ℕ × Board) → List Line → List (ℕ × Board)
 boards_behind boards lines = if has_deal lines then behind boards else boards
 
 -- the lines of a game were written, and the place of the next board is answered
-abbrev pub WritesGame :
-    Device → Device → List Board → (ℕ → Results) → ℕ → List ℕ → List Line → Result ℕ DeviceFault → Type 0
-WritesGame old new boards results place other lines result =
-    Writes old new (flat_map line_bytes (game_lines other results (boards_from boards place) lines)) result
+abbrev pub WritesGame : Renews →
+    Device → Device → List Board → (ℕ → Printed) → ℕ → List ℕ → List Line → Result ℕ DeviceFault → Type 0
+WritesGame renews old new boards results place other lines result =
+    Writes old new (flat_map line_bytes (game_lines renews other results (boards_from boards place) lines)) result
     × IfOk result (λ next. boards_from boards next ≡ boards_behind (boards_from boards place) lines)

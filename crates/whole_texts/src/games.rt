@@ -2,12 +2,14 @@
 
 ghost use Rattle.std.specs.Prelude.{◌≡◌, ◌≢◌, ◌<◌, ◌∷◌, ◌++◌, [], false, Bool, List, length};
 ghost use Rattle.pbn_deals.specs.Pieces.{Kind, Line, rows_of, AreLines};
+ghost use Rattle.tables.specs.declared.sheets.Renews.{Renews};
 ghost use Rattle.whole_texts.specs.LineFacts.{FactsOfLine};
 ghost use Rattle.whole_texts.specs.FirstGame.{IsDealEnd, IsFirstGame};
 
 use crate::leaving::Before;
 use crate::line_facts::{LineFacts, line_facts};
 use pbn_deals::{first_row, front_of};
+use tables::Renews;
 
 /// A game of a text.
 #[derive(Clone, Copy)]
@@ -26,8 +28,8 @@ pub(crate) struct GameText<'a> {
 
 /// The end of the first line with a Deal tag, once a line was read that does this and has this end.
 fn with_deal_end<'a>(before: Option<&'a [u8]>, facts: LineFacts, end: &'a [u8]) -> Option<&'a [u8]>
-    ensures { (lines : List Line) (in_table : Bool) (kind : Kind) (is_open : Bool)
-        → FactsOfLine in_table kind is_open facts → IsDealEnd before.entry lines
+    ensures { (lines : List Line) (old : Renews) (in_table : Bool) (kind : Kind) (is_open : Bool)
+        → FactsOfLine old in_table kind is_open facts → IsDealEnd before.entry lines
         → IsDealEnd result (lines ++ record { kind = kind; end = end.entry.now } ∷ []) }
 {
     if before.is_none() && facts.has_deal() {
@@ -38,16 +40,16 @@ fn with_deal_end<'a>(before: Option<&'a [u8]>, facts: LineFacts, end: &'a [u8]) 
 }
 
 /// The first game of a text.
-pub(crate) fn first_game(text: &[u8]) -> GameText<'_>
+pub(crate) fn first_game(renews: Renews, text: &[u8]) -> GameText<'_>
     ensures is { (lines : List Line) → AreLines false (rows_of text.now) lines false
-        → IsFirstGame text.now lines result }
+        → IsFirstGame renews text.now lines result }
     ensures shorter { text.now ≢ [] → length result.rest.now < length text.now }
 {
     let mut before = Before::first();
     let mut deal_end = None;
     let (mut back, mut rest) = (text, text);
     while let Some((row, after)) = first_row(rest) {
-        let facts = line_facts(before.is_open, before.in_table, row.bytes);
+        let facts = line_facts(renews, before.is_open, before.in_table, row.bytes);
         if facts.is_gap() {
             return GameText {
                 front: front_of(text, back),
@@ -61,7 +63,7 @@ pub(crate) fn first_game(text: &[u8]) -> GameText<'_>
         if facts.is_solid() {
             back = after;
         }
-        before = before.behind(facts, None);
+        before = before.behind(renews, facts, None);
         rest = after;
     }
     GameText {

@@ -13,9 +13,10 @@ ghost use Rattle.whole_texts.specs.LeftText.{kind_left, kept, tables_behind, Wri
 use crate::lefts::Left;
 use crate::line_ends::last_of;
 use crate::line_facts::{LineFacts, line_facts};
-use crate::piece_facts::TABLE;
+use crate::olds::is_old;
 use cards::{DeviceFault, Sink, write_all};
-use pbn_deals::{LineStart, Piece, Row, first_piece, first_row, is_same_name, line_start};
+use pbn_deals::{LineStart, Piece, Row, first_piece, first_row, line_start};
+use tables::Renews;
 
 /// What is known before a line of a game.
 #[derive(Clone, Copy)]
@@ -43,31 +44,32 @@ impl Before {
     }
 
     /// What is known behind a line that does this, with this last byte.
-    pub(crate) fn behind(self, facts: LineFacts, last: Option<u8>) -> Before
-        ensures { (kind : Kind) (is_open : Bool) → FactsOfLine self.in_table kind is_open facts
-            → Passes last is_open (table_behind_line self.in_table kind) result }
+    pub(crate) fn behind(self, renews: Renews, facts: LineFacts, last: Option<u8>) -> Before
+        ensures { (kind : Kind) (is_open : Bool) → FactsOfLine renews self.in_table kind is_open facts
+            → Passes last is_open (table_behind_line renews self.in_table kind) result }
     {
         match facts {
             LineFacts::OfGame(facts) => Before {
                 is_open: facts.is_open,
                 in_table: facts.in_table,
                 last,
+                ..self
             },
             LineFacts::Gap | LineFacts::Escaped => Before {
                 is_open: false,
-                in_table: self.in_table,
                 last,
+                ..self
             },
         }
     }
 }
 
 /// What is left of a piece, and whether section data behind it is a table's.
-fn piece_left<'a>(in_table: bool, piece: Piece<'a>) -> (&'a [u8], bool)
+fn piece_left<'a>(renews: Renews, in_table: bool, piece: Piece<'a>) -> (&'a [u8], bool)
     ensures left { (pieces : List seen.Piece) → ArePieces piece.entry pieces
-        → result.0.now ≡ flat_map bytes_of (left_pieces in_table pieces) }
+        → result.0.now ≡ flat_map bytes_of (left_pieces renews in_table pieces) }
     ensures behind { (pieces : List seen.Piece) → ArePieces piece.entry pieces
-        → result.1 ≡ table_behind in_table pieces }
+        → result.1 ≡ table_behind renews in_table pieces }
 {
     match piece {
         Piece::Blanks(bytes)
@@ -75,8 +77,8 @@ fn piece_left<'a>(in_table: bool, piece: Piece<'a>) -> (&'a [u8], bool)
         | Piece::OpenComment(bytes)
         | Piece::NoPair(bytes) => (bytes, in_table),
         Piece::Pair { name, bytes, .. } => {
-            let is_table = is_same_name(TABLE, name);
-            (if is_table { &[] } else { bytes }, is_table)
+            let goes = is_old(renews, name);
+            (if goes { &[] } else { bytes }, goes)
         }
         Piece::Data(bytes) => (if in_table { &[] } else { bytes }, in_table),
     }
@@ -85,18 +87,19 @@ fn piece_left<'a>(in_table: bool, piece: Piece<'a>) -> (&'a [u8], bool)
 /// Writes what is left of the pieces of a line, from one of its places outside comments on. Answers the last byte.
 fn write_pieces<S: Sink>(
     sink: &mut S,
+    renews: Renews,
     in_table: bool,
     line: &[u8],
     last: Option<u8>,
 ) -> Result<Option<u8>, DeviceFault>
     ensures { (pieces : List seen.Piece) (is_open : Bool) → HasPieces false line.now pieces is_open
-        → WritesLast (S.state sink.old) (S.state sink.new) last (flat_map bytes_of (left_pieces in_table pieces))
-        result }
+        → WritesLast (S.state sink.old) (S.state sink.new) last
+        (flat_map bytes_of (left_pieces renews in_table pieces)) result }
 {
     let (mut in_table, mut in_data, mut last) = (in_table, false, last);
     let mut rest = line;
     while let Some((piece, after)) = first_piece(in_data, rest) {
-        let (bytes, is_table) = piece_left(in_table, piece);
+        let (bytes, is_table) = piece_left(renews, in_table, piece);
         write_all(sink, bytes)?;
         last = last_of(last, bytes);
         in_data = piece.is_data() | in_data;
@@ -107,15 +110,21 @@ fn write_pieces<S: Sink>(
 }
 
 /// Writes what is left of a line without its end. Answers the last byte.
-fn write_left<S: Sink>(sink: &mut S, before: Before, line: &[u8]) -> Result<Option<u8>, DeviceFault>
+fn write_left<S: Sink>(
+    sink: &mut S,
+    renews: Renews,
+    before: Before,
+    line: &[u8],
+) -> Result<Option<u8>, DeviceFault>
     ensures { (kind : Kind) (is_open : Bool) → LineIs before.is_open line.now kind is_open
-        → WritesLast (S.state sink.old) (S.state sink.new) before.last (body_of (kind_left before.in_table kind))
+        → WritesLast (S.state sink.old) (S.state sink.new) before.last (body_of (kind_left renews before.in_table kind))
         result }
 {
     match line_start(before.is_open, line) {
         LineStart::OfGame { comment, rest } => {
             write_all(sink, comment)?;
-            write_pieces(sink, before.in_table, rest, last_of(before.last, comment))
+            let last = last_of(before.last, comment);
+            write_pieces(sink, renews, before.in_table, rest, last)
         }
         LineStart::Gap | LineStart::Escaped | LineStart::InComment => {
             write_all(sink, line)?;
@@ -141,41 +150,43 @@ fn goes(facts: LineFacts, counts_go: bool) -> bool
 /// Writes what is left of a line. Answers what is known behind it.
 fn write_line<S: Sink>(
     sink: &mut S,
+    renews: Renews,
     before: Before,
     row: Row<'_>,
     counts_go: bool,
 ) -> Result<Before, DeviceFault>
     ensures { (kind : Kind) (is_open : Bool) → LineIs before.is_open row.entry.bytes.now kind is_open
         → WritesLeft (S.state sink.old) (S.state sink.new) before.last
-        (flat_map line_bytes (kept counts_go (put_left before.in_table kind row.entry.end.now [])))
-        is_open (table_behind_line before.in_table kind) result }
+        (flat_map line_bytes (kept renews counts_go (put_left renews before.in_table kind row.entry.end.now [])))
+        is_open (table_behind_line renews before.in_table kind) result }
 {
-    let facts = line_facts(before.is_open, before.in_table, row.bytes);
+    let facts = line_facts(renews, before.is_open, before.in_table, row.bytes);
     if goes(facts, counts_go) {
-        return Ok(before.behind(facts, before.last));
+        return Ok(before.behind(renews, facts, before.last));
     }
-    let last = write_left(sink, before, row.bytes)?;
+    let last = write_left(sink, renews, before, row.bytes)?;
     write_all(sink, row.end)?;
-    Ok(before.behind(facts, last_of(last, row.end)))
+    Ok(before.behind(renews, facts, last_of(last, row.end)))
 }
 
 /// Writes what is left of lines of a game; lines that tell how many results were known go, or stay. Answers what is
 /// known behind them.
 pub(crate) fn write_lines<S: Sink>(
     sink: &mut S,
+    renews: Renews,
     before: Before,
     lines: &[u8],
     counts_go: bool,
 ) -> Result<Before, DeviceFault>
     ensures { (those : List Line) (is_open : Bool) → AreLines before.is_open (rows_of lines.now) those is_open
         → WritesLeft (S.state sink.old) (S.state sink.new) before.last
-        (flat_map line_bytes (kept counts_go (without_tables before.in_table those)))
-        is_open (tables_behind before.in_table those) result }
+        (flat_map line_bytes (kept renews counts_go (without_tables renews before.in_table those)))
+        is_open (tables_behind renews before.in_table those) result }
 {
     let mut before = before;
     let mut rest = lines;
     while let Some((row, after)) = first_row(rest) {
-        before = write_line(sink, before, row, counts_go)?;
+        before = write_line(sink, renews, before, row, counts_go)?;
         rest = after;
     }
     Ok(before)

@@ -5,8 +5,9 @@ ghost use Rattle.pbn_deals.specs.Pieces as seen;
 ghost use Rattle.pbn_deals.specs.FirstPieces.{ArePieces};
 ghost use Rattle.whole_texts.specs.Lefts.{left_kind};
 
-use crate::counts::is_count_text;
+use crate::olds::is_old_comment;
 use pbn_deals::Piece;
+use tables::Renews;
 
 /// What is left of a line.
 #[derive(Clone, Copy)]
@@ -15,7 +16,7 @@ pub(crate) enum Left {
     Nothing,
     /// Blanks.
     Blanks,
-    /// A line that tells how many results were known, and nothing else.
+    /// A comment that goes if it ends the game, and nothing else.
     Count,
     /// More than that.
     More,
@@ -23,9 +24,9 @@ pub(crate) enum Left {
 
 impl Left {
     /// With one piece more, which stays.
-    pub(crate) fn with(self, piece: Piece<'_>) -> Left
-        ensures { (before pieces : List seen.Piece) → self ≡ left_kind before → ArePieces piece.entry pieces → pieces ≢ []
-            → result ≡ left_kind (before ++ pieces) }
+    pub(crate) fn with(self, renews: Renews, piece: Piece<'_>) -> Left
+        ensures { (before pieces : List seen.Piece) → self ≡ left_kind renews before → ArePieces piece.entry pieces
+            → pieces ≢ [] → result ≡ left_kind renews (before ++ pieces) }
     {
         match piece {
             Piece::Blanks(_) => match self {
@@ -34,7 +35,7 @@ impl Left {
             },
             Piece::Comment(bytes) | Piece::OpenComment(bytes) => match self {
                 Left::Nothing => {
-                    if is_count_text(bytes) {
+                    if is_old_comment(renews, bytes) {
                         Left::Count
                     } else {
                         Left::More

@@ -4,7 +4,8 @@ ghost use Rattle.std.specs.Prelude.{◌≡◌, ◌≤◌, ◌++◌, ℕ, false, 
 ghost use Rattle.std.specs.List.{flat_map, enumerate_from};
 ghost use Rattle.cards.specs.Devices.{Writes};
 ghost use Rattle.pbn_deals.specs.Pieces.{Line, line_bytes, rows_of, AreLines};
-ghost use Rattle.tables.specs.TablesText.{table_text, complete_count};
+ghost use Rattle.tables.specs.declared.sheets.Renews.{Renews};
+ghost use Rattle.tables.specs.TablesText.{section_text, complete_count};
 ghost use Rattle.whole_texts.specs.OldTables.{left_of};
 ghost use Rattle.whole_texts.specs.WholeText.{first_end, if_none, whole_lines, IsOfLines, WholeText};
 ghost use Rattle.whole_texts.specs.LineEnds.{missing_end};
@@ -17,7 +18,7 @@ use crate::leaving::{Before, write_lines};
 use crate::line_ends::{if_none, missing_end};
 use cards::{DeviceFault, Sink, write_all};
 use pbn_deals::{first_row, front_of, without_mark};
-use tables::{Report, Sheet, count_complete, write_table};
+use tables::{Renews, Report, Sheet, count_complete};
 
 /// The end of the text's first line, if it has one, and else a line feed.
 fn first_end(text: &[u8]) -> &[u8]
@@ -31,7 +32,7 @@ fn first_end(text: &[u8]) -> &[u8]
 
 /// Writes the lines of a game as they are.
 fn write_same<S: Sink>(sink: &mut S, game: &GameText<'_>) -> Result<(), DeviceFault>
-    ensures { (lines : List Line) → HasGameLines lines game.now
+    ensures { (old : Renews) (lines : List Line) → HasGameLines old lines game.now
         → Writes (S.state sink.old) (S.state sink.new) (flat_map line_bytes lines) result }
 {
     write_all(sink, game.front)?;
@@ -39,12 +40,16 @@ fn write_same<S: Sink>(sink: &mut S, game: &GameText<'_>) -> Result<(), DeviceFa
 }
 
 /// Writes what is left of the lines of a game. Answers the last byte.
-fn write_left_of_game<S: Sink>(sink: &mut S, game: &GameText<'_>) -> Result<Option<u8>, DeviceFault>
-    ensures { (lines : List Line) → HasGameLines lines game.now
-        → WritesLast (S.state sink.old) (S.state sink.new) None (flat_map line_bytes (left_of lines)) result }
+fn write_left_of_game<S: Sink>(
+    sink: &mut S,
+    renews: Renews,
+    game: &GameText<'_>,
+) -> Result<Option<u8>, DeviceFault>
+    ensures { (lines : List Line) → HasGameLines renews lines game.now
+        → WritesLast (S.state sink.old) (S.state sink.new) None (flat_map line_bytes (left_of renews lines)) result }
 {
-    let before = write_lines(sink, Before::first(), game.front, false)?;
-    let behind = write_lines(sink, before, game.back, true)?;
+    let before = write_lines(sink, renews, Before::first(), game.front, false)?;
+    let behind = write_lines(sink, renews, before, game.back, true)?;
     Ok(behind.last)
 }
 
@@ -60,12 +65,12 @@ fn write_section<T: Sheet, S: Sink>(
 ) -> Result<(), DeviceFault>
     ensures { Writes (S.state sink.old) (S.state sink.new)
         (missing_end last (if_none other.now deal_end.now)
-        ++ table_text (if_none (missing_end last (if_none other.now deal_end.now)) deal_end.now)
-        (T.results_of sheet.now place)) result }
+        ++ section_text (if_none (missing_end last (if_none other.now deal_end.now)) deal_end.now)
+        (T.printed_of sheet.now place)) result }
 {
     let missing = missing_end(last, if_none(other, deal_end));
     write_all(sink, missing)?;
-    write_table(sink, sheet, place, if_none(missing, deal_end))
+    tables::write_section(sink, sheet, place, if_none(missing, deal_end))
 }
 
 /// Writes the lines of a game, of which the board is at this place, if it has a Deal tag. Answers the place of the next
@@ -77,15 +82,15 @@ fn write_game<T: Sheet, S: Sink>(
     game: &GameText<'_>,
     other: &[u8],
 ) -> Result<usize, DeviceFault>
-    ensures { (lines : List Line) → HasGameLines lines game.now
-        → WritesGame (S.state sink.old) (S.state sink.new) (T.boards_of sheet.now) (T.results_of sheet.now) place
+    ensures { (lines : List Line) → HasGameLines (T.renews_of sheet.now) lines game.now
+        → WritesGame (T.renews_of sheet.now) (S.state sink.old) (S.state sink.new) (T.boards_of sheet.now) (T.printed_of sheet.now) place
         other.now lines result }
 {
     let Some(deal_end) = game.deal_end else {
         write_same(sink, game)?;
         return Ok(place);
     };
-    let last = write_left_of_game(sink, game)?;
+    let last = write_left_of_game(sink, sheet.renews(), game)?;
     let Some(board) = sheet.boards().get(place) else {
         return Ok(place);
     };
@@ -99,13 +104,13 @@ fn write_game<T: Sheet, S: Sink>(
 fn write_games<T: Sheet, S: Sink>(sink: &mut S, sheet: &T, text: &[u8]) -> Result<(), DeviceFault>
     ensures { (lines : List Line) → AreLines false (rows_of text.now) lines false
         → Writes (S.state sink.old) (S.state sink.new)
-        (flat_map line_bytes (whole_lines (T.boards_of sheet.now) (T.results_of sheet.now) lines)) result }
+        (flat_map line_bytes (whole_lines (T.renews_of sheet.now) (T.boards_of sheet.now) (T.printed_of sheet.now) lines)) result }
 {
     let other = first_end(text);
     let mut rest = text;
     let mut place = 0;
     while !rest.is_empty() {
-        let game = first_game(rest);
+        let game = first_game(sheet.renews(), rest);
         place = write_game(sink, sheet, place, &game, other)?;
         write_all(sink, game.gap)?;
         rest = game.rest;
@@ -124,11 +129,11 @@ pub fn write_whole<T: Sheet, S: Sink>(
 ) -> Result<Report, DeviceFault>
     requires { IsOfLines text.now }
     ensures writes { (written : List ℕ)
-        → WholeText text.now (T.boards_of sheet.now) (T.results_of sheet.now) written
+        → WholeText (T.renews_of sheet.now) text.now (T.boards_of sheet.now) (T.printed_of sheet.now) written
         → Writes (S.state sink.old) (S.state sink.new) written result }
     ensures boards { IfOk result (λ report. report.boards ≡ length (T.boards_of sheet.now)) }
     ensures complete { IfOk result (λ report. report.complete
-        ≡ complete_count (T.boards_of sheet.now) (T.results_of sheet.now)) }
+        ≡ complete_count (T.boards_of sheet.now) (T.printed_of sheet.now)) }
 {
     let lines = without_mark(text);
     write_all(sink, front_of(text, lines))?;

@@ -4,7 +4,7 @@ use Rattle.par.specs.Boards.{tricks_in}
 use Rattle.par.specs.FinalScores.{final_score}
 use Rattle.par.proofs.Ladder.{other_side-twice}
 use Rattle.par.proofs.Reaching.{value_is_par}
-use Rattle.par.proofs.StepLaws.{first_bid, one_more, dealer_gain, north_south_gain, east_west_gain}
+use Rattle.par.proofs.StepLaws.{first_bid, one_more, dealer_gain, north_south_gain, east_west_gain, negated_small}
 use Rattle.par.proofs.values.par_of.Goals as goal
 
 pub loop-above-init : goal.loop-above-init
@@ -37,8 +37,8 @@ loop-above-preserved c =
     in
     record { own = own.best; others = others.best; own_small = own.small; others_small = others.small }
 
-pub returns-in-NorthSouth : goal.returns-in-NorthSouth
-returns-in-NorthSouth c =
+pub returns-in-NorthSouth-clause-par : goal.returns-in-NorthSouth-clause-par
+returns-in-NorthSouth-clause-par c =
     let final = final_score (tricks_in c.args.tricks.now) c.args.vulnerable in
     let end = c.loop-above.invariant in
     let gain = dealer_gain final c.side-side.result c.other-other.result c.other-other.ensures c.loop-above.above _ _
@@ -48,8 +48,8 @@ returns-in-NorthSouth c =
     rw (north_south_gain final c.side-side.result _ c.max-gain.result gain c.side-side.ensures c.in-NorthSouth.is)
     (value_is_par (tricks_in c.args.tricks.now) c.args.dealer c.args.vulnerable)
 
-pub returns-in-EastWest : goal.returns-in-EastWest
-returns-in-EastWest c =
+pub returns-in-EastWest-clause-par : goal.returns-in-EastWest-clause-par
+returns-in-EastWest-clause-par c =
     let final = final_score (tricks_in c.args.tricks.now) c.args.vulnerable in
     let end = c.loop-above.invariant in
     let gain = dealer_gain final c.side-side.result c.other-other.result c.other-other.ensures c.loop-above.above _ _
@@ -58,3 +58,23 @@ returns-in-EastWest c =
     in
     rw (east_west_gain final c.side-side.result _ c.max-gain.result gain c.side-side.ensures c.in-EastWest.is)
     (value_is_par (tricks_in c.args.tricks.now) c.args.dealer c.args.vulnerable)
+
+pub returns-in-NorthSouth-clause-small : goal.returns-in-NorthSouth-clause-small
+returns-in-NorthSouth-clause-small c =
+    let final = final_score (tricks_in c.args.tricks.now) c.args.vulnerable in
+    let end = c.loop-above.invariant in
+    let gain = dealer_gain final c.side-side.result c.other-other.result c.other-other.ensures c.loop-above.above _ _
+    c.min.result c.max-gain.result c.loop-above-test.false (c.loop-above.auto.above-end (omega arith))
+    end.own end.others end.own_small end.others_small c.min.ensures.value c.max-gain.ensures.value
+    in
+    gain.small
+
+pub returns-in-EastWest-clause-small : goal.returns-in-EastWest-clause-small
+returns-in-EastWest-clause-small c =
+    let final = final_score (tricks_in c.args.tricks.now) c.args.vulnerable in
+    let end = c.loop-above.invariant in
+    let gain = dealer_gain final c.side-side.result c.other-other.result c.other-other.ensures c.loop-above.above _ _
+    c.min.result c.max-gain.result c.loop-above-test.false (c.loop-above.auto.above-end (omega arith))
+    end.own end.others end.own_small end.others_small c.min.ensures.value c.max-gain.ensures.value
+    in
+    negated_small c.max-gain.result gain.small

@@ -11,7 +11,7 @@ pub returns-in_err-write_all-clause-writes : goal.returns-in_err-write_all-claus
 unfolding tables_text
 returns-in_err-write_all-clause-writes g c =
     let boards = g.T.Sheet.boards_of c.args.sheet.now in
-    let results = g.T.Sheet.results_of c.args.sheet.now in
+    let results = g.T.Sheet.printed_of c.args.sheet.now in
     Writes-err c.from_residual.result _ c.from_residual.ensures.1
     (AddsBeginning-stop (flat_map (numbered_text results) (enumerate_from 0 boards)) c.in_err-write_all.ensures)
 
@@ -19,7 +19,7 @@ pub returns-in_err-write_board-clause-writes : goal.returns-in_err-write_board-c
 unfolding tables_text
 returns-in_err-write_board-clause-writes g c =
     let boards = c.boards-boards.result.now in
-    let results = g.T.Sheet.results_of c.args.sheet.now in
+    let results = g.T.Sheet.printed_of c.args.sheet.now in
     let place = c.loop-place.place in
     let board = c.index-boards-place.result in
     rw (← c.boards-boards.ensures)
@@ -31,7 +31,7 @@ returns-in_err-write_board-clause-writes g c =
 pub loop-place-preserved : goal.loop-place-preserved
 loop-place-preserved g c =
     let boards = c.boards-boards.result.now in
-    let results = g.T.Sheet.results_of c.args.sheet.now in
+    let results = g.T.Sheet.printed_of c.args.sheet.now in
     let inv = c.loop-place.invariant in
     let place = c.loop-place.place in
     let board = c.index-boards-place.result in
@@ -47,7 +47,7 @@ pub returns-clause-writes : goal.returns-clause-writes
 unfolding tables_text
 returns-clause-writes g c =
     let boards = c.boards-boards.result.now in
-    let results = g.T.Sheet.results_of c.args.sheet.now in
+    let results = g.T.Sheet.printed_of c.args.sheet.now in
     let inv = c.loop-place.invariant in
     let all = pieces-all (numbered_text results) (enumerate_from 0 boards) c.loop-place.place (omega (arith, length-enumerate_from 0 boards)) in
     rw (← c.boards-boards.ensures) (Adds-twice inv.first_line (rw all at inv.wrote))

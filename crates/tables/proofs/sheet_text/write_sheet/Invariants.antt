@@ -9,5 +9,5 @@ abbrev pub invariant-loop-place : goal.invariant-loop-place
 invariant-loop-place g l = record {
   begun : Device;
   first_line : Adds (g.S.Sink.state l.fn.sink) begun (ended_line (codes "% PBN 2.1"));
-  wrote : Adds begun (g.S.Sink.state l.sink) (flat_map (numbered_text (g.T.Sheet.results_of l.sheet)) (take l.place (enumerate_from 0 l.boards)));
+  wrote : Adds begun (g.S.Sink.state l.sink) (flat_map (numbered_text (g.T.Sheet.printed_of l.sheet)) (take l.place (enumerate_from 0 l.boards)));
 }

@@ -11,7 +11,7 @@ use Rattle.tables.proofs.tables.count_complete.Goals.{then-count_results-eq20, e
 pub loop-place-preserved : goal.loop-place-preserved
 loop-place-preserved g c =
     let boards = g.T.Sheet.boards_of c.args.sheet.now in
-    let results = g.T.Sheet.results_of c.args.sheet.now in
+    let results = g.T.Sheet.printed_of c.args.sheet.now in
     let place = c.loop-place.place in
     let within : place < length boards = omega (arith, ap length c.boards-place-end.ensures, c.loop-place-test.true) in
     let count = c.count_results.result in
@@ -19,10 +19,10 @@ loop-place-preserved g c =
     let inv = c.loop-place.invariant in
     elim c.if-count_results-eq20.branch [
       | then-count_results-eq20 w ↦
-          let one = counts-one boards results place within (is_complete-full (results place) count is (omega (arith, w.if-count_results-eq20.true))) in
+          let one = counts-one boards results place within (is_complete-full (results place).results count is (omega (arith, w.if-count_results-eq20.true))) in
           record { counted = omega (arith, one, inv.counted, w.complete-is); bound = omega (arith, inv.bound, w.complete-is) }
       | else-count_results-eq20 w ↦
-          let none = counts-none boards results place within (is_complete-short (results place) count is (λ q. absurd (omega (arith, q, w.if-count_results-eq20.false)))) in
+          let none = counts-none boards results place within (is_complete-short (results place).results count is (λ q. absurd (omega (arith, q, w.if-count_results-eq20.false)))) in
           record { counted = omega (arith, none, inv.counted, w.complete-is); bound = omega (arith, inv.bound, w.complete-is) }
     ]
 
@@ -30,7 +30,7 @@ pub returns : goal.returns
 unfolding complete_count
 returns g c =
     let boards = g.T.Sheet.boards_of c.args.sheet.now in
-    let results = g.T.Sheet.results_of c.args.sheet.now in
+    let results = g.T.Sheet.printed_of c.args.sheet.now in
     let end : length boards ≤ c.loop-place.place = omega (arith, ap length c.boards-place-end.ensures, c.loop-place-test.false) in
     c.loop-place.invariant.counted
-    ∙ ap (count_by (λ (numbered : ℕ × Board). is_complete (results numbered.0))) (take_all c.loop-place.place (enumerate_from 0 boards) (omega (arith, end, length-enumerate_from 0 boards)))
+    ∙ ap (count_by (λ (numbered : ℕ × Board). is_complete (results numbered.0).results)) (take_all c.loop-place.place (enumerate_from 0 boards) (omega (arith, end, length-enumerate_from 0 boards)))

@@ -1,7 +1,7 @@
 use Rattle.std.proofs.Common.{sym, ◌∙◌, ap, subst}
 use Rattle.cards.specs.Devices.{Adds, AddsBeginning}
 use Rattle.cards.proofs.DeviceLemmas.{Adds-twice}
-use Rattle.cards.proofs.WriteLemmas.{Adds-none, AddsBeginning-then}
+use Rattle.cards.proofs.WriteLemmas.{Adds-none, AddsBeginning-stop, AddsBeginning-then}
 use Rattle.pbn_deals.specs.Pieces.{body_of}
 use Rattle.whole_texts.specs.LeftText.{kind_left, Passes}
 use Rattle.whole_texts.specs.LineEnds.{last_of}
@@ -16,16 +16,25 @@ returns-then-goes g c = λ kind is_open h.
     let before = c.args.before in
     let device = g.S.Sink.state c.args.sink.now in
     let facts = c.line_facts-facts.ensures kind is_open h in
-    let text = goes_text c.args.counts_go before.in_table is_open kind c.args.row.end.now c.line_facts-facts.result facts c.if-goes.ensures in (
+    let text = goes_text c.args.renews c.args.counts_go before.in_table is_open kind c.args.row.end.now c.line_facts-facts.result facts c.if-goes.ensures in (
       subst (λ t. Adds device device t) (sym text) (Adds-none device),
-      subst (λ t. Passes (last_of before.last t) is_open (table_behind_line before.in_table kind) c.behind.result) (sym text) (c.behind.ensures kind is_open facts),
+      subst (λ t. Passes (last_of before.last t) is_open (table_behind_line c.args.renews before.in_table kind) c.behind.result) (sym text) (c.behind.ensures kind is_open facts),
     )
+
+pub returns-in_err-last : goal.returns-in_err-last
+returns-in_err-last g c = λ kind is_open h.
+    let before = c.args.before in
+    let facts = c.line_facts-facts.ensures kind is_open h in
+    let text = stays_text c.args.renews c.args.counts_go before.in_table is_open kind c.args.row.end.now c.line_facts-facts.result facts c.if-goes.ensures in
+    stops c.from_residual.result _ _ c.from_residual.ensures.1
+    (subst (λ t. AddsBeginning (g.S.Sink.state c.args.sink.now) (g.S.Sink.state c.write_left.new.sink) t) (sym text)
+    (AddsBeginning-stop c.args.row.end.now (c.in_err-last.ensures kind is_open h).0))
 
 pub returns-in_err-write_all : goal.returns-in_err-write_all
 returns-in_err-write_all g c = λ kind is_open h.
     let before = c.args.before in
     let facts = c.line_facts-facts.ensures kind is_open h in
-    let text = stays_text c.args.counts_go before.in_table is_open kind c.args.row.end.now c.line_facts-facts.result facts c.if-goes.ensures in
+    let text = stays_text c.args.renews c.args.counts_go before.in_table is_open kind c.args.row.end.now c.line_facts-facts.result facts c.if-goes.ensures in
     stops c.from_residual-in_err-write_all.result _ _ c.from_residual-in_err-write_all.ensures.1
     (subst (λ t. AddsBeginning (g.S.Sink.state c.args.sink.now) (g.S.Sink.state c.write_all.new.sink) t) (sym text)
     (AddsBeginning-then (c.in_ok-last.ensures kind is_open h).0 c.in_err-write_all.ensures))
@@ -34,11 +43,11 @@ pub returns : goal.returns
 returns g c = λ kind is_open h.
     let before = c.args.before in
     let end = c.args.row.end.now in
-    let body = body_of (kind_left before.in_table kind) in
+    let body = body_of (kind_left c.args.renews before.in_table kind) in
     let facts = c.line_facts-facts.ensures kind is_open h in
-    let text = stays_text c.args.counts_go before.in_table is_open kind end c.line_facts-facts.result facts c.if-goes.ensures in
+    let text = stays_text c.args.renews c.args.counts_go before.in_table is_open kind end c.line_facts-facts.result facts c.if-goes.ensures in
     let left = c.in_ok-last.ensures kind is_open h in
     let last = c.last_of.ensures ∙ (ap (λ l. last_of l end) left.1 ∙ (sym (last-append before.last body end) ∙ ap (last_of before.last) (sym text))) in (
       subst (λ t. Adds (g.S.Sink.state c.args.sink.now) (g.S.Sink.state c.write_all.new.sink) t) (sym text) (Adds-twice left.0 c.in_ok-write_all.ensures),
-      subst (λ l. Passes l is_open (table_behind_line before.in_table kind) c.behind-2.result) last (c.behind-2.ensures kind is_open facts),
+      subst (λ l. Passes l is_open (table_behind_line c.args.renews before.in_table kind) c.behind-2.result) last (c.behind-2.ensures kind is_open facts),
     )

@@ -8,7 +8,7 @@ use Rattle.whole_texts.proofs.leaving.write_pieces.Given as goal
 abbrev pub invariant-loop-piece : goal.invariant-loop-piece
 invariant-loop-piece g l =
     (pieces : List Piece) (is_open : Bool) → HasPieces false l.fn.line pieces is_open
-    → PiecesGo (g.S.Sink.state l.fn.sink) (g.S.Sink.state l.sink) l.fn.last l.last (flat_map bytes_of (left_pieces l.fn.in_table pieces)) l.in_table l.in_data l.rest
+    → PiecesGo l.fn.renews (g.S.Sink.state l.fn.sink) (g.S.Sink.state l.sink) l.fn.last l.last (flat_map bytes_of (left_pieces l.fn.renews l.fn.in_table pieces)) l.in_table l.in_data l.rest
 
 abbrev pub decreases-loop-piece : goal.decreases-loop-piece
 decreases-loop-piece g l = length l.rest

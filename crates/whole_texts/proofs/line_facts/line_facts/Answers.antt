@@ -20,7 +20,7 @@ returns-in-InComment c = λ kind last h.
     let line = c.args.line.now in (
       Comment line ∷ [],
       is,
-      subst (λ o. AreFacts c.args.in_table (Comment line ∷ []) o c.with.result) (sym opened) (c.with.ensures c.args.in_table [] (Comment line ∷ []) c.new-none.ensures refl (λ e. cc)),
+      subst (λ o. AreFacts c.args.renews c.args.in_table (Comment line ∷ []) o c.with.result) (sym opened) (c.with.ensures c.args.in_table [] (Comment line ∷ []) c.new-none.ensures refl (λ e. cc)),
     )
 
 -- src/line_facts.rt:22:1

@@ -4,7 +4,7 @@ use Rattle.std.specs.Cmp.{unsigned_Decides}
 use Rattle.std.proofs.lemmas.Slice.Eq.{strip_prefix_is, strip_suffix_is}
 use Rattle.whole_texts.specs.OldTables.{is_count_text}
 use Rattle.whole_texts.proofs.CountTexts.{no_prefix, no_suffix, said_one, said_two, said_none, not_one}
-use Rattle.whole_texts.proofs.counts.is_count_text.Goals as goal
+use Rattle.whole_texts.proofs.olds.is_count_text.Goals as goal
 
 -- src/counts.rt:11:9
 pub returns-in_default : goal.returns-in_default

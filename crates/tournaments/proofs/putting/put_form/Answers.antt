@@ -1,4 +1,4 @@
-use Rattle.tournaments.proofs.putting.put_page.Goals as goal
+use Rattle.tournaments.proofs.putting.put_form.Goals as goal
 
 pub returns-in-Whole : goal.returns-in-Whole
 returns-in-Whole g c = rw c.in-Whole.is c.put_whole.ensures

@@ -1,0 +1,42 @@
+-- What is printed of a board's par, before its table (PBN 2.1, the OptimumScore tag).
+use Rattle.std.specs.Prelude.{ℕ, ◌<◌, ◌^◌, List, [], ◌∷◌, ◌++◌, codes, All, Option, None, Some, unsigned_abs, ⊤}
+use Rattle.std.specs.List.{flat_map}
+use Rattle.scoring.specs.declared.scores.Outcome.{Outcome}
+use Rattle.scoring.specs.declared.scores.Outcome.TheVariants.{Made, Down}
+use Rattle.par.specs.Texts.{score_text, contracts_text}
+use Rattle.tables.specs.declared.pars.BoardPar.{BoardPar}
+use Rattle.tables.specs.declared.pars.BoardPar.TheVariants.{Known, NoDealer, NoVulnerability}
+
+-- a tag pair: the opening bracket, the name, a space, the value in quotes, the closing bracket
+unfoldable pub tag_text : List ℕ → List ℕ → List ℕ
+tag_text name value = 91 ∷ (name ++ (32 ∷ 34 ∷ (value ++ (34 ∷ 93 ∷ []))))
+
+-- the text of a line, with this end
+abbrev pub body_line : List ℕ → List ℕ → List ℕ
+body_line end body = body ++ end
+
+-- ---- small numbers
+abbrev pub IsSmallOutcome : Outcome → Type 0
+IsSmallOutcome (Made over) = over < 2 ^ 16
+IsSmallOutcome (Down under) = under < 2 ^ 16
+
+-- the numbers that are printed of a par
+abbrev pub IsSmallPar : BoardPar → Type 0
+IsSmallPar (Known score contracts) =
+    (unsigned_abs score < 2 ^ 16) × All (λ contract. IsSmallOutcome contract.outcome) contracts.items
+IsSmallPar NoDealer = ⊤
+IsSmallPar NoVulnerability = ⊤
+
+-- ---- the lines
+-- the lines of a board's par without their ends: the score and the contracts, or what isn't known
+abbrev pub par_bodies : Option BoardPar → List (List ℕ)
+par_bodies None = []
+par_bodies (Some (Known score contracts)) =
+    tag_text (codes "OptimumScore") (score_text score)
+    ∷ tag_text (codes "ParContract") (contracts_text contracts.items) ∷ []
+par_bodies (Some NoDealer) = codes "; par unknown: no dealer" ∷ []
+par_bodies (Some NoVulnerability) = codes "; par unknown: no vulnerability" ∷ []
+
+-- the lines, each with this end
+unfoldable pub par_text : List ℕ → Option BoardPar → List ℕ
+par_text end par = flat_map (body_line end) (par_bodies par)
