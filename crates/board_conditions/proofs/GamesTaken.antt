@@ -8,9 +8,8 @@ use Rattle.std.proofs.lemmas.List.Elements.{All-nil, All-push}
 use Rattle.std.proofs.lemmas.List.Splits.{slice_split_at, slice_split_none}
 use Rattle.pbn_deals.specs.Pieces.{Piece, Kind, LineIs, is_escaped_line, is_gap, is_of_game, is_in_comment, closes_comment, Row, rows_of, Line, AreLines, no_more}
 use Rattle.pbn_deals.proofs.RowsInTurn.{HasFirst, has_first, no_rows}
-use Rattle.board_conditions.specs.declared.conditions.Conditions.{Conditions}
 use Rattle.board_conditions.specs.declared.game_texts.GameText.{GameText}
-use Rattle.board_conditions.specs.Games.{Game, is_gap_kind, games_of, pieces_of, game_pieces, has_deal, conditions_of, board_games}
+use Rattle.board_conditions.specs.Games.{Game, is_gap_kind, games_of, pieces_of, game_pieces, has_deal, board_games}
 use Rattle.board_conditions.specs.Values.{AreValues, IsFirstGame}
 
 -- ---- the lines of a game
@@ -23,11 +22,11 @@ pub record SoFar (lines : List Line) (last : Bool) (game : GameText) : Type 0 wh
   pub are : AreValues (game_pieces own) game.is_open game
   pub has : AreLines game.is_open (rows_of game.rest.now) others last
 
-abbrev At : GameText → Bor (List ℕ) → GameText
-At game rest = record { board = game.board; deal = game.deal; dealer = game.dealer; vulnerable = game.vulnerable; is_open = game.is_open; rest = rest }
+abbrev pub At : GameText → Bor (List ℕ) → GameText
+At game rest = record { board = game.board; deal = game.deal; dealer = game.dealer; vulnerable = game.vulnerable; event = game.event; section = game.section; site = game.site; date = game.date; is_open = game.is_open; rest = rest }
 
-moved : {pieces : List Piece} {is_open : Bool} (game : GameText) (rest : Bor (List ℕ)) → AreValues pieces is_open game → AreValues pieces is_open (At game rest)
-moved game rest h = record { board = h.board; deal = h.deal; dealer = h.dealer; vulnerable = h.vulnerable; opened = h.opened }
+pub moved : {pieces : List Piece} {is_open : Bool} (game : GameText) (rest : Bor (List ℕ)) → AreValues pieces is_open game → AreValues pieces is_open (At game rest)
+moved game rest h = record { board = h.board; deal = h.deal; dealer = h.dealer; vulnerable = h.vulnerable; event = h.event; section = h.section; site = h.site; date = h.date; opened = h.opened }
 
 pub none_yet : (text : Bor (List ℕ)) (lines : List Line) (last : Bool) (game : GameText) → AreValues [] false game → game.rest ≡ text → AreLines false (rows_of text.now) lines last → SoFar lines last game
 none_yet text lines last game h rest read = record {
@@ -43,7 +42,7 @@ pub pieces_more : (own : Game) (line : Line) → game_pieces own ++ pieces_of li
 pieces_more own line =
     ap (λ l. game_pieces own ++ l) (sym (append-nil (pieces_of line.kind))) ∙ sym (flat_map-append (λ line. pieces_of line.kind) own (line ∷ []))
 
-gap_closed : {is_open last : Bool} {bytes : List ℕ} {kind : Kind} → LineIs is_open bytes kind last → is_gap_kind kind ≡ true → last ≡ false
+pub gap_closed : {is_open last : Bool} {bytes : List ℕ} {kind : Kind} → LineIs is_open bytes kind last → is_gap_kind kind ≡ true → last ≡ false
 gap_closed (is_escaped_line e) g = absurd (cc)
 gap_closed (is_gap e b) g = refl
 gap_closed (is_of_game e b h) g = absurd (cc)
@@ -106,49 +105,49 @@ ends_with_text {lines} {last} {game} s none =
     }
 
 -- ---- the games of a text
--- the conditions that were read, and the lines of the rest of the text
-pub record ReadSoFar (lines : List Line) (list : List Conditions) (rest : List ℕ) : Type 0 where
+-- what was read of the games so far, and the lines of the rest of the text
+pub record ReadSoFar {X : Type 0} (of : Game → X) (lines : List Line) (list : List X) (rest : List ℕ) : Type 0 where
   pub more : List Line
   pub last : Bool
   pub read : AreLines false (rows_of rest) more last
-  pub all : map conditions_of (board_games lines) ≡ list ++ map conditions_of (board_games more)
+  pub all : map of (board_games lines) ≡ list ++ map of (board_games more)
 
 some_copied : {X : Type 0} (o : Option (Bor X)) → is_some (option_copied o) ≡ is_some o
 some_copied None = refl
 some_copied (Some x) = refl
 
-module _ {lines : List Line} {list : List Conditions} {rest : List ℕ} (s : ReadSoFar lines list rest) {game : GameText} (first : IsFirstGame s.more game) where
-  abbrev later : List Conditions
-  later = map conditions_of (board_games first.more)
+module _ {X : Type 0} (of : Game → X) {lines : List Line} {list : List X} {rest : List ℕ} (s : ReadSoFar of lines list rest) {game : GameText} (first : IsFirstGame s.more game) where
+  abbrev later : List X
+  later = map of (board_games first.more)
 
-  has_board : (b : Bool) → is_some game.deal ≡ b → map conditions_of (board_games lines) ≡ list ++ cond b (conditions_of first.game ∷ later) later
+  has_board : (b : Bool) → is_some game.deal ≡ b → map of (board_games lines) ≡ list ++ cond b (of first.game ∷ later) later
   has_board b is =
       let deal = sym (ap is_some first.are.deal) ∙ (some_copied game.deal ∙ is) in
       s.all
       ∙ ap (λ l. list ++ l)
-      (ap (λ g. map conditions_of (filter has_deal g)) first.parts
-      ∙ (ap (λ l. map conditions_of (cond (has_deal first.game) (first.game ∷ l) l)) first.boards
-      ∙ (ap (λ d. map conditions_of (cond d (first.game ∷ board_games first.more) (board_games first.more))) deal ∙ in_cond b)))
+      (ap (λ g. map of (filter has_deal g)) first.parts
+      ∙ (ap (λ l. map of (cond (has_deal first.game) (first.game ∷ l) l)) first.boards
+      ∙ (ap (λ d. map of (cond d (first.game ∷ board_games first.more) (board_games first.more))) deal ∙ in_cond b)))
     where
-      in_cond : (b : Bool) → map conditions_of (cond b (first.game ∷ board_games first.more) (board_games first.more)) ≡ cond b (conditions_of first.game ∷ later) later
+      in_cond : (b : Bool) → map of (cond b (first.game ∷ board_games first.more) (board_games first.more)) ≡ cond b (of first.game ∷ later) later
       in_cond true = refl
       in_cond false = refl
 
-  pub board_more : (conditions : Conditions) → is_some game.deal ≡ true → conditions ≡ conditions_of first.game → ReadSoFar lines (list ++ conditions ∷ []) game.rest.now
-  board_more conditions deal is = record {
+  pub board_more : (found : X) → is_some game.deal ≡ true → found ≡ of first.game → ReadSoFar of lines (list ++ found ∷ []) game.rest.now
+  board_more found deal is = record {
     more = first.more;
     last = first.last;
     read = first.read;
-    all = has_board true deal ∙ (ap (λ c. list ++ c ∷ later) (sym is) ∙ sym (append_assoc list (conditions ∷ []) later));
+    all = has_board true deal ∙ (ap (λ c. list ++ c ∷ later) (sym is) ∙ sym (append_assoc list (found ∷ []) later));
   }
 
-  pub no_board : is_some game.deal ≡ false → ReadSoFar lines list game.rest.now
+  pub no_board : is_some game.deal ≡ false → ReadSoFar of lines list game.rest.now
   no_board deal = record { more = first.more; last = first.last; read = first.read; all = has_board false deal }
 
-pub read_all : {lines : List Line} {list : List Conditions} {rest : List ℕ} → ReadSoFar lines list rest → rest ≡ [] → list ≡ map conditions_of (board_games lines)
-read_all {lines} {list} {rest} s none =
+pub read_all : {X : Type 0} (of : Game → X) {lines : List Line} {list : List X} {rest : List ℕ} → ReadSoFar of lines list rest → rest ≡ [] → list ≡ map of (board_games lines)
+read_all of {lines} {list} {rest} s none =
     let no_others = (no_rows (subst (λ t. AreLines false (rows_of t) s.more s.last) none s.read)).0 in
-    sym (s.all ∙ (ap (λ l. list ++ map conditions_of (board_games l)) no_others ∙ append-nil list))
+    sym (s.all ∙ (ap (λ l. list ++ map of (board_games l)) no_others ∙ append-nil list))
 
 pub no_bytes : (text : List ℕ) → length text ≡ 0 → text ≡ []
 no_bytes [] e = refl

@@ -3,3 +3,4 @@ pub mod Named
 pub mod LinesTaken
 pub mod GamesTaken
 pub mod BoardGames
+pub mod AllLines

@@ -13,7 +13,7 @@ use Rattle.board_conditions.proofs.Named.{AddNothing, With, stays}
 same_after : (pieces more : List Piece) (last : Bool) (game : GameText) → AddNothing more → game.is_open ≡ last → AreValues pieces game.is_open game → AreValues (pieces ++ more) last game
 same_after pieces more last game none opened h =
     let s = stays pieces more game.is_open last game none h in
-    record { board = s.board; deal = s.deal; dealer = s.dealer; vulnerable = s.vulnerable; opened = opened }
+    record { board = s.board; deal = s.deal; dealer = s.dealer; vulnerable = s.vulnerable; event = s.event; section = s.section; site = s.site; date = s.date; opened = opened }
 
 pub passed : (pieces : List Piece) (line : List ℕ) (kind : Kind) (last : Bool) (game : GameText) (begin : LineStart) → (begin ≡ start.Escaped) ⊎ (begin ≡ start.InComment) → Starts game.is_open line kind last begin → AreValues pieces game.is_open game → (is_gap_kind kind ≡ false) × AreValues (pieces ++ pieces_of kind) last game
 passed pieces line kind last game begin (inl is) starts h =

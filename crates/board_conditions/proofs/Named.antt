@@ -81,7 +81,7 @@ no_pair_alone : (pieces : List Piece) (bytes : List ℕ) → pieces ≡ NoPair b
 no_pair_alone pieces bytes e capitals = ap (first_named capitals) e
 
 abbrev pub With : GameText → Bool → GameText
-With game is_open = record { board = game.board; deal = game.deal; dealer = game.dealer; vulnerable = game.vulnerable; is_open = is_open; rest = game.rest }
+With game is_open = record { board = game.board; deal = game.deal; dealer = game.dealer; vulnerable = game.vulnerable; event = game.event; section = game.section; site = game.site; date = game.date; is_open = is_open; rest = game.rest }
 
 pub stays : (before pieces : List Piece) (was is_open : Bool) (game : GameText) → AddNothing pieces → AreValues before was game → AreValues (before ++ pieces) is_open (With game is_open)
 stays before pieces was is_open game none h = record {
@@ -89,6 +89,10 @@ stays before pieces was is_open game none h = record {
   deal = h.deal ∙ named-same (codes "DEAL") before pieces none;
   dealer = h.dealer ∙ named-same (codes "DEALER") before pieces none;
   vulnerable = h.vulnerable ∙ named-same (codes "VULNERABLE") before pieces none;
+  event = h.event ∙ named-same (codes "EVENT") before pieces none;
+  section = h.section ∙ named-same (codes "SECTION") before pieces none;
+  site = h.site ∙ named-same (codes "SITE") before pieces none;
+  date = h.date ∙ named-same (codes "DATE") before pieces none;
   opened = refl;
 }
 
@@ -97,7 +101,7 @@ others_stay piece before pieces game which h are = go which where
   made : opens_comment piece ≡ false → AddNothing pieces → AreValues (before ++ pieces) (opens_comment piece) game
   made closed none =
       let s = stays before pieces false false game none h in
-      record { board = s.board; deal = s.deal; dealer = s.dealer; vulnerable = s.vulnerable; opened = h.opened ∙ sym closed }
+      record { board = s.board; deal = s.deal; dealer = s.dealer; vulnerable = s.vulnerable; event = s.event; section = s.section; site = s.site; date = s.date; opened = h.opened ∙ sym closed }
 
   go : ((bytes : Bor (List ℕ)) × (piece ≡ found.Blanks bytes)) ⊎ ((bytes : Bor (List ℕ)) × (piece ≡ found.Comment bytes)) ⊎ ((bytes : Bor (List ℕ)) × (piece ≡ found.Data bytes)) ⊎ ((bytes : Bor (List ℕ)) × (piece ≡ found.NoPair bytes)) → AreValues (before ++ pieces) (opens_comment piece) game
   go (inl (bytes, is)) = made (ap opens_comment is) (subst AddNothing (sym (subst (λ p. ArePieces p pieces) is are)) (spaces bytes.now))

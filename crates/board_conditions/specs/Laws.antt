@@ -5,6 +5,7 @@ use Rattle.pbn_deals.specs.Pieces.{Line, HasLines}
 use Rattle.pbn_deals.specs.Reading.{TextAnswers}
 use Rattle.board_conditions.specs.declared.conditions.Conditions.{Conditions}
 use Rattle.board_conditions.specs.Games.{name_in, conditions_of, board_games, HasConditions}
+use Rattle.board_conditions.specs.Titles.{TitleValues, HasTitles, HasFirstTitles}
 
 -- a text has one list of conditions
 pub record HasOneList (text : List ℕ) : Type 0 where
@@ -14,6 +15,18 @@ pub record HasOneList (text : List ℕ) : Type 0 where
 
 abbrev pub TextsHaveOneList : Type 0
 TextsHaveOneList = (text : List ℕ) → HasOneList text
+
+-- a text has one list of titles, and one head
+pub record HasOneTitles (text : List ℕ) : Type 0 where
+  pub list : List TitleValues
+  pub has : HasTitles text list
+  pub one : (other : List TitleValues) → HasTitles text other → other ≡ list
+  pub head : TitleValues
+  pub has_head : HasFirstTitles text head
+  pub one_head : (other : TitleValues) → HasFirstTitles text other → other ≡ head
+
+abbrev pub TextsHaveOneTitles : Type 0
+TextsHaveOneTitles = (text : List ℕ) → HasOneTitles text
 
 -- the boards are those of the games with a Deal tag, in their order, and so are the conditions
 pub record AreOfBoards (text : List ℕ) (boards : List Board) (list : List Conditions) : Type 0 where

@@ -1,5 +1,6 @@
 pub mod Numbers
 pub mod Words
 pub mod Games
+pub mod Titles
 pub mod Values
 pub mod Laws

@@ -13,6 +13,10 @@ pub record AreValues (pieces : List Piece) (is_open : Bool) (found : GameText) :
   pub deal : option_copied found.deal ≡ first_named (codes "DEAL") pieces
   pub dealer : option_copied found.dealer ≡ first_named (codes "DEALER") pieces
   pub vulnerable : option_copied found.vulnerable ≡ first_named (codes "VULNERABLE") pieces
+  pub event : option_copied found.event ≡ first_named (codes "EVENT") pieces
+  pub section : option_copied found.section ≡ first_named (codes "SECTION") pieces
+  pub site : option_copied found.site ≡ first_named (codes "SITE") pieces
+  pub date : option_copied found.date ≡ first_named (codes "DATE") pieces
   pub opened : found.is_open ≡ is_open
 
 -- after one line more, unless it ends the game

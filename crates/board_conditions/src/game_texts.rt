@@ -8,6 +8,7 @@ ghost use Rattle.board_conditions.specs.Games.{first_named};
 
 use crate::conditions::{Conditions, settled_dealer, settled_vulnerability};
 use crate::numbers::number_of;
+use crate::titles::Titles;
 use pbn_deals::{LineStart, Piece, first_piece, is_same_name, line_start};
 
 /// A game of a text, as far as it was read: the values of the first tag pairs that have these names.
@@ -21,6 +22,14 @@ pub(crate) struct GameText<'a> {
     pub(crate) dealer: Option<&'a [u8]>,
     /// Its vulnerability.
     pub(crate) vulnerable: Option<&'a [u8]>,
+    /// Its event.
+    pub(crate) event: Option<&'a [u8]>,
+    /// The section of the event.
+    pub(crate) section: Option<&'a [u8]>,
+    /// Where it was played.
+    pub(crate) site: Option<&'a [u8]>,
+    /// When.
+    pub(crate) date: Option<&'a [u8]>,
     /// Whether a brace comment is open.
     pub(crate) is_open: bool,
     /// The text after the lines that were read.
@@ -51,6 +60,7 @@ impl<'a> GameText<'a> {
     ghost use Rattle.pbn_deals.specs.FirstPieces.{ArePieces, opens_comment};
     ghost use Rattle.board_conditions.specs.Games.{pieces_of, game_pieces, conditions_of};
     ghost use Rattle.board_conditions.specs.Values.{AreValues, EndsOrAdds};
+    ghost use Rattle.board_conditions.specs.Titles.{titles_of, titles_said};
 
     /// The game at the beginning of a text, of which nothing was read.
     pub(crate) fn new(text: &'a [u8]) -> GameText<'a>
@@ -62,6 +72,10 @@ impl<'a> GameText<'a> {
             deal: None,
             dealer: None,
             vulnerable: None,
+            event: None,
+            section: None,
+            site: None,
+            date: None,
             is_open: false,
             rest: text,
         }
@@ -78,6 +92,10 @@ impl<'a> GameText<'a> {
                 deal: first_of(b"DEAL", self.deal, name, value),
                 dealer: first_of(b"DEALER", self.dealer, name, value),
                 vulnerable: first_of(b"VULNERABLE", self.vulnerable, name, value),
+                event: first_of(b"EVENT", self.event, name, value),
+                section: first_of(b"SECTION", self.section, name, value),
+                site: first_of(b"SITE", self.site, name, value),
+                date: first_of(b"DATE", self.date, name, value),
                 is_open: false,
                 ..self
             },
@@ -143,6 +161,19 @@ impl<'a> GameText<'a> {
         Conditions {
             dealer: settled_dealer(self.dealer, number),
             vulnerable: settled_vulnerability(self.vulnerable, number),
+        }
+    }
+
+    /// What the game says of where and when it was played.
+    pub(crate) fn titles(self) -> Titles<'a>
+        ensures { (game : List Line) (is_open : Bool) → AreValues (game_pieces game) is_open self.entry
+            → titles_said result ≡ titles_of game }
+    {
+        Titles {
+            event: self.event,
+            section: self.section,
+            site: self.site,
+            date: self.date,
         }
     }
 }

@@ -1,10 +1,15 @@
 //! Laws about the conditions of boards. Each is a function that does nothing: its contract is the law.
 
-ghost use Rattle.board_conditions.specs.Laws.{BoardsHaveConditions, TextsHaveOneList};
+ghost use Rattle.board_conditions.specs.Laws.{BoardsHaveConditions, TextsHaveOneList, TextsHaveOneTitles};
 
 /// A text has one list of conditions.
 pub fn conditions_are_unique()
     ensures { TextsHaveOneList }
+{}
+
+/// A text has one list of titles, and one head.
+pub fn titles_are_unique()
+    ensures { TextsHaveOneTitles }
 {}
 
 /// The conditions of a text are those of its boards, one for each, in their order.

@@ -1,5 +1,5 @@
-//! The dealer and the vulnerability of each board of a PBN text: what its tags say, or what Law 2 of the Laws of
-//! Duplicate Bridge 2017 gives to its number.
+//! What a PBN text says of each board beside its deal: the dealer and the vulnerability by its tags, or what Law 2 of the
+//! Laws of Duplicate Bridge 2017 gives to its number, and where and when it was played.
 #![tactic(auto)]
 
 mod conditions;
@@ -7,8 +7,10 @@ mod game_texts;
 mod laws;
 mod numbers;
 mod readers;
+mod titles;
 mod words;
 
 pub use conditions::Conditions;
-pub use laws::{boards_have_conditions, conditions_are_unique};
-pub use readers::{first_conditions, read_conditions};
+pub use laws::{boards_have_conditions, conditions_are_unique, titles_are_unique};
+pub use readers::{first_conditions, first_titles, read_conditions, read_titles};
+pub use titles::Titles;

@@ -2,12 +2,13 @@
 use Rattle.std.proofs.Common.{List, Bool, false, length}
 use Rattle.pbn_deals.specs.Lines.{without_mark}
 use Rattle.pbn_deals.specs.Pieces.{rows_of, Line, AreLines}
+use Rattle.board_conditions.specs.Games.{conditions_of}
 use Rattle.board_conditions.proofs.GamesTaken.{ReadSoFar}
 use Rattle.board_conditions.proofs.readers.read_conditions.Given as goal
 
 abbrev pub invariant-loop-rest : goal.invariant-loop-rest
 invariant-loop-rest l =
-    (lines : List Line) (last : Bool) → AreLines false (rows_of (without_mark l.fn.text)) lines last → ReadSoFar lines l.list.items l.rest
+    (lines : List Line) (last : Bool) → AreLines false (rows_of (without_mark l.fn.text)) lines last → ReadSoFar conditions_of lines l.list.items l.rest
 
 abbrev pub decreases-loop-rest : goal.decreases-loop-rest
 decreases-loop-rest l = length l.rest

@@ -1,0 +1,44 @@
+-- Where and when the boards of a text were played, by the tag pairs of its games.
+use Rattle.std.specs.Prelude.{◌≡◌, ℕ, Bool, false, List, map, Option, codes}
+use Rattle.std.specs.Option.{option_copied}
+use Rattle.pbn_deals.specs.Lines.{without_mark}
+use Rattle.pbn_deals.specs.Pieces.{rows_of, Line, AreLines}
+use Rattle.board_conditions.specs.declared.titles.Titles.{Titles}
+use Rattle.board_conditions.specs.Games.{Game, value_in, board_games}
+
+pub record TitleValues : Type 0 where
+  pub event : Option (List ℕ)
+  pub section : Option (List ℕ)
+  pub site : Option (List ℕ)
+  pub date : Option (List ℕ)
+
+abbrev pub titles_of : Game → TitleValues
+titles_of game = record {
+  event = value_in game (codes "EVENT");
+  section = value_in game (codes "SECTION");
+  site = value_in game (codes "SITE");
+  date = value_in game (codes "DATE");
+}
+
+-- the values in the program
+abbrev pub titles_said : Titles → TitleValues
+titles_said titles = record {
+  event = option_copied titles.event;
+  section = option_copied titles.section;
+  site = option_copied titles.site;
+  date = option_copied titles.date;
+}
+
+-- one for each board of the text, in the order of the boards
+pub record HasTitles (text : List ℕ) (list : List TitleValues) : Type 0 where
+  pub lines : List Line
+  pub is_open : Bool
+  pub read : AreLines false (rows_of (without_mark text)) lines is_open
+  pub are : list ≡ map titles_of (board_games lines)
+
+-- those of the whole text, as if all of its games were one
+pub record HasFirstTitles (text : List ℕ) (titles : TitleValues) : Type 0 where
+  pub lines : List Line
+  pub is_open : Bool
+  pub read : AreLines false (rows_of (without_mark text)) lines is_open
+  pub are : titles ≡ titles_of lines
