@@ -8,3 +8,4 @@ pub mod Lowest
 pub mod StepLaws
 pub mod ListLaws
 pub mod TextLaws
+pub mod TextBytes

@@ -18,4 +18,4 @@ pub use laws::{
 pub use pars::BoardPar;
 pub use sheet_text::write_sheet;
 pub use sheets::{Renews, Report, Sheet};
-pub use tables::{count_complete, write_section};
+pub use tables::{count_complete, count_results, write_section};

@@ -67,8 +67,8 @@ fn count_declarer_results<T: Sheet>(sheet: &T, board: usize, declarer: Seat) -> 
     count
 }
 
-/// How many results a board has.
-fn count_results<T: Sheet>(sheet: &T, board: usize) -> u8
+/// How many results a board of the sheet has, by its place from 0.
+pub fn count_results<T: Sheet>(sheet: &T, board: usize) -> u8
     ensures count { result ≡ published_count (T.printed_of sheet.now board).results }
     ensures at_most_20 { result ≤ 20 }
 {
