@@ -1,0 +1,11 @@
+pub mod PlainTexts
+pub mod CellLemmas
+pub mod HandLemmas
+pub mod ResultLemmas
+pub mod ParPlain
+pub mod ParLemmas
+pub mod BoardsInTurn
+pub mod SameMarkup
+pub mod PlainTemplates
+pub mod BoardMarkup
+pub mod SheetMarkup

@@ -1,0 +1,9 @@
+pub mod HandText
+pub mod CellText
+pub mod Facts
+pub mod Results
+pub mod ParShown
+pub mod Boards
+pub mod Headings
+pub mod Pages
+pub mod Markup

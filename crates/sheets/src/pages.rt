@@ -1,0 +1,148 @@
+//! The sheet of a tournament.
+
+ghost use Rattle.std.specs.Prelude.{◌≡◌, map, slice_index_or, length, IfOk};
+ghost use Rattle.cards.specs.Devices.{Writes};
+ghost use Rattle.board_conditions.specs.Titles.{titles_said};
+ghost use Rattle.tables.specs.TablesText.{complete_count};
+ghost use Rattle.sheets.specs.Pages.{unknown, no_titles, boards_text, head_text, without_section, sheet_text};
+
+use crate::boards::write_board;
+use crate::headings::{write_group, write_titles};
+use crate::templates::{BODY, END, HEAD, STYLE};
+use board_conditions::{Conditions, Titles};
+use cards::{DeviceFault, Sink, write_all};
+use tables::{Report, Sheet, count_complete};
+
+/// The titles of a board, by its place from 0.
+fn titles_at<'a>(titles: &[Titles<'a>], place: usize) -> Titles<'a>
+    ensures { titles_said result ≡ slice_index_or (map titles_said titles.entry.now) place no_titles }
+{
+    match titles.get(place) {
+        Some(titles) => *titles,
+        None => Titles {
+            event: None,
+            section: None,
+            site: None,
+            date: None,
+        },
+    }
+}
+
+/// The conditions of a board, by its place from 0.
+fn conditions_at(conditions: &[Conditions], place: usize) -> Conditions
+    ensures { result ≡ slice_index_or conditions.now place unknown }
+{
+    match conditions.get(place) {
+        Some(conditions) => *conditions,
+        None => Conditions {
+            dealer: None,
+            vulnerable: None,
+        },
+    }
+}
+
+/// Writes the boards, each behind the heading of its event and section, if these begin with it.
+fn write_boards<S: Sink, T: Sheet>(
+    sink: &mut S,
+    sheet: &T,
+    first: Titles<'_>,
+    titles: &[Titles<'_>],
+    conditions: &[Conditions],
+) -> Result<(), DeviceFault>
+    ensures { Writes (S.state sink.old) (S.state sink.new)
+        (boards_text (map titles_said titles.entry.now) conditions.now (T.printed_of sheet.now) (titles_said first.entry) 0
+        (T.boards_of sheet.now)) result }
+{
+    let boards = sheet.boards();
+    let mut before = first;
+    let mut place = 0;
+    while place < boards.len() {
+        let current = titles_at(titles, place);
+        write_group(sink, before, current)?;
+        write_board(
+            sink,
+            sheet,
+            place,
+            &boards[place],
+            conditions_at(conditions, place),
+        )?;
+        before = current;
+        place += 1;
+    }
+    Ok(())
+}
+
+/// Writes the head of a sheet.
+fn write_head<S: Sink>(sink: &mut S, head: Titles<'_>) -> Result<(), DeviceFault>
+    ensures { Writes (S.state sink.old) (S.state sink.new) (head_text (titles_said head.entry)) result }
+{
+    write_titles(sink, HEAD, head)?;
+    write_all(sink, STYLE)?;
+    write_titles(sink, BODY, head)
+}
+
+/// The titles without a section.
+fn without_section(head: Titles<'_>) -> Titles<'_>
+    ensures { titles_said result ≡ without_section (titles_said head.entry) }
+{
+    Titles {
+        section: None,
+        ..head
+    }
+}
+
+/// Writes all boards behind a head with these titles.
+fn write_all_boards<S: Sink, T: Sheet>(
+    sink: &mut S,
+    sheet: &T,
+    head: Titles<'_>,
+    titles: &[Titles<'_>],
+    conditions: &[Conditions],
+) -> Result<(), DeviceFault>
+    ensures { Writes (S.state sink.old) (S.state sink.new)
+        (boards_text (map titles_said titles.entry.now) conditions.now (T.printed_of sheet.now)
+        (without_section (titles_said head.entry)) 0 (T.boards_of sheet.now)) result }
+{
+    write_boards(sink, sheet, without_section(head), titles, conditions)
+}
+
+/// Writes the whole page.
+fn write_whole<S: Sink, T: Sheet>(
+    sink: &mut S,
+    sheet: &T,
+    head: Titles<'_>,
+    titles: &[Titles<'_>],
+    conditions: &[Conditions],
+) -> Result<(), DeviceFault>
+    ensures { Writes (S.state sink.old) (S.state sink.new)
+        (sheet_text (titles_said head.entry) (T.boards_of sheet.now) (map titles_said titles.entry.now) conditions.now
+        (T.printed_of sheet.now)) result }
+{
+    write_head(sink, head)?;
+    write_all_boards(sink, sheet, head, titles, conditions)?;
+    write_all(sink, END)
+}
+
+/// Writes the sheet of the boards as a page of HTML, with these titles in its head, and tells how many boards there are
+/// and how many of their tables are complete. Of each board there are the titles and the conditions, by its place. After
+/// a fault of the sink a beginning of the page has gone out. Takes no memory.
+pub fn write_page<S: Sink, T: Sheet>(
+    sink: &mut S,
+    sheet: &T,
+    head: Titles<'_>,
+    titles: &[Titles<'_>],
+    conditions: &[Conditions],
+) -> Result<Report, DeviceFault>
+    ensures writes { Writes (S.state sink.old) (S.state sink.new)
+        (sheet_text (titles_said head.entry) (T.boards_of sheet.now) (map titles_said titles.entry.now) conditions.now
+        (T.printed_of sheet.now)) result }
+    ensures boards { IfOk result (λ report. report.boards ≡ length (T.boards_of sheet.now)) }
+    ensures complete { IfOk result (λ report. report.complete
+        ≡ complete_count (T.boards_of sheet.now) (T.printed_of sheet.now)) }
+{
+    write_whole(sink, sheet, head, titles, conditions)?;
+    Ok(Report {
+        boards: sheet.boards().len(),
+        complete: count_complete(sheet),
+    })
+}

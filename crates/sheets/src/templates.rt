@@ -1,0 +1,159 @@
+//! The templates of a sheet: HTML with places `{name}` for values.
+//!
+//! Each begins and ends with a tag, and values stand only between tags. The style is the text of an element.
+
+/// The head of a page, up to its style. Its policy names the SHA-256 of STYLE: a browser takes no other style.
+pub const HEAD: &[u8] = br#"<!DOCTYPE html>
+<html lang="en">
+<head>
+<meta charset="utf-8">
+<meta http-equiv="Content-Security-Policy" content="default-src 'none'; style-src 'sha256-tgm6Z047q/m6jouIvvAV4y1yj0/J1ofKyRbT7gZhszc='">
+<meta name="viewport" content="width=device-width, initial-scale=1">
+<title>Hand record {event}</title>
+<style>"#;
+
+/// The style of all elements.
+pub const STYLE: &[u8] = br#"@page { margin: 8mm }
+* { box-sizing: border-box; margin: 0; padding: 0 }
+body { font: 12.5px/1.22 "DejaVu Sans Condensed", "Helvetica Neue", Arial, sans-serif; color: #111; background: #fff;
+  max-width: 198mm; margin: 0 auto; padding: 2mm }
+body > header { display: flex; flex-wrap: wrap; align-items: baseline; justify-content: space-between; gap: 0 1em;
+  border-bottom: 2px solid #234; padding-bottom: 1mm; margin-bottom: 2mm; overflow-wrap: anywhere }
+h1 { font-size: 17px }
+main { display: grid; grid-template-columns: repeat(3, minmax(0, 1fr)); gap: 2mm }
+main > h2 { grid-column: 1 / -1; font-size: 15px; break-after: avoid; overflow-wrap: anywhere }
+article { border: 1px solid #678; border-radius: 3px; padding: 1.5mm 2mm 1mm; break-inside: avoid; min-height: 81.5mm;
+  display: grid; grid-template: "name facts" auto "deal deal" 1fr "foot foot" auto / 1fr auto }
+article h2 { grid-area: name; font-size: 18px; line-height: 1.1; overflow-wrap: anywhere }
+.facts { grid-area: facts; text-align: right; font-size: 10.5px }
+.deal { grid-area: deal; align-self: center; position: relative; display: grid; gap: 0 1mm; align-items: center;
+  grid-template: ". N N" auto "W x E" auto ". S S" auto / minmax(0, 1fr) 14mm minmax(0, 1fr) }
+.deal ul { list-style: none; word-break: break-all }
+.deal li { padding-left: 1.2em; text-indent: -1.2em }
+.deal b { display: inline-block; width: 1.2em; text-indent: 0; font-weight: normal }
+.deal .points { position: absolute; width: 2em; padding: 0; text-indent: 0; text-align: center; font-size: 10.5px }
+ul:nth-of-type(1) .points { top: 1mm; left: 5mm } ul:nth-of-type(2) .points { top: 4.5mm; left: 9mm }
+ul:nth-of-type(3) .points { top: 8mm; left: 5mm } ul:nth-of-type(4) .points { top: 4.5mm; left: 1mm }
+.red { color: #b00 }
+ul:nth-of-type(1) { grid-area: N } ul:nth-of-type(2) { grid-area: E }
+ul:nth-of-type(3) { grid-area: S } ul:nth-of-type(4) { grid-area: W }
+.compass { grid-area: x; width: 14mm; height: 14mm; display: grid; font-size: 10px; border: 1px solid #678;
+  background: #eef4ef; grid-template: ". n ." 1fr "w . e" 1fr ". s ." 1fr / 1fr 1fr 1fr }
+.compass span { display: grid; place-items: center; width: 100%; height: 100%; border: 0 solid #b00 }
+.compass span:nth-child(1) { grid-area: n } .compass span:nth-child(2) { grid-area: w }
+.compass span:nth-child(3) { grid-area: e } .compass span:nth-child(4) { grid-area: s }
+.compass .exposed:nth-child(1) { border-top-width: 3px } .compass .exposed:nth-child(2) { border-left-width: 3px }
+.compass .exposed:nth-child(3) { border-right-width: 3px } .compass .exposed:nth-child(4) { border-bottom-width: 3px }
+.compass .deals { background: #234; color: #fff; font-weight: bold }
+footer { grid-area: foot; display: flex; justify-content: space-between; align-items: end; gap: 1mm;
+  border-top: 1px solid #9ab; padding-top: .5mm; font-size: 11px }
+footer p { text-align: right; overflow-wrap: anywhere }
+table { border-collapse: collapse; flex: none } td, th { width: 5.5mm; text-align: center }
+td small { color: #666; font-size: 9px }
+.read { position: absolute; width: 1px; height: 1px; overflow: hidden; clip-path: inset(50%) }
+@media screen and (max-width: 150mm) { main { grid-template-columns: minmax(0, 1fr) } article { min-height: 0 } }
+@media print { body { max-width: none; padding: 0 } * { print-color-adjust: exact; -webkit-print-color-adjust: exact } }"#;
+
+/// From the style to the first board.
+pub const BODY: &[u8] = br#"</style>
+</head>
+<body>
+<header>
+<h1>Hand record <bdi>{event}</bdi></h1>
+<p><bdi>{site}</bdi> <bdi>{date}</bdi></p>
+</header>
+<main>"#;
+
+/// The heading of the boards of another event or section.
+pub const GROUP: &[u8] = br#"<h2><bdi>{event}</bdi> <bdi>{section}</bdi></h2>"#;
+
+/// The beginning of a board.
+pub const BOARD: &[u8] = br#"<article>
+<h2>{name}</h2>"#;
+
+/// The beginning of what is known of the bidding.
+pub const FACTS: &[u8] = br#"<div class="facts">"#;
+
+/// Who deals, if that is known.
+pub const DEALER: &[u8] = br#"<p>Dealer <b>{dealer}</b></p>"#;
+
+/// Who is vulnerable, if that is known.
+pub const VULNERABLE: &[u8] = br#"<p>Vul <b>{sides}</b></p>"#;
+
+/// The beginning of the hands, with the compass.
+pub const COMPASS: &[u8] = br#"</div>
+<div class="deal">
+<div class="compass" aria-hidden="true">"#;
+
+/// A seat of the compass.
+pub const SEAT: &[u8] = br#"<span>{seat}</span>"#;
+
+/// The seat that deals.
+pub const DEALS: &[u8] = br#"<span class="deals">{seat}</span>"#;
+
+/// A seat that is vulnerable.
+pub const EXPOSED: &[u8] = br#"<span class="exposed">{seat}</span>"#;
+
+/// The seat that deals and is vulnerable.
+pub const DEALS_EXPOSED: &[u8] = br#"<span class="deals exposed">{seat}</span>"#;
+
+/// From the compass to the first hand.
+pub const HANDS: &[u8] = br#"</div>"#;
+
+/// A hand, with its honour points.
+pub const HAND: &[u8] = br#"<ul>
+<li class="read">{seat}</li>
+<li><b>&spades;</b>{spades}</li>
+<li><b class="red">&hearts;</b>{hearts}</li>
+<li><b class="red">&diams;</b>{diamonds}</li>
+<li><b>&clubs;</b>{clubs}</li>
+<li class="points">{points}</li>
+</ul>"#;
+
+/// From the last hand to the table.
+pub const FOOT: &[u8] = br#"</div>
+<footer>"#;
+
+/// The beginning of a complete table.
+pub const TABLE: &[u8] = br#"<table>
+<tr>
+<th scope="col"><span class="read">Declarer</span></th>
+<th scope="col">&clubs;</th>
+<th scope="col" class="red">&diams;</th>
+<th scope="col" class="red">&hearts;</th>
+<th scope="col">&spades;</th>
+<th scope="col">NT</th>
+</tr>"#;
+
+/// The beginning of a declarer's row.
+pub const ROW: &[u8] = br#"<tr>
+<th scope="row">{declarer}</th>"#;
+
+/// A result: the level that makes, or the tricks if there is none.
+pub const CELL: &[u8] = br#"<td>{level}<small>{tricks}</small></td>"#;
+
+/// The end of a row.
+pub const ROW_END: &[u8] = br#"</tr>"#;
+
+/// The end of a table.
+pub const TABLE_END: &[u8] = br#"</table>"#;
+
+/// What stands in place of an incomplete table.
+pub const INCOMPLETE: &[u8] = br#"<p>Table incomplete: <b>{known}</b> of 20 results are known</p>"#;
+
+/// Par, and the par contracts.
+pub const PAR: &[u8] = br#"<p>Par <b>{score}</b><br>{contracts}</p>"#;
+
+/// What stands in place of a par that is unknown.
+pub const PAR_UNKNOWN: &[u8] = br#"<p>Par unknown: no <b>{lacks}</b></p>"#;
+
+/// The end of what stands below the hands.
+pub const FOOT_END: &[u8] = br#"</footer>"#;
+
+/// The end of a board.
+pub const BOARD_END: &[u8] = br#"</article>"#;
+
+/// The end of a page.
+pub const END: &[u8] = br#"</main>
+</body>
+</html>"#;
