@@ -54,7 +54,7 @@ value-calm value = calm-chars (map shown_char (value_chars value))
 
 -- ---- what is read of it
 -- bytes without `&`
-plain-read : (bytes rest : List ℕ) → Each (λ byte. byte ≢ 38) bytes →
+pub plain-read : (bytes rest : List ℕ) → Each (λ byte. byte ≢ 38) bytes →
     resolved_from None (bytes ++ rest) ≡ bytes ++ resolved_from None rest
 plain-read [] rest h = refl
 plain-read (byte ∷ bytes) rest h =
@@ -87,6 +87,15 @@ chars-read [] = refl
 chars-read (c ∷ cs) =
     char-read c (flat_map char_text cs) (eqb c 38) (eqb c 60) (eqb c 62) refl refl refl
     ∙ ap (λ t. encode c ++ t) (chars-read cs)
+
+encodes-flat : (cs : List ℕ) → encodes cs ≡ flat_map encode cs
+encodes-flat [] = refl
+encodes-flat (c ∷ cs) = ap (λ t. encode c ++ t) (encodes-flat cs)
+
+pub value-resolved : (value : List ℕ) → resolved_from None (value_text value) ≡ flat_map encode (shown value)
+unfolding value_text shown
+value-resolved value =
+    chars-read (map shown_char (value_chars value)) ∙ encodes-flat (map shown_char (value_chars value))
 
 -- ---- the characters that are shown are characters
 scalar-shown : (c : ℕ) (is : Bool) → scalar c ≡ true → scalar (cond is 0xFFFD c) ≡ true

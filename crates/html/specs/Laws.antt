@@ -1,5 +1,7 @@
 -- What holds of every value and of every template.
 use Rattle.std.specs.Prelude.{◌≡◌, ℕ, ◌<◌, true, List, [], ◌∷◌, ◌++◌, map, All}
+use Rattle.std.specs.Char.{encode_utf8}
+use Rattle.std.specs.List.{flat_map}
 use Rattle.std.specs.Str.{chars}
 use Rattle.html.specs.Values.{shown, value_text}
 use Rattle.html.specs.Plain.{is_plain}
@@ -13,6 +15,10 @@ pub record IsText (value : List ℕ) : Type 0 where
 
 abbrev pub ValuesAreTexts : Type 0
 ValuesAreTexts = (value : List ℕ) → All (λ byte. byte < 256) value → IsText value
+
+-- a text of a page that is a value is read as the UTF-8 of what is to be shown
+abbrev pub ValuesAreRead : Type 0
+ValuesAreRead = (value : List ℕ) → resolved (value_text value) ≡ flat_map encode_utf8 (shown value)
 
 -- a plain value stands in a page as it is
 abbrev pub PlainValuesStay : Type 0

@@ -70,13 +70,22 @@ abbrev pub markup_of : List ℕ → List (List ℕ)
 markup_of page = every_other false (parts_of page)
 
 -- ---- the characters of a text
--- what a character reference stands for; one that isn't known stays as it is
+-- the suit that a character reference stands for (U+2660, U+2665, U+2666, U+2663); one that isn't known stays as it is
+abbrev pub suit_reference : List ℕ → List ℕ
+suit_reference name =
+    if bytes_eq name (codes "spades") then 0xE2 ∷ 0x99 ∷ 0xA0 ∷ [] else
+    (if bytes_eq name (codes "hearts") then 0xE2 ∷ 0x99 ∷ 0xA5 ∷ [] else
+    (if bytes_eq name (codes "diams") then 0xE2 ∷ 0x99 ∷ 0xA6 ∷ [] else
+    (if bytes_eq name (codes "clubs") then 0xE2 ∷ 0x99 ∷ 0xA3 ∷ [] else
+    38 ∷ (name ++ 59 ∷ []))))
+
+-- what a character reference stands for
 abbrev pub reference : List ℕ → List ℕ
 reference name =
     if bytes_eq name (codes "amp") then 38 ∷ [] else
     (if bytes_eq name (codes "lt") then 60 ∷ [] else
     (if bytes_eq name (codes "gt") then 62 ∷ [] else
-    38 ∷ (name ++ 59 ∷ [])))
+    suit_reference name))
 
 -- the bytes that a text stands for: what goes from `&` to `;` is a reference, of which this is the name so far, if any
 abbrev pub resolved_from : Option (List ℕ) → List ℕ → List ℕ

@@ -1,10 +1,17 @@
 //! Laws about pages. Each is a function that does nothing: its contract is the law.
 
-ghost use Rattle.html.specs.Laws.{PagesAdd, PlainValuesStay, TemplatesArePlain, ValuesAreTexts};
+ghost use Rattle.html.specs.Laws.{
+    PagesAdd, PlainValuesStay, TemplatesArePlain, ValuesAreRead, ValuesAreTexts,
+};
 
 /// A value in a page is one text without a tag, and what a browser reads of it is what is to be shown.
 pub fn values_are_texts()
     ensures { ValuesAreTexts }
+{}
+
+/// A value in a page is read as the UTF-8 of what is to be shown of it.
+pub fn values_are_read()
+    ensures { ValuesAreRead }
 {}
 
 /// A value of printing ASCII without `&`, `<` and `>` stands in a page as it is.
