@@ -1,5 +1,5 @@
-//! What a PBN text says of each board beside its deal: the dealer and the vulnerability by its tags, or what Law 2 of the
-//! Laws of Duplicate Bridge 2017 gives to its number, and where and when it was played.
+//! What a PBN text says of each board beside its deal: the dealer and the vulnerability by its tags, or what Law 2 of
+//! the Laws of Duplicate Bridge 2017 gives to its number, and where and when it was played.
 #![tactic(auto)]
 
 mod conditions;

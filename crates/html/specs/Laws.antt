@@ -24,8 +24,8 @@ ValuesAreRead = (value : List ℕ) → resolved (value_text value) ≡ flat_map 
 abbrev pub PlainValuesStay : Type 0
 PlainValuesStay = (value : List ℕ) → is_plain value ≡ true → value_text value ≡ value
 
--- The tags of a filled template are the same whatever the values are, and it ends between tags. Its parts are those of the
--- template, filled.
+-- The tags of a filled template are the same whatever the values are, and it ends between tags. Its parts are those of
+-- the template, filled.
 pub record IsPlain (template : List ℕ) : Type 0 where
   pub same : (values others : List ℕ → List ℕ) → markup_of (filled values template) ≡ markup_of (filled others template)
   pub ends : (values : List ℕ → List ℕ) → place_at_end InText (filled values template) ≡ InText

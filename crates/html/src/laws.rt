@@ -1,7 +1,11 @@
 //! Laws about pages. Each is a function that does nothing: its contract is the law.
 
 ghost use Rattle.html.specs.Laws.{
-    PagesAdd, PlainValuesStay, TemplatesArePlain, ValuesAreRead, ValuesAreTexts,
+  PagesAdd,
+  PlainValuesStay,
+  TemplatesArePlain,
+  ValuesAreRead,
+  ValuesAreTexts,
 };
 
 /// A value in a page is one text without a tag, and what a browser reads of it is what is to be shown.

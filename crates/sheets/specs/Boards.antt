@@ -1,4 +1,4 @@
--- A board on a sheet: its name, and if it has a deal, who deals and is vulnerable, the four hands, its table and its par.
+-- A board on a sheet: its name, and if it has a deal, who deals and is vulnerable, the four hands, its table and par.
 use Rattle.std.specs.Prelude.{ℕ, List, [], ◌++◌, Option, None, Some}
 use Rattle.cards.specs.declared.seats.Seat.{Seat}
 use Rattle.cards.specs.declared.seats.Seat.TheVariants.{North, East, South, West}

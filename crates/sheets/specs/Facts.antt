@@ -54,7 +54,8 @@ seat_template true true = DEALS_EXPOSED.now
 
 abbrev pub seat_text : Conditions → Seat → List ℕ
 seat_text conditions seat =
-    with_value (seat_template (is_dealer conditions.dealer seat) (is_exposed conditions.vulnerable seat)) (seat_letter seat)
+    with_value (seat_template (is_dealer conditions.dealer seat) (is_exposed conditions.vulnerable seat))
+    (seat_letter seat)
 
 unfoldable pub seats_text : Conditions → List ℕ
 seats_text conditions =

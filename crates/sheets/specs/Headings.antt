@@ -1,5 +1,6 @@
 -- The head of a sheet, and the headings where another event or section begins.
-use Rattle.std.specs.Prelude.{ℕ, Bool, true, false, not, ◌||◌, List, [], codes, Option, None, Some, if◌then◌else◌, bytes_eq}
+use Rattle.std.specs.Prelude.{ℕ, Bool, true, false, not, ◌||◌, List, [], codes, Option, None, Some}
+use Rattle.std.specs.Prelude.{if◌then◌else◌, bytes_eq}
 use Rattle.board_conditions.specs.Titles.{TitleValues}
 use Rattle.html.specs.Templates.{filled}
 use Rattle.sheets.specs.declared.headings.TitlePlace.{TitlePlace}

@@ -1,5 +1,6 @@
 -- What a sheet shows of a board's par, if it is printed.
-use Rattle.std.specs.Prelude.{ℕ, ◌<◌, ◌^◌, List, [], codes, Option, None, Some, ℤ, unsigned_abs, All, if◌then◌else◌, bytes_eq}
+use Rattle.std.specs.Prelude.{ℕ, ◌<◌, ◌^◌, List, [], codes, Option, None, Some, ℤ, unsigned_abs, All}
+use Rattle.std.specs.Prelude.{if◌then◌else◌, bytes_eq}
 use Rattle.html.specs.Templates.{filled}
 use Rattle.par.specs.declared.contracts.ParContract.{ParContract}
 use Rattle.par.specs.Texts.{score_text, contracts_text}

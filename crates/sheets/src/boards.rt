@@ -88,8 +88,8 @@ fn write_deal<S: Sink, T: Sheet>(
     }
 }
 
-/// Writes a board of the sheet, by its place from 0, which is played under these conditions. After a fault of the sink a
-/// beginning of it has gone out. Takes no memory.
+/// Writes a board of the sheet, by its place from 0, which is played under these conditions. After a fault of the sink
+/// a beginning of it has gone out. Takes no memory.
 pub(crate) fn write_board<S: Sink, T: Sheet>(
     sink: &mut S,
     sheet: &T,

@@ -207,7 +207,8 @@ pub(crate) fn write_hand<S: Sink>(
     layout: &Layout,
     seat: Seat,
 ) -> Result<(), DeviceFault>
-    ensures { Writes (S.state sink.old) (S.state sink.new) (filled (hand_value layout.now seat) template.HAND.now) result }
+    ensures { Writes (S.state sink.old) (S.state sink.new) (filled (hand_value layout.now seat) template.HAND.now)
+        result }
 {
     write_filled(sink, HAND, &HandValues { layout, seat })
 }

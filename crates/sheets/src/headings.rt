@@ -6,7 +6,8 @@ ghost use Rattle.cards.specs.Devices.{Writes};
 ghost use Rattle.html.specs.Templates.{filled};
 ghost use Rattle.html.specs.Values.{value_text};
 ghost use Rattle.board_conditions.specs.Titles.{titles_said};
-ghost use Rattle.sheets.specs.Headings.{title_place, title_at, title_shown, title_value, is_new, begins_group, group_text};
+ghost use Rattle.sheets.specs.Headings.{title_place, title_at, title_shown, title_value, is_new, begins_group};
+ghost use Rattle.sheets.specs.Headings.{group_text};
 
 use crate::names::is_named;
 use crate::templates::GROUP;
@@ -57,7 +58,8 @@ fn title_at<'a>(titles: Titles<'a>, place: Option<TitlePlace>) -> Option<&'a [u8
 
 /// Writes a title, if there is one.
 fn write_title<S: Sink>(sink: &mut S, title: Option<&[u8]>) -> Result<(), DeviceFault>
-    ensures { Writes (S.state sink.old) (S.state sink.new) (value_text (title_shown (option_copied title.entry))) result }
+    ensures { Writes (S.state sink.old) (S.state sink.new) (value_text (title_shown (option_copied title.entry)))
+        result }
 {
     match title {
         Some(value) => write_value(sink, value),

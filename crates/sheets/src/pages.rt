@@ -50,8 +50,8 @@ fn write_boards<S: Sink, T: Sheet>(
     conditions: &[Conditions],
 ) -> Result<(), DeviceFault>
     ensures { Writes (S.state sink.old) (S.state sink.new)
-        (boards_text (map titles_said titles.entry.now) conditions.now (T.printed_of sheet.now) (titles_said first.entry) 0
-        (T.boards_of sheet.now)) result }
+        (boards_text (map titles_said titles.entry.now) conditions.now (T.printed_of sheet.now) (titles_said first.entry)
+        0 (T.boards_of sheet.now)) result }
 {
     let boards = sheet.boards();
     let mut before = first;
@@ -124,8 +124,8 @@ fn write_whole<S: Sink, T: Sheet>(
 }
 
 /// Writes the sheet of the boards as a page of HTML, with these titles in its head, and tells how many boards there are
-/// and how many of their tables are complete. Of each board there are the titles and the conditions, by its place. After
-/// a fault of the sink a beginning of the page has gone out. Takes no memory.
+/// and how many of their tables are complete. Of each board there are the titles and the conditions, by its place.
+/// After a fault of the sink a beginning of the page has gone out. Takes no memory.
 pub fn write_page<S: Sink, T: Sheet>(
     sink: &mut S,
     sheet: &T,
