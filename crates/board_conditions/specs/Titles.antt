@@ -1,5 +1,6 @@
 -- Where and when the boards of a text were played, by the tag pairs of its games.
-use Rattle.std.specs.Prelude.{◌≡◌, ℕ, Bool, false, List, map, Option, codes}
+use Rattle.std.specs.Prelude.{◌≡◌, ℕ, Bool, false, ◌||◌, List, [], map, Option, None, Some, codes}
+use Rattle.std.specs.Prelude.{if◌then◌else◌, bytes_eq}
 use Rattle.std.specs.Option.{option_copied}
 use Rattle.pbn_deals.specs.Lines.{without_mark}
 use Rattle.pbn_deals.specs.Pieces.{rows_of, Line, AreLines}
@@ -12,12 +13,23 @@ pub record TitleValues : Type 0 where
   pub site : Option (List ℕ)
   pub date : Option (List ℕ)
 
+-- a title that is empty, unknown or that of the game before isn't known
+abbrev pub is_no_title : List ℕ → Bool
+is_no_title value = bytes_eq value [] || (bytes_eq value (codes "?") || bytes_eq value (codes "#"))
+
+abbrev pub known_title : Option (List ℕ) → Option (List ℕ)
+known_title None = None
+known_title (Some value) = if is_no_title value then None else Some value
+
+abbrev pub title_in : Game → List ℕ → Option (List ℕ)
+title_in game capitals = known_title (value_in game capitals)
+
 abbrev pub titles_of : Game → TitleValues
 titles_of game = record {
-  event = value_in game (codes "EVENT");
-  section = value_in game (codes "SECTION");
-  site = value_in game (codes "SITE");
-  date = value_in game (codes "DATE");
+  event = title_in game (codes "EVENT");
+  section = title_in game (codes "SECTION");
+  site = title_in game (codes "SITE");
+  date = title_in game (codes "DATE");
 }
 
 -- the values in the program

@@ -8,7 +8,7 @@ ghost use Rattle.board_conditions.specs.Games.{first_named};
 
 use crate::conditions::{Conditions, settled_dealer, settled_vulnerability};
 use crate::numbers::number_of;
-use crate::titles::Titles;
+use crate::titles::{Titles, known_title};
 use pbn_deals::{LineStart, Piece, first_piece, is_same_name, line_start};
 
 /// A game of a text, as far as it was read: the values of the first tag pairs that have these names.
@@ -170,10 +170,10 @@ impl<'a> GameText<'a> {
             → titles_said result ≡ titles_of game }
     {
         Titles {
-            event: self.event,
-            section: self.section,
-            site: self.site,
-            date: self.date,
+            event: known_title(self.event),
+            section: known_title(self.section),
+            site: known_title(self.site),
+            date: known_title(self.date),
         }
     }
 }
