@@ -8,18 +8,18 @@ use Rattle.board_conditions.specs.Titles.{TitleValues}
 use Rattle.tables.specs.TablesText.{Printed}
 use Rattle.sheets.specs.Boards.{board_text}
 use Rattle.sheets.specs.Headings.{group_text}
-use Rattle.sheets.specs.Pages.{no_titles, unknown, boards_text}
+use Rattle.sheets.specs.Pages.{titles_at, unknown, boards_text}
 
 module _ (titles : List TitleValues) (conditions : List Conditions) (printed : ℕ → Printed) (before : TitleValues)
     (place : ℕ) (all : List Board) (d : Board) (h : place < length all) where
   abbrev pub heading : List ℕ
-  heading = group_text before (slice_index_or titles place no_titles)
+  heading = group_text before (titles_at titles before place)
 
   abbrev pub own : List ℕ
   own = board_text (get_or all place d) (slice_index_or conditions place unknown) (printed place)
 
   abbrev pub rest : List ℕ
-  rest = boards_text titles conditions printed (slice_index_or titles place no_titles) (place + 1) (drop (place + 1) all)
+  rest = boards_text titles conditions printed (titles_at titles before place) (place + 1) (drop (place + 1) all)
 
   next : place + 1 ≡ suc place
   next = omega arith
@@ -28,13 +28,13 @@ module _ (titles : List TitleValues) (conditions : List Conditions) (printed : �
   pub board-first : boards_text titles conditions printed before place (drop place all) ≡ heading ++ (own ++ rest)
   board-first =
       ap (boards_text titles conditions printed before place) (drop-cons all place d h)
-      ∙ (ap (λ n. (heading ++ own) ++ boards_text titles conditions printed (slice_index_or titles place no_titles) (place + 1) (drop n all)) (sym next)
+      ∙ (ap (λ n. (heading ++ own) ++ boards_text titles conditions printed (titles_at titles before place) (place + 1) (drop n all)) (sym next)
       ∙ append_assoc heading own rest)
 
 -- the same, in the words of the program
 pub board-behind : (titles : List TitleValues) (conditions : List Conditions) (printed : ℕ → Printed) (before : TitleValues)
     (place : ℕ) (all : List Board) (gone whole : List ℕ) (current : TitleValues) (board : Board) (its : Conditions) →
-    place < length all → current ≡ slice_index_or titles place no_titles → board ≡ get_or all place board →
+    place < length all → current ≡ titles_at titles before place → board ≡ get_or all place board →
     its ≡ slice_index_or conditions place unknown →
     gone ++ boards_text titles conditions printed before place (drop place all) ≡ whole →
     gone ++ (group_text before current ++ (board_text board its (printed place)
@@ -53,13 +53,13 @@ pub record Begins (gone heading whole : List ℕ) : Type 0 where
 
 pub group-first : (titles : List TitleValues) (conditions : List Conditions) (printed : ℕ → Printed) (before : TitleValues)
     (place : ℕ) (left : List Board) (gone whole : List ℕ) (current : TitleValues) → 0 < length left →
-    current ≡ slice_index_or titles place no_titles →
+    current ≡ titles_at titles before place →
     gone ++ boards_text titles conditions printed before place left ≡ whole → Begins gone (group_text before current) whole
 group-first titles conditions printed before place [] gone whole current h is are = absurd (omega (arith, h))
 group-first titles conditions printed before place (board ∷ boards) gone whole current h is are =
-    let head = group_text before (slice_index_or titles place no_titles) in
+    let head = group_text before (titles_at titles before place) in
     let its = board_text board (slice_index_or conditions place unknown) (printed place) in
-    let others = boards_text titles conditions printed (slice_index_or titles place no_titles) (place + 1) boards in
+    let others = boards_text titles conditions printed (titles_at titles before place) (place + 1) boards in
     record {
       more = its ++ others;
       is =

@@ -7,7 +7,7 @@ use Rattle.board_conditions.specs.Titles.{TitleValues}
 use Rattle.tables.specs.TablesText.{Printed}
 use Rattle.sheets.specs.declared.templates.TheConstants as template
 use Rattle.sheets.specs.Headings.{title_value}
-use Rattle.sheets.specs.Pages.{no_titles, unknown, boards_text, head_text, without_section, sheet_text}
+use Rattle.sheets.specs.Pages.{titles_at, unknown, boards_text, head_text, without_section, sheet_text}
 use Rattle.sheets.specs.Markup.{BoardShape, shapes_from, Shown, page_of, shapes_of}
 use Rattle.sheets.proofs.PlainTemplates as plain
 use Rattle.sheets.proofs.SameMarkup.{SameMarkup, then, same-text, same-nothing, same-template}
@@ -31,8 +31,8 @@ module _ (titles titles' : List TitleValues) (conditions conditions' : List Cond
   same-boards [] (board' ∷ boards') before before' place place' e = absurd (none-more _ _ e)
   same-boards (board ∷ boards) [] before before' place place' e = absurd (none-more _ _ (sym e))
   same-boards (board ∷ boards) (board' ∷ boards') before before' place place' e =
-      let its = slice_index_or titles place no_titles in
-      let its' = slice_index_or titles' place' no_titles in
+      let its = titles_at titles before place in
+      let its' = titles_at titles' before' place' in
       let first = same-first _ _ _ _ e in
       then
       (then (same-group before its before' its' (ap (λ (s : BoardShape). s.has_heading) first))

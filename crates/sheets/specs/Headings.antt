@@ -1,6 +1,7 @@
 -- The head of a sheet, and the headings where another event or section begins.
 use Rattle.std.specs.Prelude.{ℕ, Bool, true, false, not, ◌||◌, List, [], codes, Option, None, Some}
 use Rattle.std.specs.Prelude.{if◌then◌else◌, bytes_eq}
+use Rattle.std.specs.Option.{option_or}
 use Rattle.board_conditions.specs.Titles.{TitleValues}
 use Rattle.html.specs.Templates.{filled}
 use Rattle.sheets.specs.declared.headings.TitlePlace.{TitlePlace}
@@ -36,6 +37,15 @@ abbrev pub is_new : Option (List ℕ) → Option (List ℕ) → Bool
 is_new before None = false
 is_new None (Some value) = true
 is_new (Some before) (Some value) = not (bytes_eq before value)
+
+-- The event and the section of a board: where they aren't said they are those of the board before. Another event begins
+-- without a section.
+abbrev pub titles_after : TitleValues → TitleValues → TitleValues
+titles_after before titles = record titles {
+  event = option_or titles.event before.event;
+  section =
+      if is_new before.event titles.event then titles.section else option_or titles.section before.section;
+}
 
 -- whether another event or section begins
 abbrev pub begins_group : TitleValues → TitleValues → Bool

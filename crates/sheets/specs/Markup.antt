@@ -11,7 +11,7 @@ use Rattle.tables.specs.declared.pars.BoardPar.{BoardPar}
 use Rattle.tables.specs.declared.pars.BoardPar.TheVariants.{Known, NoDealer, NoVulnerability}
 use Rattle.html.specs.Pages.{InText, place_at_end, markup_of}
 use Rattle.sheets.specs.Headings.{begins_group}
-use Rattle.sheets.specs.Pages.{no_titles, unknown, without_section, sheet_text}
+use Rattle.sheets.specs.Pages.{titles_at, unknown, without_section, sheet_text}
 
 -- ---- the shape of a board
 -- the shape of a board's deal: who deals and is vulnerable, whether the table is complete, and, if par is printed,
@@ -46,9 +46,9 @@ abbrev pub shapes_from :
 shapes_from titles conditions printed before place [] = []
 shapes_from titles conditions printed before place (board ∷ boards) =
     record {
-      has_heading = begins_group before (slice_index_or titles place no_titles);
+      has_heading = begins_group before (titles_at titles before place);
       deal = deal_shape board.deal (slice_index_or conditions place unknown) (printed place);
-    } ∷ shapes_from titles conditions printed (slice_index_or titles place no_titles) (place + 1) boards
+    } ∷ shapes_from titles conditions printed (titles_at titles before place) (place + 1) boards
 
 -- ---- whole sheets
 -- what a sheet shows

@@ -1,13 +1,13 @@
 //! The head of a sheet, and the headings where another event or section begins.
 
 ghost use Rattle.std.specs.Prelude.{◌≡◌};
-ghost use Rattle.std.specs.Option.{option_copied};
+ghost use Rattle.std.specs.Option.{option_copied, option_or};
 ghost use Rattle.cards.specs.Devices.{Writes};
 ghost use Rattle.html.specs.Templates.{filled};
 ghost use Rattle.html.specs.Values.{value_text};
 ghost use Rattle.board_conditions.specs.Titles.{titles_said};
 ghost use Rattle.sheets.specs.Headings.{title_place, title_at, title_shown, title_value, is_new, begins_group};
-ghost use Rattle.sheets.specs.Headings.{group_text};
+ghost use Rattle.sheets.specs.Headings.{group_text, titles_after};
 
 use crate::names::is_named;
 use crate::templates::GROUP;
@@ -105,6 +105,30 @@ fn is_new(before: Option<&[u8]>, title: Option<&[u8]>) -> bool
     match before {
         Some(before) => !is_named(before, title),
         None => true,
+    }
+}
+
+/// A title, or where it isn't said the one before.
+fn title_or<'a>(title: Option<&'a [u8]>, before: Option<&'a [u8]>) -> Option<&'a [u8]>
+    ensures { option_copied result ≡ option_or (option_copied title.entry) (option_copied before.entry) }
+{
+    title.or(before)
+}
+
+/// The titles of a board behind one with these titles. An event or a section that isn't said is the one before, but
+/// another event begins without a section.
+pub(crate) fn titles_after<'a>(before: Titles<'a>, titles: Titles<'a>) -> Titles<'a>
+    ensures { titles_said result ≡ titles_after (titles_said before.entry) (titles_said titles.entry) }
+{
+    let section = if is_new(before.event, titles.event) {
+        titles.section
+    } else {
+        title_or(titles.section, before.section)
+    };
+    Titles {
+        event: title_or(titles.event, before.event),
+        section,
+        ..titles
     }
 }
 

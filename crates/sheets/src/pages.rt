@@ -4,17 +4,18 @@ ghost use Rattle.std.specs.Prelude.{◌≡◌, map, slice_index_or, length, IfOk
 ghost use Rattle.cards.specs.Devices.{Writes};
 ghost use Rattle.board_conditions.specs.Titles.{titles_said};
 ghost use Rattle.tables.specs.TablesText.{complete_count};
-ghost use Rattle.sheets.specs.Pages.{unknown, no_titles, boards_text, head_text, without_section, sheet_text};
+ghost use Rattle.sheets.specs.Pages.{unknown, no_titles, titles_at, boards_text, head_text, without_section};
+ghost use Rattle.sheets.specs.Pages.{sheet_text};
 
 use crate::boards::write_board;
-use crate::headings::{write_group, write_titles};
+use crate::headings::{titles_after, write_group, write_titles};
 use crate::templates::{BODY, END, HEAD, STYLE};
 use board_conditions::{Conditions, Titles};
 use cards::{DeviceFault, Sink, write_all};
 use tables::{Report, Sheet, count_complete};
 
-/// The titles of a board, by its place from 0.
-fn titles_at<'a>(titles: &[Titles<'a>], place: usize) -> Titles<'a>
+/// What is said of the titles of a board, by its place from 0.
+fn titles_of<'a>(titles: &[Titles<'a>], place: usize) -> Titles<'a>
     ensures { titles_said result ≡ slice_index_or (map titles_said titles.entry.now) place no_titles }
 {
     match titles.get(place) {
@@ -26,6 +27,13 @@ fn titles_at<'a>(titles: &[Titles<'a>], place: usize) -> Titles<'a>
             date: None,
         },
     }
+}
+
+/// The titles of a board, by its place from 0, behind one with these titles.
+fn titles_at<'a>(titles: &[Titles<'a>], before: Titles<'a>, place: usize) -> Titles<'a>
+    ensures { titles_said result ≡ titles_at (map titles_said titles.entry.now) (titles_said before.entry) place }
+{
+    titles_after(before, titles_of(titles, place))
 }
 
 /// The conditions of a board, by its place from 0.
@@ -42,11 +50,11 @@ fn conditions_at(conditions: &[Conditions], place: usize) -> Conditions
 }
 
 /// Writes the boards, each behind the heading of its event and section, if these begin with it.
-fn write_boards<S: Sink, T: Sheet>(
+fn write_boards<'a, S: Sink, T: Sheet>(
     sink: &mut S,
     sheet: &T,
-    first: Titles<'_>,
-    titles: &[Titles<'_>],
+    first: Titles<'a>,
+    titles: &[Titles<'a>],
     conditions: &[Conditions],
 ) -> Result<(), DeviceFault>
     ensures { Writes (S.state sink.old) (S.state sink.new)
@@ -57,7 +65,7 @@ fn write_boards<S: Sink, T: Sheet>(
     let mut before = first;
     let mut place = 0;
     while place < boards.len() {
-        let current = titles_at(titles, place);
+        let current = titles_at(titles, before, place);
         write_group(sink, before, current)?;
         write_board(
             sink,
@@ -92,11 +100,11 @@ fn without_section(head: Titles<'_>) -> Titles<'_>
 }
 
 /// Writes all boards behind a head with these titles.
-fn write_all_boards<S: Sink, T: Sheet>(
+fn write_all_boards<'a, S: Sink, T: Sheet>(
     sink: &mut S,
     sheet: &T,
-    head: Titles<'_>,
-    titles: &[Titles<'_>],
+    head: Titles<'a>,
+    titles: &[Titles<'a>],
     conditions: &[Conditions],
 ) -> Result<(), DeviceFault>
     ensures { Writes (S.state sink.old) (S.state sink.new)
@@ -107,11 +115,11 @@ fn write_all_boards<S: Sink, T: Sheet>(
 }
 
 /// Writes the whole page.
-fn write_whole<S: Sink, T: Sheet>(
+fn write_whole<'a, S: Sink, T: Sheet>(
     sink: &mut S,
     sheet: &T,
-    head: Titles<'_>,
-    titles: &[Titles<'_>],
+    head: Titles<'a>,
+    titles: &[Titles<'a>],
     conditions: &[Conditions],
 ) -> Result<(), DeviceFault>
     ensures { Writes (S.state sink.old) (S.state sink.new)
@@ -126,11 +134,11 @@ fn write_whole<S: Sink, T: Sheet>(
 /// Writes the sheet of the boards as a page of HTML, with these titles in its head, and tells how many boards there are
 /// and how many of their tables are complete. Of each board there are the titles and the conditions, by its place.
 /// After a fault of the sink a beginning of the page has gone out. Takes no memory.
-pub fn write_page<S: Sink, T: Sheet>(
+pub fn write_page<'a, S: Sink, T: Sheet>(
     sink: &mut S,
     sheet: &T,
-    head: Titles<'_>,
-    titles: &[Titles<'_>],
+    head: Titles<'a>,
+    titles: &[Titles<'a>],
     conditions: &[Conditions],
 ) -> Result<Report, DeviceFault>
     ensures writes { Writes (S.state sink.old) (S.state sink.new)

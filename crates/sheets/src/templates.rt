@@ -7,7 +7,7 @@ pub const HEAD: &[u8] = br#"<!DOCTYPE html>
 <html lang="en">
 <head>
 <meta charset="utf-8">
-<meta http-equiv="Content-Security-Policy" content="default-src 'none'; style-src 'sha256-tgm6Z047q/m6jouIvvAV4y1yj0/J1ofKyRbT7gZhszc='">
+<meta http-equiv="Content-Security-Policy" content="default-src 'none'; style-src 'sha256-DMR5SroZNfPf73VyxkyQX145fbQPB1Zl7eUP2knXGgg='">
 <meta name="viewport" content="width=device-width, initial-scale=1">
 <title>Hand record {event}</title>
 <style>"#;
@@ -15,15 +15,15 @@ pub const HEAD: &[u8] = br#"<!DOCTYPE html>
 /// The style of all elements.
 pub const STYLE: &[u8] = br#"@page { margin: 8mm }
 * { box-sizing: border-box; margin: 0; padding: 0 }
-body { font: 12.5px/1.22 "DejaVu Sans Condensed", "Helvetica Neue", Arial, sans-serif; color: #111; background: #fff;
-  max-width: 198mm; margin: 0 auto; padding: 2mm }
+body { font: 13px/1.2 "DejaVu Sans Condensed", "Helvetica Neue", Arial, sans-serif; color: #111; background: #fff;
+  max-width: 198mm; margin: 0 auto; padding: 2mm 1mm }
 body > header { display: flex; flex-wrap: wrap; align-items: baseline; justify-content: space-between; gap: 0 1em;
-  border-bottom: 2px solid #234; padding-bottom: 1mm; margin-bottom: 2mm; overflow-wrap: anywhere }
-h1 { font-size: 17px }
-main { display: grid; grid-template-columns: repeat(3, minmax(0, 1fr)); gap: 2mm }
-main > h2 { grid-column: 1 / -1; font-size: 15px; break-after: avoid; overflow-wrap: anywhere }
-article { border: 1px solid #678; border-radius: 3px; padding: 1.5mm 2mm 1mm; break-inside: avoid; min-height: 81.5mm;
-  display: grid; grid-template: "name facts" auto "deal deal" 1fr "foot foot" auto / 1fr auto }
+  border-bottom: 2px solid #234; padding-bottom: 1mm; margin: 0 1mm 2mm; overflow-wrap: anywhere }
+h1 { font-size: 17px } .key { width: 100%; font-size: 10.5px }
+main > h2 { font-size: 15px; margin: 0 1mm 1mm; break-after: avoid; overflow-wrap: anywhere }
+article { border: 1px solid #678; border-radius: 3px; padding: 1.5mm 2mm 1mm; margin: 0 1mm 2mm; break-inside: avoid;
+  display: inline-grid; vertical-align: top; width: calc(100% / 3 - 2mm); min-height: 77.5mm;
+  grid-template: "name facts" auto "deal deal" 1fr "foot foot" auto / 1fr auto }
 article h2 { grid-area: name; font-size: 18px; line-height: 1.1; overflow-wrap: anywhere }
 .facts { grid-area: facts; text-align: right; font-size: 10.5px }
 .deal { grid-area: deal; align-self: center; position: relative; display: grid; gap: 0 1mm; align-items: center;
@@ -38,20 +38,22 @@ ul:nth-of-type(3) .points { top: 8mm; left: 5mm } ul:nth-of-type(4) .points { to
 ul:nth-of-type(1) { grid-area: N } ul:nth-of-type(2) { grid-area: E }
 ul:nth-of-type(3) { grid-area: S } ul:nth-of-type(4) { grid-area: W }
 .compass { grid-area: x; width: 14mm; height: 14mm; display: grid; font-size: 10px; border: 1px solid #678;
-  background: #eef4ef; grid-template: ". n ." 1fr "w . e" 1fr ". s ." 1fr / 1fr 1fr 1fr }
-.compass span { display: grid; place-items: center; width: 100%; height: 100%; border: 0 solid #b00 }
-.compass span:nth-child(1) { grid-area: n } .compass span:nth-child(2) { grid-area: w }
-.compass span:nth-child(3) { grid-area: e } .compass span:nth-child(4) { grid-area: s }
+  background: #eef4ef; grid-template: repeat(3, 1fr) / repeat(3, 1fr) }
+.compass span { display: grid; place-items: center; border: 0 solid #b00 }
+.compass span:nth-child(1) { grid-area: 1 / 1 / 2 / 4 } .compass span:nth-child(2) { grid-area: 1 / 1 / 4 / 2 }
+.compass span:nth-child(3) { grid-area: 1 / 3 / 4 / 4 } .compass span:nth-child(4) { grid-area: 3 / 1 / 4 / 4 }
 .compass .exposed:nth-child(1) { border-top-width: 3px } .compass .exposed:nth-child(2) { border-left-width: 3px }
 .compass .exposed:nth-child(3) { border-right-width: 3px } .compass .exposed:nth-child(4) { border-bottom-width: 3px }
-.compass .deals { background: #234; color: #fff; font-weight: bold }
+.compass .deals { background: radial-gradient(circle, #234 2mm, #0000 2.1mm); color: #fff; font-weight: bold }
 footer { grid-area: foot; display: flex; justify-content: space-between; align-items: end; gap: 1mm;
   border-top: 1px solid #9ab; padding-top: .5mm; font-size: 11px }
 footer p { text-align: right; overflow-wrap: anywhere }
-table { border-collapse: collapse; flex: none } td, th { width: 5.5mm; text-align: center }
-td small { color: #666; font-size: 9px }
+table { border-collapse: collapse; flex: none }
+td, th { width: 5mm; text-align: center } th { font-weight: normal }
+td { font-weight: bold } td small { color: #444; font-size: 10px; font-weight: normal }
 .read { position: absolute; width: 1px; height: 1px; overflow: hidden; clip-path: inset(50%) }
-@media screen and (max-width: 150mm) { main { grid-template-columns: minmax(0, 1fr) } article { min-height: 0 } }
+@media screen and (max-width: 185mm) { article { width: calc(50% - 2mm) } }
+@media screen and (max-width: 125mm) { article { width: calc(100% - 2mm); min-height: 0 } }
 @media print { body { max-width: none; padding: 0 } * { print-color-adjust: exact; -webkit-print-color-adjust: exact } }"#;
 
 /// From the style to the first board.
@@ -61,6 +63,7 @@ pub const BODY: &[u8] = br#"</style>
 <header>
 <h1>Hand record <bdi>{event}</bdi></h1>
 <p><bdi>{site}</bdi> <bdi>{date}</bdi></p>
+<p class="key">Tables: in bold the level that declarer makes, otherwise the tricks.</p>
 </header>
 <main>"#;
 
@@ -156,4 +159,5 @@ pub const BOARD_END: &[u8] = br#"</article>"#;
 /// The end of a page.
 pub const END: &[u8] = br#"</main>
 </body>
-</html>"#;
+</html>
+"#;
