@@ -58,8 +58,8 @@ fn write_boards<'a, S: Sink, T: Sheet>(
     conditions: &[Conditions],
 ) -> Result<(), DeviceFault>
     ensures { Writes (S.state sink.old) (S.state sink.new)
-        (boards_text (map titles_said titles.entry.now) conditions.now (T.printed_of sheet.now) (titles_said first.entry)
-        0 (T.boards_of sheet.now)) result }
+        (boards_text (map titles_said titles.entry.now) conditions.now (T.printed_of sheet.now)
+        (titles_said first.entry) 0 (T.boards_of sheet.now)) result }
 {
     let boards = sheet.boards();
     let mut before = first;

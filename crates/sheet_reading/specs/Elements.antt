@@ -1,0 +1,60 @@
+-- How the elements of a page of HTML are read, and their text. Nothing here looks at how a page is written.
+use Rattle.std.specs.Prelude.{ℕ, ◌==◌, Bool, ◌||◌, List, [], ◌∷◌, if◌then◌else◌, bytes_eq}
+use Rattle.std.specs.List.{flat_map}
+use Rattle.html.specs.Pages.{parts_of, resolved}
+
+-- ---- the name of a tag
+-- a blank, the end of a line, or the end of the tag
+abbrev pub ends_name : ℕ → Bool
+ends_name byte = byte == 32 || (byte == 10 || byte == 62)
+
+abbrev pub up_to_end : List ℕ → List ℕ
+up_to_end [] = []
+up_to_end (byte ∷ bytes) = if ends_name byte then [] else byte ∷ up_to_end bytes
+
+-- the name in a tag: `th` in `<th scope="row">`, and `/th` in `</th>`
+abbrev pub tag_name : List ℕ → List ℕ
+tag_name [] = []
+tag_name (bracket ∷ bytes) = up_to_end bytes
+
+-- ---- a page, piece by piece
+-- the name of a tag, and the text between it and the next tag
+pub record Piece : Type 0 where
+  pub name : List ℕ
+  pub text : List ℕ
+
+-- the pieces of parts that begin with a tag
+abbrev pub pieces_in : List (List ℕ) → List Piece
+pieces_in (tag ∷ text ∷ parts) = record { name = tag_name tag; text = resolved text } ∷ pieces_in parts
+pieces_in _ = []
+
+-- a text before the first tag is of no element
+abbrev pub past_text : List (List ℕ) → List Piece
+past_text [] = []
+past_text (text ∷ parts) = pieces_in parts
+
+abbrev pub pieces_of : List ℕ → List Piece
+pieces_of page = past_text (parts_of page)
+
+-- ---- elements
+-- the name of the tag that ends an element
+abbrev pub end_of : List ℕ → List ℕ
+end_of name = 47 ∷ name
+
+-- the pieces before the first tag of this name, or all if there is none
+abbrev pub before_tag : List ℕ → List Piece → List Piece
+before_tag name [] = []
+before_tag name (piece ∷ pieces) =
+    if bytes_eq piece.name name then [] else piece ∷ before_tag name pieces
+
+-- The elements of this name in their order, each from its first tag to the next tag that ends such an element. An
+-- element that isn't ended goes on to the end.
+abbrev pub elements : List ℕ → List Piece → List (List Piece)
+elements name [] = []
+elements name (piece ∷ pieces) =
+    if bytes_eq piece.name name then (piece ∷ before_tag (end_of name) pieces) ∷ elements name pieces
+    else elements name pieces
+
+-- the text of an element: all of its texts, one after the other
+abbrev pub text_in : List Piece → List ℕ
+text_in pieces = flat_map (λ piece. piece.text) pieces

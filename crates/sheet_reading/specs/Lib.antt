@@ -1,0 +1,4 @@
+pub mod Elements
+pub mod SheetReading
+pub mod Laws
+pub mod OneSheet
