@@ -1,4 +1,5 @@
 pub mod Cycle
+pub mod TitlesNamed
 pub mod Named
 pub mod LinesTaken
 pub mod GamesTaken

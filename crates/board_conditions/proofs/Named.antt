@@ -12,6 +12,7 @@ use Rattle.pbn_deals.specs.Tags.{is_same_name}
 use Rattle.pbn_deals.proofs.PiecesInTurn.{begin_nil}
 use Rattle.board_conditions.specs.Games.{value_named, first_named}
 use Rattle.board_conditions.specs.Values.{AreValues}
+use Rattle.board_conditions.proofs.TitlesNamed.{title-same}
 use Rattle.board_conditions.specs.declared.game_texts.GameText.{GameText}
 
 -- ---- lists of values
@@ -89,10 +90,10 @@ stays before pieces was is_open game none h = record {
   deal = h.deal ∙ named-same (codes "DEAL") before pieces none;
   dealer = h.dealer ∙ named-same (codes "DEALER") before pieces none;
   vulnerable = h.vulnerable ∙ named-same (codes "VULNERABLE") before pieces none;
-  event = h.event ∙ named-same (codes "EVENT") before pieces none;
-  section = h.section ∙ named-same (codes "SECTION") before pieces none;
-  site = h.site ∙ named-same (codes "SITE") before pieces none;
-  date = h.date ∙ named-same (codes "DATE") before pieces none;
+  event = h.event ∙ title-same (codes "EVENT") before pieces (none (codes "EVENT"));
+  section = h.section ∙ title-same (codes "SECTION") before pieces (none (codes "SECTION"));
+  site = h.site ∙ title-same (codes "SITE") before pieces (none (codes "SITE"));
+  date = h.date ∙ title-same (codes "DATE") before pieces (none (codes "DATE"));
   opened = refl;
 }
 

@@ -5,7 +5,7 @@ use Rattle.pbn_deals.specs.Pieces.{Line, HasLines}
 use Rattle.pbn_deals.specs.Reading.{TextAnswers}
 use Rattle.board_conditions.specs.declared.conditions.Conditions.{Conditions}
 use Rattle.board_conditions.specs.Games.{name_in, conditions_of, board_games, HasConditions}
-use Rattle.board_conditions.specs.Titles.{TitleValues, HasTitles, HasFirstTitles}
+use Rattle.board_conditions.specs.Titles.{TitleValues, titles_of, HasTitles, HasFirstTitles}
 
 -- a text has one list of conditions
 pub record HasOneList (text : List ℕ) : Type 0 where
@@ -40,3 +40,16 @@ abbrev pub BoardsHaveConditions : Type 0
 BoardsHaveConditions =
     (text : List ℕ) (boards : List Board) (list : List Conditions) →
     TextAnswers text (Ok boards) → HasConditions text list → AreOfBoards text boards list
+
+-- and so are the titles
+pub record AreTitlesOfBoards (text : List ℕ) (boards : List Board) (list : List TitleValues) : Type 0 where
+  pub lines : List Line
+  pub read : HasLines text lines
+  pub names : map (λ board. board.name) boards ≡ map name_in (board_games lines)
+  pub titles : list ≡ map titles_of (board_games lines)
+  pub as_many : length list ≡ length boards
+
+abbrev pub BoardsHaveTitles : Type 0
+BoardsHaveTitles =
+    (text : List ℕ) (boards : List Board) (list : List TitleValues) →
+    TextAnswers text (Ok boards) → HasTitles text list → AreTitlesOfBoards text boards list

@@ -1,11 +1,11 @@
 -- Where and when the boards of a text were played, by the tag pairs of its games.
-use Rattle.std.specs.Prelude.{◌≡◌, ℕ, Bool, false, ◌||◌, List, [], map, Option, None, Some, codes}
-use Rattle.std.specs.Prelude.{if◌then◌else◌, bytes_eq}
+use Rattle.std.specs.Prelude.{◌≡◌, ℕ, Bool, false, not, ◌||◌, List, [], map, Option, codes, bytes_eq}
+use Rattle.std.specs.List.{filter, filter_map, slice_get}
 use Rattle.std.specs.Option.{option_copied}
 use Rattle.pbn_deals.specs.Lines.{without_mark}
-use Rattle.pbn_deals.specs.Pieces.{rows_of, Line, AreLines}
+use Rattle.pbn_deals.specs.Pieces.{Piece, rows_of, Line, AreLines}
 use Rattle.board_conditions.specs.declared.titles.Titles.{Titles}
-use Rattle.board_conditions.specs.Games.{Game, value_in, board_games}
+use Rattle.board_conditions.specs.Games.{Game, value_named, game_pieces, board_games}
 
 pub record TitleValues : Type 0 where
   pub event : Option (List ℕ)
@@ -13,16 +13,16 @@ pub record TitleValues : Type 0 where
   pub site : Option (List ℕ)
   pub date : Option (List ℕ)
 
--- a title that is empty, unknown or that of the game before isn't known
-abbrev pub is_no_title : List ℕ → Bool
-is_no_title value = bytes_eq value [] || (bytes_eq value (codes "?") || bytes_eq value (codes "#"))
+-- a value that is empty, `?` or `#` (that of the game before) says no title
+abbrev pub is_title : List ℕ → Bool
+is_title value = not (bytes_eq value [] || (bytes_eq value (codes "?") || bytes_eq value (codes "#")))
 
-abbrev pub known_title : Option (List ℕ) → Option (List ℕ)
-known_title None = None
-known_title (Some value) = if is_no_title value then None else Some value
+-- the first title in tag pairs with this name, which is given in capitals
+abbrev pub first_title : List ℕ → List Piece → Option (List ℕ)
+first_title capitals pieces = slice_get (filter is_title (filter_map (value_named capitals) pieces)) 0
 
 abbrev pub title_in : Game → List ℕ → Option (List ℕ)
-title_in game capitals = known_title (value_in game capitals)
+title_in game capitals = first_title capitals (game_pieces game)
 
 abbrev pub titles_of : Game → TitleValues
 titles_of game = record {
@@ -32,7 +32,7 @@ titles_of game = record {
   date = title_in game (codes "DATE");
 }
 
--- the values in the program
+-- the titles as the program holds them
 abbrev pub titles_said : Titles → TitleValues
 titles_said titles = record {
   event = option_copied titles.event;

@@ -6,6 +6,7 @@ use Rattle.pbn_deals.specs.Pieces.{Piece, Kind, Line, rows_of, AreLines}
 use Rattle.board_conditions.specs.declared.game_texts.GameText.{GameText}
 use Rattle.board_conditions.specs.Games.{Game, first_named, is_gap_kind, pieces_of, games_of, game_pieces, has_deal}
 use Rattle.board_conditions.specs.Games.{board_games}
+use Rattle.board_conditions.specs.Titles.{first_title}
 
 -- those of these pieces; the flag tells that a brace comment is open behind them
 pub record AreValues (pieces : List Piece) (is_open : Bool) (found : GameText) : Type 0 where
@@ -13,10 +14,10 @@ pub record AreValues (pieces : List Piece) (is_open : Bool) (found : GameText) :
   pub deal : option_copied found.deal ≡ first_named (codes "DEAL") pieces
   pub dealer : option_copied found.dealer ≡ first_named (codes "DEALER") pieces
   pub vulnerable : option_copied found.vulnerable ≡ first_named (codes "VULNERABLE") pieces
-  pub event : option_copied found.event ≡ first_named (codes "EVENT") pieces
-  pub section : option_copied found.section ≡ first_named (codes "SECTION") pieces
-  pub site : option_copied found.site ≡ first_named (codes "SITE") pieces
-  pub date : option_copied found.date ≡ first_named (codes "DATE") pieces
+  pub event : option_copied found.event ≡ first_title (codes "EVENT") pieces
+  pub section : option_copied found.section ≡ first_title (codes "SECTION") pieces
+  pub site : option_copied found.site ≡ first_title (codes "SITE") pieces
+  pub date : option_copied found.date ≡ first_title (codes "DATE") pieces
   pub opened : found.is_open ≡ is_open
 
 -- after one line more, unless it ends the game

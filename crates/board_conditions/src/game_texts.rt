@@ -1,17 +1,20 @@
 //! A game of a text, as it is read.
 
-ghost use Rattle.std.specs.Prelude.{◌≡◌, ◌≤◌, ◌∷◌, ◌++◌, [], ℕ, List, All};
+ghost use Rattle.std.specs.Prelude.{◌≡◌, ◌≤◌, ◌∷◌, ◌++◌, [], ℕ, List, All, ◌&&◌, None, Some, if◌then◌else◌};
 ghost use Rattle.std.specs.Option.{option_copied};
 ghost use Rattle.pbn_deals.specs.Pieces as seen;
 ghost use Rattle.pbn_deals.specs.Pieces.{Pair};
+ghost use Rattle.pbn_deals.specs.Tags.{is_same_name};
 ghost use Rattle.board_conditions.specs.Games.{first_named};
+ghost use Rattle.board_conditions.specs.Titles.{first_title, is_title};
 
 use crate::conditions::{Conditions, settled_dealer, settled_vulnerability};
 use crate::numbers::number_of;
-use crate::titles::{Titles, known_title};
+use crate::titles::{Titles, is_title};
 use pbn_deals::{LineStart, Piece, first_piece, is_same_name, line_start};
 
-/// A game of a text, as far as it was read: the values of the first tag pairs that have these names.
+/// A game of a text, as far as it was read: the values of the first tag pairs that have these names, and of titles the
+/// first that is said.
 #[derive(Clone, Copy)]
 pub(crate) struct GameText<'a> {
     /// The name of the board.
@@ -54,6 +57,33 @@ fn first_of<'a>(
     }
 }
 
+/// The title in a tag pair, if its name is this one, given in capitals.
+fn title_in_pair<'a>(capitals: &[u8], name: &[u8], value: &'a [u8]) -> Option<&'a [u8]>
+    requires { All (λ capital. capital ≤ 90) capitals.now }
+    ensures { option_copied result
+        ≡ (if is_same_name capitals.now name.now && is_title value.entry.now then Some value.entry.now else None) }
+{
+    if is_same_name(capitals, name) && is_title(value) {
+        Some(value)
+    } else {
+        None
+    }
+}
+
+/// The first title of a name, given in capitals, after one tag pair more.
+fn first_title<'a>(
+    capitals: &[u8],
+    before: Option<&'a [u8]>,
+    name: &[u8],
+    value: &'a [u8],
+) -> Option<&'a [u8]>
+    requires { All (λ capital. capital ≤ 90) capitals.now }
+    ensures { (pieces : List seen.Piece) (bytes : List ℕ) → option_copied before.entry ≡ first_title capitals.now pieces
+        → option_copied result ≡ first_title capitals.now (pieces ++ Pair name.now value.entry.now bytes ∷ []) }
+{
+    before.or(title_in_pair(capitals, name, value))
+}
+
 impl<'a> GameText<'a> {
     ghost use Rattle.std.specs.Prelude.{◌≡◌, ◌≢◌, ◌++◌, [], false, List, Bool, MatchOption, is_some};
     ghost use Rattle.pbn_deals.specs.Pieces.{HasPieces, Kind, Line, LineIs};
@@ -92,10 +122,10 @@ impl<'a> GameText<'a> {
                 deal: first_of(b"DEAL", self.deal, name, value),
                 dealer: first_of(b"DEALER", self.dealer, name, value),
                 vulnerable: first_of(b"VULNERABLE", self.vulnerable, name, value),
-                event: first_of(b"EVENT", self.event, name, value),
-                section: first_of(b"SECTION", self.section, name, value),
-                site: first_of(b"SITE", self.site, name, value),
-                date: first_of(b"DATE", self.date, name, value),
+                event: first_title(b"EVENT", self.event, name, value),
+                section: first_title(b"SECTION", self.section, name, value),
+                site: first_title(b"SITE", self.site, name, value),
+                date: first_title(b"DATE", self.date, name, value),
                 is_open: false,
                 ..self
             },
@@ -170,10 +200,10 @@ impl<'a> GameText<'a> {
             → titles_said result ≡ titles_of game }
     {
         Titles {
-            event: known_title(self.event),
-            section: known_title(self.section),
-            site: known_title(self.site),
-            date: known_title(self.date),
+            event: self.event,
+            section: self.section,
+            site: self.site,
+            date: self.date,
         }
     }
 }

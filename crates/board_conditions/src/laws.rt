@@ -1,6 +1,7 @@
 //! Laws about the conditions of boards. Each is a function that does nothing: its contract is the law.
 
-ghost use Rattle.board_conditions.specs.Laws.{BoardsHaveConditions, TextsHaveOneList, TextsHaveOneTitles};
+ghost use Rattle.board_conditions.specs.Laws.{BoardsHaveConditions, BoardsHaveTitles, TextsHaveOneList};
+ghost use Rattle.board_conditions.specs.Laws.{TextsHaveOneTitles};
 
 /// A text has one list of conditions.
 pub fn conditions_are_unique()
@@ -15,4 +16,9 @@ pub fn titles_are_unique()
 /// The conditions of a text are those of its boards, one for each, in their order.
 pub fn boards_have_conditions()
     ensures { BoardsHaveConditions }
+{}
+
+/// The titles of a text are those of its boards, one for each, in their order.
+pub fn boards_have_titles()
+    ensures { BoardsHaveTitles }
 {}

@@ -11,6 +11,8 @@ mod titles;
 mod words;
 
 pub use conditions::Conditions;
-pub use laws::{boards_have_conditions, conditions_are_unique, titles_are_unique};
+pub use laws::{
+    boards_have_conditions, boards_have_titles, conditions_are_unique, titles_are_unique,
+};
 pub use readers::{first_conditions, first_titles, read_conditions, read_titles};
 pub use titles::Titles;

@@ -1,10 +1,10 @@
 //! Where and when a board was played.
 
 ghost use Rattle.std.specs.Prelude.{◌≡◌};
-ghost use Rattle.std.specs.Option.{option_copied};
-ghost use Rattle.board_conditions.specs.Titles.{is_no_title, known_title};
+ghost use Rattle.board_conditions.specs.Titles.{is_title};
 
-/// What a game says of where and when it was played: the values of its first tags with these names, if they are known.
+/// What a game says of where and when it was played: of the values of its tags with these names the first that says a
+/// title.
 #[derive(Clone, Copy)]
 pub struct Titles<'a> {
     /// Its event.
@@ -17,22 +17,12 @@ pub struct Titles<'a> {
     pub date: Option<&'a [u8]>,
 }
 
-/// Whether a title is empty, unknown (`?`) or that of the game before (`#`).
-fn is_no_title(value: &[u8]) -> bool
-    ensures { result ≡ is_no_title value.now }
+/// Whether a value says a title: it isn't empty, unknown (`?`) or that of the game before (`#`).
+pub(crate) fn is_title(value: &[u8]) -> bool
+    ensures { result ≡ is_title value.now }
 {
     match value {
-        b"" | b"?" | b"#" => true,
-        _ => false,
-    }
-}
-
-/// A title, if it is known.
-pub(crate) fn known_title(value: Option<&[u8]>) -> Option<&[u8]>
-    ensures { option_copied result ≡ known_title (option_copied value.entry) }
-{
-    match value {
-        Some(title) if is_no_title(title) => None,
-        _ => value,
+        b"" | b"?" | b"#" => false,
+        _ => true,
     }
 }
