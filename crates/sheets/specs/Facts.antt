@@ -1,4 +1,4 @@
--- What a sheet shows of the bidding: who deals and who is vulnerable, in words and round the compass.
+-- What a sheet shows of who deals and who is vulnerable, in words and round the compass.
 use Rattle.std.specs.Prelude.{ℕ, Bool, true, false, List, [], ◌++◌, codes, Option, None, Some}
 use Rattle.cards.specs.declared.seats.Seat.{Seat}
 use Rattle.cards.specs.declared.seats.Seat.TheVariants.{North, East, South, West}

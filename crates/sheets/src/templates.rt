@@ -1,13 +1,14 @@
 //! The templates of a sheet: HTML with places `{name}` for values.
 //!
-//! Each begins and ends with a tag, and values stand only between tags. The style is the text of an element.
+//! Values stand only between tags. The style is the text of an element, and HEAD has its hash. How a sheet is read by
+//! its elements (`sheet_reading`) follows the tags and the words here.
 
 /// The head of a page, up to its style. Its policy names the SHA-256 of STYLE: a browser takes no other style.
 pub const HEAD: &[u8] = br#"<!DOCTYPE html>
 <html lang="en">
 <head>
 <meta charset="utf-8">
-<meta http-equiv="Content-Security-Policy" content="default-src 'none'; style-src 'sha256-DMR5SroZNfPf73VyxkyQX145fbQPB1Zl7eUP2knXGgg='">
+<meta http-equiv="Content-Security-Policy" content="default-src 'none'; style-src 'sha256-CZyFQzwbMyhtbW7bznYrqHyhN90cCJZ9gLknttLA5UY='; base-uri 'none'; form-action 'none'">
 <meta name="viewport" content="width=device-width, initial-scale=1">
 <title>Hand record {event}</title>
 <style>"#;
@@ -50,7 +51,7 @@ footer { grid-area: foot; display: flex; justify-content: space-between; align-i
 footer p { text-align: right; overflow-wrap: anywhere }
 table { border-collapse: collapse; flex: none }
 td, th { width: 5mm; text-align: center } th { font-weight: normal }
-td { font-weight: bold } td small { color: #444; font-size: 10px; font-weight: normal }
+td { font-weight: bold } td small { color: #666; font-size: 10px; font-weight: normal }
 .read { position: absolute; width: 1px; height: 1px; overflow: hidden; clip-path: inset(50%) }
 @media screen and (max-width: 185mm) { article { width: calc(50% - 2mm) } }
 @media screen and (max-width: 125mm) { article { width: calc(100% - 2mm); min-height: 0 } }
@@ -63,7 +64,7 @@ pub const BODY: &[u8] = br#"</style>
 <header>
 <h1>Hand record <bdi>{event}</bdi></h1>
 <p><bdi>{site}</bdi> <bdi>{date}</bdi></p>
-<p class="key">Tables: in bold the level that declarer makes, otherwise the tricks.</p>
+<p class="key">Double-dummy results: in bold the level that declarer makes, otherwise the tricks. Disc: dealer. Red side: vulnerable.</p>
 </header>
 <main>"#;
 
@@ -74,7 +75,7 @@ pub const GROUP: &[u8] = br#"<h2><bdi>{event}</bdi> <bdi>{section}</bdi></h2>"#;
 pub const BOARD: &[u8] = br#"<article>
 <h2>{name}</h2>"#;
 
-/// The beginning of what is known of the bidding.
+/// The beginning of who deals and who is vulnerable.
 pub const FACTS: &[u8] = br#"<div class="facts">"#;
 
 /// Who deals, if that is known.
