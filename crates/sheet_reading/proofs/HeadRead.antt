@@ -21,7 +21,8 @@ title_words = codes "Hand record "
 
 -- what is said of the tables
 abbrev pub key_words : List ℕ
-key_words = codes "Tables: in bold the level that declarer makes, otherwise the tricks."
+key_words =
+    codes "Double-dummy results: in bold the level that declarer makes, otherwise the tricks. Disc: dealer. Red side: vulnerable."
 
 abbrev pub head_pieces : List ℕ → List ℕ → List ℕ → List ℕ → List Piece
 head_pieces event style site date =

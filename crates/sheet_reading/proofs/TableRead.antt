@@ -1,8 +1,9 @@
 -- What is read of a board's table.
-use Rattle.std.proofs.Common.{◌≡◌, ℕ, ◌+◌, ◌-◌, ◌≤◌, Bool, true, false, cond, List, [], ◌∷◌, ◌++◌, map, Option, None, Some, refl, ◌∙◌, ap, arith, nat_lt}
-use Rattle.std.specs.Prelude.{codes, unwrap_or, is_some, IfSome, filter}
+use Rattle.std.proofs.Common.{◌≡◌, ℕ, ◌+◌, ◌-◌, ◌≤◌, Bool, true, false, cond, List, [], ◌∷◌, ◌++◌, map, Option, None, Some, refl, sym, ◌∙◌, ap, arith, nat_lt, append_assoc}
+use Rattle.std.specs.Prelude.{codes, unwrap_or, is_some, IfSome}
 use Rattle.std.specs.Fmt.{decimal}
 use Rattle.std.proofs.lemmas.Bool.{ltb-true}
+use Rattle.std.proofs.lemmas.List.{append-nil}
 use Rattle.cards.specs.declared.seats.Seat.{Seat}
 use Rattle.cards.specs.declared.seats.Seat.TheVariants.{North, East, South, West}
 use Rattle.cards.specs.declared.suits.Suit.TheVariants.{Spades, Hearts, Diamonds, Clubs}
@@ -17,9 +18,9 @@ use Rattle.tables.proofs.PageBack.{fewer}
 use Rattle.tables.proofs.BoardsBack.{published_count-le}
 use Rattle.sheets.specs.CellText.{level_shown, tricks_shown}
 use Rattle.sheets.specs.Results.{columns}
-use Rattle.sheet_reading.specs.Elements.{Piece, elements}
-use Rattle.sheet_reading.specs.SheetReading.{does_begin, texts_of, columns_of, tricks_in, rows_of, rows_in, table_of_lines, table_of}
-use Rattle.sheet_reading.proofs.ElementLemmas.{lacks, Yields, yields-append, yields-nothing}
+use Rattle.sheet_reading.specs.Elements.{Piece, before_tag, elements}
+use Rattle.sheet_reading.specs.SheetReading.{texts_of, columns_of, tricks_in, rows_of, rows_in, table_of_lines, count_in, only_par, section_with, section_of_parts}
+use Rattle.sheet_reading.proofs.ElementLemmas.{lacks, before-lacks, Yields, yields-append, yields-nothing}
 use Rattle.sheet_reading.proofs.Names.{among, only, only-append, only-lacks, whole-element}
 use Rattle.sheet_reading.proofs.TemplatePieces.{table_start, heading_line, line_end, line_start, cell_content, table_end, count_content, count_pieces}
 use Rattle.sheet_reading.proofs.FootChunks.{tricks_at, IsKnown, few-known, cells_in, line_in, lines_in, table_content, complete_in, are_known, results_in}
@@ -154,15 +155,21 @@ rows-say results known = (
 )
 
 -- ---- the table, or the number of results
--- what a footer's reader finds in these pieces: tables, paragraphs, and by them a table that says the results
+-- the paragraphs that begin before the end of a table
+abbrev pub paragraphs_before : List Piece → List (List Piece)
+paragraphs_before pieces = elements (codes "p") (before_tag (codes "/table") pieces)
+
+-- What a footer's reader finds in these pieces: tables and paragraphs. With other pieces and their paragraphs after them,
+-- they are read as a table that says the results, and as the par of those paragraphs.
 pub record ReadsTable (results : Results) (pieces : List Piece) : Type 0 where
   pub tables : List (List Piece)
   pub paragraphs : List (List Piece)
   pub have_tables : Yields (codes "table") pieces tables
   pub have_paragraphs : Yields (codes "p") pieces paragraphs
-  pub no_par : filter (does_begin (codes "Par ")) paragraphs ≡ []
   pub table : Table
-  pub read : table_of tables (filter (does_begin (codes "Table incomplete: ")) paragraphs) ≡ Some table
+  pub read : (other : List Piece) (others : List (List Piece)) →
+      section_of_parts tables (paragraphs_before (pieces ++ other)) (paragraphs ++ others)
+      ≡ section_with (only_par others) (Some table)
   pub says : SaysResults results table
 
 abbrev pub table_names : List (List ℕ)
@@ -186,6 +193,19 @@ content-only results = only-append table_names (heading_line ++ line_end ∷ [])
 content-lacks : (results : Results) (name : List ℕ) → among table_names name ≡ false → lacks name (table_content results) ≡ true
 content-lacks results name apart = only-lacks table_names name (table_content results) apart (content-only results)
 
+-- no paragraph begins before the end of the table
+table-first : (results : Results) (other : List Piece) → paragraphs_before (complete_in results ++ other) ≡ []
+table-first results other =
+    let content = table_content results in
+    let free = content-lacks results (codes "p") refl in
+    let cut : before_tag (codes "/table") (complete_in results ++ other) ≡ table_start ∷ (content ++ []) =
+    ap (λ l. before_tag (codes "/table") (l ++ other)) (sym (ap (λ l. table_start ∷ l)
+    (append_assoc (heading_line ++ line_end ∷ []) (lines_in results) (table_end ∷ []))))
+    ∙ (ap (before_tag (codes "/table")) (append_assoc (table_start ∷ content) (table_end ∷ []) other)
+    ∙ before-lacks (codes "/table") (table_start ∷ content) (table_end ∷ other) (content-lacks results (codes "/table") refl)) in
+    ap (elements (codes "p")) (cut ∙ append-nil (table_start ∷ content))
+    ∙ (yields-nothing (codes "p") (table_start ∷ content) free).are
+
 complete-read : (results : Results) → IsKnown results → ReadsTable results (complete_in results)
 complete-read results known = record {
   tables = (table_start ∷ table_content results) ∷ [];
@@ -197,14 +217,15 @@ complete-read results known = record {
       yields-append (codes "p") (table_start ∷ table_content results) (table_end ∷ []) [] []
       (yields-nothing (codes "p") (table_start ∷ table_content results) (content-lacks results (codes "p") refl))
       (record { closed = refl; are = refl });
-  no_par = refl;
   table = Rows (rows_at results);
-  read = rows-read results known;
+  read = λ other others.
+      ap (λ before. section_of_parts ((table_start ∷ table_content results) ∷ []) before others) (table-first results other)
+      ∙ ap (section_with (only_par others)) (rows-read results known);
   says = rows-say results known;
 }
 
-count-number : (n : ℕ) → n ≤ 20 → table_of [] (count_content (decimal n) ∷ []) ≡ Some (Incomplete n)
-count-number = for_small (λ n text. table_of [] (count_content text ∷ []) ≡ Some (Incomplete n)) refl refl refl refl refl refl refl refl refl refl refl refl refl refl refl refl refl refl refl refl refl
+count-number : (n : ℕ) → n ≤ 20 → count_in (count_content (decimal n)) ≡ Some (Incomplete n)
+count-number = for_small (λ n text. count_in (count_content text) ≡ Some (Incomplete n)) refl refl refl refl refl refl refl refl refl refl refl refl refl refl refl refl refl refl refl refl refl
 
 incomplete-read : (results : Results) → is_complete results ≡ false → ReadsTable results (count_pieces (decimal (published_count results)))
 incomplete-read results f = record {
@@ -212,9 +233,8 @@ incomplete-read results f = record {
   paragraphs = count_content (decimal (published_count results)) ∷ [];
   have_tables = record { closed = refl; are = refl };
   have_paragraphs = record { closed = refl; are = refl };
-  no_par = refl;
   table = Incomplete (published_count results);
-  read = count-number (published_count results) (published_count-le results);
+  read = λ other others. ap (section_with (only_par others)) (count-number (published_count results) (published_count-le results));
   says = (refl, fewer results f);
 }
 

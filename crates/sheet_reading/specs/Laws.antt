@@ -32,7 +32,7 @@ said value = flat_map encode_utf8 (shown_chars value)
 abbrev pub title_said : TitleValues → List ℕ
 title_said head = codes "Hand record " ++ said (title_shown head.event)
 
--- ---- the bidding
+-- ---- who deals and who is vulnerable
 abbrev pub dealer_said : Option Seat → List (List ℕ)
 dealer_said None = []
 dealer_said (Some dealer) = (codes "Dealer " ++ seat_letter dealer) ∷ []
@@ -76,7 +76,7 @@ pub record SaysBoard (board : Board) (conditions : Conditions) (printed : Printe
   pub deal : SaysDeal board.deal conditions printed block
 
 -- ---- the law
--- what is known of the bidding of the board in this place
+-- who deals and who is vulnerable, as far as is known, at the board in this place
 abbrev pub conditions_at : Shown → ℕ → Conditions
 conditions_at shown place = slice_index_or shown.conditions place unknown
 

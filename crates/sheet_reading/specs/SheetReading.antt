@@ -1,6 +1,7 @@
 -- How a sheet is read: a title, and a block for each article of its page. Nothing here looks at how a sheet is written.
--- The page is refused if an article has no name or two, or if it has a footer whose table or par can't be read.
-use Rattle.std.specs.Prelude.{ℕ, ◌==◌, ◌+◌, Bool, true, false, ◌&&◌, List, [], ◌∷◌, map, filter, codes}
+-- The page is refused if an article has no name or two. It is refused too if a footer has a table or a paragraph that
+-- can't be read, or a paragraph out of place.
+use Rattle.std.specs.Prelude.{ℕ, ◌+◌, List, [], ◌∷◌, ◌++◌, map, codes}
 use Rattle.std.specs.Prelude.{Option, None, Some, if◌then◌else◌, bytes_eq}
 use Rattle.std.specs.List.{flat_map}
 use Rattle.cards.specs.declared.seats.Seat.{Seat}
@@ -10,7 +11,7 @@ use Rattle.cards.specs.declared.suits.Trump.TheVariants as trump
 use Rattle.tables.specs.PageReading.{all_items, put_item, Row, row_of, seat_named, number_named, Table, rows_table}
 use Rattle.tables.specs.PageReading.{count_table, ParSaid, Nothing, Values, DealerUnknown, VulnerabilityUnknown}
 use Rattle.tables.specs.PageReading.{Section, section_of}
-use Rattle.sheet_reading.specs.Elements.{Piece, pieces_of, elements, text_in}
+use Rattle.sheet_reading.specs.Elements.{Piece, pieces_of, end_of, before_tag, elements, text_in}
 
 -- ---- one element of a name
 abbrev pub first_of : List (List Piece) → List Piece
@@ -27,15 +28,6 @@ only_text_of name pieces = only_text (elements name pieces)
 
 abbrev pub texts_of : List ℕ → List Piece → List (List ℕ)
 texts_of name pieces = map text_in (elements name pieces)
-
--- whether a text has this beginning
-abbrev pub begins_with : List ℕ → List ℕ → Bool
-begins_with [] text = true
-begins_with (byte ∷ bytes) [] = false
-begins_with (byte ∷ bytes) (first ∷ others) = (byte == first) && begins_with bytes others
-
-abbrev pub does_begin : List ℕ → List Piece → Bool
-does_begin beginning element = begins_with beginning (text_in element)
 
 -- ---- the table
 abbrev pub suit_sign : ℕ → List ℕ
@@ -60,11 +52,12 @@ abbrev pub tricks_of_level : Option ℕ → Option ℕ
 tricks_of_level None = None
 tricks_of_level (Some level) = Some (level + 6)
 
--- the number of tricks if a cell has one, or else those of the level that makes
+-- The number of tricks if a cell has one, or else those of the level that makes. A cell with both numbers is refused.
 abbrev pub tricks_or_level : Option (List ℕ) → List ℕ → Option ℕ
 tricks_or_level None text = None
 tricks_or_level (Some []) text = tricks_of_level (number_named text)
-tricks_or_level (Some (byte ∷ bytes)) text = number_named (byte ∷ bytes)
+tricks_or_level (Some (byte ∷ bytes)) text =
+    if bytes_eq text (byte ∷ bytes) then number_named (byte ∷ bytes) else None
 
 abbrev pub tricks_in : List Piece → Option ℕ
 tricks_in cell = tricks_or_level (only_text_of (codes "small") cell) (text_in cell)
@@ -94,56 +87,64 @@ table_of_lines [] = None
 table_of_lines (head ∷ lines) =
     rows_table (all_rows (all_items (map (rows_in (columns_of (texts_of (codes "th") head))) lines)))
 
-abbrev pub number_of : Option (List ℕ) → Option ℕ
-number_of None = None
-number_of (Some text) = number_named text
-
--- a table, or else a paragraph with the number of results
-abbrev pub table_of : List (List Piece) → List (List Piece) → Option Table
-table_of (table ∷ []) [] = table_of_lines (elements (codes "tr") table)
-table_of [] (paragraph ∷ []) = count_table (number_of (only_text_of (codes "b") paragraph))
-table_of _ _ = None
-
 abbrev pub table_in : List Piece → Option Table
-table_in footer =
-    table_of (elements (codes "table") footer)
-    (filter (does_begin (codes "Table incomplete: ")) (elements (codes "p") footer))
+table_in table = table_of_lines (elements (codes "tr") table)
+
+-- ---- the number of results, if there is no table
+abbrev pub count_text : List ℕ → List ℕ
+count_text count = codes "Table incomplete: " ++ (count ++ codes " of 20 results are known")
+
+-- the number stands out, and the text says no more
+abbrev pub count_in_text : Option (List ℕ) → List ℕ → Option Table
+count_in_text None text = None
+count_in_text (Some count) text = if bytes_eq text (count_text count) then count_table (number_named count) else None
+
+abbrev pub count_in : List Piece → Option Table
+count_in paragraph = count_in_text (only_text_of (codes "b") paragraph) (text_in paragraph)
 
 -- ---- par
-abbrev pub unknown_par : Option (List ℕ) → Option ParSaid
-unknown_par None = None
-unknown_par (Some text) =
+abbrev pub unknown_par : List ℕ → Option ParSaid
+unknown_par text =
     if bytes_eq text (codes "dealer") then Some DealerUnknown else
     (if bytes_eq text (codes "vulnerability") then Some VulnerabilityUnknown else
     None)
 
-abbrev pub par_values : Option (List ℕ) → Option (List ℕ) → Option ParSaid
-par_values (Some score) (Some contracts) = Some (Values score contracts)
-par_values _ _ = None
-
--- the score stands out, and the contracts are on the next line
-abbrev pub par_of : List Piece → Option ParSaid
-par_of paragraph =
-    if does_begin (codes "Par unknown: no ") paragraph then unknown_par (only_text_of (codes "b") paragraph)
-    else par_values (only_text_of (codes "b") paragraph) (only_text_of (codes "br") paragraph)
-
-abbrev pub only_par : List (List Piece) → Option ParSaid
-only_par [] = Some Nothing
-only_par (paragraph ∷ []) = par_of paragraph
-only_par _ = None
+-- The score stands out, and the contracts are on the next line. Without that line, what isn't known stands out.
+abbrev pub par_in_text : Option (List ℕ) → List (List ℕ) → List ℕ → Option ParSaid
+par_in_text (Some score) (contracts ∷ []) text =
+    if bytes_eq text (codes "Par " ++ (score ++ contracts)) then Some (Values score contracts) else None
+par_in_text (Some unknown) [] text =
+    if bytes_eq text (codes "Par unknown: no " ++ unknown) then unknown_par unknown else None
+par_in_text _ _ text = None
 
 abbrev pub par_in : List Piece → Option ParSaid
-par_in footer = only_par (filter (does_begin (codes "Par ")) (elements (codes "p") footer))
+par_in paragraph =
+    par_in_text (only_text_of (codes "b") paragraph) (texts_of (codes "br") paragraph) (text_in paragraph)
+
+-- at most one paragraph, which is that of par
+abbrev pub only_par : List (List Piece) → Option ParSaid
+only_par [] = Some Nothing
+only_par (paragraph ∷ []) = par_in paragraph
+only_par _ = None
 
 -- ---- a section: what is said of par, and a table
 abbrev pub section_with : Option ParSaid → Option Table → Option Section
 section_with None table = None
 section_with (Some par) table = section_of par table
 
-abbrev pub section_in : List Piece → Option Section
-section_in footer = section_with (par_in footer) (table_in footer)
+-- A table, or else a paragraph with the number of results, and then at most the paragraph of par. The lists are the
+-- tables, the paragraphs that begin before the end of a table, and all paragraphs.
+abbrev pub section_of_parts : List (List Piece) → List (List Piece) → List (List Piece) → Option Section
+section_of_parts (table ∷ []) [] paragraphs = section_with (only_par paragraphs) (table_in table)
+section_of_parts [] before (paragraph ∷ paragraphs) = section_with (only_par paragraphs) (count_in paragraph)
+section_of_parts _ _ _ = None
 
--- ---- a block: its name, what is known of the bidding, the hands, and its section, if it has one
+abbrev pub section_in : List Piece → Option Section
+section_in footer =
+    section_of_parts (elements (codes "table") footer)
+    (elements (codes "p") (before_tag (end_of (codes "table")) footer)) (elements (codes "p") footer)
+
+-- ---- a block: its name, who deals and who is vulnerable, the hands, and its section, if it has one
 pub record Block : Type 0 where
   pub name : List ℕ
   pub facts : List (List ℕ)

@@ -8,7 +8,7 @@ ghost use Rattle.sheet_reading.specs.Laws.{SheetsAreRead};
 ghost use Rattle.sheet_reading.specs.OneSheet.{SheetsSayOneThing};
 
 /// A sheet is read, element by element, as its title and one block for each board, in their order, and no other block.
-/// A block has the board's name. If the board has a deal, the block also has what is known of the bidding, the four
+/// A block has the board's name. If the board has a deal, the block also has who deals and who is vulnerable, the four
 /// hands, the results and the par. Each result of a complete table is read once, for its declarer and denomination. A
 /// result is at most 13 tricks.
 pub fn sheets_are_read()
