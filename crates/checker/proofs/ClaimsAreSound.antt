@@ -21,7 +21,7 @@ use Rattle.checker.specs.Soundness.{KeepsItsClaim, IsNamedBy, GraphsAreSound, En
 use Rattle.checker.proofs.Lines.{four_are_legal}
 use Rattle.checker.proofs.LineLaws.{on_lines}
 use Rattle.checker.proofs.TrickRest.{rest_is_smaller}
-use Rattle.checker.proofs.OnTheWay.{pattern_of}
+use Rattle.checker.proofs.WayLaws.{pattern_of}
 use Rattle.checker.proofs.StepIsSound.{one_step}
 use Rattle.checker.proofs.PartLaws.{numbered}
 

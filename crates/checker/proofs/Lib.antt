@@ -19,6 +19,7 @@ pub mod TrickCards
 pub mod TrickWinner
 pub mod TrickRest
 pub mod TwoLines
+pub mod WayLaws
 pub mod OnTheWay
 pub mod StepIsSound
 pub mod ClaimsAreSound
@@ -27,3 +28,9 @@ pub mod VersionLaws
 pub mod BranchLaws
 mod CardSetLaws
 pub mod SuitSetLaws
+pub mod PathLaws
+pub mod BegunIsSound
+pub mod ValueLaws
+pub mod BegunLaws
+pub mod BegunFaultLaws
+pub mod RestLaws

@@ -23,10 +23,10 @@ use Rattle.checker.proofs.StepDecisions.{is_answered, is_listed, has_to_go_on, c
 use Rattle.checker.proofs.HoldLaws.{own_holds, reply_holds, leaf_holds, none_hold, more_hold}
 
 -- a chain of which nothing is told: the first is not wrong, and nothing is told of what follows
-not_wrong : {F : Type 0} (wrong : Type 0) (name : F) (rest : F → Type 0) → ((fault : F) → IfWrong wrong name rest fault → ⊥) → wrong → ⊥
+pub not_wrong : {F : Type 0} (wrong : Type 0) (name : F) (rest : F → Type 0) → ((fault : F) → IfWrong wrong name rest fault → ⊥) → wrong → ⊥
 not_wrong wrong name rest none is = none name (inl (is, refl))
 
-none_later : {F : Type 0} (wrong : Type 0) (name : F) (rest : F → Type 0) → ((fault : F) → IfWrong wrong name rest fault → ⊥) → (fault : F) → rest fault → ⊥
+pub none_later : {F : Type 0} (wrong : Type 0) (name : F) (rest : F → Type 0) → ((fault : F) → IfWrong wrong name rest fault → ⊥) → (fault : F) → rest fault → ⊥
 none_later wrong name rest none fault told = none fault (inr (not_wrong wrong name rest none, told))
 
 -- ---- turns

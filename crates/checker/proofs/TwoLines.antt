@@ -20,7 +20,7 @@ use Rattle.certificate_graph.specs.declared.versions.Version.TheVariants.{One, T
 use Rattle.certificate_graph.specs.Trees.{Branches}
 use Rattle.checker.specs.Places.{HasBranchOf}
 use Rattle.checker.specs.Steps.{player_after, MayComeNext, IsAnswered, BeginLine}
-use Rattle.checker.proofs.Lines.{no_cards_begin, one_more_begins}
+use Rattle.checker.proofs.Lines.{one_more_begins}
 
 -- the cards played, and a line of the tree that stands for them
 pub record StandsForLine (node : Node) (pats line : List PatCard) : Type 0 where
@@ -29,13 +29,9 @@ pub record StandsForLine (node : Node) (pats line : List PatCard) : Type 0 where
   pub led : BeginLine node line
   pub alike : (place : ℕ) → place < length pats → IsAlikeIn node.pattern node.lead pats line place
 
-pub no_lines : (node : Node) → StandsForLine node [] []
-no_lines node = record {
-  as_long = refl;
-  played = no_cards_begin node;
-  led = no_cards_begin node;
-  alike = λ place less. absurd (omega arith);
-}
+-- cards that begin a line stand for themselves
+pub stands_for_itself : (node : Node) (cards : List PatCard) → BeginLine node cards → StandsForLine node cards cards
+stands_for_itself node cards begun = record { as_long = refl; played = begun; led = begun; alike = λ place less. inl refl }
 
 -- the suits led are one
 same_led : (node : Node) (pats line : List PatCard) → length line ≡ length pats → ((place : ℕ) → place < length pats → IsAlikeIn node.pattern node.lead pats line place) → suit_led_by pats ≡ suit_led_by line

@@ -14,7 +14,7 @@ use Rattle.checker.specs.Faults.{HoldsFrom, HoldAmong, IsFirstFault, IsFirstFaul
 use Rattle.checker.proofs.HoldLaws.{own_holds, reply_holds, leaf_holds}
 
 -- an answer, where what it tells tells something else
-told_on : {A : Type 0} (answer : Result A StepFault) (P Q : Type 0) (F G : StepFault → Type 0) → (P → Q) → ((fault : StepFault) → F fault → G fault) → MatchResult answer (λ _. P) F → MatchResult answer (λ _. Q) G
+pub told_on : {A : Type 0} (answer : Result A StepFault) (P Q : Type 0) (F G : StepFault → Type 0) → (P → Q) → ((fault : StepFault) → F fault → G fault) → MatchResult answer (λ _. P) F → MatchResult answer (λ _. Q) G
 told_on (Ok done) P Q F G holds fails told = holds told
 told_on (Err fault) P Q F G holds fails told = fails fault told
 

@@ -12,3 +12,5 @@ pub mod Verdicts
 pub mod Judging
 pub mod CardSets
 pub mod Pairs
+pub mod Begun
+pub mod ValuesAfter

@@ -9,7 +9,7 @@ use std::fmt;
 /// Why the step of a node doesn't hold. It is printed as its number and its name: `2 BranchMissing`.
 #[derive(Clone, Copy, Debug, PartialEq, Eq)]
 pub enum StepFault {
-    /// A card of the side is not legal.
+    /// A card of the side is not legal, or a card that was played in a begun node.
     CardNotLegal,
     /// A legal card of the opponents has no branch.
     BranchMissing,
@@ -24,7 +24,7 @@ pub enum StepFault {
     /// The pattern of a node that goes on does not cover the rest.
     ChildPattern,
     /// The tree has something else in this place than a card of the side, the opponents' cards or the end, whichever
-    /// belongs there.
+    /// belongs there. Or the cards that were played in a begun node are no path in its tree.
     TreeShape,
 }
 

@@ -3,6 +3,7 @@
 ghost use Rattle.checker.specs.Laws.{HasNoFaultWhereStepsHold, HasOneFirstFault, HasOneGraphFault};
 ghost use Rattle.checker.specs.Laws.{HasOneEntryAnswer, HasOneVerdict, PlacesAreOnLines, LinesLeadToPlaces};
 ghost use Rattle.checker.specs.Laws.{ExtractsHold, HoldAsTwo};
+ghost use Rattle.checker.specs.Begun.{HasNoFaultWhereRight, HasOneBegunFault};
 
 /// A graph has no fault exactly if all its steps hold.
 pub fn no_fault_where_steps_hold()
@@ -50,4 +51,14 @@ pub fn extracts_hold()
 /// If the steps of a graph of version 1 hold, so do the steps of the same graph in version 2.
 pub fn steps_hold_as_version_two()
     ensures { HoldAsTwo }
+{}
+
+/// A begun node is right exactly if it has no fault.
+pub fn no_fault_where_begun_is_right()
+    ensures { HasNoFaultWhereRight }
+{}
+
+/// A begun node has at most one first fault.
+pub fn begun_node_has_one_first_fault()
+    ensures { HasOneBegunFault }
 {}

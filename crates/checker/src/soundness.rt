@@ -1,6 +1,7 @@
 //! The worth of certificates in play. Each law is a function that does nothing: its contract is the law.
 
 ghost use Rattle.checker.specs.Soundness.{OneStepIsSound, GraphsAreSound, EntriesAreSound};
+ghost use Rattle.checker.specs.Begun.{BegunStepsShow};
 
 /// One trick. Take a node whose step holds. If each node that its leaves name keeps its claim, this node keeps its
 /// claim too: from every layout that matches its pattern, with its seat to lead, the side wins the tricks that it
@@ -20,4 +21,11 @@ pub fn graphs_are_sound()
 /// that wins the others against every play.
 pub fn entries_are_sound()
     ensures { EntriesAreSound }
+{}
+
+/// The middle of a trick. Take a graph whose steps hold and a begun node that is right beside it, as
+/// [`crate::check_begun`] says. In every layout that matches its pattern, after every legal history for whose cards its
+/// cards stand, the side wins the tricks that the node needs.
+pub fn begun_steps_show()
+    ensures { BegunStepsShow }
 {}
