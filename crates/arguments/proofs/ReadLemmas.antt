@@ -4,11 +4,10 @@ use Rattle.std.specs.Prelude.{IsErrAnd}
 use Rattle.clap.proofs.OnLiterals.{clap_on_literals}
 use Rattle.clap.specs.Words.{HasKind, IsAmong, Kinds, Text, fault_of, is_simple, is_simple_and_free, kind_of, subcommand_of}
 use Rattle.clap.specs.declared.error.Error.{Error}
-use Rattle.clap.specs.declared.error.kind.ErrorKind.TheVariants.{MissingSubcommand}
 use Rattle.asked.specs.declared.subcommands.Subcommand.{Subcommand}
 use Rattle.arguments.specs.CommandLine.{command_line}
-use Rattle.arguments.specs.Words.{AreReadBy, AskFor, HasNone, reasons}
-use Rattle.matched_words.specs.Matches.{SaysMatched}
+use Rattle.arguments.specs.Words.{AreReadBy, AskFor, HasNone, reasons, refusal_kind}
+use Rattle.matched_words.specs.Matches.{SaysMatched, asks_for_both}
 use Rattle.arguments.specs.declared.command.Letters.{Letters}
 
 pub simple : (letters : Letters) → is_simple (command_line letters) ≡ true
@@ -40,6 +39,7 @@ refused_by letters words processors (Err other) error given none = rw given none
 
 -- the words are taken, and a word of the subcommand is missing
 pub none_without : (letters : Letters) (words : List Text) (processors : ℕ) (error : Error) → fault_of (command_line letters) words ≡ []
-    → ((asked : Subcommand) → SaysMatched (subcommand_of (command_line letters) words) processors asked → ⊥) → kind_of error ≡ MissingSubcommand
+    → ((asked : Subcommand) → SaysMatched (subcommand_of (command_line letters) words) processors asked → ⊥)
+    → kind_of error ≡ refusal_kind (asks_for_both (subcommand_of (command_line letters) words))
     → HasNone letters words processors (kind_of error)
 none_without letters words processors error taken nothing kind = inr ((λ asked ask. nothing asked ask.1), rw taken (inl kind))

@@ -11,7 +11,7 @@ use Rattle.clap.specs.declared.builder.command.Command.TheViews.{out-Command as 
 use Rattle.clap.specs.declared.builder.value_parser.ValueParser.{ValueParser}
 use Rattle.clap.specs.declared.builder.value_parser.ValueParser.TheVariants.{Names, Signed}
 use Rattle.asked.specs.Options.{OptionNumbers, table_options, budget_option, progress_option, whole_option}
-use Rattle.asked.specs.Options.{par_option}
+use Rattle.asked.specs.Options.{par_option, sheet_option}
 use Rattle.asked.specs.Options.{default_side, evidence_option, side_option, side_word}
 use Rattle.asked.specs.declared.sides.ContractSide.TheVariants.{Declarer, Defenders}
 use Rattle.cards.specs.Seats.{seat_letter}
@@ -83,13 +83,13 @@ text_rule name = record (new_rule name) {
 
 -- which page is written
 abbrev pub page_rules : List Rule
-page_rules = flag whole_option ∷ flag par_option ∷ []
+page_rules = flag whole_option ∷ flag sheet_option ∷ flag par_option ∷ []
 
 -- how tables are made
 abbrev pub settings : List Rule
 settings = map number_rule table_options
-    ++ flag progress_option ∷ flag whole_option ∷ flag par_option ∷ text_rule evidence_option
-    ∷ optional_word (codes "BOARDS") ∷ []
+    ++ flag progress_option ∷ flag whole_option ∷ flag sheet_option ∷ flag par_option
+    ∷ text_rule evidence_option ∷ optional_word (codes "BOARDS") ∷ []
 
 abbrev pub subcommand : Text → List Rule → Shape
 subcommand name rules = record (new_shape name) { rules = rules }

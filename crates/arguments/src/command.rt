@@ -158,6 +158,7 @@ fn with_page<'a>(alloc: Global, command: Command<'a>) -> Result<Command<'a>, All
 {
     command
         .arg(flag_arg(alloc, &options::WHOLE))?
+        .arg(flag_arg(alloc, &options::SHEET))?
         .arg(flag_arg(alloc, &options::PAR))
 }
 
@@ -168,6 +169,7 @@ fn with_settings<'a>(alloc: Global, command: Command<'a>) -> Result<Command<'a>,
     with_numbers(alloc, command, options::table_options())?
         .arg(flag_arg(alloc, &options::PROGRESS))?
         .arg(flag_arg(alloc, &options::WHOLE))?
+        .arg(flag_arg(alloc, &options::SHEET))?
         .arg(flag_arg(alloc, &options::PAR))?
         .arg(text_arg(alloc, &options::EVIDENCE))?
         .arg(optional_word_arg(alloc, "BOARDS", help::BOARDS))

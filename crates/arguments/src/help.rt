@@ -44,6 +44,9 @@ certificates that were checked. Where some weren't found, a line such
 as `; table incomplete: 19 of 20` stands in place of the table. With --whole the text
 is written as it is, with the tables in it. With --par two tag pairs stand before each
 complete table, OptimumScore and ParContract: par, and the contracts that reach it.
+  ddfarm table --sheet club.pbn >club.html
+writes a page of HTML that a browser shows and prints: of each board its four hands, its
+table and, without --par too, par.
   ddfarm table --evidence club.dde club.pbn >tables.pbn
 writes the same, and keeps the certificates in club.dde, which is made where it isn't
 there. What it shows isn't searched again, and what is searched is added as it is found.
@@ -85,8 +88,8 @@ reads the boards, as `ddfarm table` does, and then evidence, as
 `ddfarm table --evidence club.dde` keeps it. Nothing is searched and nothing is trusted:
 each certificate is checked, and a number is written only where certificates show it.
 The tables are those of `ddfarm table`. Where some numbers weren't shown, a line such as
-`; table incomplete: 19 of 20` stands in place of the table. --whole and --par do
-as with `ddfarm table`.
+`; table incomplete: 19 of 20` stands in place of the table. --whole, --sheet and --par
+do as with `ddfarm table`.
 
 Evidence is a row of sections, each for one deal in one denomination. Sections of other
 deals are passed over. So are damaged ones, and that is told once on the error output:

@@ -2,16 +2,18 @@
 
 ghost use Rattle.std.specs.Prelude.{◌≡◌, IfOk, map};
 ghost use Rattle.clap.specs.Words.{kind_of};
-ghost use Rattle.clap.specs.declared.error.kind.ErrorKind.TheVariants.{MissingSubcommand};
-ghost use Rattle.arguments.specs.Words.{AreReadAs};
+ghost use Rattle.arguments.specs.Words.{AreReadAs, refusal_kind};
 
 use crate::command::{Letters, command, known_letters};
 use asked::Subcommand;
 use clap::Error;
 use clap::error::ErrorKind;
-use matched_words::matched_subcommand;
+use matched_words::{asks_for_both, matched_subcommand};
 use std::alloc::{AllocError, Global};
 use std::convert::AsStr;
+
+/// What is said of words that ask for two pages.
+const TWO_PAGES: &str = "the argument '--whole' cannot be used with '--sheet'";
 
 /// The subcommand that the words ask for, the first of them being the program's name. Without the options for the
 /// numbers of threads there are as many as the processors given, 64 at most.
@@ -29,13 +31,19 @@ pub fn parse_arguments<'a, S: AsStr>(
     let matches = command(alloc, letters)?.try_get_matches_from(words)?;
     match matched_subcommand(&matches, processors) {
         Some(asked) => Ok(asked),
-        None => Err(no_subcommand(alloc, letters)?),
+        None => Err(refusal(alloc, letters, asks_for_both(&matches))?),
     }
 }
 
-/// What is said where the words name no subcommand. `clap` has refused such words before.
-fn no_subcommand<'a>(alloc: Global, letters: Letters<'a>) -> Result<Error, AllocError>
-    ensures { IfOk result (λ error. kind_of error ≡ MissingSubcommand) }
+/// What is said of words that `clap` takes and that ask for no subcommand, by whether they ask for two pages. A rule of
+/// `clap` that two options exclude each other has no exact contract, so that is told here, in the form of its errors.
+fn refusal<'a>(alloc: Global, letters: Letters<'a>, both: bool) -> Result<Error, AllocError>
+    ensures { IfOk result (λ error. kind_of error ≡ refusal_kind both) }
 {
-    command(alloc, letters)?.error(ErrorKind::MissingSubcommand, "no such command")
+    let mut command = command(alloc, letters)?;
+    if both {
+        command.error(ErrorKind::ArgumentConflict, TWO_PAGES)
+    } else {
+        command.error(ErrorKind::MissingSubcommand, "no such command")
+    }
 }

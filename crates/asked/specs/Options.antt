@@ -75,6 +75,10 @@ progress_option = codes "progress"
 abbrev pub whole_option : List ℕ
 whole_option = codes "whole"
 
+-- another: whether a page to print is written
+abbrev pub sheet_option : List ℕ
+sheet_option = codes "sheet"
+
 -- another: whether the boards' pars stand before their tables
 abbrev pub par_option : List ℕ
 par_option = codes "par"

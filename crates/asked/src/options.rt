@@ -166,6 +166,12 @@ pub const WHOLE: FlagOption = FlagOption {
     help: "Writes the input as it is, with its tables in it",
 };
 
+/// Whether a page to print is written, with the boards' hands, tables and pars.
+pub const SHEET: FlagOption = FlagOption {
+    name: "sheet",
+    help: "Writes a page of HTML to print: each board's hands, table and par",
+};
+
 /// Whether the boards' pars stand before their tables.
 pub const PAR: FlagOption = FlagOption {
     name: "par",

@@ -55,9 +55,9 @@ pub enum Subcommand<'a> {
 /// Which page of a text's tables is written.
 #[derive(Clone, Copy)]
 pub struct Page {
-    /// Whether they stand alone.
+    /// Where they stand.
     pub form: PageForm,
-    /// Whether the pars of the boards stand before their tables.
+    /// Whether the pars of the boards stand before their tables. A sheet has them in any case.
     pub par: ParTags,
 }
 
@@ -77,6 +77,8 @@ pub enum PageForm {
     Tables,
     /// In the text, which is as it was otherwise.
     Whole,
+    /// On a sheet to print.
+    Sheet,
 }
 
 /// What is asked of a play against a certificate.

@@ -1,6 +1,6 @@
 -- What the words of a subcommand say, and what `clap`'s matches are read as.
 use Rattle.std.specs.Prelude.{◌≡◌, ◌⊎◌, ℕ, Bool, true, false, List, Option, Some, None, codes, option_map}
-use Rattle.std.specs.Prelude.{if◌then◌else◌}
+use Rattle.std.specs.Prelude.{if◌then◌else◌, ◌&&◌}
 use Rattle.std.specs.Str.{bytes_eq}
 use Rattle.std.specs.Borrow.{Bor}
 use Rattle.std.specs.Str.Parse.{IsNumeral, digits_value, without_leading_plus}
@@ -14,12 +14,12 @@ use Rattle.asked.specs.declared.subcommands.TableOptions.{TableOptions}
 use Rattle.asked.specs.declared.subcommands.AuditOptions.{AuditOptions}
 use Rattle.asked.specs.declared.subcommands.Page.{Page}
 use Rattle.asked.specs.declared.subcommands.PageForm.{PageForm}
-use Rattle.asked.specs.declared.subcommands.PageForm.TheVariants.{Tables, Whole}
+use Rattle.asked.specs.declared.subcommands.PageForm.TheVariants.{Tables, Whole, Sheet}
 use Rattle.asked.specs.declared.subcommands.ParTags.{ParTags}
 use Rattle.asked.specs.declared.subcommands.ParTags.TheVariants.{Without, With}
 use Rattle.asked.specs.declared.subcommands.Subcommand.TheVariants.{Plain, Solve, Table, Check, Line, Play, Audit}
 use Rattle.asked.specs.Options.{OptionNumbers, IsIn, nearest_in, budget_option, progress_option, whole_option}
-use Rattle.asked.specs.Options.{evidence_option, par_option, side_option, side_word}
+use Rattle.asked.specs.Options.{evidence_option, par_option, sheet_option, side_option, side_word}
 use Rattle.asked.specs.Settings.{OfEach, numbers_in}
 use Rattle.matched_words.specs.declared.matched.NamedDeal.{NamedDeal}
 
@@ -65,18 +65,26 @@ SaysFlag said name flag = first_of name said ≡ Some (flag_letters flag)
 abbrev pub SaysText : List Row → Text → Option (Bor Text) → Type 0
 SaysText said name text = option_map (λ t. t.now) text ≡ first_of name said
 
--- what stands for the option `--whole` among the words where this page is asked for, and for `--par`
-abbrev pub form_letters : PageForm → Text
-form_letters Tables = flag_letters false
-form_letters Whole = flag_letters true
+-- whether `--whole` is said where this form is asked for, and `--sheet`
+abbrev pub is_whole : PageForm → Bool
+is_whole Tables = false
+is_whole Whole = true
+is_whole Sheet = false
 
+abbrev pub is_sheet : PageForm → Bool
+is_sheet Tables = false
+is_sheet Whole = false
+is_sheet Sheet = true
+
+-- what stands for the option `--par` among the words where these are asked for
 abbrev pub par_letters : ParTags → Text
 par_letters Without = flag_letters false
 par_letters With = flag_letters true
 
 -- the words say which page is asked for
 pub record SaysPage (said : List Row) (page : Page) : Type 0 where
-  pub form : first_of whole_option said ≡ Some (form_letters page.form)
+  pub whole : SaysFlag said whole_option (is_whole page.form)
+  pub sheet : SaysFlag said sheet_option (is_sheet page.form)
   pub par : first_of par_option said ≡ Some (par_letters page.par)
 
 -- the file of this name, or the input where there is no name or it is `-`
@@ -155,6 +163,19 @@ Says text said processors asked = SaysNamed (name_of text) said processors asked
 abbrev pub SaysMatched : Option (Text × List Row) → ℕ → Subcommand → Type 0
 SaysMatched (Some matched) processors asked = Says matched.0 matched.1 processors asked
 SaysMatched None processors asked = ⊥
+
+-- an option without a value is said
+abbrev pub is_true : Option Text → Bool
+is_true None = false
+is_true (Some letters) = bytes_eq letters (codes "true")
+
+abbrev pub is_said : List Row → Text → Bool
+is_said said name = is_true (first_of name said)
+
+-- the words ask for two pages: for the input with its tables, and for a sheet
+abbrev pub asks_for_both : Option (Text × List Row) → Bool
+asks_for_both None = false
+asks_for_both (Some matched) = is_said matched.1 whole_option && is_said matched.1 sheet_option
 
 -- what is read is said, and where nothing is read nothing is said
 abbrev pub IsRead : {T : Type 0} → (T → Type 0) → Option T → Type 0

@@ -3,4 +3,4 @@
 
 mod matched;
 
-pub use matched::matched_subcommand;
+pub use matched::{asks_for_both, matched_subcommand};

@@ -5,7 +5,8 @@ ghost use Rattle.clap.specs.Words.{first_of, found_of, rows_of, subcommand_rows_
 ghost use Rattle.cards.specs.Seats.{seat_letter};
 ghost use Rattle.cards.specs.Pack.{trump_letters};
 ghost use Rattle.asked.specs.Options.{numbers_of, side_option, side_word};
-ghost use Rattle.matched_words.specs.Matches.{IsRead, flag_letters, form_letters, named_boards, par_letters};
+ghost use Rattle.matched_words.specs.Matches.{IsRead, asks_for_both, flag_letters, is_said, is_sheet, is_whole};
+ghost use Rattle.matched_words.specs.Matches.{named_boards, par_letters};
 ghost use Rattle.matched_words.specs.Matches.{Says, SaysDeal, SaysMatched, SaysNumber, SaysPage, SaysSettings};
 ghost use Rattle.matched_words.specs.Matches.{SaysThreads};
 
@@ -155,7 +156,9 @@ fn audit_subcommand<'a>(said: &ArgMatches<'a>) -> Option<Subcommand<'a>>
 fn page_of(said: &ArgMatches<'_>) -> Option<Page>
     ensures { IsRead (SaysPage (rows_of (found_of said.now))) result }
 {
-    let form = form_of(word_of(said, options::WHOLE.name)?)?;
+    let whole = flag_of(said, options::WHOLE.name)?;
+    let sheet = flag_of(said, options::SHEET.name)?;
+    let form = form_of(whole, sheet)?;
     let par = par_tags_of(word_of(said, options::PAR.name)?)?;
     Some(Page { form, par })
 }
@@ -171,14 +174,35 @@ fn par_tags_of(letters: &str) -> Option<ParTags>
     }
 }
 
-/// What `clap` writes for the option `--whole`.
-fn form_of(letters: &str) -> Option<PageForm>
-    ensures { (form : _) → (result ≡ Some form) ↔ (letters.now ≡ form_letters form) }
+/// The form of the page, by whether `--whole` and `--sheet` are said, if not both are.
+fn form_of(whole: bool, sheet: bool) -> Option<PageForm>
+    ensures { (form : _) → (result ≡ Some form) ↔ ((whole ≡ is_whole form) × (sheet ≡ is_sheet form)) }
 {
-    match letters {
-        "false" => Some(PageForm::Tables),
-        "true" => Some(PageForm::Whole),
-        _ => None,
+    match (whole, sheet) {
+        (false, false) => Some(PageForm::Tables),
+        (true, false) => Some(PageForm::Whole),
+        (false, true) => Some(PageForm::Sheet),
+        (true, true) => None,
+    }
+}
+
+/// Whether the words ask for two pages: for the input with its tables, and for a sheet.
+pub fn asks_for_both(matches: &ArgMatches<'_>) -> bool
+    ensures { result ≡ asks_for_both (subcommand_rows_of matches.now) }
+{
+    match matches.subcommand() {
+        Some((_, said)) => is_said(said, options::WHOLE.name) && is_said(said, options::SHEET.name),
+        None => false,
+    }
+}
+
+/// Whether an option without a value is said.
+fn is_said(said: &ArgMatches<'_>, name: &str) -> bool
+    ensures { result ≡ is_said (rows_of (found_of said.now)) name.now }
+{
+    match word_of(said, name) {
+        Some(letters) => letters == "true",
+        None => false,
     }
 }
 

@@ -52,7 +52,10 @@ pub const HEAD_OF_ACE: &[u8] = b"% PBN 2.1
 
 ";
 
-/// What stands behind its head where North's spades alone are known.
-pub const ONE_NUMBER: &[u8] = b"; table incomplete: 1 of 20
-
+/// The end of the sheet with that board, of which North's spades alone are known.
+pub const SHEET_END: &[u8] = b"<li class=\"points\">10</li>
+</ul></div>
+<footer><p>Table incomplete: <b>1</b> of 20 results are known</p></footer></article></main>
+</body>
+</html>
 ";

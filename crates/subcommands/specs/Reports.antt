@@ -2,7 +2,7 @@
 use Rattle.std.specs.Prelude.{ℕ, ◌-◌, Bool, true, false, List, length, count_by, is_some, nat_eq, nat_lt}
 use Rattle.std.specs.Prelude.{if◌then◌else◌}
 use Rattle.asked.specs.declared.subcommands.PageForm.{PageForm}
-use Rattle.asked.specs.declared.subcommands.PageForm.TheVariants.{Tables, Whole}
+use Rattle.asked.specs.declared.subcommands.PageForm.TheVariants.{Tables, Whole, Sheet}
 use Rattle.pbn_deals.specs.declared.boards.Board.{Board}
 use Rattle.lease_book.specs.declared.events.Event.{Event}
 use Rattle.lease_book.specs.declared.events.Reply.{Reply}
@@ -32,6 +32,7 @@ refusal_count events = count_by (λ event. is_refused_reply event.reply) events
 abbrev pub wanted_tables : PageForm → Report → List Board → ℕ
 wanted_tables Tables report boards = report.boards
 wanted_tables Whole report boards = deal_count boards
+wanted_tables Sheet report boards = deal_count boards
 
 -- a table of the page is incomplete, or all are complete
 abbrev pub page_status : PageForm → Report → List Board → Status

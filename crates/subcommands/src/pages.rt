@@ -1,4 +1,4 @@
-//! The page of tables by many threads, alone or in the input.
+//! The page of tables by many threads: alone, in the input or on a sheet.
 
 ghost use Rattle.std.specs.Prelude.{◌≡◌};
 ghost use Rattle.streams.specs.RunStreams.{devices};
@@ -30,7 +30,7 @@ impl Gate for Unwatched {
     fn before_check(&self, _lease: u64) {}
 }
 
-/// Writes the tables of the boards of the input, alone or in the input.
+/// Writes the page of the boards of the input that is asked for.
 pub(crate) fn write_page<
     P: Solver + Sync,
     G: Gate + Sync,

@@ -50,14 +50,14 @@ fn lacking_tables(report: Report, boards: &[Board]) -> u64
     count_deals(boards).saturating_sub(report.complete) as u64
 }
 
-/// Whether the page shows an incomplete table. The tables alone show one for a board without a deal too; the whole input
-/// stays as it is there.
+/// Whether the page shows an incomplete table. The tables alone show one for a board without a deal too; the whole
+/// input stays as it is there, and a sheet has no table.
 pub(crate) fn page_status(page: PageForm, report: Report, boards: &[Board]) -> Status
     ensures { result ≡ page_status page report boards.now }
 {
     let wanted = match page {
         PageForm::Tables => report.boards,
-        PageForm::Whole => count_deals(boards),
+        PageForm::Whole | PageForm::Sheet => count_deals(boards),
     };
     if report.complete < wanted {
         Status::Incomplete

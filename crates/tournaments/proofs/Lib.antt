@@ -3,3 +3,4 @@ pub mod PageLaws
 pub mod WholePageLaws
 pub mod PutLaws
 pub mod ParLaws
+pub mod SheetLaws

@@ -102,15 +102,15 @@ only_number rows declarer denomination tricks once =
 
 -- ---- the blocks
 -- each board of these has its deal in its place among all, which is so far on
-abbrev StandAt : List Board → ℕ → List Board → Type 0
+abbrev pub StandAt : List Board → ℕ → List Board → Type 0
 StandAt all place boards = (i : ℕ) → deal_of all (place + i) ≡ deal_of boards i
 
-stand_later : (all : List Board) (place : ℕ) (board : Board) (boards : List Board) → StandAt all place (board ∷ boards) → StandAt all (place + 1) boards
+pub stand_later : (all : List Board) (place : ℕ) (board : Board) (boards : List Board) → StandAt all place (board ∷ boards) → StandAt all (place + 1) boards
 stand_later all place board boards stand i =
     let e : (place + 1) + i ≡ place + suc i = omega arith in
     ap (deal_of all) e ∙ stand (suc i)
 
-stand_here : (all : List Board) (place : ℕ) (board : Board) (boards : List Board) → StandAt all place (board ∷ boards) → deal_of all place ≡ board.deal
+pub stand_here : (all : List Board) (place : ℕ) (board : Board) (boards : List Board) → StandAt all place (board ∷ boards) → deal_of all place ≡ board.deal
 stand_here all place board boards stand =
     let e : place ≡ place + 0 = omega arith in
     ap (deal_of all) e ∙ stand 0
@@ -123,7 +123,7 @@ true_row all events place board rows values here says k d within =
     let same : row.tricks ≡ written.tricks = only_number rows row.declarer row.denomination written.tricks written.once k d within (is_row_of-itself row) in
     (value.0, sym here ∙ value.1, subst (λ tricks. IsValue value.0 row.declarer row.denomination tricks) (sym same) value.2)
 
-true_table : (all : List Board) (events : List Event) (place : ℕ) (board : Board) (table : Table) → AreValues all events → deal_of all place ≡ board.deal → SaysResults (book_results all events place) table → IsTrueTable board table
+pub true_table : (all : List Board) (events : List Event) (place : ℕ) (board : Board) (table : Table) → AreValues all events → deal_of all place ≡ board.deal → SaysResults (book_results all events place) table → IsTrueTable board table
 true_table all events place board (Rows rows) values here says = true_row all events place board rows values here says
 true_table all events place board (Incomplete count) values here says = tt
 

@@ -6,6 +6,7 @@ pub mod Asking
 pub mod Working
 pub mod Pages
 pub mod WholePages
+pub mod SheetPages
 pub mod BoardTricks
 pub mod Pars
 pub mod Sheets

@@ -16,12 +16,14 @@ use Rattle.tournaments.specs.declared.faults.MakeFault.TheVariants.{OutOfMemory,
 use Rattle.tournaments.specs.Making.{PageFact, AreReported}
 use Rattle.tournaments.specs.Pages.{Pars, IsTablesPage}
 use Rattle.tournaments.specs.WholePages.{IsWholePage}
+use Rattle.tournaments.specs.SheetPages.{IsSheetPage}
 use Rattle.tournaments.specs.Pars.{AreBoardPars}
 
--- the tables with these pars alone, or the text with them in it
+-- the tables with these pars alone, the text with them in it, or a sheet
 abbrev pub form_fact : PageForm → Renews → Pars → PageFact
 form_fact form.Tables renews pars = IsTablesPage pars
 form_fact form.Whole renews pars = IsWholePage renews pars
+form_fact form.Sheet renews pars = IsSheetPage pars
 
 -- the page without pars, or with those of the boards
 abbrev pub par_fact : ParTags → PageForm → PageFact
@@ -30,8 +32,17 @@ par_fact With form text boards events page =
     (pars : Pars) × AreBoardPars text (book_results boards events) pars
     × form_fact form TablesAndPars pars text boards events page
 
+-- a sheet has pars in any case
+abbrev pub form_tags : PageForm → ParTags → ParTags
+form_tags form.Tables par = par
+form_tags form.Whole par = par
+form_tags form.Sheet par = With
+
+abbrev pub par_tags : Page → ParTags
+par_tags page = form_tags page.form page.par
+
 abbrev pub page_fact : Page → PageFact
-page_fact page = par_fact page.par page.form
+page_fact page = par_fact (par_tags page) page.form
 
 -- Such a page of a text and the book over its boards was written, which the report counts, or a beginning of it before
 -- the sink failed, or nothing, since memory ran out.

@@ -1,6 +1,7 @@
 //! Laws of the pages that are written.
 
 ghost use Rattle.tournaments.specs.Pages.{TablesAreRead};
+ghost use Rattle.tournaments.specs.SheetPages.{SheetPagesAreRead};
 ghost use Rattle.tournaments.specs.WholePages.{WholePagesAreRead};
 
 /// Take the boards that a text says and a true history over them. Read line by line, their page is one block per board,
@@ -18,4 +19,12 @@ pub fn tables_are_read()
 /// board has a deal shows the double-dummy values of that deal once, or how many of the twenty are known.
 pub fn whole_pages_are_read()
     ensures { WholePagesAreRead }
+{}
+
+/// Take the boards that a text says and a true history over them. Read by its elements, their sheet is one block per
+/// board, in their order, and no other block. A block has the board's name. If the board has a deal, it also has who
+/// deals and is vulnerable and the four hands, and the double-dummy values of that deal, each once, and par, or how
+/// many of the twenty are known.
+pub fn sheet_pages_are_read()
+    ensures { SheetPagesAreRead }
 {}

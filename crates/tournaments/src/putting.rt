@@ -5,15 +5,18 @@ ghost use Rattle.lease_book.specs.TrueHistories.{IsTrueHistory};
 ghost use Rattle.pbn_deals.specs.Reading.{TextAnswers};
 ghost use Rattle.tournaments.specs.Pages.{AreSmallPars, IsTablesPage};
 ghost use Rattle.tournaments.specs.WholePages.{IsWholePage};
-ghost use Rattle.tournaments.specs.Putting.{PutsPage, form_fact, page_fact};
+ghost use Rattle.tournaments.specs.Putting.{PutsPage, form_fact, page_fact, par_tags};
+ghost use Rattle.tournaments.specs.SheetPages.{IsSheetPage};
 
+use crate::book_sheets::BookSheet;
 use crate::faults::{MakeFault, write_failed};
-use crate::laws::{tables_are_read, whole_pages_are_read};
+use crate::laws::{sheet_pages_are_read, tables_are_read, whole_pages_are_read};
 use crate::pars::board_pars;
-use crate::sheets::BookSheet;
 use asked::{Page, PageForm, ParTags};
+use board_conditions::{first_titles, read_conditions, read_titles};
 use cards::Sink;
 use lease_book::Book;
+use sheets::write_page;
 use std::alloc::Global;
 use tables::{Renews, Report, write_sheet};
 use whole_texts::{one_is_written, write_whole};
@@ -53,8 +56,42 @@ fn put_whole<O: Sink>(
     }
 }
 
-/// Writes such tables alone or in the text.
+/// Writes the sheet of the boards of a book, which were read from this text. Fails if memory runs out: then the sink
+/// has got nothing.
+fn put_sheet<O: Sink>(
+    alloc: Global,
+    text: &[u8],
+    sheet: &BookSheet<'_>,
+    output: &mut O,
+) -> Result<Report, MakeFault>
+    requires boards { TextAnswers text.now (Ok sheet.now.book.terms.boards) }
+    requires history { IsTrueHistory sheet.now.book.terms sheet.now.book.events }
+    requires small { AreSmallPars sheet.now.pars }
+    ensures { PutsPage (IsSheetPage sheet.now.pars) text.now sheet.now.book (O.state output.old) (O.state output.new)
+        result }
+{
+    let Ok(conditions) = read_conditions(alloc, text) else {
+        return Err(MakeFault::OutOfMemory);
+    };
+    let Ok(titles) = read_titles(alloc, text) else {
+        return Err(MakeFault::OutOfMemory);
+    };
+    sheet_pages_are_read();
+    match write_page(
+        output,
+        sheet,
+        first_titles(text),
+        titles.as_slice(),
+        conditions.as_slice(),
+    ) {
+        Ok(report) => Ok(report),
+        Err(fault) => Err(write_failed(fault)),
+    }
+}
+
+/// Writes such tables alone, in the text, or on a sheet.
 fn put_form<O: Sink>(
+    alloc: Global,
     text: &[u8],
     sheet: &BookSheet<'_>,
     form: PageForm,
@@ -69,12 +106,23 @@ fn put_form<O: Sink>(
     match form {
         PageForm::Tables => put_tables(sheet, output),
         PageForm::Whole => put_whole(text, sheet, output),
+        PageForm::Sheet => put_sheet(alloc, text, sheet, output),
+    }
+}
+
+/// Whether the pars of the boards stand on a page.
+fn par_tags(page: Page) -> ParTags
+    ensures { result ≡ par_tags page }
+{
+    match page.form {
+        PageForm::Sheet => ParTags::With,
+        PageForm::Tables | PageForm::Whole => page.par,
     }
 }
 
 /// Writes the page that is asked for: the tables of the boards of a book, with the numbers that it publishes, alone or
-/// in the text of which the boards were read, and with the boards' pars or without. Fails if the sink fails: then it has
-/// got a beginning of the page. Fails if memory runs out for the pars: then it has got nothing.
+/// in the text of which the boards were read, and with the boards' pars or without, or all of it on a sheet. Fails if
+/// the sink fails: then it has got a beginning of the page. Fails if memory runs out: then it has got nothing.
 pub fn put_page<O: Sink>(
     alloc: Global,
     text: &[u8],
@@ -86,15 +134,15 @@ pub fn put_page<O: Sink>(
     requires history { IsTrueHistory book.now.terms book.now.events }
     ensures { PutsPage (page_fact page) text.now book.now (O.state output.old) (O.state output.new) result }
 {
-    match page.par {
+    match par_tags(page) {
         ParTags::Without => {
             let sheet = BookSheet::new(book, Renews::Tables, &[]);
-            put_form(text, &sheet, page.form, output)
+            put_form(alloc, text, &sheet, page.form, output)
         }
         ParTags::With => {
             let pars = board_pars(alloc, text, book)?;
             let sheet = BookSheet::new(book, Renews::TablesAndPars, pars.as_slice());
-            put_form(text, &sheet, page.form, output)
+            put_form(alloc, text, &sheet, page.form, output)
         }
     }
 }

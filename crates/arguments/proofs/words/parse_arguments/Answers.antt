@@ -1,6 +1,7 @@
 use Rattle.std.proofs.Common.{rules, ◌∙◌, List, Option, map, ap, sym, subst}
 use Rattle.clap.specs.Words.{App, HasKind, Row, Text, fault_of, is_simple, is_simple_and_free, subcommand_of}
-use Rattle.matched_words.specs.Matches.{SaysMatched}
+use Rattle.matched_words.specs.Matches.{SaysMatched, asks_for_both}
+use Rattle.arguments.specs.Words.{refusal_kind}
 use Rattle.arguments.proofs.ReadLemmas.{simple, simple_and_free, none_from, none_without, refused_by}
 use Rattle.arguments.proofs.words.parse_arguments.Goals as goal
 
@@ -43,7 +44,7 @@ returns g c =
     ∙ ap (λ (app : App). subcommand_of app words) same in (
       letters,
       c.known_letters-letters.ensures,
-      none_without letters words c.args.processors c.in_ok-no_subcommand-in-None.field-0 (sym (ap (λ (app : App). fault_of app words) same) ∙ taken)
+      none_without letters words c.args.processors c.in_ok-refusal-in-None.field-0 (sym (ap (λ (app : App). fault_of app words) same) ∙ taken)
           (λ asked said. c.in-None.ensures asked (subst (λ (o : Option (Text × List Row)). SaysMatched o c.args.processors asked) (sym matched) said))
-          c.in_ok-no_subcommand-in-None.ensures,
+          (c.in_ok-refusal-in-None.ensures ∙ ap refusal_kind (c.asks_for_both.ensures ∙ ap asks_for_both matched)),
     )
