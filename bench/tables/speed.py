@@ -1,15 +1,18 @@
 #!/usr/bin/env python3
-"""Times `ddfarm table` and `table --whole` on texts of 4,096 boards, of about 1 MB and about 10 MB, beside `wc -l`.
+"""Times `ddfarm table`, `table --whole` and `table --sheet` on texts of 4,096 boards, of about 1 MB and about 10 MB,
+beside `wc -l`.
 
-Usage: bench/tables/speed.py. The program has to be built (run ./ddfarm once). Each figure is the best of five runs,
-with the output to a file. The longer text has the same boards with ninety lines of play more in each game; each is
-tried with its deals, and once more with hands that aren't known. One try of one step finds no number: what is timed is
-reading, leasing, what a search makes ready, and writing.
+Usage: bench/tables/speed.py [PROGRAM]. Without a name it is ddfarm, which has to be built (run ./ddfarm once). Each
+figure is the best of five runs, in turns, with the output to a file. The longer text has the same boards with ninety
+lines of play more in each game; each is tried with its deals, with hands that aren't known, and with one deal in all
+games. One try of one step finds no number: what is timed is reading, leasing, what a search makes ready, and writing.
+The one deal's tables are found at once, and written for all boards.
 """
 import os
 import random
 import re
 import subprocess
+import sys
 import tempfile
 import time
 
@@ -55,31 +58,40 @@ def text(more_lines):
     return "".join(games)
 
 
-def best(command, path, output):
-    """The shortest of five runs of the command on the file, in milliseconds."""
-    times = []
-    for _ in range(5):
-        with open(path, "rb") as given, open(output, "wb") as taken:
-            start = time.perf_counter()
-            subprocess.run(command, stdin=given, stdout=taken, stderr=subprocess.DEVNULL, check=False)
-            times.append(time.perf_counter() - start)
-    return 1000 * min(times)
+def milliseconds(command, path, output):
+    """How long one run of the command on the file takes."""
+    with open(path, "rb") as given, open(output, "wb") as taken:
+        start = time.perf_counter()
+        subprocess.run(command, stdin=given, stdout=taken, stderr=subprocess.DEVNULL, check=False)
+        return 1000 * (time.perf_counter() - start)
+
+
+def best(commands, path, output):
+    """Of each command the shortest of five runs on the file."""
+    turns = [[milliseconds(command, path, output) for command in commands] for _ in range(5)]
+    return [min(times) for times in zip(*turns)]
+
+
+# What is timed, the deal of all games if they have one, and the options of the search.
+ONE_STEP = ["--tries", "1", "--budget", "1"]
+FOUR_SUITS = "N:AKQJT98765432... .AKQJT98765432.. ..AKQJT98765432. ...AKQJT98765432"
+KINDS = ("deals", None, ONE_STEP), ("no deals", "?", ONE_STEP), ("one deal", FOUR_SUITS, [])
 
 
 def main():
-    command = [PROGRAM, "table", "--tries", "1", "--budget", "1"]
+    program = sys.argv[1] if len(sys.argv) > 1 else PROGRAM
     with tempfile.TemporaryDirectory() as room:
         path, output = os.path.join(room, "text.pbn"), os.path.join(room, "tables.pbn")
         for more_lines in (0, 90):
-            for known in (True, False):
+            for kind, deal_of_all, options in KINDS:
                 given = text(more_lines)
                 with open(path, "w", newline="") as file:
-                    file.write(given if known else re.sub(r'\[Deal "[^"]*"', '[Deal "?"', given))
-                alone, whole = best(command, path, output), best([*command, "--whole"], path, output)
-                lines = best(["wc", "-l"], path, output)
-                deals = "deals" if known else "no deals"
-                print(f"{os.path.getsize(path)} bytes, {deals}: table {alone:.0f} ms, --whole {whole:.0f}, "
-                      f"wc -l {lines:.0f}")
+                    file.write(re.sub(r'\[Deal "[^"]*"', f'[Deal "{deal_of_all}"', given) if deal_of_all else given)
+                command = [program, "table", *options]
+                commands = [command, [*command, "--whole"], [*command, "--sheet"], ["wc", "-l"]]
+                alone, whole, sheet, lines = best(commands, path, output)
+                print(f"{os.path.getsize(path)} bytes, {kind}: table {alone:.0f} ms, --whole {whole:.0f}, "
+                      f"--sheet {sheet:.0f}, wc -l {lines:.0f}")
 
 
 if __name__ == "__main__":
