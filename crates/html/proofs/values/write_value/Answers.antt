@@ -1,5 +1,10 @@
+use Rattle.std.proofs.Common.{◌∙◌, sym}
 use Rattle.html.proofs.CharTexts.{chars_text-utf8, chars_text-latin}
+use Rattle.html.proofs.PlainTexts.{plain-stays}
 use Rattle.html.proofs.values.write_value.Goals as goal
+
+pub returns-then-is_plain : goal.returns-then-is_plain
+returns-then-is_plain g c = rw (plain-stays c.args.value.now (sym c.is_plain.ensures ∙ c.if-is_plain.true)) c.write_all.ensures
 
 pub returns-in-Ok : goal.returns-in-Ok
 returns-in-Ok g c =
