@@ -8,7 +8,7 @@ pub const HEAD: &[u8] = br#"<!DOCTYPE html>
 <html lang="en">
 <head>
 <meta charset="utf-8">
-<meta http-equiv="Content-Security-Policy" content="default-src 'none'; style-src 'sha256-CZyFQzwbMyhtbW7bznYrqHyhN90cCJZ9gLknttLA5UY='; base-uri 'none'; form-action 'none'">
+<meta http-equiv="Content-Security-Policy" content="default-src 'none'; style-src 'sha256-RESXpx7uYCC7WK1/EfTLLN1dhQSn24NVVkkDJJWbj5w='; base-uri 'none'; form-action 'none'">
 <meta name="viewport" content="width=device-width, initial-scale=1">
 <title>Hand record {event}</title>
 <style>"#;
@@ -21,6 +21,7 @@ body { font: 13px/1.2 "DejaVu Sans Condensed", "Helvetica Neue", Arial, sans-ser
 body > header { display: flex; flex-wrap: wrap; align-items: baseline; justify-content: space-between; gap: 0 1em;
   border-bottom: 2px solid #234; padding-bottom: 1mm; margin: 0 1mm 2mm; overflow-wrap: anywhere }
 h1 { font-size: 17px } .key { width: 100%; font-size: 10.5px }
+main { orphans: 1; widows: 1 }
 main > h2 { font-size: 15px; margin: 0 1mm 1mm; break-after: avoid; overflow-wrap: anywhere }
 article { border: 1px solid #678; border-radius: 3px; padding: 1.5mm 2mm 1mm; margin: 0 1mm 2mm; break-inside: avoid;
   display: inline-grid; vertical-align: top; width: calc(100% / 3 - 2mm); min-height: 77.5mm;
