@@ -1,0 +1,61 @@
+#!/usr/bin/env python3
+"""Writes answers with what `ddfarm check` says of each, for the checker in page/.
+
+Usage: bench/page/cases.py PROGRAM COUNT SEED [LONGEST] >CASES. Each answer of bench/answers as it is, as version 2
+without the branches that it can do without, and its graphs named as the other version; and COUNT times each of the
+first two with each kind of damage (a tenth of that if it is longer than 100,000 bytes). Answers longer than LONGEST
+bytes are left out. A case is a line, its length, status, words and the program's line with tabs between, and the text.
+"""
+import itertools
+import os
+import random
+import subprocess
+import sys
+import tarfile
+
+FOLDER = os.path.join(os.path.dirname(os.path.abspath(__file__)), "..", "answers")
+sys.path.insert(0, FOLDER)
+import damages  # noqa: E402
+import versions  # noqa: E402
+
+LONG = 100_000
+
+
+def answers(longest):
+    """Name, words and text of each answer of the archive."""
+    with tarfile.open(os.path.join(FOLDER, "answers.tar.xz")) as archive:
+        for member in sorted(archive, key=lambda member: member.name):
+            if member.isfile() and not member.name.endswith("README.txt") and member.size <= longest:
+                words, text = archive.extractfile(member).read().split(b"\n", 1)
+                yield member.name, words.decode().split("|"), text
+
+
+def other_version(text):
+    """The same nodes under the other version's name."""
+    return text.replace(b"DDC 2\n", b"DDC 0\n").replace(b"DDC 1\n", b"DDC 2\n").replace(b"DDC 0\n", b"DDC 1\n")
+
+
+def forms(name, text, count, seed):
+    second = versions.as_version_two(text)
+    yield from (text, second, other_version(text), other_version(second))
+    times = count if len(text) <= LONG else (count + 9) // 10
+    for form, kind, number in itertools.product((text, second), damages.KINDS, range(times)):
+        other = kind(random.Random(f"{seed} {name} {kind.__name__} {number}"), form)
+        if other is not None and other != form:
+            yield other
+
+
+def write_case(program, words, text):
+    done = subprocess.run([program, "check", *words], input=text, capture_output=True, check=False)
+    said = (done.stdout + done.stderr).split(b"\n")[0]
+    sys.stdout.buffer.write(b"%d\t%d\t%s\t%s\n%s" % (len(text), done.returncode, "|".join(words).encode(), said, text))
+
+
+def main():
+    program, count, seed = sys.argv[1], int(sys.argv[2]), sys.argv[3]
+    for name, words, text in answers(int(sys.argv[4]) if len(sys.argv) > 4 else sys.maxsize):
+        for form in forms(name, text, count, seed):
+            write_case(program, words, form)
+
+
+main()
