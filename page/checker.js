@@ -1,7 +1,7 @@
 // Checks certificates as docs/CERTIFICATES.md says under "What the checker looks at": the beginning for a layout, and
 // the step of each node. It walks over the bytes of a tree, once per node, with the cards played so far.
-import { CLOSE, CLOSE_LEAF, FormFault, OPEN, OPEN_LEAF, SEAT_OF, SUIT_OF, TOP_OF, TextFault, cutAnswer, readGraph }
-    from "./form.js";
+import { CLOSE, CLOSE_LEAF, FormFault, OPEN, OPEN_LEAF, SEAT_OF, SUIT_OF, TOP_OF, TextFault, cutAnswer, passTree,
+    readGraph } from "./form.js";
 import { NO_ROOT } from "./evidence.js";
 import { LOW, SUITS, leftOf, matches, sideOf, sizeOf } from "./patterns.js";
 
@@ -119,8 +119,7 @@ class Walk {
                 later = this.place(leftOf(seat), played + 1);
             }
             if (later !== NO_FAULT || isExtra) {
-                this.at = begin;
-                this.pass();
+                this.at = passTree(bytes, begin);
             }
         }
         this.at += 1;
@@ -138,23 +137,6 @@ class Walk {
             }
         }
         return false;
-    }
-
-    /** Passes over a tree without looking at it. */
-    pass() {
-        const { bytes } = this.graph;
-        let depth = 0;
-        do {
-            while (SUIT_OF[bytes[this.at]] >= 0 && TOP_OF[bytes[this.at + 1]] >= 0) {
-                this.at += 2;
-            }
-            if (bytes[this.at] === OPEN_LEAF) {
-                this.at = bytes.indexOf(CLOSE_LEAF, this.at);
-            } else {
-                depth += bytes[this.at] === OPEN ? 1 : -1;
-            }
-            this.at += 1;
-        } while (depth > 0);
     }
 
     /** The seats that may have won the trick, one bit each. */

@@ -4,28 +4,61 @@ import { DENOMINATIONS, MOST, SEATS, SIDES, dealText, readLayout } from "./patte
 
 const BEGIN = "DDE 1\n";
 const LINE_FEED = 10;
+/** The most bytes of a board's evidence, unpacked. */
+const MOST_BYTES = 64 << 20;
 /** Roots are below a million. */
 const ROOT_DIGITS = 6;
 export const NO_ROOT = -1;
 
+/** Unpacks gzip, or takes bytes that a server has unpacked already. Throws a FormFault. */
+export async function unpack(bytes) {
+    const isPacked = bytes[0] === 0x1f && bytes[1] === 0x8b;
+    if (!isPacked && bytes.length <= MOST_BYTES) {
+        return bytes;
+    }
+    const parts = isPacked ? await unpackedParts(bytes) : null;
+    if (parts === null) {
+        throw new FormFault("the file is too large");
+    }
+    return new Uint8Array(await new Blob(parts).arrayBuffer());
+}
+
+/** The parts of what gzip has packed, or null if they are too much. */
+async function unpackedParts(bytes) {
+    const reader = new Blob([bytes]).stream().pipeThrough(new DecompressionStream("gzip")).getReader();
+    const parts = [];
+    try {
+        for (let room = MOST_BYTES; room >= 0;) {
+            const { done, value } = await reader.read();
+            if (done) {
+                return parts;
+            }
+            room -= value.length;
+            parts.push(value);
+        }
+    } catch {
+        throw new FormFault("the file is damaged: it cannot be unpacked");
+    }
+    await reader.cancel();
+    return null;
+}
+
 /** Cuts bytes into the pieces that begin with a line `DDE 1`, the first with whatever comes before. */
-export function piecesOf(bytes) {
-    const pieces = [];
+export function* piecesOf(bytes) {
     let begin = 0;
     for (let at = bytes.indexOf(LINE_FEED); at >= 0; at = bytes.indexOf(LINE_FEED, at + 1)) {
         if (begins(bytes, at + 1)) {
-            pieces.push(bytes.subarray(begin, at + 1));
+            yield bytes.subarray(begin, at + 1);
             begin = at + 1;
         }
     }
     if (bytes.length > 0) {
-        pieces.push(bytes.subarray(begin));
+        yield bytes.subarray(begin);
     }
-    return pieces;
 }
 
 function begins(bytes, at) {
-    return new Reader(bytes.subarray(at, at + BEGIN.length)).takesText(BEGIN);
+    return bytes[at] === BEGIN.charCodeAt(0) && new Reader(bytes.subarray(at)).takesText(BEGIN);
 }
 
 /** The text of a line that begins so, and passes over it; null if it doesn't. */

@@ -271,6 +271,23 @@ export function readGraph(bytes) {
     return graph;
 }
 
+/** Where the tree that begins at a place ends. It was read before, so it is of the form. */
+export function passTree(bytes, begin) {
+    let at = begin, depth = 0;
+    do {
+        while (SUIT_OF[bytes[at]] >= 0 && TOP_OF[bytes[at + 1]] >= 0) {
+            at += 2;
+        }
+        if (bytes[at] === OPEN_LEAF) {
+            at = bytes.indexOf(CLOSE_LEAF, at);
+        } else {
+            depth += bytes[at] === OPEN ? 1 : -1;
+        }
+        at += 1;
+    } while (depth > 0);
+    return at;
+}
+
 /** Cuts bytes at their first empty line: what comes before it, and after it. Without one the second part is empty. */
 export function cutAtEmptyLine(bytes) {
     for (let at = bytes.indexOf(LINE_FEED); at >= 0; at = bytes.indexOf(LINE_FEED, at + 1)) {

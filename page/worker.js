@@ -1,0 +1,78 @@
+// The worker of the page: unpacks a board's evidence, checks numbers by it, and plays by what was checked. It knows
+// nothing of the page and loads nothing: the page sends it bytes, and it answers with messages.
+import { Board, followedSide, nodesOf, partOf } from "./board.js";
+import { unpack } from "./evidence.js";
+import { FormFault } from "./form.js";
+import { readLayout } from "./patterns.js";
+import { Play } from "./play.js";
+
+/** The evidence of the board that was loaded last. */
+let evidence = new Uint8Array(0);
+/** The number that is played, and what shows it. */
+let opened = null;
+
+const answers = {
+    /** Takes the file of a board. */
+    async load({ bytes }) {
+        opened = null;
+        evidence = new Uint8Array(0);
+        evidence = await unpack(new Uint8Array(bytes));
+        return { kind: "loaded" };
+    },
+
+    /** Checks the numbers of a deal: `shown` for each that is, as soon as it is, and at last the others. */
+    check({ deal, numbers }) {
+        const board = new Board(deal, numbers);
+        let nodes = 0, passed = 0;
+        board.check(evidence, {
+            shown: (number, parts) => postMessage({ kind: "shown", number: plain(number), nodes: nodesOf(parts) }),
+            progress: count => { nodes += count; postMessage({ kind: "progress", nodes, share: shareOf(passed) }); },
+            passed: count => { passed += count; postMessage({ kind: "progress", nodes, share: shareOf(passed) }); },
+        });
+        return { kind: "checked", others: board.others() };
+    },
+
+    /** Checks one number, and keeps what shows it for `line` and `turn`. */
+    open({ deal, number }) {
+        const board = new Board(deal, [number]);
+        opened = null;
+        board.check(evidence, { shown: (_, parts) => { opened = { ...number, layout: readLayout(deal), parts }; } });
+        return opened === null ? { kind: "failed", why: board.others()[0].why } : { kind: "opened" };
+    },
+
+    /** The play in which both sides follow their certificates. */
+    line() {
+        const play = new Play(opened, opened.parts);
+        play.follow();
+        return { kind: "line", tricks: play.tricks };
+    },
+
+    /** The play after the reader has played these cards against the certificate of a part. */
+    turn({ part, cards }) {
+        const play = new Play(opened, partOf(opened.parts, followedSide(opened.declarer, part)));
+        play.follow();
+        for (const card of cards) {
+            play.play(card);
+            play.follow();
+        }
+        const won = [play.wonBy(0), play.wonBy(1)];
+        const { tricks, trick, leader, turn } = play;
+        const legal = play.isOver() ? [] : play.legal();
+        return { kind: "turn", tricks, trick, leader, turn, won, isOver: play.isOver(), legal };
+    },
+};
+
+const plain = ({ trump, declarer, tricks }) => ({ trump, declarer, tricks });
+const shareOf = passed => evidence.length === 0 ? 1 : passed / evidence.length;
+
+/** Answers one message after the other. A file of no form is answered by `failed`; anything else is a fault of ours. */
+let last = Promise.resolve();
+addEventListener("message", ({ data }) => {
+    last = last.then(async () => {
+        try {
+            postMessage(await answers[data.kind](data));
+        } catch (fault) {
+            postMessage({ kind: "failed", why: fault instanceof FormFault ? fault.message : String(fault) });
+        }
+    });
+});

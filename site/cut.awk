@@ -1,0 +1,43 @@
+# Cuts from evidence the sections that show numbers: `awk -v room=.. [-v each=1] -f cut.awk NUMBERS EVIDENCE`, NUMBERS as
+# boards.awk prints them. The first section that claims a number not claimed before goes to `room/N.dde`, N being the
+# first board of its deal. With `each`, each section that claims a number goes to a file of its own, `room/N.M.dde`.
+BEGIN { FS = "\t" }
+FNR == NR {
+    if (!($2 in board)) board[$2] = $1
+    tricks[$2, $3, $4] = $5
+    next
+}
+# The lines before the certificates are kept until it is known whether the section is wanted.
+/^DDE 1$/ { begin(); next }
+lines == 1 && /^deal / { deal = substr($0, 6); keep(); next }
+lines == 2 && /^trump / { trump = substr($0, 7); keep(); next }
+lines == 3 && /^claims [1-4]$/ { keep(); next }
+lines > 3 && /^[NESW] [0-9]+ [-0-9]+ [-0-9]+$/ { claim(); keep(); next }
+lines > 3 { if (is_wanted) open_file(); lines = 0 }
+file != "" { print >file }
+{ lines = 0 }
+
+function begin() {
+    if (file != "") close(file)
+    file = head = ""
+    lines = is_wanted = 0
+    keep()
+}
+
+function keep() {
+    head = head $0 "\n"
+    lines++
+}
+
+function claim(    word, key) {
+    split($0, word, " ")
+    key = deal SUBSEP trump SUBSEP word[1]
+    if (!(key in tricks) || tricks[key] != word[2]) return
+    if (!(key in claimed) || each) is_wanted = 1
+    claimed[key] = 1
+}
+
+function open_file() {
+    file = room "/" board[deal] (each ? "." ++sections : "") ".dde"
+    printf "%s", head >>file
+}
