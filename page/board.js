@@ -1,5 +1,5 @@
-// Checks the numbers of a board by its evidence, as `audit` does: a number is shown by the first section of its deal and
-// denomination with a claim for its declarer that the certificates show.
+// Checks the numbers of a board by its evidence, as `audit` does: a number is shown by the first section of its deal
+// and denomination with a claim for its declarer that the certificates show.
 import { Refusal, faultOfBeginning, faultOfSteps, partsOf } from "./checker.js";
 import { NO_ROOT, piecesOf, readClaims, readGraphs } from "./evidence.js";
 import { FormFault, TextFault } from "./form.js";

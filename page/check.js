@@ -20,6 +20,7 @@ class Offer {
         this.status = line.querySelector("[role=status]");
         this.press.addEventListener("click", () => queue.includes(this) ? stop([this]) : start([this]));
         line.hidden = false;
+        this.article.classList.add("offers");
     }
 
     say(text, isUnderWay) {
@@ -63,7 +64,7 @@ class Offer {
     }
 
     /** Marks a number that was shown. */
-    mark({ number, nodes }, deal) {
+    mark({ of: number, nodes }, deal) {
         const found = this.find(number, deal);
         if (found !== undefined) {
             markShown(found, nodes, () => this.showHow(number, deal));
@@ -77,7 +78,7 @@ class Offer {
         const name = this.article.querySelector("h2").textContent;
         await diagram.open(name, number, deal, async () => {
             await checking.load(this.file);
-            await checking.ask({ kind: "open", deal, number });
+            await checking.ask({ kind: "open", deal, of: number });
             return question => checking.ask(question);
         });
     }

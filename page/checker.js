@@ -244,7 +244,8 @@ class Walk {
             gone |= this.suits[played] === suit ? 1 << this.tops[played] : 0;
         }
         let count = 0, owners = 0;
-        for (let top = 0, packed = this.graph.owners[place]; top < this.graph.ownerCounts[place]; top++, packed >>>= 2) {
+        const known = this.graph.ownerCounts[place];
+        for (let top = 0, packed = this.graph.owners[place]; top < known; top++, packed >>>= 2) {
             if ((gone >> top & 1) === 0) {
                 owners |= (packed & 3) << 2 * count;
                 count += 1;

@@ -1,4 +1,4 @@
-// The page's side of its worker: loads the evidence of a board, and asks questions about it. One is asked at a time.
+// The page's side of its worker: loads the evidence of a board, and asks questions about it.
 
 /** The most bytes of a file of evidence. */
 const MOST_BYTES = 64 << 20;
@@ -31,25 +31,40 @@ export class Checking {
         this.worker = null;
         /** The file that the worker has. */
         this.loaded = null;
+        /** The questions without an answer, by number: who hears, who is answered, and who is refused. */
+        this.asked = new Map();
+        this.number = 0;
+    }
+
+    /** Starts the worker, if there is none. */
+    start() {
+        this.worker = new Worker("worker.js", { type: "module" });
+        this.worker.addEventListener("message", ({ data }) => this.hear(data));
+        this.worker.addEventListener("error", () => this.end(new EvidenceFault("the checker cannot be loaded")));
     }
 
     /** Asks the worker. `hears` is called with each message before the answer. */
     ask(question, hears, transfer = []) {
-        this.worker ??= new Worker("worker.js", { type: "module" });
-        return new Promise((answer, refuse) => {
-            this.refuse = refuse;
-            this.worker.onmessage = ({ data }) => {
-                if (data.kind === "failed") {
-                    refuse(new EvidenceFault(data.why));
-                } else if (data.kind === "shown" || data.kind === "progress") {
-                    hears(data);
-                } else {
-                    answer(data);
-                }
-            };
-            this.worker.onerror = () => refuse(new EvidenceFault("the checker cannot be loaded"));
-            this.worker.postMessage(question, transfer);
-        });
+        if (this.worker === null) {
+            this.start();
+        }
+        const number = ++this.number;
+        this.worker.postMessage({ number, ...question }, transfer);
+        return new Promise((answer, refuse) => this.asked.set(number, { hears, answer, refuse }));
+    }
+
+    hear(message) {
+        const { hears, answer, refuse } = this.asked.get(message.number);
+        if (message.kind === "shown" || message.kind === "progress") {
+            hears(message);
+            return;
+        }
+        this.asked.delete(message.number);
+        if (message.kind === "failed") {
+            refuse(new EvidenceFault(message.why));
+        } else {
+            answer(message);
+        }
     }
 
     /** Has the worker load a file, if that isn't the one it has. */
@@ -65,15 +80,16 @@ export class Checking {
             throw fault instanceof EvidenceFault || signal?.aborted ? fault :
                 new EvidenceFault(`the file ${file} cannot be loaded`);
         }
-        await this.ask({ kind: "load", bytes }, () => {}, [bytes]);
+        await this.ask({ kind: "load", bytes }, undefined, [bytes]);
         this.loaded = file;
     }
 
-    /** Ends the worker, whatever it does. The next question has a new one. */
-    end() {
+    /** Ends the worker, whatever it does, and refuses all questions. The next question has a new worker. */
+    end(fault = new DOMException("ended", "AbortError")) {
         this.worker?.terminate();
         this.worker = null;
         this.loaded = null;
-        this.refuse?.(new DOMException("ended", "AbortError"));
+        this.asked.forEach(({ refuse }) => refuse(fault));
+        this.asked.clear();
     }
 }

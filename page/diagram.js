@@ -29,23 +29,35 @@ export class Diagram {
     async open(board, number, deal, prepare) {
         this.number = number;
         this.layout = readLayout(deal);
-        this.title = element("h2", "", `Board ${board}. ${nameOf(number)}`);
-        this.title.id = "diagram-title";
+        this.ask = null;
+        this.build(`Board ${board}. ${nameOf(number)}`);
+        this.show(this.layoutCards(new Set()), [], 0);
+        this.status.textContent = "loading";
+        this.dialog.showModal();
+        await this.guarded(async () => {
+            const ask = await prepare();
+            if (this.number === number && this.dialog.open) {
+                this.ask = ask;
+                this.choices.hidden = false;
+                await this.how();
+            }
+        });
+    }
+
+    /** Makes the parts of the dialog anew. What the reader may choose is hidden until the evidence is checked. */
+    build(text) {
+        const title = element("h2", "", text);
+        title.id = "diagram-title";
         this.table = element("div", "table");
         this.status = element("p", "say");
         this.status.setAttribute("role", "status");
         this.moves = element("p", "moves");
-        const choices = element("p", "choices", button("How", () => this.how()),
-            button("Try as defenders", () => this.try("declarer")), button("Try as declarer", () => this.try("defenders")),
-            button("Close", () => this.dialog.close()));
-        this.dialog.replaceChildren(this.title, this.table, this.status, this.moves, choices);
-        this.show(this.layoutCards(new Set()), [], -1);
-        this.dialog.showModal();
-        this.status.textContent = "loading";
-        await this.guarded(async () => {
-            this.ask = await prepare();
-            await this.how();
-        });
+        this.choices = element("p", "choices", button("How", () => this.how()),
+            button("Try as defenders", () => this.try("declarer")),
+            button("Try as declarer", () => this.try("defenders")));
+        this.choices.hidden = true;
+        const close = element("p", "choices", button("Close", () => this.dialog.close()));
+        this.dialog.replaceChildren(title, this.table, this.status, this.moves, this.choices, close);
     }
 
     /** Says what goes wrong in the dialog itself. */
@@ -71,7 +83,8 @@ export class Diagram {
 
     /** Shows hands, a trick of pairs of seat and card, and cards that may be pressed. */
     show(hands, trick, leader, legal = [], press = () => {}) {
-        const parts = hands.map((hand, seat) => element("div", `hand ${PLACES[seat]}`, element("h3", "", SEAT_NAMES[seat]),
+        const parts = hands.map((hand, seat) => element("div", `hand ${PLACES[seat]}`,
+            element("h3", "", SEAT_NAMES[seat]),
             ...hand.map((cards, suit) => element("p", "", sign(suit), " ", ...this.cardParts(cards, legal, press)))));
         const played = trick.map((card, turn) => element("span", PLACES[(leader + turn) & 3],
             sign(suitOf(card)), RANK_TEXTS[rankOf(card)]));
@@ -126,6 +139,7 @@ export class Diagram {
     }
 
     async turn(part, cards) {
+        this.table.inert = true;
         await this.guarded(async () => {
             const play = await this.ask({ kind: "turn", part, cards });
             const played = new Set([...play.tricks.flatMap(trick => trick.cards), ...play.trick]);
@@ -135,6 +149,7 @@ export class Diagram {
                 cards.push(card);
                 this.turn(part, cards);
             });
+            this.table.inert = false;
             this.status.textContent = this.turnText(part, play);
             (this.table.querySelector("button") ?? this.moves.querySelector("button")).focus();
         });
@@ -147,7 +162,8 @@ export class Diagram {
         const promise = part === "declarer" ? tricks : sizeOf(this.layout) - tricks;
         const promised = `${SIDE_NAMES[side]}, who play by the certificate, are promised ${promise}`;
         const last = play.tricks.at(-1);
-        const before = play.trick.length === 0 && last !== undefined ? `${SEAT_NAMES[last.winner]} won the trick. ` : "";
+        const isBegun = play.trick.length > 0 || last === undefined;
+        const before = isBegun ? "" : `${SEAT_NAMES[last.winner]} won the trick. `;
         return play.isOver ? `All cards are played. ${promised}, and took ${play.won[side]}.` :
             `${before}${SEAT_NAMES[play.turn]} to play. ${this.score(play.tricks)} ${promised}.`;
     }

@@ -1,5 +1,5 @@
-// Plays a layout card by card, with sides that follow their certificates (docs/FORMATS.md, `line` and `play`). A card is
-// a number: 13 times its suit's place, plus its rank's (docs/DEFINITIONS.md).
+// Plays a layout card by card, with sides that follow their certificates (docs/FORMATS.md, `line` and `play`). A card
+// is a number: 13 times its suit's place, plus its rank's (docs/DEFINITIONS.md).
 import { CLOSE, CLOSE_LEAF, SEAT_OF, SUIT_OF, TOP_OF, passTree } from "./form.js";
 import { NO_ROOT } from "./evidence.js";
 import { LOW, MOST, RANKS, SUITS, leftOf, sideOf, sizeOf } from "./patterns.js";
@@ -83,8 +83,8 @@ class Follower {
 /** A play of a layout, in which each side that has a certificate follows it. */
 export class Play {
     /**
-     * `shown` has a graph and a root for each part, declarer's side first, as a check gives them; of a part that follows
-     * none it has null.
+     * `shown` has a graph and a root for each part, declarer's side first, as a check gives them. It has null for a part
+     * that follows none.
      */
     constructor({ layout, declarer, trump }, shown) {
         this.trump = SUITS.indexOf(trump);

@@ -21,22 +21,23 @@ const answers = {
     },
 
     /** Checks the numbers of a deal: `shown` for each that is, as soon as it is, and at last the others. */
-    check({ deal, numbers }) {
+    check({ deal, numbers }, say) {
         const board = new Board(deal, numbers);
         let nodes = 0, passed = 0;
+        const sayHowFar = () => say({ kind: "progress", nodes, share: passed / evidence.length });
         board.check(evidence, {
-            shown: (number, parts) => postMessage({ kind: "shown", number: plain(number), nodes: nodesOf(parts) }),
-            progress: count => { nodes += count; postMessage({ kind: "progress", nodes, share: shareOf(passed) }); },
-            passed: count => { passed += count; postMessage({ kind: "progress", nodes, share: shareOf(passed) }); },
+            shown: (of, parts) => say({ kind: "shown", of: plain(of), nodes: nodesOf(parts) }),
+            progress: count => { nodes += count; sayHowFar(); },
+            passed: count => { passed += count; sayHowFar(); },
         });
         return { kind: "checked", others: board.others() };
     },
 
     /** Checks one number, and keeps what shows it for `line` and `turn`. */
-    open({ deal, number }) {
-        const board = new Board(deal, [number]);
+    open({ deal, of }) {
+        const board = new Board(deal, [of]);
         opened = null;
-        board.check(evidence, { shown: (_, parts) => { opened = { ...number, layout: readLayout(deal), parts }; } });
+        board.check(evidence, { shown: (_, parts) => { opened = { ...of, layout: readLayout(deal), parts }; } });
         return opened === null ? { kind: "failed", why: board.others()[0].why } : { kind: "opened" };
     },
 
@@ -63,16 +64,16 @@ const answers = {
 };
 
 const plain = ({ trump, declarer, tricks }) => ({ trump, declarer, tricks });
-const shareOf = passed => evidence.length === 0 ? 1 : passed / evidence.length;
 
 /** Answers one message after the other. A file of no form is answered by `failed`; anything else is a fault of ours. */
 let last = Promise.resolve();
 addEventListener("message", ({ data }) => {
+    const say = message => postMessage({ number: data.number, ...message });
     last = last.then(async () => {
         try {
-            postMessage(await answers[data.kind](data));
+            say(await answers[data.kind](data, say));
         } catch (fault) {
-            postMessage({ kind: "failed", why: fault instanceof FormFault ? fault.message : String(fault) });
+            say({ kind: "failed", why: fault instanceof FormFault ? fault.message : String(fault) });
         }
     });
 });

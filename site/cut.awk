@@ -1,6 +1,6 @@
-# Cuts from evidence the sections that show numbers: `awk -v room=.. [-v each=1] -f cut.awk NUMBERS EVIDENCE`, NUMBERS as
-# boards.awk prints them. The first section that claims a number not claimed before goes to `room/N.dde`, N being the
-# first board of its deal. With `each`, each section that claims a number goes to a file of its own, `room/N.M.dde`.
+# Cuts from evidence the sections that claim numbers: `awk -v room=.. [-v each=1] -f cut.awk NUMBERS EVIDENCE`, NUMBERS
+# as boards.awk prints them. A section that claims a number which none before it claims goes to `room/N.dde`, N being
+# the first board of its deal. With `each`, each section that claims a number goes to its own file, `room/N.M.dde`.
 BEGIN { FS = "\t" }
 FNR == NR {
     if (!($2 in board)) board[$2] = $1

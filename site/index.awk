@@ -22,7 +22,7 @@ NR == 1 { print; next }
     print "<p class=\"evidence\" hidden>" 20 * count " of " 20 * count " numbers of this page can be checked:"
     print " <button type=\"button\">Check all</button> <span role=\"status\"></span></p>\n"
 }
-/^article>/ { if (++number in is_offered) sub(/^article/, "article class=\"offers\"") }
+/^article>/ { number++ }
 /^\/article>/ && number in is_offered {
     print "<p class=\"evidence\" hidden data-file=\"evidence/" number ".dde.gz\">20 of 20" offer press
 }

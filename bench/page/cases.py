@@ -3,8 +3,10 @@
 
 Usage: bench/page/cases.py PROGRAM COUNT SEED [LONGEST] >CASES. Each answer of bench/answers as it is, as version 2
 without the branches that it can do without, and its graphs named as the other version; and COUNT times each of the
-first two with each kind of damage (a tenth of that if it is longer than 100,000 bytes). Answers longer than LONGEST
-bytes are left out. A case is a line, its length, status, words and the program's line with tabs between, and the text.
+first two with each kind of damage (a tenth of that if it is longer than 100,000 bytes). With COUNT `bytes` instead each
+byte of an answer is changed once. Answers longer than LONGEST bytes are left out.
+
+A case is a line, its length, status, words and the program's line with tabs between, and then the text.
 """
 import itertools
 import os
@@ -19,6 +21,7 @@ import damages  # noqa: E402
 import versions  # noqa: E402
 
 LONG = 100_000
+LETTERS = b"NESWSHDCabcx()(){}{}0123456789 ./\n"
 
 
 def answers(longest):
@@ -35,10 +38,19 @@ def other_version(text):
     return text.replace(b"DDC 2\n", b"DDC 0\n").replace(b"DDC 1\n", b"DDC 2\n").replace(b"DDC 0\n", b"DDC 1\n")
 
 
+def changed(source, text, place):
+    """The text with a byte changed, most often to one that the forms have."""
+    others = source.choice([LETTERS, LETTERS, LETTERS, bytes(range(256))]).replace(text[place:place + 1], b"")
+    return text[:place] + bytes([source.choice(others)]) + text[place + 1:]
+
+
 def forms(name, text, count, seed):
     second = versions.as_version_two(text)
     yield from (text, second, other_version(text), other_version(second))
-    times = count if len(text) <= LONG else (count + 9) // 10
+    if count == "bytes":
+        yield from (changed(random.Random(f"{seed} {name} {place}"), text, place) for place in range(len(text)))
+        return
+    times = int(count) if len(text) <= LONG else (int(count) + 9) // 10
     for form, kind, number in itertools.product((text, second), damages.KINDS, range(times)):
         other = kind(random.Random(f"{seed} {name} {kind.__name__} {number}"), form)
         if other is not None and other != form:
@@ -52,10 +64,11 @@ def write_case(program, words, text):
 
 
 def main():
-    program, count, seed = sys.argv[1], int(sys.argv[2]), sys.argv[3]
+    program, count, seed = sys.argv[1:4]
     for name, words, text in answers(int(sys.argv[4]) if len(sys.argv) > 4 else sys.maxsize):
         for form in forms(name, text, count, seed):
             write_case(program, words, form)
 
 
-main()
+if __name__ == "__main__":
+    main()

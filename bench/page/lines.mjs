@@ -3,9 +3,9 @@
 import { execFileSync } from "node:child_process";
 import { readFileSync } from "node:fs";
 import { checkAnswer } from "../../page/checker.js";
-import { SEATS, readLayout, sideOf } from "../../page/patterns.js";
+import { SEATS, sideOf } from "../../page/patterns.js";
 import { Play, cardText } from "../../page/play.js";
-import { casesOf } from "./reading.mjs";
+import { casesOf, numberOf } from "./cases.mjs";
 
 /** What `line` prints of an answer that is accepted. */
 function linesOf(text, number) {
@@ -24,9 +24,8 @@ for (const { line, words, text } of casesOf(readFileSync(cases))) {
     if (!line.startsWith("accepted")) {
         continue;
     }
-    const [value, declarer, trump] = words.split("|");
-    const ours = linesOf(text, { layout: readLayout(value), declarer: SEATS.indexOf(declarer), trump });
-    const said = execFileSync(program, ["line", value, declarer, trump], { input: text }).toString();
+    const ours = linesOf(text, numberOf(words));
+    const said = execFileSync(program, ["line", ...words], { input: text }).toString();
     if (ours !== said) {
         console.log(`lines: ${words}: ddfarm prints\n${said}the page\n${ours}`);
         process.exit(1);

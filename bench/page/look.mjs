@@ -1,0 +1,269 @@
+// Looks at a folder that ddfarm-site made, in Chromium: node bench/page/look.mjs FOLDER SHEET [CASES..]. SHEET is what
+// `audit --sheet` prints. The folder has to show all numbers of at least two boards. CASES are those of cases.py and
+// sections.py, which are compared in the browser too. It needs Debian's chromium and poppler-utils.
+import { execFileSync, spawnSync } from "node:child_process";
+import { cpSync, mkdirSync, mkdtempSync, readFileSync, readdirSync, renameSync, rmSync, writeFileSync } from "node:fs";
+import { tmpdir } from "node:os";
+import { dirname, join } from "node:path";
+import { fileURLToPath } from "node:url";
+import { gunzipSync, gzipSync } from "node:zlib";
+import { Page, serve } from "./chromium.mjs";
+
+const [folder, sheet, ...cases] = process.argv.slice(2);
+const root = join(dirname(fileURLToPath(import.meta.url)), "../..");
+const room = mkdtempSync(join(tmpdir(), "look-"));
+process.on("exit", () => rmSync(room, { recursive: true, force: true }));
+
+const ALL = "document.querySelector('header .evidence button')";
+const BUTTONS = "[...document.querySelectorAll('article .evidence button')]";
+const STATUSES = "[...document.querySelectorAll('article .evidence [role=status]')].map(part => part.textContent)";
+const OFFERS = "[...document.querySelectorAll('article.offers')]";
+const SHOWN = `${OFFERS}.map(board => board.querySelectorAll('button.mark').length)`;
+const OTHERS = SHOWN.replace("button.mark", "span.mark");
+const SAID = "document.querySelector('dialog [role=status]').textContent";
+let passed = 0;
+
+function see(what, isSo, found) {
+    if (!isSo) {
+        console.log(`look: ${what}: found ${JSON.stringify(found)}`);
+        process.exit(1);
+    }
+    passed += 1;
+}
+const seeSame = (what, found, wanted) => see(what, JSON.stringify(found) === JSON.stringify(wanted), found);
+
+/** Opens a copy of the folder that was changed, and leaves nothing running. */
+async function withPage(change, look, at = folder) {
+    const copy = mkdtempSync(join(room, "site-"));
+    cpSync(at, copy, { recursive: true });
+    change(copy);
+    const server = await serve(copy);
+    const page = new Page(join(room, "profile"));
+    try {
+        await page.open(server.url);
+        await look(page, server.url);
+        see("each request is for a file of the folder", page.requests.every(url => url.startsWith(server.url)),
+            page.requests);
+    } finally {
+        await page.close();
+        server.close();
+    }
+}
+
+async function checkAll(page) {
+    await page.value(`${ALL}.click()`);
+    await page.until(`${ALL}.textContent === "Check all"`);
+}
+
+const fileOf = (copy, place) => join(copy, "evidence", `${place}.dde.gz`);
+/** The places on the sheet of the boards that have evidence. */
+const places = readdirSync(join(folder, "evidence")).map(name => parseInt(name)).sort((one, other) => one - other);
+const twenty = places.map(() => 20);
+const none = places.map(() => 0);
+
+/** Changes bytes of a board's evidence, which is packed again. */
+function changeText(copy, place, change) {
+    const text = gunzipSync(readFileSync(fileOf(copy, place)));
+    writeFileSync(fileOf(copy, place), gzipSync(change(text)));
+}
+
+/** A byte of the text, after a word in it, becomes another. */
+function withByte(text, word, byte) {
+    const at = text.indexOf(word) + word.length;
+    const changed = Buffer.from(text);
+    changed[at] = changed[at] === byte.charCodeAt(0) ? byte.charCodeAt(0) + 1 : byte.charCodeAt(0);
+    return changed;
+}
+
+async function lookAtAll() {
+    await withPage(() => {}, async page => {
+        seeSame("no number is marked before a check", await page.value(SHOWN), none);
+        await checkAll(page);
+        seeSame("all numbers are shown", await page.value(SHOWN), twenty);
+        seeSame("no number is refused", await page.value(OTHERS), none);
+        seeSame("nothing is blocked or fails", page.complaints, []);
+        await page.value(`${BUTTONS}[0].click()`);
+        await page.until(`${BUTTONS}[0].textContent === "Check"`);
+        seeSame("a second check marks the same", await page.value(SHOWN), twenty);
+    });
+}
+
+/** What is wrong with the first board's file, what its status says then, and how many of its numbers are shown. */
+const DAMAGES = [
+    ["a byte of the packed file", copy => {
+        const bytes = readFileSync(fileOf(copy, places[0]));
+        bytes[bytes.length >> 1] ^= 1;
+        writeFileSync(fileOf(copy, places[0]), bytes);
+    }, /^the file is damaged/, 0],
+    ["a missing file", copy => rmSync(fileOf(copy, places[0])), /is missing \(404\)$/, 0],
+    ["a byte of a card", copy => changeText(copy, places[0], text => withByte(text, "deal N:", "2")), /^16 of 20/, 16],
+    ["a byte of a node", copy => changeText(copy, places[0], text => withByte(text, "nodes ", "0")), /^16 of 20/, 16],
+    ["a byte of a claim", copy => changeText(copy, places[0], text => withByte(text, "\nN ", "0")), /^19 of 20/, 19],
+    ["no evidence", copy => writeFileSync(fileOf(copy, places[0]), ""), /^0 of 20/, 0],
+    ["evidence that isn't packed", copy => writeFileSync(fileOf(copy, places[0]),
+        gunzipSync(readFileSync(fileOf(copy, places[0])))), /^20 of 20/, 20],
+    ["too much evidence", copy => writeFileSync(fileOf(copy, places[0]), gzipSync(Buffer.alloc((64 << 20) + 1))),
+        /^the file is too large$/, 0],
+];
+
+async function lookAtDamage([name, change, status, shown]) {
+    await withPage(change, async page => {
+        await checkAll(page);
+        seeSame(name, await page.value(SHOWN), [shown, ...twenty.slice(1)]);
+        const said = (await page.value(STATUSES))[0];
+        see(`${name}: what is said`, status.test(said), said);
+        const marks = await page.value(`${OFFERS}[0].querySelectorAll('span.mark').length`);
+        const reasons = await page.value("document.querySelectorAll('.reasons li').length");
+        see(`${name}: each number that isn't shown has a reason`, marks === reasons, [marks, reasons]);
+    });
+}
+
+async function lookAtExchange() {
+    await withPage(copy => {
+        renameSync(fileOf(copy, places[0]), join(copy, "other"));
+        renameSync(fileOf(copy, places[1]), fileOf(copy, places[0]));
+        renameSync(join(copy, "other"), fileOf(copy, places[1]));
+    }, async page => {
+        await checkAll(page);
+        seeSame("files exchanged", await page.value(SHOWN), [0, 0, ...twenty.slice(2)]);
+    });
+}
+
+/** The page is changed instead of the evidence. A check is about what stands in the page. */
+async function lookAtPage() {
+    await withPage(() => {}, async page => {
+        await page.value(`${OFFERS}[0].querySelector('td').innerHTML = '<small>13</small>'`);
+        // The spades of North and those of East are exchanged.
+        await page.value(`(([north, east]) => north.replaceWith(east.replaceWith(north.cloneNode(true)) ?? east))(
+            [0, 1].map(seat => ${OFFERS}[1].querySelectorAll('.deal ul')[seat].children[1]))`);
+        await checkAll(page);
+        seeSame("a number and a hand of the page changed", await page.value(SHOWN), [19, 0, ...twenty.slice(2)]);
+    });
+}
+
+async function lookAtStop() {
+    await withPage(() => {}, async page => {
+        await page.value(`${ALL}.click(); ${ALL}.click()`);
+        await page.until(`${ALL}.textContent === "Check all"`);
+        seeSame("stopped before a number was shown", await page.value(SHOWN), none);
+        seeSame("stopped", await page.value(STATUSES), places.map(() => "stopped"));
+        await checkAll(page);
+        seeSame("all are shown after a stop", await page.value(SHOWN), twenty);
+    });
+}
+
+const press = name =>
+    `[...document.querySelectorAll('dialog button')].find(part => part.textContent === "${name}").click()`;
+
+/** Opens the numbers of the first board: the line of play, and plays with random cards against both sides. */
+async function lookAtPlay() {
+    await withPage(() => {}, async page => {
+        await page.value(`${BUTTONS}[0].click()`);
+        await page.until(`${BUTTONS}[0].textContent === "Check" && ${STATUSES}[0].startsWith("20")`);
+        for (const number of [0, 7, 13, 19]) {
+            await page.value(`document.querySelectorAll('button.mark')[${number}].click()`);
+            const title = await page.value("document.querySelector('dialog h2').textContent");
+            const tricks = Number(/: (\d+) tricks?$/.exec(title)[1]);
+            await page.until(`${SAID}.endsWith(" leads.")`);
+            for (let trick = 0; trick < 13; trick++) {
+                await page.value(press("Forward"));
+            }
+            seeSame(`${title}: the line's end`, (await page.value(SAID)).split(". ").at(-1),
+                `Declarer ${tricks}, defenders ${13 - tricks}.`);
+            await page.value(press("Back"));
+            see(`${title}: back`, (await page.value(SAID)).startsWith("Trick 12 of 13"), await page.value(SAID));
+            await tryBoth(page, title, tricks);
+            await page.value(press("Close"));
+        }
+    });
+}
+
+async function tryBoth(page, title, tricks) {
+    for (const [part, promise] of [["defenders", tricks], ["declarer", 13 - tricks]]) {
+        await page.value(press(`Try as ${part}`));
+        const words = new RegExp(`are promised ${promise}(, and took (\\d+))?[.]$`);
+        let said = "", cards = 0;
+        while (!said.startsWith("All cards are played")) {
+            said = await page.until("!document.querySelector('dialog .table').inert && " +
+                `/ are promised /.test(${SAID}) && ${SAID}`);
+            see(`${title}: the promise`, words.test(said), said);
+            cards += await page.value("(() => { const cards = [...document.querySelectorAll('dialog button.card')];" +
+                " cards[Math.floor(Math.random() * cards.length)]?.click(); return cards.length > 0 ? 1 : 0; })()");
+        }
+        see(`${title}: the promise was kept`, Number(words.exec(said)[2]) >= promise, said);
+        seeSame(`${title}: cards played by the reader`, cards, 26);
+    }
+}
+
+/** Printed, and without scripts, the page is the sheet. */
+async function lookAtPaper() {
+    const plain = mkdtempSync(join(room, "sheet-"));
+    cpSync(sheet, join(plain, "index.html"));
+    const print = async (at, change) => {
+        let text = "";
+        await withPage(() => {}, async page => {
+            await change(page);
+            const { data } = await page.send("Page.printToPDF");
+            writeFileSync(join(room, "page.pdf"), Buffer.from(data, "base64"));
+            text = execFileSync("pdftotext", ["-bbox", join(room, "page.pdf"), "-"]).toString();
+        }, at);
+        return text.replace(/<meta.*>/g, "");
+    };
+    const wanted = await print(plain, () => {});
+    see("words on paper", wanted.includes("<word "), wanted);
+    see("printed before a check", wanted === await print(folder, () => {}), "other words or places");
+    see("printed after a check", wanted === await print(folder, checkAll), "other words or places");
+}
+
+async function lookWithoutScripts() {
+    const shots = [];
+    const plain = mkdtempSync(join(room, "sheet-"));
+    cpSync(sheet, join(plain, "index.html"));
+    for (const at of [plain, folder]) {
+        await withPage(() => {}, async (page, url) => {
+            await page.send("Emulation.setScriptExecutionDisabled", { value: true });
+            await page.send("Page.navigate", { url });
+            await page.until("document.readyState === 'complete'");
+            shots.push((await page.screenshot()).toString("base64"));
+        }, at);
+    }
+    see("without scripts", shots[0] === shots[1], "another picture");
+}
+
+/** The cases in the browser, as in Node. */
+async function lookAtCases(file) {
+    const copy = mkdtempSync(join(room, "cases-"));
+    mkdirSync(join(copy, "bench/page"), { recursive: true });
+    cpSync(join(root, "page"), join(copy, "page"), { recursive: true });
+    cpSync(join(root, "bench/page/cases.mjs"), join(copy, "bench/page/cases.mjs"));
+    cpSync(file, join(copy, "cases"));
+    writeFileSync(join(copy, "index.html"), "<!DOCTYPE html><title>cases</title>");
+    await withPage(() => {}, async page => {
+        const found = await page.value("Promise.all([import('/bench/page/cases.mjs')," +
+            " fetch('/cases').then(answer => answer.arrayBuffer())])" +
+            ".then(([{ compare }, bytes]) => compare(new Uint8Array(bytes)))");
+        see("cases in Chromium", found.count > 0 && found.differences.length === 0, found.differences);
+        console.log(`look: ${found.count} cases in Chromium, no difference`);
+    }, copy);
+}
+
+for (const needed of ["chromium", "pdftotext"]) {
+    if (spawnSync("which", [needed]).status !== 0) {
+        console.log(`look: passed over, since ${needed} is not installed`);
+        process.exit(0);
+    }
+}
+await lookAtAll();
+for (const damage of DAMAGES) {
+    await lookAtDamage(damage);
+}
+await lookAtExchange();
+await lookAtPage();
+await lookAtStop();
+await lookAtPlay();
+await lookAtPaper();
+await lookWithoutScripts();
+for (const file of cases) {
+    await lookAtCases(file);
+}
+console.log(`look: ${places.length} boards in Chromium, ${passed} things seen as they have to be`);
