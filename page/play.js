@@ -83,7 +83,7 @@ class Follower {
 /** A play of a layout, in which each side that has a certificate follows it. */
 export class Play {
     /**
-     * `shown` has a graph and a root for each part, declarer's side first, as a check gives them. It has null for a part
+     * `shown` has a graph and a root for each part, declarer's side first, as a check gives them, or null for a part
      * that follows none.
      */
     constructor({ layout, declarer, trump }, shown) {

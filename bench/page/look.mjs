@@ -133,11 +133,13 @@ async function lookAtExchange() {
 async function lookAtPage() {
     await withPage(() => {}, async page => {
         await page.value(`${OFFERS}[0].querySelector('td').innerHTML = '<small>13</small>'`);
-        // The spades of North and those of East are exchanged.
-        await page.value(`(([north, east]) => north.replaceWith(east.replaceWith(north.cloneNode(true)) ?? east))(
-            [0, 1].map(seat => ${OFFERS}[1].querySelectorAll('.deal ul')[seat].children[1]))`);
+        // The last spades of North and East are exchanged, which makes another deal.
+        await page.value(`(([north, east], last = text => text.data.at(-1)) => [north.data, east.data] =
+            [north.data.slice(0, -1) + last(east), east.data.slice(0, -1) + last(north)])(
+            [0, 1].map(seat => ${OFFERS}[1].querySelectorAll('.deal ul')[seat].children[1].lastChild))`);
         await checkAll(page);
-        seeSame("a number and a hand of the page changed", await page.value(SHOWN), [19, 0, ...twenty.slice(2)]);
+        seeSame("a number and a deal of the page changed", await page.value(SHOWN), [19, 0, ...twenty.slice(2)]);
+        seeSame("the deal is another", await page.value(`${OFFERS}[1].querySelectorAll('.reasons li').length`), 20);
     });
 }
 
