@@ -1,7 +1,7 @@
 // Checks certificates as docs/CERTIFICATES.md says under "What the checker looks at": the beginning for a layout, and
 // the step of each node. It walks over the bytes of a tree, once per node, with the cards played so far.
-import { CLOSE, CLOSE_LEAF, FormFault, OPEN, OPEN_LEAF, SEAT_OF, SUIT_OF, TOP_OF, TextFault, cutAnswer, passTree,
-    readGraph } from "./form.js";
+import { CLOSE, CLOSE_LEAF, FormFault, OPEN, OPEN_LEAF, SEAT_OF, SUIT_OF, TOP_OF, TextFault, countsOf,
+    cutAnswer, passTree, readGraph } from "./form.js";
 import { NO_ROOT } from "./evidence.js";
 import { LOW, SUITS, leftOf, matches, sideOf, sizeOf } from "./patterns.js";
 
@@ -55,7 +55,9 @@ class Walk {
         const place = 4 * this.node + suit;
         const first = 4 * suit;
         const count = this.graph.ownerCounts[place];
-        this.hands.fill(0, first, first + 4);
+        for (let seat = 0; seat < 4; seat++) {
+            this.hands[first + seat] = 0;
+        }
         for (let top = 0, packed = this.graph.owners[place]; top < count; top++, packed >>>= 2) {
             this.hands[first + (packed & 3)] |= 1 << top;
         }
@@ -141,8 +143,10 @@ class Walk {
 
     /** The seats that may have won the trick, one bit each. */
     winners() {
-        const suit = this.suits.includes(this.trump) ? this.trump : this.suits[0];
-        let best = LOW, winners = 0;
+        let suit = this.suits[0], best = LOW, winners = 0;
+        for (let played = 1; played < 4; played++) {
+            suit = this.suits[played] === this.trump ? this.trump : suit;
+        }
         for (let played = 0; played < 4; played++) {
             if (this.suits[played] === suit && this.tops[played] <= best) {
                 winners = this.tops[played] === best ? winners | 1 << this.seats[played] : 1 << this.seats[played];
@@ -257,19 +261,19 @@ class Walk {
 
     /** Names the low cards of a suit after the high ones, if only one hand has some. */
     addLoneHolder(suit) {
-        const low = [0, 0, 0, 0];
+        const counts = countsOf(this.owners[suit], this.ownerCounts[suit]);
+        let holders = 0, holder = 0, low = 0;
         for (let seat = 0; seat < 4; seat++) {
-            low[seat] = this.lengths[4 * suit + seat];
-        }
-        for (let owner = 0; owner < this.ownerCounts[suit]; owner++) {
-            low[this.owners[suit] >> 2 * owner & 3] -= 1;
-        }
-        const holder = low.findIndex(cards => cards > 0);
-        if (low.filter(cards => cards > 0).length === 1) {
-            for (let card = 0; card < low[holder]; card++) {
-                this.owners[suit] |= holder << 2 * this.ownerCounts[suit];
-                this.ownerCounts[suit] += 1;
+            const cards = this.lengths[4 * suit + seat] - (counts >> 4 * seat & 15);
+            if (cards > 0) {
+                holders += 1;
+                holder = seat;
+                low = cards;
             }
+        }
+        for (let card = 0; holders === 1 && card < low; card++) {
+            this.owners[suit] |= holder << 2 * this.ownerCounts[suit];
+            this.ownerCounts[suit] += 1;
         }
     }
 }

@@ -225,25 +225,36 @@ function isNode(reader, graph, node) {
     return reader.isTree(0) && reader.takes(LINE_FEED);
 }
 
+/** How often each seat is among owners: four bits for each, North's lowest. */
+export function countsOf(owners, count) {
+    let counts = 0;
+    for (let rest = owners, owner = 0; owner < count; owner++, rest >>>= 2) {
+        counts += 1 << 4 * (rest & 3);
+    }
+    return counts;
+}
+
 /** Whether the suits of a node are a pattern. */
 function isPattern(graph, node) {
-    const hands = [0, 0, 0, 0];
+    // By seat, in bytes: no hand has more than 52 cards.
+    let hands = 0;
     for (let place = 4 * node; place < 4 * node + 4; place++) {
-        const left = [0, 0, 0, 0];
-        let length = 0;
+        const counts = countsOf(graph.owners[place], graph.ownerCounts[place]);
+        let sum = 0;
         for (let seat = 0; seat < 4; seat++) {
-            left[seat] = graph.lengths[4 * place + seat];
-            hands[seat] += left[seat];
-            length += left[seat];
+            const length = graph.lengths[4 * place + seat];
+            hands += length << 8 * seat;
+            sum += length;
+            if ((counts >> 4 * seat & 15) > length) {
+                return false;
+            }
         }
-        for (let owner = 0; owner < graph.ownerCounts[place]; owner++) {
-            left[(graph.owners[place] >> (2 * owner)) & 3] -= 1;
-        }
-        if (length > MOST || left.some(cards => cards < 0)) {
+        if (sum > MOST) {
             return false;
         }
     }
-    return hands[0] >= 1 && hands[0] <= MOST && hands.every(size => size === hands[0]);
+    const size = hands & 255;
+    return size >= 1 && size <= MOST && hands === size * 0x1010101;
 }
 
 /** Reads a certificate from bytes that have nothing else, or throws the first TextFault. */
