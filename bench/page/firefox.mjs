@@ -1,4 +1,4 @@
-// Firefox without a window, by WebDriver BiDi: node --experimental-websocket, in Node 20.
+// Firefox without a window, by WebDriver BiDi. Node 20 needs --experimental-websocket for it.
 import { spawn } from "node:child_process";
 
 const SECONDS = 120;
@@ -32,7 +32,8 @@ export class FirefoxPage {
         this.waiting.get(id)?.({ result, error: error && `${error}: ${message}` });
         if (method === "network.beforeRequestSent") {
             this.requests.push(params.request.url);
-        } else if (method === "log.entryAdded" && params.level === "error") {
+        } else if (method === "log.entryAdded" && params.level === "error" && !/favicon/.test(params.text)) {
+            // The policy lets no icon be asked for, which Firefox says.
             this.complaints.push(params.text);
         }
     }
@@ -56,7 +57,7 @@ export class FirefoxPage {
     /** The value of an expression in the page, by way of JSON. */
     async value(expression) {
         const { result, exceptionDetails } = await this.send("script.evaluate", {
-            expression: `(async () => JSON.stringify(await (${expression.replaceAll(";", ",")})))()`,
+            expression: `(async () => JSON.stringify(await (${expression})))()`,
             target: { context: this.context },
             awaitPromise: true,
         });

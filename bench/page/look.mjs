@@ -1,6 +1,7 @@
 // Looks at a folder that ddfarm-site made, in Chromium: node bench/page/look.mjs FOLDER SHEET [CASES..]. SHEET is what
 // `audit --sheet` prints. The folder has to show all numbers of at least two boards. CASES are those of cases.py and
-// sections.py, which are compared in the browser too. It needs Debian's chromium and poppler-utils.
+// sections.py, which are compared in the browser too. It needs Debian's chromium and poppler-utils. With
+// BROWSER=firefox it looks at all but paper in firefox-esr: BROWSER=firefox node --experimental-websocket ..
 import { execFileSync, spawnSync } from "node:child_process";
 import { cpSync, mkdirSync, mkdtempSync, readFileSync, readdirSync, renameSync, rmSync, writeFileSync } from "node:fs";
 import { tmpdir } from "node:os";
@@ -8,6 +9,7 @@ import { dirname, join } from "node:path";
 import { fileURLToPath } from "node:url";
 import { gunzipSync, gzipSync } from "node:zlib";
 import { Page, serve } from "./chromium.mjs";
+import { FirefoxPage } from "./firefox.mjs";
 
 const [folder, sheet, ...cases] = process.argv.slice(2);
 const root = join(dirname(fileURLToPath(import.meta.url)), "../..");
@@ -21,6 +23,8 @@ const OFFERS = "[...document.querySelectorAll('article.offers')]";
 const SHOWN = `${OFFERS}.map(board => board.querySelectorAll('button.mark').length)`;
 const OTHERS = SHOWN.replace("button.mark", "span.mark");
 const SAID = "document.querySelector('dialog [role=status]').textContent";
+const isFirefox = process.env.BROWSER === "firefox";
+const browser = isFirefox ? "Firefox" : "Chromium";
 let passed = 0;
 
 function see(what, isSo, found) {
@@ -38,12 +42,13 @@ async function withPage(change, look, at = folder) {
     cpSync(at, copy, { recursive: true });
     change(copy);
     const server = await serve(copy);
-    const page = new Page(join(room, "profile"));
+    const page = isFirefox ? new FirefoxPage(mkdtempSync(join(room, "profile-"))) : new Page(join(room, "profile"));
     try {
         await page.open(server.url);
         await look(page, server.url);
-        see("each request is for a file of the folder", page.requests.every(url => url.startsWith(server.url)),
-            page.requests);
+        // Firefox names a font of its own, which is no request.
+        see("each request is for a file of the folder",
+            page.requests.every(url => url.startsWith(server.url) || url.startsWith("data:")), page.requests);
     } finally {
         await page.close();
         server.close();
@@ -133,10 +138,10 @@ async function lookAtExchange() {
 async function lookAtPage() {
     await withPage(() => {}, async page => {
         await page.value(`${OFFERS}[0].querySelector('td').innerHTML = '<small>13</small>'`);
-        // The last spades of North and East are exchanged, which makes another deal.
-        await page.value(`(([north, east], last = text => text.data.at(-1)) => [north.data, east.data] =
-            [north.data.slice(0, -1) + last(east), east.data.slice(0, -1) + last(north)])(
-            [0, 1].map(seat => ${OFFERS}[1].querySelectorAll('.deal ul')[seat].children[1].lastChild))`);
+        // North and East exchange their hands, which makes another deal.
+        await page.value(`[1, 2, 3, 4].forEach(suit => (([north, east]) =>
+            [north.innerHTML, east.innerHTML] = [east.innerHTML, north.innerHTML])(
+            [0, 1].map(seat => ${OFFERS}[1].querySelectorAll('.deal ul')[seat].children[suit])))`);
         await checkAll(page);
         seeSame("a number and a deal of the page changed", await page.value(SHOWN), [19, 0, ...twenty.slice(2)]);
         seeSame("the deal is another", await page.value(`${OFFERS}[1].querySelectorAll('.reasons li').length`), 20);
@@ -145,7 +150,7 @@ async function lookAtPage() {
 
 async function lookAtStop() {
     await withPage(() => {}, async page => {
-        await page.value(`${ALL}.click(); ${ALL}.click()`);
+        await page.value(`[${ALL}, ${ALL}].forEach(press => press.click())`);
         await page.until(`${ALL}.textContent === "Check all"`);
         seeSame("stopped before a number was shown", await page.value(SHOWN), none);
         seeSame("stopped", await page.value(STATUSES), places.map(() => "stopped"));
@@ -244,12 +249,12 @@ async function lookAtCases(file) {
         const found = await page.value("Promise.all([import('/bench/page/cases.mjs')," +
             " fetch('/cases').then(answer => answer.arrayBuffer())])" +
             ".then(([{ compare }, bytes]) => compare(new Uint8Array(bytes)))");
-        see("cases in Chromium", found.count > 0 && found.differences.length === 0, found.differences);
-        console.log(`look: ${found.count} cases in Chromium, no difference`);
+        see("cases in the browser", found.count > 0 && found.differences.length === 0, found.differences);
+        console.log(`look: ${found.count} cases in ${browser}, no difference`);
     }, copy);
 }
 
-for (const needed of ["chromium", "pdftotext"]) {
+for (const needed of isFirefox ? ["firefox-esr"] : ["chromium", "pdftotext"]) {
     if (spawnSync("which", [needed]).status !== 0) {
         console.log(`look: passed over, since ${needed} is not installed`);
         process.exit(0);
@@ -263,9 +268,11 @@ await lookAtExchange();
 await lookAtPage();
 await lookAtStop();
 await lookAtPlay();
-await lookAtPaper();
-await lookWithoutScripts();
+if (!isFirefox) {
+    await lookAtPaper();
+    await lookWithoutScripts();
+}
 for (const file of cases) {
     await lookAtCases(file);
 }
-console.log(`look: ${places.length} boards in Chromium, ${passed} things seen as they have to be`);
+console.log(`look: ${places.length} boards in ${browser}, ${passed} things seen as they have to be`);
