@@ -2,15 +2,16 @@
 """Writes answers with what `ddfarm check` says of each, for the checker in page/.
 
 Usage: bench/page/cases.py PROGRAM COUNT SEED [LONGEST] >CASES. Each answer of bench/answers as it is, as version 2
-without the branches that it can do without, and its graphs named as the other version; and COUNT times each of the
-first two with each kind of damage (a tenth of that if it is longer than 100,000 bytes). With COUNT `bytes` instead each
-byte of an answer is changed once. Answers longer than LONGEST bytes are left out.
+without the branches that it can do without, with its graphs named as the other version, and with EDITS; and COUNT times
+each of the first two with each kind of damage (a tenth of that if it is longer than 100,000 bytes). With COUNT `bytes`
+instead each byte of an answer is changed once. Answers longer than LONGEST bytes are left out.
 
 A case is a line, its length, status, words and the program's line with tabs between, and then the text.
 """
 import itertools
 import os
 import random
+import re
 import subprocess
 import sys
 import tarfile
@@ -21,6 +22,11 @@ import damages  # noqa: E402
 import versions  # noqa: E402
 
 LONG = 100_000
+# Numbers over what a form takes, and leaves and brackets out of place.
+EDITS = [(rb"nodes \d+", b"nodes 1000001"), (rb"nodes \d+", b"nodes 99999999999999999999"), (rb"{\w*", b"{N9999999"),
+         (rb"{\w*", b"{N99999999"), (rb"\.\d+/", b".14/"), (rb"/[NESW]*", b"/NESWNESWNESWN"),
+         (rb"/[NESW]*", b"/NESWNESWNESWNE"), (rb" (?=\S+\n)", b" Sx"), (rb"\(.*", b"()"), (rb"\(.*", b"{}"),
+         (rb"}", b"})")]
 LETTERS = b"NESWSHDCabcx()(){}{}0123456789 ./\n"
 
 
@@ -47,6 +53,7 @@ def changed(source, text, place):
 def forms(name, text, count, seed):
     second = versions.as_version_two(text)
     yield from (text, second, other_version(text), other_version(second))
+    yield from (re.sub(old, new, text, count=1) for old, new in EDITS)
     if count == "bytes":
         yield from (changed(random.Random(f"{seed} {name} {place}"), text, place) for place in range(len(text)))
         return

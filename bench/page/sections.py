@@ -13,6 +13,9 @@ import sys
 
 from cases import changed
 
+EDITS = [(b"side NS", b"side EW"), (b"side EW", b"side NS"), (b" 0 -", b" 0 0"), (b"- 0\n", b"- 999999\n"),
+         (b"- 0\n", b"- 1000000\n"), (b"claims 4", b"claims 5"), (b" 13 ", b" 14 "), (b"AK", b"KA")]
+
 
 def audit(program, board, evidence):
     """The output of an audit: its pages, and the line about damage."""
@@ -38,6 +41,7 @@ def texts(sections, step, seed):
                 whole + b"DDE 1\n", b"DDE 1\n" + whole, b"x\n" + whole, whole.replace(b"\n", b"\r\n"),
                 b"".join(reversed(sections))]
     for section in sections:
+        yield from (section.replace(old, new) for old, new in EDITS)
         yield from (changed(source, section, place) for place in range(0, len(section), step))
         for _ in range(len(section) // step // 10):
             lines = section.splitlines(True)
