@@ -202,6 +202,35 @@ async function tryBoth(page, title, tricks) {
     }
 }
 
+const KEYS = { Tab: [9], Enter: [13, "\r"], Escape: [27] };
+
+/** Checks, opens a number, goes a trick forward and closes it by keys alone. */
+async function lookAtKeys() {
+    await withPage(() => {}, async page => {
+        const type = async key => {
+            const [windowsVirtualKeyCode, text] = KEYS[key];
+            for (const part of [{ type: "keyDown", text }, { type: "keyUp" }]) {
+                await page.send("Input.dispatchKeyEvent", { key, code: key, windowsVirtualKeyCode, ...part });
+            }
+        };
+        const focused = name => page.value(`document.activeElement.${name}`);
+        await type("Tab");
+        seeSame("the first button", await focused("textContent"), "Check all");
+        await type("Enter");
+        await page.until(`${SHOWN}.join() === "${twenty.join()}"`);
+        await type("Tab");
+        const label = await focused("getAttribute('aria-label')");
+        see("a mark says what it is", /^North, clubs: \d+ tricks?: shown by \d+ nodes[.] How[?]$/.test(label), label);
+        await type("Enter");
+        await page.until(`${SAID}.endsWith(" leads.")`);
+        await type("Enter");
+        see("forward by a key", (await page.value(SAID)).startsWith("Trick 1 of 13"), await page.value(SAID));
+        await type("Escape");
+        seeSame("closed by a key", await page.value("document.querySelector('dialog').open"), false);
+        seeSame("back at the mark", await focused("getAttribute('aria-label')"), label);
+    });
+}
+
 /** Printed, and without scripts, the page is the sheet. */
 async function lookAtPaper() {
     const plain = mkdtempSync(join(room, "sheet-"));
@@ -269,6 +298,7 @@ await lookAtPage();
 await lookAtStop();
 await lookAtPlay();
 if (!isFirefox) {
+    await lookAtKeys();
     await lookAtPaper();
     await lookWithoutScripts();
 }
