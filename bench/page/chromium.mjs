@@ -7,6 +7,7 @@ const SECONDS = 120;
 export async function serve(folder) {
     const server = spawn("python3", ["-u", "-m", "http.server", "0", "--bind", "127.0.0.1", "-d", folder],
         { stdio: ["ignore", "pipe", "ignore"] });
+    process.on("exit", () => server.kill());
     const said = await new Promise(answer => server.stdout.once("data", data => answer(data.toString())));
     return { url: `http://127.0.0.1:${/port (\d+)/.exec(said)[1]}/`, close: () => server.kill() };
 }
@@ -17,6 +18,7 @@ export class Page {
         this.process = spawn("chromium", ["--headless", "--no-sandbox", "--disable-gpu", "--hide-scrollbars",
             "--no-first-run", "--disable-background-networking", `--user-data-dir=${room}`, "--remote-debugging-pipe"],
         { stdio: ["ignore", "ignore", "ignore", "pipe", "pipe"] });
+        process.on("exit", () => this.process.kill());
         this.requests = [];
         this.complaints = [];
         this.waiting = new Map();

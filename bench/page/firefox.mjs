@@ -8,6 +8,7 @@ export class FirefoxPage {
     constructor(room) {
         this.process = spawn("firefox-esr", ["--headless", "--no-remote", "--profile", room,
             "--remote-debugging-port", "0"], { stdio: ["ignore", "ignore", "pipe"] });
+        process.on("exit", () => this.process.kill());
         this.address = new Promise(answer => this.process.stderr.on("data", data => {
             const found = /ws:\/\/[0-9.:]+/.exec(data.toString());
             if (found) {

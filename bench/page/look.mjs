@@ -26,6 +26,7 @@ const SAID = "document.querySelector('dialog [role=status]').textContent";
 const isFirefox = process.env.BROWSER === "firefox";
 const browser = isFirefox ? "Firefox" : "Chromium";
 let passed = 0;
+process.setMaxListeners(0);
 
 function see(what, isSo, found) {
     if (!isSo) {
