@@ -15,7 +15,7 @@ pub(crate) const GREATEST_COUNT: usize = 1_000_000;
 const GREATEST_NEED: u8 = 13;
 
 /// Whether this is a node of a graph with so many nodes, else its first fault.
-fn check_node(node: &Node, count: u32) -> Result<(), GraphFault>
+pub(crate) fn check_node(node: &Node, count: u32) -> Result<(), GraphFault>
     ensures { MatchResult result (λ _. IsNode count node.now) (IsNodeFault count node.now) }
 {
     node.pattern.invariant();

@@ -1,7 +1,7 @@
 //! A graph of patterns, and which rows of nodes are one.
 
-ghost use Rattle.std.specs.Prelude.{◌≡◌, ◌⊎◌, Err, IfOk};
-ghost use Rattle.certificate_graph.specs.Graphs.{IsGraph};
+ghost use Rattle.std.specs.Prelude.{◌≡◌, ◌⊎◌, ◌↔◌, Err, IfOk, IsTrue, length};
+ghost use Rattle.certificate_graph.specs.Graphs.{IsGraph, IsNode};
 ghost use Rattle.certificate_graph.specs.Extracts.{IsExtract, IsRootIn};
 ghost use Rattle.cards.specs.Devices.{Writes};
 ghost use Rattle.certificate_graph.specs.GraphFaults.{MakesGraph};
@@ -9,7 +9,7 @@ ghost use Rattle.certificate_graph.specs.TextFaults.{TextAnswers};
 ghost use Rattle.certificate_graph.specs.Texts.{graph_text};
 ghost use Rattle.certificate_graph.specs.declared.faults.TextFault.TheVariants as text_fault;
 
-use crate::checks::check_nodes;
+use crate::checks::{check_node, check_nodes};
 use crate::extracting::exchange_nodes;
 use crate::faults::{GraphFault, TextFault};
 use crate::head_reading::{read_count, read_side, read_title, read_trump};
@@ -92,6 +92,15 @@ impl Graph {
         ensures { result.now ≡ self.now.nodes }
     {
         self.nodes.as_slice()
+    }
+
+    /// Whether this could be a node of the graph: it needs 1 to 13 tricks, its tree is of the form of trees, and its
+    /// leaves name nodes of the graph.
+    pub fn admits(&self, node: &Node) -> bool
+        ensures { IsTrue result ↔ IsNode (length self.now.nodes) node.now }
+    {
+        self.invariant();
+        check_node(node, self.nodes().len() as u32).is_ok()
     }
 
     /// The graph that the text tells, else the fault of the first line that has one, in a line the first in the order

@@ -10,6 +10,7 @@
 mod answers;
 mod bundle_answers;
 mod bundles;
+mod card_claims;
 mod checks;
 mod children;
 mod cursors;
@@ -37,6 +38,7 @@ mod writing;
 
 pub use answers::Answer;
 pub use bundles::{Bundle, Claim};
+pub use card_claims::{CardBundle, CardClaim, CardSolver};
 pub use children::Child;
 pub use faults::{GraphFault, TextFault};
 pub use graphs::Graph;
