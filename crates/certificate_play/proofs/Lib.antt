@@ -1,4 +1,4 @@
-mod PromiseLaws
+pub mod PromiseLaws
 mod StepLaws
 mod StandInLaws
 mod BranchLaws

@@ -27,8 +27,8 @@ fn place_in_suit(deal: &[Option<Seat>; 52], card: Card) -> usize
     higher
 }
 
-/// The pattern card that stands for the card.
-pub(crate) fn pat_card_of(deal: &[Option<Seat>; 52], pattern: &Pattern, card: Card) -> PatCard
+/// The pattern card that stands for the card, where these seats hold the cards of the layout, each by its number.
+pub fn pat_card_of(deal: &[Option<Seat>; 52], pattern: &Pattern, card: Card) -> PatCard
     ensures { StandsFor pattern.now deal.now result card }
 {
     let place = place_in_suit(deal, card);

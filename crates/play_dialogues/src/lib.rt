@@ -22,3 +22,4 @@ mod words;
 
 pub use dialogues::{End, Ended, play_dialogue};
 pub use plays::write_play;
+pub use tricks::write_card;

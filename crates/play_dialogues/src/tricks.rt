@@ -57,8 +57,8 @@ fn write_cards<S: Sink>(cards: &[Card], output: &mut S) -> Result<(), DeviceFaul
     Ok(())
 }
 
-/// Writes a blank and the letters of the card.
-fn write_card<S: Sink>(card: Card, output: &mut S) -> Result<(), DeviceFault>
+/// Writes a blank and the letters of the card. After a fault of the sink a beginning of them has gone out.
+pub fn write_card<S: Sink>(card: Card, output: &mut S) -> Result<(), DeviceFault>
     ensures { Writes (S.state output.old) (S.state output.new) (32 ∷ card_text card) result }
 {
     write_all(output, b" ")?;
