@@ -17,7 +17,7 @@ use Rattle.strategies.proofs.UniqueProofs.{no_more_than_all}
 use Rattle.checker.specs.ValuesAfter.{side_to_play, HasOneValueAfter, ValueIsValueAfter}
 
 -- what a side can win at most, where the other can win the others
-most : (opening : Opening) (history : List Card) (side : Side) (one other : ℕ) → IsLayout opening.deal → IsLegalHistory opening history → other ≤ size_of opening.deal → CanWin opening side one history →
+pub most : (opening : Opening) (history : List Card) (side : Side) (one other : ℕ) → IsLayout opening.deal → IsLegalHistory opening history → other ≤ size_of opening.deal → CanWin opening side one history →
     CanWin opening (other_side side) (size_of opening.deal - other) history → one ≤ other
 most opening history NorthSouth one other layout legal within own others = omega (arith, within, no_more_than_all opening one (size_of opening.deal - other) history layout legal own others)
 most opening history EastWest one other layout legal within own others = omega (arith, within, no_more_than_all opening (size_of opening.deal - other) one history layout legal others own)
