@@ -1,7 +1,7 @@
 //! The tables of one deal: who owns the cards of a suit, and which rank each of them has.
 
 use crate::words::{CardSet, MOST_CARDS, PACK, SUIT};
-use cards::{Layout, Seat, Suit, Trump};
+use cards::{Card, Layout, Seat, Suit, Trump};
 use std::alloc::{AllocError, Global};
 
 const SETS: usize = 8192;
@@ -52,6 +52,19 @@ fn suits_of(trump: Trump) -> [Suit; 4] {
         Trump::Suit(Suit::Spades) => [Suit::Clubs, Suit::Hearts, Suit::Diamonds, Suit::Spades],
         Trump::Suit(Suit::Hearts) => [Suit::Spades, Suit::Clubs, Suit::Diamonds, Suit::Hearts],
         Trump::Suit(Suit::Diamonds) => [Suit::Spades, Suit::Hearts, Suit::Clubs, Suit::Diamonds],
+    }
+}
+
+/// Where a suit is in a word: its number there, from the lowest.
+pub(crate) fn lane_of(suits: [Suit; 4], suit: Suit) -> usize {
+    if suits[0] == suit {
+        0
+    } else if suits[1] == suit {
+        1
+    } else if suits[2] == suit {
+        2
+    } else {
+        3
     }
 }
 
@@ -175,6 +188,12 @@ impl DealTables {
     /// Whether this is the denomination of the tables.
     pub fn has_trump(&self, trump: Trump) -> bool {
         self.suits == suits_of(trump) && self.trumps == trumps_of(trump)
+    }
+
+    /// The card as a set of it alone.
+    pub(crate) fn set_of(&self, card: Card) -> CardSet {
+        let lane = (lane_of(self.suits, card.suit) & 3) as u32;
+        1u64.wrapping_shl(card.rank.number() as u32 + 16 * lane)
     }
 
     /// For each suit and each set of its ranks the owners, the highest first.

@@ -16,9 +16,9 @@ const MOST_NODES: usize = 1_000_000;
 
 /// A graph in work.
 #[derive(Drop)]
-struct Writing {
+pub(crate) struct Writing {
     alloc: Global,
-    plan: Plan,
+    pub(crate) plan: Plan,
     todo: Vec<TrickStart>,
     nodes: Vec<Node>,
 }
@@ -31,25 +31,12 @@ pub(crate) fn write_graph(
     side: Side,
     roots: &[TrickStart],
 ) -> Option<Arc<Graph>> {
-    let Ok(plan) = Plan::new(search.alloc, search, side) else {
+    let mut writing = Writing::new(search, side)?;
+    if writing.put_down_roots(roots).is_err() {
         search.run_out();
         return None;
-    };
-    let mut writing = Writing {
-        alloc: search.alloc,
-        plan,
-        todo: Vec::new(search.alloc),
-        nodes: Vec::new(search.alloc),
-    };
-    if !writing.add_all(search, roots) {
-        return None;
     }
-    let graph = writing.into_graph(trump, side)?;
-    let shared = Arc::new(search.alloc, graph);
-    if shared.is_err() {
-        search.run_out();
-    }
-    shared.ok()
+    writing.finish(search, trump)
 }
 
 /// The seat with this number.
@@ -58,18 +45,44 @@ fn seat_at(number: usize) -> Seat {
 }
 
 impl Writing {
+    /// A graph of a side without nodes. None where memory runs out.
+    pub(crate) fn new(search: &mut Search, side: Side) -> Option<Writing> {
+        let alloc = search.alloc;
+        let Ok(plan) = Plan::new(alloc, search, side) else {
+            search.run_out();
+            return None;
+        };
+        Some(Writing {
+            alloc,
+            plan,
+            todo: Vec::new(alloc),
+            nodes: Vec::new(alloc),
+        })
+    }
+
+    /// Writes the nodes that are put down, and all that they name. None where what is remembered does not show one, no
+    /// steps are left, or memory runs out.
+    pub(crate) fn finish(mut self, search: &mut Search, trump: Trump) -> Option<Arc<Graph>> {
+        if !self.add_all(search) {
+            return None;
+        }
+        let side = self.plan.side;
+        let graph = self.into_graph(trump, side)?;
+        let shared = Arc::new(search.alloc, graph);
+        if shared.is_err() {
+            search.run_out();
+        }
+        shared.ok()
+    }
+
     /// The graph that is written.
     fn into_graph(self, trump: Trump, side: Side) -> Option<Graph> {
         let Writing { nodes, .. } = self;
         Graph::new(Version::Two, trump, side, nodes).ok()
     }
 
-    /// Writes the roots and all nodes that are named. False where one is not shown.
-    fn add_all(&mut self, search: &mut Search, roots: &[TrickStart]) -> bool {
-        if self.put_down_roots(roots).is_err() {
-            search.run_out();
-            return false;
-        }
+    /// Writes all nodes that are put down or named. False where one is not shown.
+    fn add_all(&mut self, search: &mut Search) -> bool {
         for number in 0..MOST_NODES {
             let Some(start) = self.todo.get(number).copied() else {
                 return true;
@@ -106,25 +119,37 @@ impl Writing {
     /// Writes a node. None where it is not shown, no steps are left or memory runs out.
     fn add_node(&mut self, search: &mut Search, start: TrickStart) -> Option<()> {
         let record = search.records.record(start.record);
-        let pattern = self.pattern_of(&record, start.lengths)?;
         let held = PatternStart::of(&search.deal, &record, start.left, start.lengths);
         self.plan
             .show(search, held, start.leader, i32::from(record.need))?;
-        let Ok(tokens) = self.tokens() else {
-            search.run_out();
-            return None;
-        };
-        let node = Node {
-            pattern,
-            lead: seat_at(start.leader),
-            need: record.need,
-            tree: Tree::from_tokens(tokens)?,
-        };
+        let node = self.node_of(search, &record, start.lengths, start.leader)?;
         if self.nodes.push(node).is_err() {
             search.run_out();
             return None;
         }
         Some(())
+    }
+
+    /// The node of a record of these lengths, with this seat to lead and the tree in work. The nodes that it names are
+    /// put down. None where memory runs out.
+    pub(crate) fn node_of(
+        &mut self,
+        search: &mut Search,
+        record: &Record,
+        lengths: Lengths,
+        leader: usize,
+    ) -> Option<Node> {
+        let pattern = self.pattern_of(record, lengths)?;
+        let Ok(tokens) = self.tokens() else {
+            search.run_out();
+            return None;
+        };
+        Some(Node {
+            pattern,
+            lead: seat_at(leader),
+            need: record.need,
+            tree: Tree::from_tokens(tokens)?,
+        })
     }
 
     /// The tokens of the tree in work. The nodes that it names are put down.

@@ -1,10 +1,14 @@
-//! A solver: how many tricks declarers of a denomination take, with a certificate for each side that they share.
+//! A solver: how many tricks declarers of a denomination take, or each card of a trick leads to, with a certificate for
+//! each side that they share.
 //!
 //! A partition search over the real cards remembers patterns, each with what a side can win of it, and the certificates
 //! are written from what it remembers. Nothing that it answers is trusted: the checker decides. It promises only that
 //! it returns, whatever the layout, the budget and the memory. `docs/SOLVER.md` tells the algorithm.
 #![tactic(auto)]
 
+mod begun;
+mod begun_nodes;
+mod card_claims;
 mod claims;
 mod deals;
 mod followers;

@@ -106,7 +106,7 @@ fn counts_in(cards: CardSet) -> u64 {
 }
 
 /// How many of the cards there are, four bits a suit.
-fn depths_in(cards: CardSet) -> u16 {
+pub(crate) fn depths_in(cards: CardSet) -> u16 {
     let counts = counts_in(cards);
     ((counts | counts >> 12 | counts >> 24 | counts >> 36) & 0xffff) as u16
 }

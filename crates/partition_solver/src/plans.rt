@@ -1,16 +1,14 @@
 //! The tree of a node: one trick on a remembered pattern, worked out anew from what the search remembers.
 
+use crate::deals::lane_of;
 use crate::pattern_tricks::{PatternStart, PatternTrick};
 use crate::search::Search;
 use crate::starts::{side_at, side_of};
-use crate::words::{CardSet, Lengths, SUIT, highest};
+use crate::words::{CardSet, Lengths, SUIT, TRICK_CARDS, highest};
 use cards::{Side, Suit};
 use certificate_graph::Token;
 use pattern_step::PatCard;
 use std::alloc::{AllocError, Global};
-
-/// How many cards a trick has.
-pub(crate) const TRICK_CARDS: u32 = 4;
 
 /// Where fewer steps than these are left for each block of records, the first card that shows a tree is taken.
 const STEPS_A_BLOCK: u64 = 40;
@@ -62,19 +60,6 @@ pub(crate) struct Plan {
     pub unsettled: u32,
 }
 
-/// Where a suit lies in a word.
-fn lane_of(suits: [Suit; 4], suit: Suit) -> usize {
-    if suits[0] == suit {
-        0
-    } else if suits[1] == suit {
-        1
-    } else if suits[2] == suit {
-        2
-    } else {
-        3
-    }
-}
-
 impl Plan {
     /// Nothing is proved yet.
     pub(crate) fn new(alloc: Global, search: &Search, side: Side) -> Result<Plan, AllocError> {
@@ -109,13 +94,18 @@ impl Plan {
         leader: usize,
         need: i32,
     ) -> Option<u32> {
+        self.begin(held, need);
+        let trick = PatternTrick::start(&held, leader);
+        self.add_tree(search, TRICK_CARDS, &trick, u32::MAX)
+    }
+
+    /// Begins the tree of a node, which is to show so many tricks of this pattern.
+    pub(crate) fn begin(&mut self, held: PatternStart, need: i32) {
         self.tokens.truncate(0);
         self.children.truncate(0);
         self.unsettled = self.unsettled_after(need);
         self.held = held;
         self.need = need;
-        let trick = PatternTrick::start(&held, leader);
-        self.add_tree(search, TRICK_CARDS, &trick, u32::MAX)
     }
 
     /// The seats after whose trick the side still needs some, where it needed so many before.
@@ -143,7 +133,7 @@ impl Plan {
     }
 
     /// A card as the graph names it.
-    fn named(&self, card: CardSet) -> PatCard {
+    pub(crate) fn named(&self, card: CardSet) -> PatCard {
         let suit = self.suits[(card.trailing_zeros() >> 4 & 3) as usize];
         match self.held.place_of(card) {
             Some(place) => PatCard::Top(suit, place),
@@ -173,7 +163,7 @@ impl Plan {
     /// what is remembered does not show it for less than the limit, no steps are left or memory runs out; what was
     /// added is then of no use.
     #[cycle(planning)]
-    fn add_tree(
+    pub(crate) fn add_tree(
         &mut self,
         search: &mut Search,
         cards: u32,
@@ -321,7 +311,7 @@ impl Plan {
     }
 
     /// Says in the token of a branch, which stands in this place, of how many tokens what follows it is.
-    fn end_branch(&mut self, begin: usize, card: PatCard) {
+    pub(crate) fn end_branch(&mut self, begin: usize, card: PatCard) {
         let count = self.tokens.len().wrapping_sub(begin).wrapping_sub(1);
         if let Some(token) = self.tokens.get_mut(begin) {
             *token = Token::Branch(card, (count & 0xffff_ffff) as u32);

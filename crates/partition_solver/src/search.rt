@@ -100,7 +100,7 @@ impl Search {
     }
 
     /// Spends a step of a trick that has begun: none where none is left.
-    fn spend(&mut self) {
+    pub(crate) fn spend(&mut self) {
         self.steps = self.steps.saturating_sub(1);
     }
 

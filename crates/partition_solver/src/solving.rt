@@ -1,9 +1,11 @@
 //! The partition search as a solver.
 
+use crate::begun::{Begun, may_be_played};
+use crate::card_claims::card_bundle_of;
 use crate::claims::bundle_of;
 use crate::memory::Memory;
-use cards::{Layout, Seat, Trump};
-use certificate_graph::{Bundle, Solver};
+use cards::{Card, Layout, Seat, Trump};
+use certificate_graph::{Bundle, CardBundle, CardSolver, Solver};
 use std::alloc::{AllocError, Global};
 
 /// A partition search. A step of its budget is one card tried, in the search or for a tree of a graph; where the last
@@ -11,7 +13,8 @@ use std::alloc::{AllocError, Global};
 /// the budget, but that a trick which was begun is searched to its end; where that is not enough for all, half of what
 /// the others leave of it is searched with too. With the rest the graphs are written. What it finds is remembered for
 /// later calls, unless each seat has a claim: a call that ran out of steps can be made again, and declarers can be
-/// asked for one by one. Threads may call it at once: none waits.
+/// asked for one by one. The cards of a trick are searched in the same way, each like a declarer. Threads may call it at
+/// once: none waits.
 #[derive(Drop)]
 pub struct Partition {
     memory: Memory,
@@ -49,6 +52,32 @@ impl Partition {
         }
         Ok(bundle)
     }
+
+    /// Claims, as `solve_cards` gives them. Where each card has one the search is not kept.
+    fn found_cards(
+        &self,
+        alloc: Global,
+        layout: &Layout,
+        leader: Seat,
+        trump: Trump,
+        played: &[Card],
+        budget: u64,
+    ) -> Result<Option<CardBundle>, AllocError> {
+        let mut search = self.memory.search_of(alloc, layout, trump)?;
+        let begun = Begun::of(&search.deal, leader, played);
+        let bundle = card_bundle_of(&mut search, trump, &begun, budget);
+        if search.memory_ran_out {
+            return Err(AllocError);
+        }
+        let cards = begun.legal(&search.deal).count_ones() as usize;
+        if !bundle
+            .as_ref()
+            .is_some_and(|bundle| bundle.claims.len() == cards)
+        {
+            self.memory.keep(search);
+        }
+        Ok(bundle)
+    }
 }
 
 impl Default for Partition {
@@ -68,6 +97,29 @@ impl Solver for Partition {
     ) -> Result<Option<Bundle>, AllocError> {
         self.memory.enter();
         let found = self.found(alloc, layout, declarers, trump, budget);
+        self.memory.leave();
+        if found.is_err() {
+            self.memory.shrink(0);
+        }
+        found
+    }
+}
+
+impl CardSolver for Partition {
+    fn solve_cards(
+        &self,
+        alloc: Global,
+        layout: &Layout,
+        leader: Seat,
+        trump: Trump,
+        played: &[Card],
+        budget: u64,
+    ) -> Result<Option<CardBundle>, AllocError> {
+        if !may_be_played(layout, leader, played) {
+            return Ok(None);
+        }
+        self.memory.enter();
+        let found = self.found_cards(alloc, layout, leader, trump, played, budget);
         self.memory.leave();
         if found.is_err() {
             self.memory.shrink(0);

@@ -1,9 +1,10 @@
 //! How many tricks a side can win: a first guess, and questions up and down from there.
 
+use crate::begun::Begun;
 use crate::deals::CardsLeft;
 use crate::positions::Holdings;
 use crate::search::Search;
-use crate::starts::{OURS, Start};
+use crate::starts::{Found, OURS, Start};
 use crate::words::{CardSet, MOST_CARDS};
 
 /// How many cards a set has.
@@ -41,9 +42,15 @@ impl Search {
             / 100
     }
 
-    /// How many tricks North and South can win with this seat to lead. So many are asked for first, if a guess is
-    /// given. Each question brings the bounds nearer by one at least. None where no steps are left or memory ran out.
+    /// How many tricks North and South can win with this seat to lead, as `value_after` finds them.
     pub(crate) fn value(&mut self, leader: usize, guess: Option<i32>) -> Option<i32> {
+        self.value_after(&Begun::at(leader), guess)
+    }
+
+    /// How many tricks North and South can win after the cards of a trick, the one in progress among them. So many are
+    /// asked for first, if a guess is given. Each question brings the bounds nearer by one at least. None where no
+    /// steps are left or memory ran out.
+    pub(crate) fn value_after(&mut self, begun: &Begun, guess: Option<i32>) -> Option<i32> {
         let tricks = self.deal.hands[0].count_ones();
         let mut least = 0;
         let mut most = tricks;
@@ -51,15 +58,13 @@ impl Search {
             .unwrap_or(self.guess(tricks as i32))
             .max(0)
             .cast_unsigned();
-        self.held = Holdings::of(self.deal.hands);
         self.stopped = false;
         for _ in 0..MOST_CARDS {
             if least >= most {
                 break;
             }
             want = want.max(least.wrapping_add(1)).min(most);
-            let start = self.start(leader, want);
-            let found = self.search(tricks, &start);
+            let found = self.found_after(begun, tricks, want);
             if self.stopped {
                 return None;
             }
@@ -72,6 +77,16 @@ impl Search {
             }
         }
         Some((least & 15) as i32)
+    }
+
+    /// What a search finds after the cards of a trick, where North and South want so many tricks.
+    fn found_after(&mut self, begun: &Begun, tricks: u32, want: u32) -> Found {
+        self.held = Holdings::of(self.deal.hands);
+        let start = self.start(begun.leader, want);
+        match self.play_begun(begun) {
+            None => self.search(tricks, &start),
+            Some(trick) => self.begun_turn(tricks, &start, &trick, begun.others()),
+        }
     }
 
     /// The start of play, where North and South want so many tricks.

@@ -20,6 +20,8 @@ pub const SUIT: CardSet = 0xffff;
 const ABOVE: u64 = 0x2000;
 /// How many cards a hand has at most: so many tricks there are, and so many cards a seat can choose from.
 pub const MOST_CARDS: u32 = 13;
+/// How many cards a trick has.
+pub(crate) const TRICK_CARDS: u32 = 4;
 /// 2^64 over the golden ratio: a number times it has its bits mixed, the highest best.
 pub const MIXER: u64 = 0x9e37_79b9_7f4a_7c15;
 
