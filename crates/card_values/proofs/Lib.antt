@@ -1,0 +1,6 @@
+mod BestLaws
+mod ClaimLaws
+mod ListLaws
+mod PathLaws
+mod PlayLaws
+mod ShowLaws

@@ -1,0 +1,7 @@
+pub mod CardValues
+pub mod Tricks
+pub mod AfterClaims
+pub mod BegunClaims
+pub mod Judging
+pub mod Laws
+pub mod Texts

@@ -1,0 +1,23 @@
+//! The tricks that each card leads to which may be played, shown by certificates.
+//!
+//! A table has up to three cards of its first trick. For each card that may come next, a begun node shows that the side
+//! of the seat to play takes its tricks after that card, and another that the other side takes the rest. What is
+//! accepted is the double-dummy value after the card.
+#![tactic(auto)]
+
+mod after_claims;
+mod claims;
+mod faults;
+mod judging;
+mod laws;
+mod texts;
+mod tricks;
+mod values;
+
+pub use claims::CardGraphs;
+pub use faults::{AfterFault, CardFault, TrickFault};
+pub use judging::judge_cards;
+pub use laws::{best_card_is_value, card_value_is_unique, card_value_is_value_after};
+pub use texts::write_values;
+pub use tricks::TrickInProgress;
+pub use values::{CardValue, CardValues};
