@@ -2,6 +2,8 @@
 #![tactic(auto)]
 
 #[cfg(test)]
+mod card_value_tests;
+#[cfg(test)]
 mod contracts;
 #[cfg(test)]
 mod dialogue_order_tests;
