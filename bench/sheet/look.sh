@@ -4,9 +4,9 @@
 # chromium and poppler-utils, and without them only says so. If tidy is installed, it must find no fault in the HTML.
 # - A sheet read by its elements (reading.py) has to show the tables and pars of `table --par`. So does the tree that
 #   Chromium makes of it (`--dump-dom`).
-# - 36 boards have to take four pages of A4 and four of Letter. A section that begins within a page may take one more.
-#   No board may be cut, and no word may be beyond its page. The hands of club.pbn's first board have to be round its
-#   compass (places.py).
+# - Each page of A4 and of Letter has to have its number of boards: 36 boards take four pages, and one more if sections
+#   begin within a row. No board may be cut, and no word may be beyond its page. The hands of club.pbn's first board
+#   have to be round its compass (places.py).
 set -euo pipefail
 program="$(realpath "$1")"
 kept="$(realpath "${2:-.}")"
@@ -28,11 +28,12 @@ counts_of() {
 
 pages_of() { pdfinfo "$1" | sed -n 's/^Pages: *//p'; }
 
-# Each page has as many ends of boards as beginnings, and for each five spades: of four hands and of a table.
+# Each page has its number of boards, as many ends of boards as beginnings, and for each five spades: of four hands and
+# of a table.
 look_at_pages() {
-    local pdf="$1" pages="$2" begun
-    [[ "$(pages_of "$pdf")" == "$pages" ]] || fail "$pdf has $(pages_of "$pdf") pages, not $pages"
+    local pdf="$1" boards="$2" begun
     begun="$(counts_of "$pdf" '\<Dealer\>')"
+    [[ "$(echo $begun)" == "$boards" ]] || fail "$pdf has" $begun "boards on its pages, not $boards"
     [[ "$(counts_of "$pdf" '\<Par\>')" == "$begun" ]] || fail "$pdf: a page has a part of a board"
     [[ "$(counts_of "$pdf" ♠)" == "$(awk '{ print 5 * $1 }' <<<"$begun")" ]] || fail "$pdf: a page has a part of a hand"
     bench/sheet/places.py "$pdf" || fail "$pdf: words are in other places"
@@ -49,9 +50,9 @@ print_sheet() {
     browse --screenshot="$1-telephone.png" --window-size=360,1200 "file://$1.html"
 }
 
-# The sheet of a file of boards, in as many pages.
+# The sheet of a file of boards, with so many boards on its pages.
 look() {
-    local sheet="$1" pages="$2" size
+    local sheet="$1" boards="$2" size
     "$program" table --par --evidence "$sheet.dde" "$sheet.pbn" >"$sheet-pars.pbn"
     "$program" audit --sheet "$sheet.dde" "$sheet.pbn" >"$sheet.html"
     bench/sheet/reading.py --par "$sheet.html" | cmp - "$sheet-pars.pbn" || fail "$sheet.html has other numbers"
@@ -60,7 +61,7 @@ look() {
     ! command -v tidy >/dev/null || tidy -q -e --drop-empty-elements no "$sheet.html" || fail "$sheet.html has faults"
     print_sheet "$sheet"
     for size in a4 letter; do
-        look_at_pages "$sheet-$size.pdf" "$pages"
+        look_at_pages "$sheet-$size.pdf" "$boards"
     done
 }
 
@@ -76,14 +77,14 @@ cp examples/club.pbn "$room/club.pbn"
 cp bench/sheet/long.pbn "$room/long.pbn"
 bench/sheet/boards.py 36 1 19 >"$room/random.pbn"
 bench/sheet/boards.py 36 1 11 19 >"$room/sections.pbn"
-look "$room/club" 1
+look "$room/club" 5
 for pdf in "$room"/club-*.pdf; do
     bench/sheet/places.py "$pdf" "$room/club.html" || fail "$pdf: hands are in other places"
 done
-look "$room/long" 1
-look "$room/random" 4
+look "$room/long" 2
+look "$room/random" "9 9 9 9"
 cp "$room/random.dde" "$room/sections.dde"
-look "$room/sections" 5
+look "$room/sections" "9 7 8 9 3"
 if [[ $# -gt 1 ]]; then
     cp "$room"/*.html "$room"/*.pdf "$room"/*.png "$kept"
 fi
