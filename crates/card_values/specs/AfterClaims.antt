@@ -35,7 +35,8 @@ pub record IsBegunRoot (graph : GraphShape) (claim : AfterClaim) (node : nodes.N
   pub pattern : Matches node.pattern claim.opening.deal
   pub right : OnPath node claim.opening.deal claim.history (IsRightBegun graph node)
 
--- The graph and the begun node show the claim. If no tricks are claimed there is no begun node, and no step has to hold.
+-- The graph and the begun node show the claim. If no tricks are claimed there is no begun node, and no step has to
+-- hold.
 pub record ShowsAfter (graph : GraphShape) (claim : AfterClaim) (begun : Option nodes.Node) : Type 0 where
   pub trump_is : graph.trump ≡ claim.opening.trump
   pub side_is : graph.side ≡ claim.side

@@ -13,8 +13,8 @@ use std::alloc::{AllocError, Global};
 /// the budget, but that a trick which was begun is searched to its end; where that is not enough for all, half of what
 /// the others leave of it is searched with too. With the rest the graphs are written. What it finds is remembered for
 /// later calls, unless each seat has a claim: a call that ran out of steps can be made again, and declarers can be
-/// asked for one by one. The cards of a trick are searched in the same way, each like a declarer. Threads may call it at
-/// once: none waits.
+/// asked for one by one. The cards of a trick are searched in the same way, each like a declarer. Threads may call it
+/// at once: none waits.
 #[derive(Drop)]
 pub struct Partition {
     memory: Memory,
