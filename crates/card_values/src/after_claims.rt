@@ -15,7 +15,7 @@ use checker::{CheckedGraph, check_begun};
 use pattern_step::PatCard;
 use play_rules::holders;
 
-/// The claim that a side wins so many tricks of a layout after these cards, the first cards of its first trick.
+/// The claim that a side wins `need` tricks of a layout after these cards, the first cards of its first trick.
 #[derive(Drop)]
 pub(crate) struct BegunClaim<'a> {
     pub(crate) layout: &'a Layout,

@@ -107,8 +107,8 @@ fn check_card(
 }
 
 /// Returns the values of all cards that may be played, if the first claim for each is shown: both sides' graphs are
-/// right, and its begun nodes are right beside them after the cards played. Otherwise it returns a fault of the first
-/// card that has one. Takes no memory.
+/// right, and its begun nodes are right beside them after the cards played. Otherwise it returns a fault that one of
+/// these claims has, or a card without a claim. Takes no memory.
 pub fn judge_cards(
     trick: TrickInProgress,
     graphs: &CardGraphs<'_>,

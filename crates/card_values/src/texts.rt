@@ -13,7 +13,7 @@ use play_dialogues::write_card;
 /// The numbers of tricks, the most first.
 const FALLING: [u8; 14] = [13, 12, 11, 10, 9, 8, 7, 6, 5, 4, 3, 2, 1, 0];
 
-/// Writes the card after a blank, if it leads to so many tricks.
+/// Writes the card after a blank, if it leads to this many tricks.
 fn write_if_worth<S: Sink>(sink: &mut S, value: CardValue, tricks: u8) -> Result<(), DeviceFault>
     ensures { Writes (S.state sink.old) (S.state sink.new) (card_if_worth tricks value) result }
 {
@@ -24,7 +24,7 @@ fn write_if_worth<S: Sink>(sink: &mut S, value: CardValue, tricks: u8) -> Result
     }
 }
 
-/// Writes the cards that lead to so many tricks.
+/// Writes the cards that lead to this many tricks.
 #[tactic(auto, unfolding(crate::specs::Texts::cards_worth))]
 fn write_worth<S: Sink>(sink: &mut S, values: &[CardValue], tricks: u8) -> Result<(), DeviceFault>
     ensures { Writes (S.state sink.old) (S.state sink.new) (cards_worth values.now tricks) result }
@@ -35,7 +35,7 @@ fn write_worth<S: Sink>(sink: &mut S, values: &[CardValue], tricks: u8) -> Resul
     Ok(())
 }
 
-/// Writes the line of the cards that lead to so many tricks.
+/// Writes the line of the cards that lead to this many tricks.
 #[tactic(auto, unfolding(crate::specs::Texts::line_of))]
 fn write_line<S: Sink>(sink: &mut S, values: &[CardValue], tricks: u8) -> Result<(), DeviceFault>
     ensures { Writes (S.state sink.old) (S.state sink.new) (line_of values.now tricks) result }
@@ -46,14 +46,14 @@ fn write_line<S: Sink>(sink: &mut S, values: &[CardValue], tricks: u8) -> Result
     write_all(sink, b"\n")
 }
 
-/// Whether a card leads to so many tricks.
+/// Whether a card leads to this many tricks.
 fn is_any_worth(values: &[CardValue], tricks: u8) -> bool
     ensures { result ≡ list_any (is_worth tricks) values.now }
 {
     values.iter().any(|value| value.tricks == tricks)
 }
 
-/// Writes the line for so many tricks, if a card leads to them.
+/// Writes the line for this many tricks, if a card leads to them.
 fn write_line_if_any<S: Sink>(
     sink: &mut S,
     values: &[CardValue],
@@ -80,7 +80,7 @@ fn write_lines<S: Sink>(sink: &mut S, values: &[CardValue]) -> Result<(), Device
 }
 
 /// Writes whose turn it is, and then for each number of tricks that a card leads to, the most first, a line of these
-/// cards: `3  HK HQ DA`. After a fault of the sink a beginning of the text has gone out. Takes no memory.
+/// cards: `3  HK HQ DA`. If the sink fails, it has got a beginning of the text. Takes no memory.
 #[tactic(auto, unfolding(crate::specs::Texts::values_text))]
 pub fn write_values<S: Sink>(sink: &mut S, shown: &CardValues) -> Result<(), DeviceFault>
     ensures { Writes (S.state sink.old) (S.state sink.new) (values_text shown.now) result }

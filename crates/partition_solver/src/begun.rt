@@ -102,8 +102,8 @@ impl Search {
         trick
     }
 
-    /// The turn of the hand before so many cards of a trick in progress, its own among them. Unlike the turns of
-    /// `search`, this one serves every hand, and is called only for the first trick.
+    /// The turn of a hand of a trick in progress, to which `others` cards are still to be played, its own among them.
+    /// Unlike the turns of `search`, this one serves every hand, and is called only for the first trick.
     pub(crate) fn begun_turn(
         &mut self,
         tricks: u32,

@@ -121,6 +121,7 @@ impl Search {
     }
 
     /// The first card of a last hand.
+    #[inline(always)]
     pub(crate) fn first_last(
         &self,
         tricks: u32,

@@ -1,4 +1,4 @@
--- The lines so far have gone out.
+-- The sink has the lines so far.
 use Rattle.std.proofs.Common.{◌≡◌, take}
 use Rattle.std.specs.List.{flat_map}
 use Rattle.cards.specs.Devices.{Adds}

@@ -1,4 +1,4 @@
--- The cards of the values so far have gone out.
+-- The sink has the cards of the values so far.
 use Rattle.std.proofs.Common.{take}
 use Rattle.std.specs.List.{flat_map}
 use Rattle.cards.specs.Devices.{Adds}
