@@ -144,7 +144,7 @@ one_end count seen text (Some f) (Some g) (inr a) (inr b) =
     ap Some ((end_is_count _ text f a.1).0 ∙ sym (end_is_count _ text g b.1).0)
 
 -- a text whose next line is that of a node of the graph does not end there
-no_line_fault : (count line : ℕ) (node : Node) (rest : List ℕ) (f : TextFault) → count ≤ 10 ^ 7 → IsNode count node → IsLineFault count line (node_text node rest) f → ⊥
+pub no_line_fault : (count line : ℕ) (node : Node) (rest : List ℕ) (f : TextFault) → count ≤ 10 ^ 7 → IsNode count node → IsLineFault count line (node_text node rest) f → ⊥
 no_line_fault count line node rest (NodeForm i) few is p = p.2 node rest (record { form = node_form count node few is; is = refl })
 no_line_fault count line node rest (BadPattern i) few is p =
     let same = one_node p.1.0 node p.1.1 rest p.1.2.form (node_form count node few is) (sym p.1.2.is) in

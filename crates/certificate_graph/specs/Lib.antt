@@ -17,3 +17,4 @@ pub mod Outcomes
 pub mod Suits
 pub mod Solvers
 pub mod Bundles
+pub mod NodeLines

@@ -20,7 +20,7 @@ pub struct CardClaim {
     pub others: Option<Node>,
 }
 
-/// A graph for each side, and claims that they and the begun nodes are to show, all of one trick in progress.
+/// A graph for each side, and claims that they and the begun nodes are to show, all of one layout and denomination.
 #[derive(Drop)]
 pub struct CardBundle {
     /// What North and South can win.
@@ -32,15 +32,31 @@ pub struct CardBundle {
 
 /// Something that looks for the tricks that each card leads to. Nothing is promised of what it answers.
 pub trait CardSolver {
-    /// Claims for cards that may be played after these, which were played to the first trick of the layout, at most
-    /// three. The budget is a number of steps for each card.
+    ghost use Rattle.std.specs.Prelude.{ℕ, List, Option, ⊤};
+    ghost use Rattle.std.specs.Option.{option_flatten};
+    ghost use Rattle.std.specs.Result.{result_ok};
+    ghost use Rattle.cards.specs.Deal.{Deal};
+    ghost use Rattle.cards.specs.declared.pack.Card.{Card};
+    ghost use Rattle.cards.specs.declared.seats.Seat.{Seat};
+    ghost use Rattle.cards.specs.declared.suits.Trump.{Trump};
+    ghost use Rattle.certificate_graph.specs.declared.card_claims.CardBundle.{CardBundle};
+
+    /// What may be found for a deal, leaders, a denomination and cards played, within a budget: anything. Whoever is to
+    /// show that it may be found has to ask for it.
+    ghost may_find_cards: { Self → Deal → List Seat → Trump → List Card → ℕ → Option CardBundle → Type 0 } = { λ _ _ _ _ _ _ _. ⊤ };
+
+    /// Claims for cards that may be played after these, the first cards of the layout's first trick, at most three. If
+    /// none is played there may be several leaders: the claims for a leader's cards say what they lead to as its
+    /// opening lead. The leaders are distinct. The budget is a number of steps for each card.
     fn solve_cards(
         &self,
         alloc: Global,
         layout: &Layout,
-        leader: Seat,
+        leaders: &[Seat],
         trump: Trump,
         played: &[Card],
         budget: u64,
-    ) -> Result<Option<CardBundle>, AllocError>;
+    ) -> Result<Option<CardBundle>, AllocError>
+        ensures { may_find_cards self.now layout.now leaders.now trump played.now budget
+            (option_flatten (result_ok result)) };
 }

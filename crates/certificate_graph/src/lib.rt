@@ -23,6 +23,7 @@ mod laws;
 mod leaf_reading;
 mod line_reading;
 mod line_writing;
+mod node_lines;
 mod node_reading;
 mod nodes;
 mod pattern_reading;

@@ -21,7 +21,7 @@ fn write_claim<S: Sink>(sink: &mut S, lead: Seat, need: u8) -> Result<(), Device
 }
 
 /// Writes a node.
-fn write_node<S: Sink>(sink: &mut S, node: &Node) -> Result<(), DeviceFault>
+pub(crate) fn write_node<S: Sink>(sink: &mut S, node: &Node) -> Result<(), DeviceFault>
     requires { IsTree node.now.tree }
     ensures { Writes (S.state sink.old) (S.state sink.new) (node_text node.now []) result }
 {

@@ -19,7 +19,7 @@ use std::alloc::Global;
 const FIRST_LINE: usize = 5;
 
 /// The node whose line stands at the beginning, and the text after the line. The row has room for its tokens.
-fn read_node<'a>(
+pub(crate) fn read_node<'a>(
     alloc: Global,
     count: u32,
     line: usize,

@@ -35,16 +35,17 @@ struct SideNodes {
     nodes: Vec<Option<Node>>,
 }
 
-/// The claims for the cards that may be played next, with their graphs. None where a graph can't be finished, nothing
-/// is claimed or memory ran out. The tricks after each card are searched with so many steps. Where that was not enough
-/// for all, half of what the others have left is searched with too, and the graphs are written with the rest.
+/// The claims for the cards that may be played next to any of these tricks, with their graphs. None where a graph can't
+/// be finished, nothing is claimed or memory ran out. The tricks after each card are searched with so many steps. Where
+/// that was not enough for all, half of what the others have left is searched with too, and the graphs are written with
+/// the rest.
 pub(crate) fn card_bundle_of(
     search: &mut Search,
     trump: Trump,
-    begun: &Begun,
+    tricks: &Vec<Begun>,
     budget: u64,
 ) -> Option<CardBundle> {
-    let Ok(mut candidates) = candidates_of(search, begun) else {
+    let Ok(mut candidates) = candidates_of(search, tricks) else {
         search.run_out();
         return None;
     };
@@ -59,11 +60,24 @@ pub(crate) fn card_bundle_of(
     write_claims(search, trump, &candidates)
 }
 
-/// The cards that may be played next, by suit, the highest of a suit first: those of a run follow one another.
-fn candidates_of(search: &Search, begun: &Begun) -> Result<Vec<Candidate>, AllocError> {
+/// The cards that may be played next to any of these tricks.
+fn candidates_of(search: &Search, tricks: &Vec<Begun>) -> Result<Vec<Candidate>, AllocError> {
+    let mut candidates = Vec::new(search.alloc);
+    for begun in tricks.iter() {
+        add_candidates(search, begun, &mut candidates)?;
+    }
+    Ok(candidates)
+}
+
+/// Adds the cards that may be played next to a trick, by suit, the highest of a suit first: those of a run follow one
+/// another.
+fn add_candidates(
+    search: &Search,
+    begun: &Begun,
+    candidates: &mut Vec<Candidate>,
+) -> Result<(), AllocError> {
     let own = begun.legal(&search.deal);
     let bottoms = HandRuns::of(own, search.all_cards().cards).bottoms;
-    let mut candidates = Vec::new(search.alloc);
     for suit in Suit::ALL {
         for rank in Rank::FALLING {
             let card = Card { suit, rank };
@@ -80,7 +94,7 @@ fn candidates_of(search: &Search, begun: &Begun) -> Result<Vec<Candidate>, Alloc
             }
         }
     }
-    Ok(candidates)
+    Ok(())
 }
 
 /// Finds the tricks after each card, each with so many steps, and answers how many they leave. Of a run one card is

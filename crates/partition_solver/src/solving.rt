@@ -58,21 +58,26 @@ impl Partition {
         &self,
         alloc: Global,
         layout: &Layout,
-        leader: Seat,
+        leaders: &[Seat],
         trump: Trump,
         played: &[Card],
         budget: u64,
     ) -> Result<Option<CardBundle>, AllocError> {
         let mut search = self.memory.search_of(alloc, layout, trump)?;
-        let begun = Begun::of(&search.deal, leader, played);
-        let bundle = card_bundle_of(&mut search, trump, &begun, budget);
+        let mut tricks = Vec::new(alloc);
+        let mut cards = 0u32;
+        for leader in leaders {
+            let begun = Begun::of(&search.deal, *leader, played);
+            cards = cards.wrapping_add(begun.legal(&search.deal).count_ones());
+            tricks.push(begun)?;
+        }
+        let bundle = card_bundle_of(&mut search, trump, &tricks, budget);
         if search.memory_ran_out {
             return Err(AllocError);
         }
-        let cards = begun.legal(&search.deal).count_ones() as usize;
         if !bundle
             .as_ref()
-            .is_some_and(|bundle| bundle.claims.len() == cards)
+            .is_some_and(|bundle| bundle.claims.len() == cards as usize)
         {
             self.memory.keep(search);
         }
@@ -110,16 +115,18 @@ impl CardSolver for Partition {
         &self,
         alloc: Global,
         layout: &Layout,
-        leader: Seat,
+        leaders: &[Seat],
         trump: Trump,
         played: &[Card],
         budget: u64,
     ) -> Result<Option<CardBundle>, AllocError> {
-        if !may_be_played(layout, leader, played) {
-            return Ok(None);
+        for leader in leaders {
+            if !may_be_played(layout, *leader, played) {
+                return Ok(None);
+            }
         }
         self.memory.enter();
-        let found = self.found_cards(alloc, layout, leader, trump, played, budget);
+        let found = self.found_cards(alloc, layout, leaders, trump, played, budget);
         self.memory.leave();
         if found.is_err() {
             self.memory.shrink(0);

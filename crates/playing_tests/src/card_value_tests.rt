@@ -88,7 +88,7 @@ fn solved(alloc: Global, solver: &Partition, case: &Case) -> Result<CardBundle, 
     let found = solver.solve_cards(
         alloc,
         &case.layout,
-        case.leader,
+        &[case.leader],
         case.trump,
         case.trick.played(),
         BUDGET,
