@@ -2,7 +2,7 @@
 use Rattle.std.specs.declared.io.ErrorKind.{ErrorKind}
 use Rattle.std.specs.declared.io.ErrorKind.TheVariants as kind
 use Rattle.streams.specs.declared.opening.CannotOpen.{CannotOpen}
-use Rattle.streams.specs.declared.opening.CannotOpen.TheVariants.{Missing, Denied, NotAFile, Refused}
+use Rattle.streams.specs.declared.opening.CannotOpen.TheVariants.{Missing, Denied, NotAFile, Exists, Refused}
 
 -- by what the system says
 abbrev pub why_of : ErrorKind → CannotOpen
@@ -11,4 +11,5 @@ why_of kind.NotADirectory = Missing
 why_of kind.PermissionDenied = Denied
 why_of kind.ReadOnlyFilesystem = Denied
 why_of kind.IsADirectory = NotAFile
+why_of kind.AlreadyExists = Exists
 why_of _ = Refused

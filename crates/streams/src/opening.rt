@@ -18,6 +18,9 @@ pub enum CannotOpen {
     /// It is a folder, a pipe or a device.
     #[error("not a regular file")]
     NotAFile,
+    /// A new file was to be made, and something of its name is there.
+    #[error("the file is there already")]
+    Exists,
     /// The system has another reason.
     #[error("the system does not open it")]
     Refused,
@@ -31,6 +34,7 @@ pub fn why_of(kind: ErrorKind) -> CannotOpen
         ErrorKind::NotFound | ErrorKind::NotADirectory => CannotOpen::Missing,
         ErrorKind::PermissionDenied | ErrorKind::ReadOnlyFilesystem => CannotOpen::Denied,
         ErrorKind::IsADirectory => CannotOpen::NotAFile,
+        ErrorKind::AlreadyExists => CannotOpen::Exists,
         _ => CannotOpen::Refused,
     }
 }
