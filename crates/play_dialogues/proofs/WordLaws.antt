@@ -54,13 +54,13 @@ by_rank_is_short : (rank : List ℕ) (card : Card) → NamesRank rank card.rank 
 by_rank_is_short rank card names =
     omega (arith, length-append rank (suit_letter card.suit), length-suit_letter card.suit, rank_is_short rank card.rank names)
 
-card_of_all : (letters : List ℕ) (card : Card) → NamesCard (take 6 letters) card → NamesCard letters card
+pub card_of_all : (letters : List ℕ) (card : Card) → NamesCard (take 6 letters) card → NamesCard letters card
 card_of_all letters card (inl names) =
     inl (names.0, names.1, short_is_all letters _ (by_suit_is_short names.0 card names.1) names.2)
 card_of_all letters card (inr names) =
     inr (names.0, names.1, short_is_all letters _ (by_rank_is_short names.0 card names.1) names.2)
 
-card_of_six : (letters : List ℕ) (card : Card) → NamesCard letters card → NamesCard (take 6 letters) card
+pub card_of_six : (letters : List ℕ) (card : Card) → NamesCard letters card → NamesCard (take 6 letters) card
 card_of_six letters card (inl names) =
     inl (names.0, names.1, all_is_short letters _ (by_suit_is_short names.0 card names.1) names.2)
 card_of_six letters card (inr names) =

@@ -10,8 +10,8 @@ ghost use Rattle.play_dialogues.specs.Words.{NamesRank, NamesCard, NamesBySuit, 
 
 use cards::{Card, Rank, Suit};
 
-/// The suit with this letter.
-fn suit_of(letter: u8) -> Option<Suit>
+/// Returns the suit with this letter.
+pub fn suit_of(letter: u8) -> Option<Suit>
     ensures { MatchOption result
         ((suit : Suit) → suit_letter suit ≡ letter ∷ [] → ⊥)
         (λ suit. suit_letter suit ≡ letter ∷ []) }
@@ -25,8 +25,8 @@ fn suit_of(letter: u8) -> Option<Suit>
     }
 }
 
-/// The rank with this letter.
-fn rank_of(letter: u8) -> Option<Rank>
+/// Returns the rank with this letter. A ten is `T`.
+pub fn rank_of(letter: u8) -> Option<Rank>
     ensures { MatchOption result
         ((rank : Rank) → rank_letter rank ≡ letter ∷ [] → ⊥)
         (λ rank. rank_letter rank ≡ letter ∷ []) }

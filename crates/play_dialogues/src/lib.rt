@@ -8,6 +8,7 @@
 //! are played or the input ends. Each text is written by one call, before the next line is read.
 #![tactic(auto)]
 
+mod card_words;
 mod cards_named;
 mod dialogues;
 mod lines;
@@ -20,6 +21,8 @@ mod tricks;
 mod turns;
 mod words;
 
+pub use card_words::read_card;
+pub use cards_named::{rank_of, suit_of};
 pub use dialogues::{End, Ended, play_dialogue};
 pub use plays::write_play;
-pub use tricks::write_card;
+pub use tricks::{write_card, write_cards};

@@ -9,7 +9,7 @@ use arrayvec::ArrayVec;
 use cards::{DeviceFault, Source};
 
 /// How many letters of a line are kept: one more than the longest word has.
-const MOST_LETTERS: usize = 6;
+pub(crate) const MOST_LETTERS: usize = 6;
 
 /// Reads a byte, if one is left.
 fn next_byte<S: Source>(source: &mut S) -> Result<Option<u8>, DeviceFault>
@@ -33,7 +33,7 @@ fn is_blank(byte: u8) -> bool
 
 /// Keeps the letter of a byte, unless that is a blank or enough letters are kept.
 #[tactic(auto, using(crate::proofs::LetterLaws::keeping))]
-fn keep(letters: &mut ArrayVec<u8, MOST_LETTERS>, byte: u8)
+pub(crate) fn keep(letters: &mut ArrayVec<u8, MOST_LETTERS>, byte: u8)
     ensures { letters.new.items ≡ take 6 (letters.old.items ++ letters_of (byte ∷ [])) }
 {
     if letters.len() == MOST_LETTERS {

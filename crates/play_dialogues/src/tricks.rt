@@ -47,8 +47,8 @@ fn write_seat<S: Sink>(seat: Seat, output: &mut S) -> Result<(), DeviceFault>
     write_all(output, seat.letter().as_bytes())
 }
 
-/// Writes the cards, each after a blank.
-fn write_cards<S: Sink>(cards: &[Card], output: &mut S) -> Result<(), DeviceFault>
+/// Writes the cards, each after a blank. If the sink fails, it has got a beginning of them.
+pub fn write_cards<S: Sink>(cards: &[Card], output: &mut S) -> Result<(), DeviceFault>
     ensures { Writes (S.state output.old) (S.state output.new) (cards_text cards.now) result }
 {
     for card in cards {
