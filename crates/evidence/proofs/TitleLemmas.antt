@@ -93,7 +93,7 @@ claim-is_line claim rest = simp append_assoc
 blank : (rest : List ℕ) → Lacks 10 rest → Lacks 10 (32 ∷ rest)
 blank rest lacks = All-cons (λ x. x ≢ 10) 32 rest (omega arith) lacks
 
-seat-no_end : (seat : Seat) → Lacks 10 (seat_letter seat)
+pub seat-no_end : (seat : Seat) → Lacks 10 (seat_letter seat)
 seat-no_end North = All-from_recursion (λ x. x ≢ 10) (codes "N") (omega arith, tt)
 seat-no_end East = All-from_recursion (λ x. x ≢ 10) (codes "E") (omega arith, tt)
 seat-no_end South = All-from_recursion (λ x. x ≢ 10) (codes "S") (omega arith, tt)

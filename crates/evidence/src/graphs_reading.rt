@@ -30,9 +30,9 @@ fn read_graph(alloc: Global, text: &[u8]) -> Result<Option<Arc<Graph>>, OutOfMem
     }
 }
 
-/// The two graphs whose texts stand there, with an empty line between them, if they do. Fails only where memory runs
-/// out.
-pub(crate) fn read_graphs(
+/// Returns the two graphs whose texts these are, with an empty line between them, if they are. Fails only if memory
+/// runs out.
+pub fn read_graphs(
     alloc: Global,
     text: &[u8],
 ) -> Result<Option<(Arc<Graph>, Arc<Graph>)>, OutOfMemory>

@@ -21,11 +21,17 @@ mod words;
 
 pub use claims::claims_in_order;
 pub use damages::Damage;
+pub use graphs_reading::read_graphs;
 pub use laws::{
     one_row, one_section, one_text, parts_are_joined, sections_are_parts, sections_are_read_back,
 };
 pub use parts::{Part, Piece};
 pub use section_reading::read_section;
-pub use section_writing::{bundle_bytes, section_bytes, write_section};
-pub use sections::Section;
+pub use section_writing::{
+    bundle_bytes, section_bytes, write_count, write_counted, write_graphs, write_seat,
+    write_section, write_trump,
+};
+pub use sections::{Section, is_graph_of};
+pub use vec_sinks::VecSink;
 pub use wholes::Sections;
+pub use words::{cut_at, seat_of, tricks_of, trump_of};

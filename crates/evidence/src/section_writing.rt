@@ -19,7 +19,7 @@ use pbn_deals::write_layout;
 use std::alloc::Global;
 
 /// Writes a number and a byte.
-fn write_counted<S: Sink>(sink: &mut S, number: u64, end: u8) -> Result<(), DeviceFault>
+pub fn write_counted<S: Sink>(sink: &mut S, number: u64, end: u8) -> Result<(), DeviceFault>
     ensures { Writes (S.state sink.old) (S.state sink.new) (decimal number ++ (end ∷ [])) result }
 {
     write_number(sink, number)?;
@@ -46,7 +46,7 @@ fn write_roots<S: Sink>(sink: &mut S, claim: &Claim) -> Result<(), DeviceFault>
 }
 
 /// Writes the letter of a seat.
-fn write_seat<S: Sink>(sink: &mut S, seat: Seat) -> Result<(), DeviceFault>
+pub fn write_seat<S: Sink>(sink: &mut S, seat: Seat) -> Result<(), DeviceFault>
     ensures { Writes (S.state sink.old) (S.state sink.new) (seat_letter seat) result }
 {
     write_all(sink, seat.letter().as_bytes())
@@ -89,7 +89,7 @@ fn write_letters<S: Sink>(sink: &mut S, trump: Trump) -> Result<(), DeviceFault>
 }
 
 /// Writes the line of the denomination.
-fn write_trump<S: Sink>(sink: &mut S, trump: Trump) -> Result<(), DeviceFault>
+pub fn write_trump<S: Sink>(sink: &mut S, trump: Trump) -> Result<(), DeviceFault>
     ensures { Writes (S.state sink.old) (S.state sink.new) (trump_text trump []) result }
 {
     write_all(sink, b"trump ")?;
@@ -98,7 +98,7 @@ fn write_trump<S: Sink>(sink: &mut S, trump: Trump) -> Result<(), DeviceFault>
 }
 
 /// Writes the line of how many claims there are.
-fn write_count<S: Sink>(sink: &mut S, count: usize) -> Result<(), DeviceFault>
+pub fn write_count<S: Sink>(sink: &mut S, count: usize) -> Result<(), DeviceFault>
     ensures { Writes (S.state sink.old) (S.state sink.new) (count_line count []) result }
 {
     write_all(sink, b"claims ")?;
@@ -121,7 +121,7 @@ pub(crate) fn write_head<S: Sink>(
 }
 
 /// Writes the texts of two graphs with an empty line between them.
-fn write_graphs<S: Sink>(sink: &mut S, ns: &Graph, ew: &Graph) -> Result<(), DeviceFault>
+pub fn write_graphs<S: Sink>(sink: &mut S, ns: &Graph, ew: &Graph) -> Result<(), DeviceFault>
     ensures { Writes (S.state sink.old) (S.state sink.new) (graphs_text ns.now ew.now) result }
 {
     ns.write(sink)?;

@@ -61,7 +61,7 @@ impl<'a> Model for Contents<'a> {
 }
 
 /// Whether it is a graph of this side, with this trump.
-fn is_graph_of(trump: Trump, side: Side, graph: &Graph) -> bool
+pub fn is_graph_of(trump: Trump, side: Side, graph: &Graph) -> bool
     ensures { IsTrue result ↔ IsGraphOf trump side graph.now }
 {
     graph.invariant();

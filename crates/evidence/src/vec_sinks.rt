@@ -5,16 +5,16 @@ ghost use Rattle.std.specs.Prelude.{◌≡◌, [], Some};
 use cards::{DeviceFault, Sink};
 use std::alloc::Global;
 
-/// A sink that keeps its bytes in memory, and takes more as it fills. A call fails only where there is none.
+/// A sink that keeps its bytes in memory, and takes more memory as it fills. A call fails only if there is none.
 #[derive(Drop)]
-pub(crate) struct VecSink {
+pub struct VecSink {
     bytes: Vec<u8>,
     failures: u64,
 }
 
 impl VecSink {
     /// An empty sink.
-    pub(crate) fn new(alloc: Global) -> VecSink
+    pub fn new(alloc: Global) -> VecSink
         ensures { ⟦<VecSink as Sink>⟧.state result ≡ record { bytes = Some []; failed = 0 } }
     {
         VecSink {
@@ -24,7 +24,7 @@ impl VecSink {
     }
 
     /// The bytes that it has taken.
-    pub(crate) fn into_bytes(self) -> Vec<u8>
+    pub fn into_bytes(self) -> Vec<u8>
         ensures { (⟦<VecSink as Sink>⟧.state self).bytes ≡ Some result.items }
     {
         let VecSink { bytes, .. } = self;

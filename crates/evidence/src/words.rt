@@ -14,8 +14,8 @@ use cards::{Seat, Trump};
 use certificate_graph::after_prefix;
 use memchr::memchr;
 
-/// What stands before the first such byte and after it, where there is one.
-pub(crate) fn cut_at(text: &[u8], byte: u8) -> Option<(&[u8], &[u8])>
+/// Cuts the text at the first such byte: returns the text before it and the text after it, if there is one.
+pub fn cut_at(text: &[u8], byte: u8) -> Option<(&[u8], &[u8])>
     ensures { MatchOption result (Lacks byte text.now)
         (λ found. (text.now ≡ found.0.now ++ (byte ∷ found.1.now)) × Lacks byte found.0.now) }
 {
@@ -25,8 +25,8 @@ pub(crate) fn cut_at(text: &[u8], byte: u8) -> Option<(&[u8], &[u8])>
     Some((&text[..place], &text[place + 1..]))
 }
 
-/// The seat that a word names.
-pub(crate) fn seat_of(word: &[u8]) -> Option<Seat>
+/// Returns the seat whose letter the word is.
+pub fn seat_of(word: &[u8]) -> Option<Seat>
     ensures { MatchOption result ((seat : Seat) → word.now ≢ seat_letter seat) (λ seat. word.now ≡ seat_letter seat) }
 {
     let Ok(letter) = str::from_utf8(word) else {
@@ -35,8 +35,8 @@ pub(crate) fn seat_of(word: &[u8]) -> Option<Seat>
     Seat::of_letter(letter)
 }
 
-/// The denomination that a word names.
-pub(crate) fn trump_of(word: &[u8]) -> Option<Trump>
+/// Returns the denomination whose letters the word is.
+pub fn trump_of(word: &[u8]) -> Option<Trump>
     ensures { MatchOption result ((trump : Trump) → word.now ≢ trump_letters trump)
         (λ trump. word.now ≡ trump_letters trump) }
 {
@@ -46,8 +46,9 @@ pub(crate) fn trump_of(word: &[u8]) -> Option<Trump>
     Trump::of_letters(letters)
 }
 
-/// The number that a word writes, where it is at most 255. It may have other spellings than that one.
-pub(crate) fn tricks_of(word: &[u8]) -> Option<u8>
+/// Returns the number that the word writes, if it is at most 255. The word may be another spelling than the one that is
+/// written.
+pub fn tricks_of(word: &[u8]) -> Option<u8>
     ensures { (number : ℕ) → number < 2 ^ 8 → word.now ≡ decimal number → result ≡ Some number }
 {
     let Ok(digits) = str::from_utf8(word) else {

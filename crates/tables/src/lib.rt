@@ -1,7 +1,8 @@
 //! The tables of boards as a PBN text.
 //!
 //! [`write_sheet`] writes the boards of a [`Sheet`] with the results that are known of them, [`write_section`] the par
-//! and the table of one board. They take no memory. After a fault of the sink a beginning of the text has been written.
+//! and the table of one board, [`write_deal`] its Deal tag. They take no memory. After a fault of the sink a beginning
+//! of the text has been written.
 #![tactic(auto)]
 
 mod laws;
@@ -16,6 +17,6 @@ pub use laws::{
     boards_are_read_back, pages_are_read, pages_say_one_thing, said_boards_are_read_back,
 };
 pub use pars::BoardPar;
-pub use sheet_text::write_sheet;
+pub use sheet_text::{write_deal, write_sheet};
 pub use sheets::{Renews, Report, Sheet};
-pub use tables::{count_complete, count_results, write_section};
+pub use tables::{DECLARERS, count_complete, count_results, write_section};

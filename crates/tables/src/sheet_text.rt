@@ -10,8 +10,8 @@ use crate::tables::{count_complete, write_section};
 use cards::{DeviceFault, Layout, Sink, write_all};
 use pbn_deals::{Board, write_layout};
 
-/// Writes the Deal tag.
-fn write_deal<S: Sink>(sink: &mut S, deal: &Option<Layout>) -> Result<(), DeviceFault>
+/// Writes the Deal tag. If the sink fails, it has got a beginning of the line. Takes no memory.
+pub fn write_deal<S: Sink>(sink: &mut S, deal: &Option<Layout>) -> Result<(), DeviceFault>
     ensures { Writes (S.state sink.old) (S.state sink.new) (tag_line (codes "Deal") (deal_value deal.now)) result }
 {
     match deal {

@@ -14,7 +14,7 @@ use crate::sheets::Sheet;
 use cards::{DeviceFault, Seat, Sink, Trump};
 
 /// The declarers in the order of the rows.
-const DECLARERS: [Seat; 4] = [Seat::North, Seat::South, Seat::East, Seat::West];
+pub const DECLARERS: [Seat; 4] = [Seat::North, Seat::South, Seat::East, Seat::West];
 
 /// The heading of a complete table (PBN 2.1, the OptimumResultTable tag).
 const TABLE_TAG: &[u8] = b"[OptimumResultTable \"Declarer;Denomination\\2R;Result\\2R\"]";
