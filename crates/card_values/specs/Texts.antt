@@ -35,6 +35,18 @@ line_if_any values tricks = if list_any (is_worth tricks) values then line_of va
 unfoldable pub lines_text : List CardValue → List ℕ
 lines_text values = flat_map (line_if_any values) falling_counts
 
+-- the number of tricks after two blanks, and the cards that lead to it: `  3 HK HQ DA`
+unfoldable pub group_of : List CardValue → ℕ → List ℕ
+group_of values tricks = codes "  " ++ (decimal tricks ++ cards_worth values tricks)
+
+-- the group of this many tricks, if a card leads to them
+abbrev pub group_if_any : List CardValue → ℕ → List ℕ
+group_if_any values tricks = if list_any (is_worth tricks) values then group_of values tricks else []
+
+-- all groups
+unfoldable pub groups_text : List CardValue → List ℕ
+groups_text values = flat_map (group_if_any values) falling_counts
+
 -- `E to play`, and the lines
 unfoldable pub values_text : ShownValues → List ℕ
 values_text shown =

@@ -18,6 +18,6 @@ pub use claims::CardGraphs;
 pub use faults::{AfterFault, CardFault, TrickFault};
 pub use judging::judge_cards;
 pub use laws::{best_card_is_value, card_value_is_unique, card_value_is_value_after};
-pub use texts::write_values;
+pub use texts::{write_groups, write_values};
 pub use tricks::TrickInProgress;
 pub use values::{CardValue, CardValues};

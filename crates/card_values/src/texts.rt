@@ -4,7 +4,7 @@ ghost use Rattle.std.specs.Prelude.{◌≡◌};
 ghost use Rattle.std.specs.List.{list_any};
 ghost use Rattle.cards.specs.Devices.{Writes};
 ghost use Rattle.card_values.specs.Texts.{is_worth, card_if_worth, cards_worth, line_of, line_if_any, lines_text};
-ghost use Rattle.card_values.specs.Texts.{values_text};
+ghost use Rattle.card_values.specs.Texts.{group_of, group_if_any, groups_text, values_text};
 
 use crate::values::{CardValue, CardValues};
 use cards::{DeviceFault, Sink, write_all, write_number};
@@ -88,4 +88,41 @@ pub fn write_values<S: Sink>(sink: &mut S, shown: &CardValues) -> Result<(), Dev
     write_all(sink, shown.trick().turn().letter().as_bytes())?;
     write_all(sink, b" to play\n")?;
     write_lines(sink, shown.values())
+}
+
+/// Writes the group of the cards that lead to this many tricks.
+#[tactic(auto, unfolding(crate::specs::Texts::group_of))]
+fn write_group<S: Sink>(sink: &mut S, values: &[CardValue], tricks: u8) -> Result<(), DeviceFault>
+    ensures { Writes (S.state sink.old) (S.state sink.new) (group_of values.now tricks) result }
+{
+    write_all(sink, b"  ")?;
+    write_number(sink, tricks as u64)?;
+    write_worth(sink, values, tricks)
+}
+
+/// Writes the group for this many tricks, if a card leads to them.
+fn write_group_if_any<S: Sink>(
+    sink: &mut S,
+    values: &[CardValue],
+    tricks: u8,
+) -> Result<(), DeviceFault>
+    ensures { Writes (S.state sink.old) (S.state sink.new) (group_if_any values.now tricks) result }
+{
+    if is_any_worth(values, tricks) {
+        write_group(sink, values, tricks)
+    } else {
+        Ok(())
+    }
+}
+
+/// Writes for each number of tricks that a card leads to, the most first, two blanks, the number and these cards:
+/// `  5 HK HQ  4 S3 C8`. If the sink fails, it has got a beginning of the text. Takes no memory.
+#[tactic(auto, unfolding(crate::specs::Texts::groups_text))]
+pub fn write_groups<S: Sink>(sink: &mut S, values: &[CardValue]) -> Result<(), DeviceFault>
+    ensures { Writes (S.state sink.old) (S.state sink.new) (groups_text values.now) result }
+{
+    for tricks in FALLING {
+        write_group_if_any(sink, values, tricks)?;
+    }
+    Ok(())
 }

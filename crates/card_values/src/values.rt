@@ -59,6 +59,14 @@ impl CardValues {
         self.values.as_slice()
     }
 
+    /// Each card with its value.
+    pub fn into_values(self) -> ArrayVec<CardValue, 13>
+        ensures { result.items ≡ self.values }
+    {
+        let CardValues { trick: _, values } = self;
+        values
+    }
+
     /// What the values always keep: each card that may be played stands there once, with its double-dummy value. It
     /// does nothing.
     pub fn invariant(&self)
