@@ -1,0 +1,4 @@
+pub mod Sections
+pub mod SectionTexts
+pub mod Readings
+pub mod Laws

@@ -1,0 +1,22 @@
+//! Evidence of the tricks that each card leads to, as data and as text.
+//!
+//! A [`CardSection`] has a trick in progress, claims for the cards that may come next, and the graphs of both sides.
+//! Each has one text: [`write_card_section`] writes it and [`read_card_section`] reads it back. Every other text is of
+//! no section. Whether the claims are true is not asked here: [`card_values::judge_cards`] judges them.
+#![tactic(auto)]
+
+mod begun_nodes;
+mod card_reading;
+mod claim_reading;
+mod laws;
+mod lines;
+mod numbers;
+mod section_reading;
+mod section_writing;
+mod sections;
+mod trick_reading;
+
+pub use laws::{one_section, one_text, sections_are_read_back};
+pub use section_reading::read_card_section;
+pub use section_writing::write_card_section;
+pub use sections::CardSection;
