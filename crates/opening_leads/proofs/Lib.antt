@@ -1,0 +1,4 @@
+mod BoardLaws
+mod AnswerLaws
+mod TaskLaws
+mod NoteLaws

@@ -1,0 +1,5 @@
+pub mod Leads
+pub mod Answers
+pub mod Tasks
+pub mod Texts
+pub mod Making

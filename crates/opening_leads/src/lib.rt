@@ -1,0 +1,16 @@
+//! The opening leads of boards: the tricks that the defenders take after each lead of each contract, shown by
+//! certificates.
+//!
+//! [`make_leads`] reads a PBN text, has a solver look for the leads of each board in each denomination, on several
+//! threads, and writes a row for each contract whose leads the solver's answer shows.
+#![tactic(auto)]
+
+mod faults;
+mod finding;
+mod making;
+mod rows;
+mod threads;
+mod writing;
+
+pub use faults::LeadFault;
+pub use making::{LeadOptions, LeadReport, make_leads};
