@@ -11,7 +11,7 @@ use Rattle.streams.proofs.ReadLaws.{Loses-all}
 use Rattle.checker.specs.declared.entries.Shown.{Shown}
 use Rattle.checker.specs.declared.hand_faults.HandFault.{HandFault}
 use Rattle.answer_subcommands.specs.declared.faults.AnswerFault.{AnswerFault}
-use Rattle.answer_subcommands.specs.declared.faults.AnswerFault.TheVariants.{OutOfMemory, Read, Write, Layout, TooLarge, NoResult, NoAnswer, File}
+use Rattle.answer_subcommands.specs.declared.faults.AnswerFault.TheVariants.{OutOfMemory, Read, Write, Layout, TooLarge, NoResult, NoAnswer, File, NoCard, Unplayable}
 use Rattle.answer_subcommands.specs.declared.statuses.Status.{Status}
 use Rattle.answer_subcommands.specs.Checks.{TextFact, IsVerdictOf, ReadsFor, Prints, AnswersText, AnswersSource}
 
@@ -27,6 +27,8 @@ module _ (IsText : TextFact) (value : List ℕ) (declarer : Seat) (trump : Trump
   AnswersSource-printed (Err NoResult) prints = absurd prints
   AnswersSource-printed (Err NoAnswer) prints = absurd prints
   AnswersSource-printed (Err (File fault)) prints = absurd prints
+  AnswersSource-printed (Err (NoCard place)) prints = absurd prints
+  AnswersSource-printed (Err (Unplayable place why)) prints = absurd prints
 
 module _ (IsText : TextFact) (text : List ℕ) (deal : Deal) (declarer : Seat) (trump : Trump) (sink sink' : Device) (verdict : Result Shown HandFault)
     (is : IsVerdictOf text deal declarer trump verdict) where
@@ -40,6 +42,8 @@ module _ (IsText : TextFact) (text : List ℕ) (deal : Deal) (declarer : Seat) (
   AnswersText-printed (Err NoResult) prints = absurd prints
   AnswersText-printed (Err NoAnswer) prints = absurd prints
   AnswersText-printed (Err (File fault)) prints = absurd prints
+  AnswersText-printed (Err (NoCard place)) prints = absurd prints
+  AnswersText-printed (Err (Unplayable place why)) prints = absurd prints
 
 module _ (IsText : TextFact) (value text : List ℕ) (deal : Deal) (declarer : Seat) (trump : Trump) (source source' sink sink' : Device)
     (spelt : SaysLayout value (Ok deal)) (all : IsReadToEnd source source' text) where
@@ -53,3 +57,5 @@ module _ (IsText : TextFact) (value text : List ℕ) (deal : Deal) (declarer : S
   AnswersSource-text (Err TooLarge) answers = absurd answers.0
   AnswersSource-text (Err NoAnswer) answers = absurd answers.0
   AnswersSource-text (Err (File fault)) answers = absurd answers.0
+  AnswersSource-text (Err (NoCard place)) answers = absurd answers.0
+  AnswersSource-text (Err (Unplayable place why)) answers = absurd answers.0

@@ -9,3 +9,8 @@ pub mod Judging
 pub mod Lines
 pub mod Playing
 pub mod Solves
+pub mod Played
+pub mod Valuing
+pub mod CardRefusals
+pub mod CardAudits
+pub mod KeptCards

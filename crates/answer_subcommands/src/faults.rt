@@ -4,8 +4,10 @@ ghost use Rattle.std.specs.Prelude.{◌≡◌};
 ghost use Rattle.answer_subcommands.specs.declared.faults.AnswerFault.TheVariants as faults;
 
 use crate::named_files::FileFault;
+use crate::played::WordPlace;
 use cards::DeviceFault;
 use pbn_deals::PbnFault;
+use play_rules::PlayFault;
 use strategies::TooLarge;
 use streams::InputFault;
 
@@ -28,6 +30,10 @@ pub enum AnswerFault {
     NoAnswer,
     /// The file with an answer is of no use.
     File(FileFault),
+    /// The word in this place names no card.
+    NoCard(WordPlace),
+    /// The word in this place names a card that may not be played.
+    Unplayable(WordPlace, PlayFault),
 }
 
 impl From<InputFault> for AnswerFault {

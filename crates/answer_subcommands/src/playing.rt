@@ -20,7 +20,11 @@ use std::alloc::Global;
 use streams::{InputFault, read_all};
 
 /// The bytes of the file of this name.
-fn read_file<R: NamedFiles>(rt: &R, alloc: Global, name: &str) -> Result<Vec<u8>, AnswerFault>
+pub(crate) fn read_file<R: NamedFiles>(
+    rt: &R,
+    alloc: Global,
+    name: &str,
+) -> Result<Vec<u8>, AnswerFault>
     ensures { ReadsFile (R.may_open rt.now) name.now result }
 {
     let mut file = match rt.open_named(name) {

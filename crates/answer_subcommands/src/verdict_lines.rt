@@ -88,7 +88,7 @@ fn write_after_part<S: Sink>(fault: PartFault, output: &mut S) -> Result<(), Dev
 }
 
 /// Writes a blank, the number of a node, and why its step doesn't hold.
-fn write_node_fault<S: Sink>(fault: NodeFault, output: &mut S) -> Result<(), DeviceFault>
+pub(crate) fn write_node_fault<S: Sink>(fault: NodeFault, output: &mut S) -> Result<(), DeviceFault>
     ensures { Writes (S.state output.old) (S.state output.new) (32 ∷ node_fault_text fault) result }
 {
     write_all(output, b" ")?;
@@ -122,7 +122,11 @@ fn write_after_text<S: Sink>(line: Option<usize>, output: &mut S) -> Result<(), 
 }
 
 /// Writes a number, a blank and a name.
-fn write_numbered<S: Sink>(number: u8, name: &str, output: &mut S) -> Result<(), DeviceFault>
+pub(crate) fn write_numbered<S: Sink>(
+    number: u8,
+    name: &str,
+    output: &mut S,
+) -> Result<(), DeviceFault>
     ensures { Writes (S.state output.old) (S.state output.new) (numbered number name.now) result }
 {
     write_number(output, u64::from(number))?;

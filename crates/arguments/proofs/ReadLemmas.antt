@@ -6,8 +6,8 @@ use Rattle.clap.specs.Words.{HasKind, IsAmong, Kinds, Text, fault_of, is_simple,
 use Rattle.clap.specs.declared.error.Error.{Error}
 use Rattle.asked.specs.declared.subcommands.Subcommand.{Subcommand}
 use Rattle.arguments.specs.CommandLine.{command_line}
-use Rattle.arguments.specs.Words.{AreReadBy, AskFor, HasNone, reasons, refusal_kind}
-use Rattle.matched_words.specs.Matches.{SaysMatched, asks_for_both}
+use Rattle.arguments.specs.Words.{AreReadBy, AskFor, HasNone, reasons, refusal_kind, exclude_each_other}
+use Rattle.matched_words.specs.Matches.{SaysMatched}
 use Rattle.arguments.specs.declared.command.Letters.{Letters}
 
 pub simple : (letters : Letters) → is_simple (command_line letters) ≡ true
@@ -40,6 +40,6 @@ refused_by letters words processors (Err other) error given none = rw given none
 -- the words are taken, and a word of the subcommand is missing
 pub none_without : (letters : Letters) (words : List Text) (processors : ℕ) (error : Error) → fault_of (command_line letters) words ≡ []
     → ((asked : Subcommand) → SaysMatched (subcommand_of (command_line letters) words) processors asked → ⊥)
-    → kind_of error ≡ refusal_kind (asks_for_both (subcommand_of (command_line letters) words))
+    → kind_of error ≡ refusal_kind (exclude_each_other (subcommand_of (command_line letters) words))
     → HasNone letters words processors (kind_of error)
 none_without letters words processors error taken nothing kind = inr ((λ asked ask. nothing asked ask.1), rw taken (inl kind))

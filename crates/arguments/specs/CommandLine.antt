@@ -1,6 +1,6 @@
 -- The command line in the terms of `clap`: its subcommands, the words that each has to have, and its options, of which
 -- `asked` has the ranges and defaults.
-use Rattle.std.specs.Prelude.{◌≡◌, ℕ, Bool, List, [], ◌∷◌, ◌++◌, Some, map, fold, codes, true, false, pos}
+use Rattle.std.specs.Prelude.{◌≡◌, Bool, List, [], ◌∷◌, ◌++◌, Some, map, fold, codes, true, false, pos}
 use Rattle.std.specs.Borrow.{Bor}
 use Rattle.clap.specs.Words.{App, Rule, Shape, Text, app_of, new_rule, rule_of, with_rule}
 use Rattle.clap.specs.Simple.{new_shape}
@@ -8,11 +8,10 @@ use Rattle.clap.specs.declared.builder.arg.Arg.{Arg}
 use Rattle.clap.specs.declared.builder.action.ArgAction.TheVariants.{SetTrue}
 use Rattle.clap.specs.declared.builder.command.Command.{Command}
 use Rattle.clap.specs.declared.builder.command.Command.TheViews.{out-Command as fields_of}
-use Rattle.clap.specs.declared.builder.value_parser.ValueParser.{ValueParser}
 use Rattle.clap.specs.declared.builder.value_parser.ValueParser.TheVariants.{Names, Signed}
 use Rattle.asked.specs.Options.{OptionNumbers, table_options, budget_option, progress_option, whole_option}
-use Rattle.asked.specs.Options.{par_option, sheet_option}
-use Rattle.asked.specs.Options.{default_side, evidence_option, side_option, side_word}
+use Rattle.asked.specs.Options.{par_option, sheet_option, solvers_option}
+use Rattle.asked.specs.Options.{audit_option, default_side, evidence_option, side_option, side_word}
 use Rattle.asked.specs.declared.sides.ContractSide.TheVariants.{Declarer, Defenders}
 use Rattle.cards.specs.Seats.{seat_letter}
 use Rattle.cards.specs.Pack.{trump_letters}
@@ -118,7 +117,24 @@ play letters = subcommand (codes "play")
 abbrev pub plain : Letters → Shape
 plain letters = subcommand (codes "plain") (hand_words letters (codes "LEADER"))
 
--- the program's words: one of the seven subcommands has to be named
+-- the cards played to a trick
+abbrev pub played_words : List Rule
+played_words =
+    optional_word (codes "CARD1") ∷ optional_word (codes "CARD2") ∷ optional_word (codes "CARD3") ∷ []
+
+-- a layout, its leader, the denomination, and the cards played to the first trick
+abbrev pub trick_words : Letters → List Rule
+trick_words letters = hand_words letters (codes "LEADER") ++ played_words
+
+abbrev pub cards : Letters → Shape
+cards letters = subcommand (codes "cards")
+    (trick_words letters ++ number_rule budget_option ∷ text_rule evidence_option ∷ text_rule audit_option ∷ [])
+
+abbrev pub leads : Shape
+leads = subcommand (codes "leads")
+    (number_rule solvers_option ∷ number_rule budget_option ∷ optional_word (codes "BOARDS") ∷ [])
+
+-- the program's words: one of the nine subcommands has to be named
 abbrev pub command_line : Letters → App
 command_line letters = record {
   top = record (new_shape (codes "ddfarm")) {
@@ -128,7 +144,8 @@ command_line letters = record {
     arg_required_else_help = true;
     subcommand_required = true;
   };
-  subs = table ∷ audit ∷ solve letters ∷ check letters ∷ line letters ∷ play letters ∷ plain letters ∷ [];
+  subs = table ∷ audit ∷ leads ∷ solve letters ∷ check letters ∷ line letters ∷ play letters ∷ cards letters
+      ∷ plain letters ∷ [];
 }
 
 -- the argument has the rule, and is none of the subcommands' too

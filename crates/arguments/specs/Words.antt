@@ -1,12 +1,12 @@
 -- What the words of a command line ask for.
-use Rattle.std.specs.Prelude.{◌≡◌, ◌⊎◌, ℕ, Bool, true, false, List, [], ◌∷◌, Result, Ok, Err}
-use Rattle.clap.specs.Words.{IsAmong, Kinds, Text, fault_of, kind_of, subcommand_of}
+use Rattle.std.specs.Prelude.{◌≡◌, ◌⊎◌, ◌||◌, ℕ, Bool, true, false, List, [], ◌∷◌, Option, Result, Ok, Err}
+use Rattle.clap.specs.Words.{IsAmong, Kinds, Row, Text, fault_of, kind_of, subcommand_of}
 use Rattle.clap.specs.Kinds.{or_else}
 use Rattle.clap.specs.declared.error.Error.{Error}
 use Rattle.clap.specs.declared.error.kind.ErrorKind.{ErrorKind}
 use Rattle.clap.specs.declared.error.kind.ErrorKind.TheVariants.{ArgumentConflict, MissingSubcommand, OutOfMemory}
 use Rattle.asked.specs.declared.subcommands.Subcommand.{Subcommand}
-use Rattle.matched_words.specs.Matches.{SaysMatched, asks_for_both}
+use Rattle.matched_words.specs.Matches.{SaysMatched, asks_for_both, names_both_files}
 use Rattle.arguments.specs.CommandLine.{AreLetters, command_line}
 use Rattle.arguments.specs.declared.command.Letters.{Letters}
 
@@ -22,7 +22,11 @@ AskFor letters words processors asked =
 abbrev pub AskForNothing : Letters → List Text → ℕ → Type 0
 AskForNothing letters words processors = (asked : Subcommand) → AskFor letters words processors asked → ⊥
 
--- why words that `clap` takes are refused: they ask for two pages, or not even for one
+-- the words have two options that exclude each other: two pages, or two files of evidence
+abbrev pub exclude_each_other : Option (Text × List Row) → Bool
+exclude_each_other matched = asks_for_both matched || names_both_files matched
+
+-- why words that `clap` takes are refused: two options exclude each other, or nothing is asked for
 abbrev pub refusal_kind : Bool → ErrorKind
 refusal_kind true = ArgumentConflict
 refusal_kind false = MissingSubcommand
@@ -31,7 +35,7 @@ refusal_kind false = MissingSubcommand
 abbrev pub reasons : Letters → List Text → Kinds
 reasons letters words =
     or_else (fault_of (command_line letters) words)
-    (refusal_kind (asks_for_both (subcommand_of (command_line letters) words)) ∷ [])
+    (refusal_kind (exclude_each_other (subcommand_of (command_line letters) words)) ∷ [])
 
 -- there is no subcommand: memory ran out, or the words ask for none
 abbrev pub HasNone : Letters → List Text → ℕ → ErrorKind → Type 0

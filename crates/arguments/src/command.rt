@@ -4,8 +4,9 @@ ghost use Rattle.std.specs.Prelude.{◌≡◌, IfOk, map};
 ghost use Rattle.clap.specs.Words.{app_of};
 ghost use Rattle.asked.specs.Options.{numbers_of};
 ghost use Rattle.arguments.specs.CommandLine.{AddsRules, AreLetters, IsArg, IsLeaf, audit, check, choice, choice_rule};
-ghost use Rattle.arguments.specs.CommandLine.{command_line, flag, hand_words, line};
-ghost use Rattle.arguments.specs.CommandLine.{number_rule, optional_word, plain, play, settings, solve, table};
+ghost use Rattle.arguments.specs.CommandLine.{cards, command_line, flag, hand_words, leads, line};
+ghost use Rattle.arguments.specs.CommandLine.{number_rule, optional_word, plain, play, settings};
+ghost use Rattle.arguments.specs.CommandLine.{solve, table, trick_words};
 ghost use Rattle.arguments.specs.CommandLine.{page_rules, text_rule, word};
 
 use crate::help;
@@ -53,10 +54,12 @@ pub(crate) fn command<'a>(alloc: Global, letters: Letters<'a>) -> Result<Command
     command
         .subcommand(table_command(alloc)?)?
         .subcommand(audit_command(alloc)?)?
+        .subcommand(leads_command(alloc)?)?
         .subcommand(solve_command(alloc, letters)?)?
         .subcommand(check_command(alloc, letters)?)?
         .subcommand(line_command(alloc, letters)?)?
         .subcommand(play_command(alloc, letters)?)?
+        .subcommand(cards_command(alloc, letters)?)?
         .subcommand(plain_command(alloc, letters)?)
 }
 
@@ -127,6 +130,31 @@ fn play_command<'a>(alloc: Global, letters: Letters<'a>) -> Result<Command<'a>, 
         .arg(choice_option_arg(alloc, &options::SIDE, letters.sides))
 }
 
+fn cards_command<'a>(alloc: Global, letters: Letters<'a>) -> Result<Command<'a>, AllocError>
+    ensures { IfOk result (IsLeaf (cards letters.entry)) }
+{
+    let command = Command::new(alloc, "cards")
+        .about(help::CARDS_ABOUT)
+        .override_usage(help::CARDS_USAGE)
+        .after_help(help::CARDS_EXAMPLE);
+    with_trick(alloc, command, letters)?
+        .arg(number_arg(alloc, &options::BUDGET))?
+        .arg(text_arg(alloc, &options::CARD_EVIDENCE))?
+        .arg(text_arg(alloc, &options::AUDIT))
+}
+
+fn leads_command<'a>(alloc: Global) -> Result<Command<'a>, AllocError>
+    ensures { IfOk result (IsLeaf leads) }
+{
+    Command::new(alloc, "leads")
+        .about(help::LEADS_ABOUT)
+        .override_usage(help::LEADS_USAGE)
+        .after_help(help::LEADS_EXAMPLE)
+        .arg(number_arg(alloc, &options::SOLVERS))?
+        .arg(number_arg(alloc, &options::BUDGET))?
+        .arg(optional_word_arg(alloc, "BOARDS", help::BOARDS))
+}
+
 fn plain_command<'a>(alloc: Global, letters: Letters<'a>) -> Result<Command<'a>, AllocError>
     ensures { IfOk result (IsLeaf (plain letters.entry)) }
 {
@@ -150,6 +178,20 @@ fn with_hand<'a>(
         .arg(word_arg(alloc, "LAYOUT", help::LAYOUT))?
         .arg(choice_arg(alloc, seat, letters.seats, help))?
         .arg(choice_arg(alloc, "TRUMP", letters.trumps, help::TRUMP))
+}
+
+/// The command with the words of a layout, its leader, the denomination and the cards played to the first trick.
+fn with_trick<'a>(
+    alloc: Global,
+    command: Command<'a>,
+    letters: Letters<'a>,
+) -> Result<Command<'a>, AllocError>
+    ensures { IfOk result (AddsRules command.entry (trick_words letters.entry)) }
+{
+    with_hand(alloc, command, letters, "LEADER", help::LEADER)?
+        .arg(optional_word_arg(alloc, "CARD1", help::CARD1))?
+        .arg(optional_word_arg(alloc, "CARD2", help::CARD2))?
+        .arg(optional_word_arg(alloc, "CARD3", help::CARD3))
 }
 
 /// The command with the options that say which page is written.

@@ -9,6 +9,7 @@ pub const VERSION: &str = "\
 1.0.0
 certificates: reads and writes versions 1 and 2
 evidence: reads and writes version 1
+evidence of cards: reads and writes version 1
 boards: reads and writes PBN 2.1";
 
 pub const EXAMPLE: &str = "\
@@ -24,6 +25,10 @@ writes what evidence shows of them: it is checked, and nothing is searched.
   ddfarm play \"N:A... K... Q... J...\" N NT answer.txt
 find how many tricks declarer's side takes of four hands, check that, show how, a trick
 a line, and let you try to take more.
+  ddfarm leads club.pbn >leads.txt
+  ddfarm cards \"N:AQ... 65... 32... K4...\" S NT
+print the tricks after each opening lead of a tournament, and after each card that may
+be played.
 
 `ddfarm table --help` tells more of `table`, and so of each command.";
 
@@ -209,6 +214,60 @@ Exit status:
   3  the input ended before all cards were played
   4  the answer is refused";
 
+pub const CARDS_ABOUT: &str = "\
+Prints how many tricks each card leads to that may be played";
+
+pub const CARDS_USAGE: &str = "\
+ddfarm cards [OPTIONS] LAYOUT LEADER TRUMP [CARD1 [CARD2 [CARD3]]]";
+
+pub const CARDS_EXAMPLE: &str = "\
+Example:
+  ddfarm cards \"N:AQ... 65... 32... K4...\" S NT S2 S4
+South has led the two of spades, West plays the four, and North is to play:
+  N to play
+  2  SQ
+  1  SA
+After the queen North and South take two tricks, the trick in progress among them, after
+the ace one. The tricks are those of the side of the seat to play, the most first. Each
+number is backed by certificates that were checked.
+
+  ddfarm cards --evidence finesse.ddp \"N:AQ... 65... 32... K4...\" S NT S2 S4
+prints the same and writes the certificates to finesse.ddp, which must not be there.
+  ddfarm cards --audit finesse.ddp \"N:AQ... 65... 32... K4...\" S NT S2 S4
+searches nothing: it checks finesse.ddp and prints what that shows, or a line that
+begins with `refused`.
+
+Exit status:
+  0  each card has its number
+  1  a file can't be opened, read or written, the output failed, or memory ran out
+  2  the command line, the layout or a card is refused
+  3  not every number was found in so many steps
+  4  the evidence is refused";
+
+pub const LEADS_ABOUT: &str = "\
+Reads the boards of a tournament and writes how many tricks each opening lead leads to";
+
+pub const LEADS_USAGE: &str = "ddfarm leads [OPTIONS] [BOARDS] >leads.txt";
+
+pub const LEADS_EXAMPLE: &str = "\
+Example:
+  ddfarm leads club.pbn >leads.txt
+reads boards as `ddfarm table` does, and writes a line for each board and contract:
+  N NT  9 SK SQ  8 H4 H3 D6
+North declares at no-trump and East leads. After the king or the queen of spades the
+defenders take nine tricks, after the other cards eight. Each number is backed by
+certificates that were checked. A line that wasn't found is missing, and a line such as
+`; leads incomplete: 19 of 20` says so.
+
+What is refused of the boards is printed as by `ddfarm table`.
+
+Exit status:
+  0  no line is missing
+  1  the boards or the output failed, a file can't be opened, memory ran out outside a
+     search, or a thread could not be started
+  2  the command line or the text is refused
+  3  a line is missing";
+
 pub const PLAIN_ABOUT: &str = "\
 Prints how many tricks North and South take from here on, with up to 4 cards a hand";
 
@@ -227,6 +286,12 @@ Example: \"N:AQ... 65... 32... K4...\", where North holds the ace and queen of
 spades, East the six and five, South the three and two, West the king and four.";
 
 pub const LEADER: &str = "The seat that leads to the first trick, as S for South";
+
+pub const CARD1: &str = "The first card played to the trick, as S2 for the two of spades";
+
+pub const CARD2: &str = "The second card played to the trick";
+
+pub const CARD3: &str = "The third card played to the trick";
 
 pub const DECLARER: &str = "Declarer's seat, as E for East; the seat at the left leads";
 

@@ -1,19 +1,22 @@
 //! Which subcommand the words of a command line ask for.
 
-ghost use Rattle.std.specs.Prelude.{◌≡◌, IfOk, map};
-ghost use Rattle.clap.specs.Words.{kind_of};
-ghost use Rattle.arguments.specs.Words.{AreReadAs, refusal_kind};
+ghost use Rattle.std.specs.Prelude.{◌≡◌, IfOk, is_some, map};
+ghost use Rattle.clap.specs.Words.{kind_of, subcommand_rows_of};
+ghost use Rattle.arguments.specs.Words.{AreReadAs, exclude_each_other, refusal_kind};
 
 use crate::command::{Letters, command, known_letters};
 use asked::Subcommand;
-use clap::Error;
 use clap::error::ErrorKind;
-use matched_words::{asks_for_both, matched_subcommand};
+use clap::{ArgMatches, Error};
+use matched_words::{asks_for_both, matched_subcommand, names_both_files};
 use std::alloc::{AllocError, Global};
 use std::convert::AsStr;
 
 /// What is said of words that ask for two pages.
 const TWO_PAGES: &str = "the argument '--whole' cannot be used with '--sheet'";
+
+/// What is said of words that name two files of evidence.
+const TWO_FILES: &str = "the argument '--evidence' cannot be used with '--audit'";
 
 /// The subcommand that the words ask for, the first of them being the program's name. Without the options for the
 /// numbers of threads there are as many as the processors given, 64 at most.
@@ -31,19 +34,35 @@ pub fn parse_arguments<'a, S: AsStr>(
     let matches = command(alloc, letters)?.try_get_matches_from(words)?;
     match matched_subcommand(&matches, processors) {
         Some(asked) => Ok(asked),
-        None => Err(refusal(alloc, letters, asks_for_both(&matches))?),
+        None => Err(refusal(alloc, letters, excluded(&matches))?),
     }
 }
 
-/// What is said of words that `clap` takes and that ask for no subcommand, by whether they ask for two pages. A rule of
-/// `clap` that two options exclude each other has no exact contract, so that is told here, in the form of its errors.
-fn refusal<'a>(alloc: Global, letters: Letters<'a>, both: bool) -> Result<Error, AllocError>
-    ensures { IfOk result (λ error. kind_of error ≡ refusal_kind both) }
+/// What is said of options that exclude each other, if the words have such.
+fn excluded(matches: &ArgMatches<'_>) -> Option<&'static str>
+    ensures { is_some result ≡ exclude_each_other (subcommand_rows_of matches.now) }
+{
+    if asks_for_both(matches) {
+        Some(TWO_PAGES)
+    } else if names_both_files(matches) {
+        Some(TWO_FILES)
+    } else {
+        None
+    }
+}
+
+/// What is said of words that `clap` takes and that ask for no subcommand. A rule of `clap` that two options exclude
+/// each other has no exact contract, so that is said here, in the form of its errors.
+fn refusal<'a>(
+    alloc: Global,
+    letters: Letters<'a>,
+    excluded: Option<&str>,
+) -> Result<Error, AllocError>
+    ensures { IfOk result (λ error. kind_of error ≡ refusal_kind (is_some excluded.entry)) }
 {
     let mut command = command(alloc, letters)?;
-    if both {
-        command.error(ErrorKind::ArgumentConflict, TWO_PAGES)
-    } else {
-        command.error(ErrorKind::MissingSubcommand, "no such command")
+    match excluded {
+        Some(text) => command.error(ErrorKind::ArgumentConflict, text),
+        None => command.error(ErrorKind::MissingSubcommand, "no such command"),
     }
 }

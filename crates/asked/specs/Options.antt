@@ -83,9 +83,13 @@ sheet_option = codes "sheet"
 abbrev pub par_option : List ℕ
 par_option = codes "par"
 
--- an option of `table` that has a text: the file in which evidence is kept
+-- an option of `table` and `cards` that has a text: the file in which evidence is kept
 abbrev pub evidence_option : List ℕ
 evidence_option = codes "evidence"
+
+-- an option of `cards` that has a text: the file whose evidence shows the numbers
+abbrev pub audit_option : List ℕ
+audit_option = codes "audit"
 
 -- an option of `play`: which side plays by its certificate
 abbrev pub side_option : List ℕ

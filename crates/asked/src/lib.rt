@@ -9,5 +9,6 @@ mod subcommands;
 pub use settings::{Settings, SettingsFault};
 pub use sides::ContractSide;
 pub use subcommands::{
-    AuditOptions, Page, PageForm, ParTags, PlayOptions, Subcommand, TableOptions,
+    AuditOptions, CardProof, CardsOptions, LeadsOptions, Page, PageForm, ParTags, PlayOptions,
+    PlayedWords, Subcommand, TableOptions,
 };

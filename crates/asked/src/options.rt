@@ -185,6 +185,20 @@ pub const EVIDENCE: TextOption = TextOption {
     help: "Keeps evidence in FILE: what it shows isn't searched again, and what is found is added",
 };
 
+/// Where the evidence of cards is kept.
+pub const CARD_EVIDENCE: TextOption = TextOption {
+    name: "evidence",
+    value_name: "FILE",
+    help: "Keeps the evidence in FILE, a new file",
+};
+
+/// Which evidence shows the tricks of cards.
+pub const AUDIT: TextOption = TextOption {
+    name: "audit",
+    value_name: "FILE",
+    help: "Searches nothing: the evidence in FILE shows the numbers",
+};
+
 /// Which side plays by its certificate.
 pub const SIDE: ChoiceOption = ChoiceOption {
     name: "side",

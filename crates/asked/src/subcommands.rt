@@ -1,5 +1,8 @@
 //! What is asked of a run.
 
+ghost use Rattle.std.specs.Prelude.{◌<◌};
+ghost use Rattle.asked.specs.Options.{IsIn, solvers_option};
+
 use crate::{ContractSide, Settings};
 use cards::{Seat, Trump};
 
@@ -50,6 +53,10 @@ pub enum Subcommand<'a> {
     Play(PlayOptions<'a>),
     /// The tables that evidence shows for the boards of the input.
     Audit(AuditOptions<'a>),
+    /// The tricks that each card leads to which may be played.
+    Cards(CardsOptions<'a>),
+    /// The tricks that each opening lead of the input's boards leads to.
+    Leads(LeadsOptions<'a>),
 }
 
 /// Which page of a text's tables is written.
@@ -120,4 +127,53 @@ pub struct AuditOptions<'a> {
     pub page: Page,
     /// The name of the file with the boards, if it isn't the input.
     pub boards: Option<&'a str>,
+}
+
+/// What is asked of the cards that may be played.
+#[derive(Clone, Copy)]
+pub struct CardsOptions<'a> {
+    /// The layout when the trick began, in the form of a Deal value.
+    pub layout: &'a str,
+    /// The seat that leads to the trick.
+    pub leader: Seat,
+    /// The denomination.
+    pub trump: Trump,
+    /// The words for the cards that were played to the trick, in their order.
+    pub played: PlayedWords<'a>,
+    /// How many steps the search may take for each card.
+    pub budget: u64,
+    /// Where the numbers come from, and where their evidence goes.
+    pub proof: CardProof<'a>,
+}
+
+/// The words for up to three cards. If one is missing, so are those after it.
+#[derive(Clone, Copy)]
+pub struct PlayedWords<'a> {
+    pub first: Option<&'a str>,
+    pub second: Option<&'a str>,
+    pub third: Option<&'a str>,
+}
+
+/// Where the numbers of cards come from, and where their evidence goes.
+#[derive(Clone, Copy)]
+pub enum CardProof<'a> {
+    /// They are searched, and the evidence is dropped.
+    Dropped,
+    /// They are searched, and the evidence goes into a new file of this name.
+    Kept(&'a str),
+    /// The evidence in the file of this name shows them.
+    Audited(&'a str),
+}
+
+/// What is asked of opening leads.
+#[derive(Clone, Copy)]
+pub struct LeadsOptions<'a> {
+    /// How many threads search.
+    pub solvers: usize,
+    /// How many steps a search may take for each lead.
+    pub budget: u64,
+    /// The name of the file with the boards, if it isn't the input.
+    pub boards: Option<&'a str>,
+    pub ghost solvers_are: { IsIn solvers_option solvers },
+    pub ghost budget_is: { 0 < budget },
 }

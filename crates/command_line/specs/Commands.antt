@@ -4,7 +4,6 @@ use Rattle.clap.specs.declared.error.kind.ErrorKind.{ErrorKind}
 use Rattle.clap.specs.declared.error.kind.ErrorKind.TheVariants as kinds
 use Rattle.cards.specs.Devices.{Device}
 use Rattle.streams.specs.RunStreams.{RunDevices}
-use Rattle.certificate_graph.specs.Solvers.{MayFind}
 use Rattle.lease_book.specs.Moments.{MayTell}
 use Rattle.arguments.specs.CommandLine.{AreLetters}
 use Rattle.arguments.specs.Words.{AskFor, HasNone}
@@ -17,7 +16,7 @@ use Rattle.subcommands.specs.Explanations.{told_text}
 use Rattle.answer_subcommands.specs.Statuses.{status_code}
 use Rattle.subcommands.specs.Statuses.{IsTold}
 use Rattle.subcommands.specs.KeptFiles.{MayOpen}
-use Rattle.subcommands.specs.Runs.{Shows, RunsSubcommand}
+use Rattle.subcommands.specs.Runs.{MaySolve, Shows, RunsSubcommand}
 
 -- help or the version is asked for
 abbrev pub IsAsked : ErrorKind → Type 0
@@ -68,15 +67,15 @@ pub data EndsWords (said : Option (List ℕ)) (old new : RunDevices) (kind : Err
       → EndsWords said old new kind status
 
 -- the words ask for a subcommand, which is done, or there is none; `clap` doesn't tell what its errors say
-pub data MeetsWords (may_find : MayFind) (may_tell : MayTell) (may_open : MayOpen) (words : List (List ℕ))
+pub data MeetsWords (may_solve : MaySolve) (may_tell : MayTell) (may_open : MayOpen) (words : List (List ℕ))
     (processors : ℕ) (old new : RunDevices) (status : Status)
     : Type 0 where
   is_done : (letters : Letters) → AreLetters letters → (asked : Subcommand) → AskFor letters words processors asked
-      → RunsSubcommand may_find may_tell may_open asked old new status
-      → MeetsWords may_find may_tell may_open words processors old new status
+      → RunsSubcommand may_solve may_tell may_open asked old new status
+      → MeetsWords may_solve may_tell may_open words processors old new status
   is_none : (letters : Letters) → AreLetters letters → (kind : ErrorKind) → HasNone letters words processors kind
       → EndsWords None old new kind status
-      → MeetsWords may_find may_tell may_open words processors old new status
+      → MeetsWords may_solve may_tell may_open words processors old new status
 
 -- the exit status is the number of the status that the run ends with
 abbrev pub ExitsBy : (Status → Type 0) → ℕ → Type 0

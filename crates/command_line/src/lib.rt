@@ -10,7 +10,7 @@ ghost use Rattle.command_line.specs.Commands.{TellsRefusal};
 
 use arguments::parse_arguments;
 use cards::{Sink, Source, write_all};
-use certificate_graph::Solver;
+use certificate_graph::{CardSolver, Solver};
 use clap::error::ErrorKind;
 use farm::{Clock, Means};
 use lease_book::Gate;
@@ -20,7 +20,7 @@ use std::fmt::Display;
 use std::sync::Wait;
 use std::thread::Threads;
 use streams::Streams;
-use subcommands::{KeptFiles, NamedFiles, RunFault, Status, run_subcommand, show, tell};
+use subcommands::{KeptFiles, NamedFiles, NewFiles, RunFault, Status, run_subcommand, show, tell};
 
 /// What is told of refused words where there is no memory for more.
 const REFUSED: &str = "ddfarm: the command line is refused\n";
@@ -34,13 +34,13 @@ const REFUSED: &str = "ddfarm: the command line is refused\n";
 pub fn run_command<
     'a,
     S: AsStr,
-    P: Solver + Sync,
+    P: Solver + CardSolver + Sync,
     G: Gate + Sync,
     C: Clock + Sync,
     I: Source,
     O: Sink,
     E: Sink,
-    R: Threads + Wait + Sync + NamedFiles + KeptFiles,
+    R: Threads + Wait + Sync + NamedFiles + KeptFiles + NewFiles,
 >(
     rt: &R,
     alloc: Global,
@@ -49,8 +49,11 @@ pub fn run_command<
     means: &Means<'_, P, G, C>,
     streams: &mut Streams<I, O, E>,
 ) -> u8
-    ensures { ExitsBy (MeetsWords (P.may_find means.now.solver.now) (C.may_tell means.now.clock.now)
-        (record { to_read = R.may_open rt.now; to_keep = R.may_keep rt.now }) (map S.text words.entry.now) processors
+    ensures { ExitsBy (MeetsWords
+        (record { answers = P.may_find means.now.solver.now; cards = P.may_find_cards means.now.solver.now })
+        (C.may_tell means.now.clock.now)
+        (record { to_read = R.may_open rt.now; to_keep = R.may_keep rt.now; to_make = R.may_make rt.now })
+        (map S.text words.entry.now) processors
         (devices_of I.state O.state E.state streams.old) (devices_of I.state O.state E.state streams.new)) result }
 {
     match parse_arguments(alloc, words, processors) {

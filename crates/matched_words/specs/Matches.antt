@@ -12,14 +12,21 @@ use Rattle.asked.specs.declared.subcommands.Subcommand.{Subcommand}
 use Rattle.asked.specs.declared.subcommands.PlayOptions.{PlayOptions}
 use Rattle.asked.specs.declared.subcommands.TableOptions.{TableOptions}
 use Rattle.asked.specs.declared.subcommands.AuditOptions.{AuditOptions}
+use Rattle.asked.specs.declared.subcommands.CardsOptions.{CardsOptions}
+use Rattle.asked.specs.declared.subcommands.LeadsOptions.{LeadsOptions}
+use Rattle.asked.specs.declared.subcommands.PlayedWords.{PlayedWords}
+use Rattle.asked.specs.declared.subcommands.CardProof.{CardProof}
+use Rattle.asked.specs.declared.subcommands.CardProof.TheVariants.{Dropped, Kept, Audited}
 use Rattle.asked.specs.declared.subcommands.Page.{Page}
 use Rattle.asked.specs.declared.subcommands.PageForm.{PageForm}
 use Rattle.asked.specs.declared.subcommands.PageForm.TheVariants.{Tables, Whole, Sheet}
 use Rattle.asked.specs.declared.subcommands.ParTags.{ParTags}
 use Rattle.asked.specs.declared.subcommands.ParTags.TheVariants.{Without, With}
 use Rattle.asked.specs.declared.subcommands.Subcommand.TheVariants.{Plain, Solve, Table, Check, Line, Play, Audit}
+use Rattle.asked.specs.declared.subcommands.Subcommand.TheVariants.{Cards, Leads}
 use Rattle.asked.specs.Options.{OptionNumbers, IsIn, nearest_in, budget_option, progress_option, whole_option}
-use Rattle.asked.specs.Options.{evidence_option, par_option, sheet_option, side_option, side_word}
+use Rattle.asked.specs.Options.{audit_option, evidence_option, par_option, sheet_option, side_option, side_word}
+use Rattle.asked.specs.Options.{solvers_option}
 use Rattle.asked.specs.Settings.{OfEach, numbers_in}
 use Rattle.matched_words.specs.declared.matched.NamedDeal.{NamedDeal}
 
@@ -118,6 +125,32 @@ SaysPlay said options =
     × (first_of (codes "ANSWER") said ≡ Some options.answer.now)
     × (first_of side_option said ≡ Some (side_word options.side))
 
+-- the words name the cards played, as far as there are any
+pub record SaysPlayed (said : List Row) (played : PlayedWords) : Type 0 where
+  pub first : SaysText said (codes "CARD1") played.first
+  pub second : SaysText said (codes "CARD2") played.second
+  pub third : SaysText said (codes "CARD3") played.third
+
+-- the words name at most one file of evidence: one that is kept, or one that is audited
+abbrev pub SaysProof : List Row → CardProof → Type 0
+SaysProof said Dropped = (first_of evidence_option said ≡ None) × (first_of audit_option said ≡ None)
+SaysProof said (Kept name) = (first_of evidence_option said ≡ Some name.now) × (first_of audit_option said ≡ None)
+SaysProof said (Audited name) = (first_of evidence_option said ≡ None) × (first_of audit_option said ≡ Some name.now)
+
+-- the words say the options of `cards`
+abbrev pub SaysCards : List Row → CardsOptions → Type 0
+SaysCards said options =
+    SaysDeal said (codes "LEADER") (record { layout = options.layout; seat = options.leader; trump = options.trump })
+    × SaysNumber said budget_option options.budget
+    × SaysProof said options.proof
+    × SaysPlayed said options.played
+
+-- the words say the options of `leads`
+abbrev pub SaysLeads : List Row → ℕ → LeadsOptions → Type 0
+SaysLeads said processors options = SaysThreads said processors solvers_option options.solvers
+    × SaysNumber said budget_option options.budget
+    × SaysBoards said options.boards
+
 -- the subcommands by their names
 pub data Name : Type 0 where
   plain_name : Name
@@ -127,6 +160,8 @@ pub data Name : Type 0 where
   line_name : Name
   play_name : Name
   audit_name : Name
+  cards_name : Name
+  leads_name : Name
 
 abbrev pub name_of : Text → Option Name
 name_of text =
@@ -136,7 +171,9 @@ name_of text =
     if bytes_eq text (codes "check") then Some check_name else
     if bytes_eq text (codes "line") then Some line_name else
     if bytes_eq text (codes "play") then Some play_name else
-    if bytes_eq text (codes "audit") then Some audit_name else None
+    if bytes_eq text (codes "audit") then Some audit_name else
+    if bytes_eq text (codes "cards") then Some cards_name else
+    if bytes_eq text (codes "leads") then Some leads_name else None
 
 -- the words after this name say this subcommand, on a machine with this number of processors
 abbrev pub SaysNamed : Option Name → List Row → ℕ → Subcommand → Type 0
@@ -155,6 +192,10 @@ SaysNamed (Some play_name) said processors asked = (options : PlayOptions)
     × (asked ≡ Play options) × SaysPlay said options
 SaysNamed (Some audit_name) said processors asked = (options : AuditOptions)
     × (asked ≡ Audit options) × SaysAudit said options
+SaysNamed (Some cards_name) said processors asked = (options : CardsOptions)
+    × (asked ≡ Cards options) × SaysCards said options
+SaysNamed (Some leads_name) said processors asked = (options : LeadsOptions)
+    × (asked ≡ Leads options) × SaysLeads said processors options
 SaysNamed None said processors asked = ⊥
 
 abbrev pub Says : Text → List Row → ℕ → Subcommand → Type 0
@@ -176,6 +217,17 @@ is_said said name = is_true (first_of name said)
 abbrev pub asks_for_both : Option (Text × List Row) → Bool
 asks_for_both None = false
 asks_for_both (Some matched) = is_said matched.1 whole_option && is_said matched.1 sheet_option
+
+-- an option with a text is said
+abbrev pub is_some_text : Option Text → Bool
+is_some_text None = false
+is_some_text (Some text) = true
+
+-- the words name two files of evidence: one that is kept, and one that is audited
+abbrev pub names_both_files : Option (Text × List Row) → Bool
+names_both_files None = false
+names_both_files (Some matched) =
+    is_some_text (first_of evidence_option matched.1) && is_some_text (first_of audit_option matched.1)
 
 -- what is read is said, and where nothing is read nothing is said
 abbrev pub IsRead : {T : Type 0} → (T → Type 0) → Option T → Type 0

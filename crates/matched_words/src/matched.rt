@@ -6,10 +6,11 @@ ghost use Rattle.cards.specs.Seats.{seat_letter};
 ghost use Rattle.cards.specs.Pack.{trump_letters};
 ghost use Rattle.asked.specs.Options.{numbers_of, side_option, side_word};
 ghost use Rattle.matched_words.specs.Matches.{IsRead, asks_for_both, flag_letters, is_said, is_sheet, is_whole};
-ghost use Rattle.matched_words.specs.Matches.{named_boards, par_letters};
+ghost use Rattle.matched_words.specs.Matches.{named_boards, names_both_files, par_letters};
 ghost use Rattle.matched_words.specs.Matches.{Says, SaysDeal, SaysMatched, SaysNumber, SaysPage, SaysSettings};
 ghost use Rattle.matched_words.specs.Matches.{SaysThreads};
 
+use crate::matched_cards::{cards_subcommand, leads_subcommand};
 use asked::options::{self, NumberOption};
 use asked::{
     AuditOptions, ContractSide, Page, PageForm, ParTags, PlayOptions, Settings, Subcommand,
@@ -18,12 +19,12 @@ use asked::{
 use cards::{Seat, Trump};
 use clap::ArgMatches;
 
-/// What the words of `plain`, `solve`, `check`, `line` and `play` name.
+/// What the words of the subcommands for one layout name.
 #[derive(Clone, Copy)]
 pub struct NamedDeal<'a> {
     /// The value of a PBN Deal tag, as it was typed.
     pub layout: &'a str,
-    /// Who leads, for `plain`; else declarer.
+    /// The leader for `plain` and `cards`, otherwise declarer.
     pub seat: Seat,
     pub trump: Trump,
 }
@@ -42,6 +43,8 @@ pub fn matched_subcommand<'a>(matches: &ArgMatches<'a>, processors: usize) -> Op
         "line" => line_subcommand(said),
         "play" => play_subcommand(said),
         "audit" => audit_subcommand(said),
+        "cards" => cards_subcommand(said),
+        "leads" => leads_subcommand(said, processors),
         _ => None,
     }
 }
@@ -196,6 +199,19 @@ pub fn asks_for_both(matches: &ArgMatches<'_>) -> bool
     }
 }
 
+/// Whether the words name two files of evidence: one that is kept, and one that is audited.
+pub fn names_both_files(matches: &ArgMatches<'_>) -> bool
+    ensures { result ≡ names_both_files (subcommand_rows_of matches.now) }
+{
+    match matches.subcommand() {
+        Some((_, said)) => {
+            word_of(said, options::CARD_EVIDENCE.name).is_some()
+                && word_of(said, options::AUDIT.name).is_some()
+        }
+        None => false,
+    }
+}
+
 /// Whether an option without a value is said.
 fn is_said(said: &ArgMatches<'_>, name: &str) -> bool
     ensures { result ≡ is_said (rows_of (found_of said.now)) name.now }
@@ -207,7 +223,7 @@ fn is_said(said: &ArgMatches<'_>, name: &str) -> bool
 }
 
 /// The file that is named for the boards. The name `-` is that of the input.
-fn boards_of<'a>(said: &ArgMatches<'a>) -> Option<&'a str>
+pub(crate) fn boards_of<'a>(said: &ArgMatches<'a>) -> Option<&'a str>
     ensures { option_map (λ text. text.now) result
         ≡ named_boards (first_of (codes "BOARDS") (rows_of (found_of said.now))) }
 {
@@ -218,7 +234,7 @@ fn boards_of<'a>(said: &ArgMatches<'a>) -> Option<&'a str>
 }
 
 /// The layout, the seat of this name and the denomination.
-fn deal_of<'a>(said: &ArgMatches<'a>, seat: &str) -> Option<NamedDeal<'a>>
+pub(crate) fn deal_of<'a>(said: &ArgMatches<'a>, seat: &str) -> Option<NamedDeal<'a>>
     ensures { IsRead (SaysDeal (rows_of (found_of said.now)) seat.now) result }
 {
     let layout = word_of(said, "LAYOUT")?;
@@ -272,14 +288,14 @@ fn flag_of_letters(letters: &str) -> Option<bool>
 }
 
 /// The text of a word, or of an option that has one.
-fn word_of<'a>(said: &ArgMatches<'a>, name: &str) -> Option<&'a str>
+pub(crate) fn word_of<'a>(said: &ArgMatches<'a>, name: &str) -> Option<&'a str>
     ensures { option_map (λ text. text.now) result ≡ first_of name.now (rows_of (found_of said.now)) }
 {
     said.get_str(name)
 }
 
 /// The number of an option, where it is in its range.
-fn number_of(said: &ArgMatches<'_>, option: &NumberOption) -> Option<u64>
+pub(crate) fn number_of(said: &ArgMatches<'_>, option: &NumberOption) -> Option<u64>
     ensures { IsRead (SaysNumber (rows_of (found_of said.now)) (numbers_of option.now)) result }
 {
     let (least, most) = (u64::from(option.least), u64::from(option.most));
@@ -291,7 +307,11 @@ fn number_of(said: &ArgMatches<'_>, option: &NumberOption) -> Option<u64>
 }
 
 /// The number of an option, or, if the option is missing, the number of processors, as near as its range has.
-fn threads_of(said: &ArgMatches<'_>, option: &NumberOption, processors: usize) -> Option<u64>
+pub(crate) fn threads_of(
+    said: &ArgMatches<'_>,
+    option: &NumberOption,
+    processors: usize,
+) -> Option<u64>
     ensures { IsRead (SaysThreads (rows_of (found_of said.now)) processors (numbers_of option.now)) result }
 {
     match word_of(said, option.name) {

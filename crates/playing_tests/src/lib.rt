@@ -26,6 +26,8 @@ mod foreign_tests;
 #[cfg(test)]
 mod full_tests;
 #[cfg(test)]
+mod lead_tests;
+#[cfg(test)]
 mod text_tests;
 #[cfg(test)]
 mod told;

@@ -24,7 +24,7 @@ const READING_FILE: &str = "ddfarm: evidence: reading failed
 ";
 
 const WRITING_FILE: &str = "ddfarm: evidence: writing failed
-  the tables are written, but some of their evidence is not in the file
+  the numbers are written, but some of their evidence is not in the file
 ";
 
 /// What is told of the board's table after an audit.

@@ -11,7 +11,7 @@ use std::sync::Wait;
 use std::test::Fail;
 use std::thread::Threads;
 use streams::Streams;
-use subcommands::{KeptFiles, NamedFiles, Status, Subcommand, run_subcommand};
+use subcommands::{KeptFiles, NamedFiles, NewFiles, Status, Subcommand, run_subcommand};
 use test_support::idle::{LetsPass, StandsStill};
 use test_support::texts::joined;
 
@@ -147,7 +147,7 @@ fn texts_with_one_byte_changed(rt: HostRuntime) -> Result<(), Fail> {
 
 /// How `check` ends on an answer to East's no-trump where the finesse wins, over these streams, whose input is the
 /// answer.
-fn check<R: NamedFiles + KeptFiles + Threads + Wait + Sync>(
+fn check<R: NamedFiles + KeptFiles + NewFiles + Threads + Wait + Sync>(
     rt: &R,
     alloc: Global,
     streams: &mut Streams<Bytes<'_>, Buffer, Buffer>,
@@ -166,7 +166,7 @@ fn check<R: NamedFiles + KeptFiles + Threads + Wait + Sync>(
 }
 
 /// Whether `check` accepts this in the finesse's place. It says so, or refuses it, in one line.
-fn is_accepted<R: Abort + NamedFiles + KeptFiles + Threads + Wait + Sync>(
+fn is_accepted<R: Abort + NamedFiles + KeptFiles + NewFiles + Threads + Wait + Sync>(
     rt: &R,
     alloc: Global,
     text: Vec<u8>,
@@ -238,7 +238,7 @@ fn end_of_beginning(count: usize) -> (Status, &'static str, &'static str) {
 }
 
 /// Each beginning of the answer with the finesse of this version ends as it should.
-fn expect_beginnings<R: Abort + NamedFiles + KeptFiles + Threads + Wait + Sync>(
+fn expect_beginnings<R: Abort + NamedFiles + KeptFiles + NewFiles + Threads + Wait + Sync>(
     rt: &R,
     alloc: Global,
     version: u8,

@@ -147,7 +147,7 @@ impl OpenFile for Open<'_> {
     }
 }
 
-/// A system with two files.
+/// A system with two files. An empty file isn't there for a run that makes a new one.
 #[derive(Drop)]
 pub struct System<'a, R> {
     pub rt: &'a R,
@@ -177,6 +177,9 @@ impl<'a, R> Files for System<'a, R> {
             _ => return Err(Error::from(ErrorKind::NotFound)),
         };
         disk.call()?;
+        if how.asks_create_new() && disk.length.load(SeqCst) > 0 {
+            return Err(Error::from(ErrorKind::AlreadyExists));
+        }
         Ok(Open { disk, at: 0 })
     }
 

@@ -10,8 +10,8 @@ use std::sync::Wait;
 use std::test::Fail;
 use std::thread::Threads;
 use streams::Streams;
-use subcommands::{KeptFiles, NamedFiles, Status, Subcommand, run_subcommand};
-use test_support::idle::{LetsPass, StandsStill};
+use subcommands::{KeptFiles, NamedFiles, NewFiles, Status, Subcommand, run_subcommand};
+use test_support::idle::{LetsPass, OnlyTables, StandsStill};
 
 /// Room for all that a run prints.
 pub const ROOM: usize = 8192;
@@ -58,8 +58,24 @@ pub fn means<'a, S, G>(solver: &'a S, gate: &'a G) -> Means<'a, S, G, StandsStil
     }
 }
 
-/// Does the run over an input and an output with this much room.
-pub fn expect_run<R: Abort + NamedFiles + KeptFiles + Threads + Wait + Sync, S: Solver + Sync>(
+/// A run has ended so.
+pub fn expect_ended<I>(
+    rt: &impl Abort,
+    status: Status,
+    streams: &Streams<I, Buffer, Buffer>,
+    wanted: End<'_>,
+) -> Result<(), Fail> {
+    let printed = str::from_utf8(streams.output.bytes())?;
+    let told = str::from_utf8(streams.errors.bytes())?;
+    expect_eq(rt, &(status, printed, told), &wanted);
+    Ok(())
+}
+
+/// Does a run that asks for no cards over an input and an output with this much room.
+pub fn expect_run<
+    R: Abort + NamedFiles + KeptFiles + NewFiles + Threads + Wait + Sync,
+    S: Solver + Sync,
+>(
     rt: &R,
     alloc: Global,
     run: Subcommand<'_>,
@@ -68,15 +84,13 @@ pub fn expect_run<R: Abort + NamedFiles + KeptFiles + Threads + Wait + Sync, S: 
     room: usize,
     wanted: End<'_>,
 ) -> Result<(), Fail> {
-    let means = means(solver, &LetsPass);
+    let solver = OnlyTables { solver };
+    let means = means(&solver, &LetsPass);
     let mut streams = Streams {
         input: Bytes::new(text, 7),
         output: Buffer::new(alloc, room, 3)?,
         errors: Buffer::new(alloc, ROOM, 7)?,
     };
     let status = run_subcommand(rt, alloc, run, &means, &mut streams);
-    let printed = str::from_utf8(streams.output.bytes())?;
-    let told = str::from_utf8(streams.errors.bytes())?;
-    expect_eq(rt, &(status, printed, told), &wanted);
-    Ok(())
+    expect_ended(rt, status, &streams, wanted)
 }

@@ -1,7 +1,7 @@
 //! Runs with a file of evidence and one of boards, over memory.
 
 use crate::disks::{Disk, System};
-use crate::expect::{End, ROOM, expect_bytes, expect_eq, means};
+use crate::expect::{End, ROOM, expect_bytes, expect_ended, means};
 use crate::sections::NO_TRUMP;
 use asked::AuditOptions;
 use cards::{Buffer, Bytes, Layout, Seat, Suit, Trump};
@@ -16,7 +16,7 @@ use std::thread::Threads;
 use streams::Streams;
 use subcommands::{Subcommand, TableOptions, run_subcommand};
 use test_support::four_suits::{BOARD, RUFFS};
-use test_support::idle::LetsPass;
+use test_support::idle::{LetsPass, OnlyTables};
 use test_support::settings::{TABLES, once, tables_by};
 
 /// A solver that finds what is shown of North's spades, and nothing else.
@@ -74,7 +74,8 @@ pub fn audit<'a>(file: &'a str, boards: Option<&'a str>) -> Subcommand<'a> {
     })
 }
 
-/// The tables whose evidence is kept in a file, of the boards of that one or of the input. Each entry is looked for once.
+/// The tables whose evidence is kept in a file, of the boards of that one or of the input. Each entry is looked for
+/// once.
 pub fn table<'a>(file: &'a str, boards: Option<&'a str>) -> Result<Subcommand<'a>, SettingsFault> {
     Ok(Subcommand::Table(TableOptions {
         boards,
@@ -104,11 +105,12 @@ pub fn expect_end<R: Abort + Threads + Wait + Sync>(
         output: Buffer::new(alloc, devices.output_room, 3)?,
         errors: Buffer::new(alloc, ROOM, 7)?,
     };
-    let means = means(&FindsSpades, &LetsPass);
+    let solver = OnlyTables {
+        solver: &FindsSpades,
+    };
+    let means = means(&solver, &LetsPass);
     let status = run_subcommand(&system, alloc, asked, &means, &mut streams);
-    let printed = str::from_utf8(streams.output.bytes())?;
-    let told = str::from_utf8(streams.errors.bytes())?;
-    expect_eq(rt, &(status, printed, told), &wanted);
+    expect_ended(rt, status, &streams, wanted)?;
     let held = disk.bytes(alloc)?;
     expect_bytes(rt, held.as_slice(), kept);
     Ok(())

@@ -10,7 +10,7 @@ use std::process::Abort;
 use std::sync::Wait;
 use std::test::Fail;
 use std::thread::Threads;
-use subcommands::{KeptFiles, NamedFiles, Status, Subcommand};
+use subcommands::{KeptFiles, NamedFiles, NewFiles, Status, Subcommand};
 use test_support::idle::FindsNothing;
 
 /// A finesse: South leads, North covers West's card, and wins two tricks. East's side needs none.
@@ -38,7 +38,10 @@ const CHECK: Subcommand<'static> = Subcommand::Check {
 const UNNAMED: &str = "% PBN 2.1\n[Board \"\"]\n[Deal \"?\"]\n; table incomplete: 0 of 20\n\n";
 
 /// A run that would print this has failed on each output that has not the room for it, and is told so.
-fn expect_cut<R: Abort + NamedFiles + KeptFiles + Threads + Wait + Sync, S: Solver + Sync>(
+fn expect_cut<
+    R: Abort + NamedFiles + KeptFiles + NewFiles + Threads + Wait + Sync,
+    S: Solver + Sync,
+>(
     rt: &R,
     alloc: Global,
     run: Subcommand<'_>,

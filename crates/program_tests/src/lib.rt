@@ -6,6 +6,8 @@
 #[cfg(test)]
 mod audit_tests;
 #[cfg(test)]
+mod card_run_tests;
+#[cfg(test)]
 mod closing_tests;
 #[cfg(test)]
 mod damage_tests;

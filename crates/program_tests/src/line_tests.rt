@@ -7,7 +7,7 @@ use std::process::Abort;
 use std::sync::Wait;
 use std::test::Fail;
 use std::thread::Threads;
-use subcommands::{KeptFiles, NamedFiles, Status, Subcommand};
+use subcommands::{KeptFiles, NamedFiles, NewFiles, Status, Subcommand};
 use test_support::idle::FindsNothing;
 use test_support::texts::joined;
 
@@ -74,7 +74,7 @@ const ANSWERS: [(&[u8], bool, End<'static>); 8] = [
 ];
 
 /// The answer is followed as `line` says, and where it is refused `check` refuses it with the same words.
-fn expect_followed<R: Abort + NamedFiles + KeptFiles + Threads + Wait + Sync>(
+fn expect_followed<R: Abort + NamedFiles + KeptFiles + NewFiles + Threads + Wait + Sync>(
     rt: &R,
     alloc: Global,
     text: &[u8],

@@ -10,7 +10,7 @@ use std::process::Abort;
 use std::sync::Wait;
 use std::test::Fail;
 use std::thread::Threads;
-use subcommands::{KeptFiles, NamedFiles, Status, Subcommand, TableOptions};
+use subcommands::{KeptFiles, NamedFiles, NewFiles, Status, Subcommand, TableOptions};
 use test_support::four_suits::TABLE;
 use test_support::idle::FindsNothing;
 
@@ -74,7 +74,7 @@ fn tables_on(form: PageForm, par: ParTags) -> Result<Subcommand<'static>, Fail> 
 }
 
 /// What comes of a text on this page.
-fn expect_page<R: Abort + NamedFiles + KeptFiles + Threads + Wait + Sync>(
+fn expect_page<R: Abort + NamedFiles + KeptFiles + NewFiles + Threads + Wait + Sync>(
     rt: &R,
     alloc: Global,
     page: (PageForm, ParTags),

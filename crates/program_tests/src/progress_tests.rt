@@ -17,8 +17,8 @@ use std::test::Fail;
 use std::thread;
 use std::thread::Threads;
 use streams::Streams;
-use subcommands::{KeptFiles, NamedFiles, Status, Subcommand, run_subcommand};
-use test_support::idle::FindsNothing;
+use subcommands::{KeptFiles, NamedFiles, NewFiles, Status, Subcommand, run_subcommand};
+use test_support::idle::{FindsNothing, OnlyTables};
 
 /// A board with four hands of one suit each.
 pub const BOARD: &[u8] =
@@ -106,7 +106,10 @@ const TOLD: [(bool, usize, Told, Told); 4] = [
 ];
 
 /// What a gate is told while tables are made.
-fn expect_told<R: Abort + NamedFiles + KeptFiles + Threads + Wait + Sync, S: Solver + Sync>(
+fn expect_told<
+    R: Abort + NamedFiles + KeptFiles + NewFiles + Threads + Wait + Sync,
+    S: Solver + Sync,
+>(
     rt: &R,
     alloc: Global,
     run: Subcommand<'_>,
@@ -119,7 +122,8 @@ fn expect_told<R: Abort + NamedFiles + KeptFiles + Threads + Wait + Sync, S: Sol
         output: Buffer::new(alloc, ROOM, ROOM)?,
         errors: Buffer::new(alloc, ROOM, ROOM)?,
     };
-    let status = run_subcommand(rt, alloc, run, &means(solver, &gate), &mut streams);
+    let solver = OnlyTables { solver };
+    let status = run_subcommand(rt, alloc, run, &means(&solver, &gate), &mut streams);
     expect_eq(rt, &(status, gate.told()), &wanted);
     Ok(())
 }

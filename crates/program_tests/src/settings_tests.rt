@@ -15,13 +15,15 @@ use std::sync::atomic::{AtomicBool, AtomicU64};
 use std::test::Fail;
 use std::thread::Threads;
 use streams::Streams;
-use subcommands::{KeptFiles, NamedFiles, Status, Subcommand, TableOptions, run_subcommand};
-use test_support::idle::LetsPass;
+use subcommands::{
+    KeptFiles, NamedFiles, NewFiles, Status, Subcommand, TableOptions, run_subcommand,
+};
+use test_support::idle::{LetsPass, OnlyTables};
 use test_support::settings::tables_by;
 
 /// Makes the tables of a board, and answers how that ends.
 fn status_of<
-    R: Abort + NamedFiles + KeptFiles + Threads + Wait + Sync,
+    R: Abort + NamedFiles + KeptFiles + NewFiles + Threads + Wait + Sync,
     S: Solver + Sync,
     G: Gate + Sync,
 >(rt: &R, alloc: Global, settings: Settings, solver: &S, gate: &G) -> Result<Status, Fail> {
@@ -34,7 +36,8 @@ fn status_of<
         output: Buffer::new(alloc, ROOM, ROOM)?,
         errors: Buffer::new(alloc, ROOM, ROOM)?,
     };
-    let means = means(solver, gate);
+    let solver = OnlyTables { solver };
+    let means = means(&solver, gate);
     Ok(run_subcommand(rt, alloc, run, &means, &mut streams))
 }
 

@@ -14,7 +14,7 @@ use std::test::Fail;
 use std::thread::Threads;
 use strategies::plain_value;
 use streams::Streams;
-use subcommands::{KeptFiles, NamedFiles, Status, Subcommand, run_subcommand};
+use subcommands::{KeptFiles, NamedFiles, NewFiles, Status, Subcommand, run_subcommand};
 use test_support::idle::{FindsNothing, LetsPass};
 
 /// Room for an answer of four cards a hand.
@@ -65,7 +65,7 @@ fn expect_version_two(rt: &impl Abort, answer: &[u8], tricks: u8) -> Result<(), 
 }
 
 /// An answer is found, of version 2, and `check` accepts it with this number.
-fn expect_accepted<R: Abort + NamedFiles + KeptFiles + Threads + Wait + Sync>(
+fn expect_accepted<R: Abort + NamedFiles + KeptFiles + NewFiles + Threads + Wait + Sync>(
     rt: &R,
     alloc: Global,
     layout: &str,

@@ -5,9 +5,11 @@ use Rattle.std.specs.List.{flat_map}
 use Rattle.pbn_deals.specs.declared.faults.PbnFault.{PbnFault}
 use Rattle.pbn_deals.specs.declared.faults.PbnFault.TheVariants as pbn
 use Rattle.streams.specs.declared.opening.CannotOpen.{CannotOpen}
-use Rattle.streams.specs.declared.opening.CannotOpen.TheVariants.{Missing, Denied, NotAFile, Refused}
+use Rattle.streams.specs.declared.opening.CannotOpen.TheVariants.{Missing, Denied, NotAFile, Exists, Refused}
 use Rattle.evidence_solvers.specs.declared.faults.KeepFault.{KeepFault}
 use Rattle.evidence_solvers.specs.declared.faults.KeepFault.TheVariants as keep
+use Rattle.play_rules.specs.declared.faults.PlayFault.{PlayFault}
+use Rattle.play_rules.specs.declared.faults.PlayFault.TheVariants.{NotHeld, MustFollow, Over}
 use Rattle.answer_subcommands.specs.declared.named_files.FileFault.{FileFault}
 use Rattle.answer_subcommands.specs.declared.named_files.FileFault.TheVariants as file
 use Rattle.subcommands.specs.declared.faults.RunFault.{RunFault}
@@ -30,6 +32,7 @@ abbrev pub reason_text : CannotOpen → List ℕ
 reason_text Missing = codes "no such file"
 reason_text Denied = codes "permission denied"
 reason_text NotAFile = codes "not a regular file"
+reason_text Exists = codes "the file is there already"
 reason_text Refused = codes "the system does not open it"
 
 -- a byte of a name, or a question mark for a control character
@@ -79,8 +82,14 @@ file_explanation file.Read = codes "the file cannot be read to its end; a folder
 
 -- evidence that was not kept
 abbrev pub keep_explanation : KeepFault → List ℕ
-keep_explanation keep.OutOfMemory = codes "the tables are written, but memory ran out for some of the evidence"
-keep_explanation keep.Write = codes "the tables are written, but some of their evidence is not in the file"
+keep_explanation keep.OutOfMemory = codes "the numbers are written, but memory ran out for some of their evidence"
+keep_explanation keep.Write = codes "the numbers are written, but some of their evidence is not in the file"
+
+-- a card that may not be played
+abbrev pub play_explanation : PlayFault → List ℕ
+play_explanation NotHeld = codes "the seat to play does not hold this card"
+play_explanation MustFollow = codes "the seat to play has a card of the suit led, and must follow suit"
+play_explanation Over = codes "all cards were played"
 
 -- nothing explains faults whose line says all
 abbrev pub explanation_of : RunFault → List ℕ
@@ -98,6 +107,8 @@ explanation_of (fault.Boards why) = file_explanation why
 explanation_of (fault.Evidence why) = file_explanation why
 explanation_of (fault.AnswerFile why) = file_explanation why
 explanation_of (fault.Unkept why) = keep_explanation why
+explanation_of (fault.NoCard place) = codes "a card is its suit and its rank, as SQ, h10 or 9d"
+explanation_of (fault.Unplayable place why) = play_explanation why
 
 -- ---- all that is written of a fault
 abbrev pub explained : Option (List ℕ) → RunFault → Option CannotOpen → List ℕ

@@ -11,10 +11,12 @@ use Rattle.answer_subcommands.specs.NamedFiles.{Opens}
 abbrev pub OpensToKeep : Type 1
 OpensToKeep = List ℕ → Result (Device × Access) CannotOpen → Type 0
 
--- what may come of the opening of a file that is to be read, and of one that is to be read and added to
+-- What may come of the opening of a file that is to be read, of one that is to be read and added to, and of the making
+-- of a new one.
 pub record MayOpen : Type 1 where
   pub to_read : Opens
   pub to_keep : OpensToKeep
+  pub to_make : Opens
 
 -- all that a file tells, or as much of it as it held when it was opened
 abbrev pub IsToldOf : Option (List ℕ) → Option (List ℕ) → Type 0

@@ -13,3 +13,5 @@ pub mod Beside
 pub mod KeptTables
 pub mod NamedBoards
 pub mod Runs
+pub mod CardRuns
+pub mod LeadRuns

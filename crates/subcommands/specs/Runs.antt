@@ -1,7 +1,7 @@
 -- What a run does for what was asked, and how it ends.
 use Rattle.std.specs.Prelude.{◌≡◌, Result, Ok, Err, ◌⊎◌, Option, None, Some, option_map, List, ℕ}
 use Rattle.lease_book.specs.Moments.{MayTell}
-use Rattle.certificate_graph.specs.Solvers.{MayFind}
+use Rattle.certificate_graph.specs.Solvers.{MayFind, MayFindCards}
 use Rattle.streams.specs.Flushes.{HandsOn}
 use Rattle.streams.specs.RunStreams.{Devices, RunDevices}
 use Rattle.cards.specs.Devices.{Device, Fails, Adds, AddsBeginning}
@@ -14,6 +14,9 @@ use Rattle.answer_subcommands.specs.declared.statuses.Status.{Status}
 use Rattle.answer_subcommands.specs.declared.statuses.Status.TheVariants.{Done, Failed, Refused, Incomplete, Rejected}
 use Rattle.asked.specs.declared.subcommands.Subcommand.{Subcommand}
 use Rattle.asked.specs.declared.subcommands.Subcommand.TheVariants.{Plain, Solve, Table, Check, Line, Play, Audit}
+use Rattle.asked.specs.declared.subcommands.Subcommand.TheVariants.{Cards, Leads}
+use Rattle.asked.specs.declared.subcommands.CardProof.{CardProof}
+use Rattle.asked.specs.declared.subcommands.CardProof.TheVariants.{Dropped, Kept, Audited}
 use Rattle.subcommands.specs.Explanations.{told_text}
 use Rattle.subcommands.specs.Notes.{TellsNotes}
 use Rattle.answer_subcommands.specs.Statuses.{status_code}
@@ -28,27 +31,39 @@ use Rattle.answer_subcommands.specs.Playing.{PlaysAnswer}
 use Rattle.subcommands.specs.Auditing.{AuditsFile}
 use Rattle.subcommands.specs.KeptTables.{FillsTables}
 use Rattle.subcommands.specs.NamedBoards.{DoesOn}
+use Rattle.subcommands.specs.CardRuns.{DoesCards}
+use Rattle.subcommands.specs.LeadRuns.{LeadsBoards}
+
+-- what a solver may find of declarers, and of cards
+pub record MaySolve : Type 1 where
+  pub answers : MayFind
+  pub cards : MayFindCards
 
 -- What came of a run, by what the solver may find, the clock may tell and the opening of a file may come to, and what
 -- its devices have given and got. A single layout leaves the input as it was.
-abbrev pub Does : MayFind → MayTell → MayOpen → Subcommand → Devices → Devices
+abbrev pub Does : MaySolve → MayTell → MayOpen → Subcommand → Devices → Devices
     → Result Outcome RunFault → Type 0
-Does may_find may_tell may_open (Plain layout leader trump) old new answer =
+Does may_solve may_tell may_open (Plain layout leader trump) old new answer =
     (new.source ≡ old.source) × DoneQuietly (MeetsPlainLine layout.now leader trump old.sink new.sink) answer
-Does may_find may_tell may_open (Solve layout declarer trump budget) old new answer =
+Does may_solve may_tell may_open (Solve layout declarer trump budget) old new answer =
     (new.source ≡ old.source)
-    × DoneQuietly (SolvesLayout may_find layout.now declarer trump budget old.sink new.sink) answer
-Does may_find may_tell may_open (Table options) old new answer =
+    × DoneQuietly (SolvesLayout may_solve.answers layout.now declarer trump budget old.sink new.sink) answer
+Does may_solve may_tell may_open (Table options) old new answer =
     DoesOn may_open.to_read options.boards
     (FillsTables may_open.to_keep may_tell options options.evidence) old new answer
-Does may_find may_tell may_open (Check layout declarer trump) old new answer =
+Does may_solve may_tell may_open (Check layout declarer trump) old new answer =
     Quietly (ChecksAnswer layout.now declarer trump old new) answer
-Does may_find may_tell may_open (Line layout declarer trump) old new answer =
+Does may_solve may_tell may_open (Line layout declarer trump) old new answer =
     Quietly (FollowsAnswer layout.now declarer trump old new) answer
-Does may_find may_tell may_open (Play options) old new answer =
+Does may_solve may_tell may_open (Play options) old new answer =
     Quietly (PlaysAnswer may_open.to_read options old new) answer
-Does may_find may_tell may_open (Audit options) old new answer =
+Does may_solve may_tell may_open (Audit options) old new answer =
     DoesOn may_open.to_read options.boards (AuditsFile may_open.to_read options.file.now options.page) old new answer
+Does may_solve may_tell may_open (Cards options) old new answer =
+    (new.source ≡ old.source)
+    × DoesCards may_solve.cards may_open.to_read may_open.to_make options options.proof old.sink new.sink answer
+Does may_solve may_tell may_open (Leads options) old new answer =
+    DoesOn may_open.to_read options.boards (LeadsBoards may_solve.cards options) old new answer
 
 -- how a run that was done ends: as it does where all was kept, or that not all was is told
 abbrev pub EndsKept : Result Unit KeepFault → Status → Device → Device → Status → Type 0
@@ -62,6 +77,12 @@ EndsRead (Ok done) kept reached errors errors' status = EndsKept kept reached er
 EndsRead (Err fault) kept reached errors errors' status =
     (status ≡ Failed) × IsTold errors errors' (told_text None (shelf_fault fault))
 
+-- the name of the file with the evidence of cards, if there is one
+abbrev pub proof_file : CardProof → Option (List ℕ)
+proof_file Dropped = None
+proof_file (Kept name) = Some name.now
+proof_file (Audited name) = Some name.now
+
 -- the name of the file with evidence or an answer that is asked for, if one is
 abbrev pub file_of : Subcommand → Option (List ℕ)
 file_of (Plain layout leader trump) = None
@@ -71,11 +92,14 @@ file_of (Check layout declarer trump) = None
 file_of (Line layout declarer trump) = None
 file_of (Play options) = Some options.answer.now
 file_of (Audit options) = Some options.file.now
+file_of (Cards options) = proof_file options.proof
+file_of (Leads options) = None
 
 -- the name of the file with the boards, if one is asked for
 abbrev pub boards_of : Subcommand → Option (List ℕ)
 boards_of (Table options) = option_map (λ name. name.now) options.boards
 boards_of (Audit options) = option_map (λ name. name.now) options.boards
+boards_of (Leads options) = option_map (λ name. name.now) options.boards
 boards_of _ = None
 
 -- the name of the file that a fault speaks of, if it speaks of one
@@ -94,11 +118,11 @@ Ends run (Err fault) errors errors' status =
     (status ≡ fault_status fault) × IsTold errors errors' (told_text (file_named run fault) fault)
 
 -- a whole run
-pub record RunsSubcommand (may_find : MayFind) (may_tell : MayTell) (may_open : MayOpen) (run : Subcommand)
+pub record RunsSubcommand (may_solve : MaySolve) (may_tell : MayTell) (may_open : MayOpen) (run : Subcommand)
     (old new : RunDevices) (status : Status)
     : Type 0 where
   pub answer : Result Outcome RunFault
-  pub does : Does may_find may_tell may_open run old.both new.both answer
+  pub does : Does may_solve may_tell may_open run old.both new.both answer
   pub ends : Ends run answer old.errors new.errors status
 
 -- A text was written on the output, or a beginning of it, and that it failed was told. The input stays as it was.

@@ -10,6 +10,12 @@ use Rattle.tournaments.specs.declared.faults.MakeFault.TheVariants as make
 use Rattle.audits.specs.declared.faults.AuditFault.{AuditFault}
 use Rattle.audits.specs.declared.faults.AuditFault.TheVariants as audit
 use Rattle.evidence_solvers.specs.declared.faults.KeepFault.TheVariants as keep
+use Rattle.opening_leads.specs.declared.faults.LeadFault.{LeadFault}
+use Rattle.opening_leads.specs.declared.faults.LeadFault.TheVariants as lead
+use Rattle.play_rules.specs.declared.faults.PlayFault.{PlayFault}
+use Rattle.play_rules.specs.declared.faults.PlayFault.TheVariants.{NotHeld, MustFollow, Over}
+use Rattle.answer_subcommands.specs.declared.played.WordPlace.{WordPlace}
+use Rattle.answer_subcommands.specs.declared.played.WordPlace.TheVariants.{First, Second, Third}
 use Rattle.answer_subcommands.specs.declared.named_files.FileFault.TheVariants as file
 use Rattle.subcommands.specs.declared.faults.RunFault.{RunFault}
 use Rattle.subcommands.specs.declared.faults.RunFault.TheVariants as fault
@@ -32,6 +38,8 @@ fault_status (fault.Boards why) = Failed
 fault_status (fault.Evidence why) = Failed
 fault_status (fault.AnswerFile why) = Failed
 fault_status (fault.Unkept why) = Failed
+fault_status (fault.NoCard place) = Refused
+fault_status (fault.Unplayable place why) = Refused
 
 -- why nothing came of a layout or an answer
 abbrev pub answer_fault : AnswerFault → RunFault
@@ -43,6 +51,8 @@ answer_fault answer.TooLarge = fault.TooLarge
 answer_fault answer.NoResult = fault.NoResult
 answer_fault answer.NoAnswer = fault.NoAnswer
 answer_fault (answer.File why) = fault.AnswerFile why
+answer_fault (answer.NoCard place) = fault.NoCard place
+answer_fault (answer.Unplayable place why) = fault.Unplayable place why
 
 -- why no tables were made
 abbrev pub make_fault : MakeFault → RunFault
@@ -56,6 +66,25 @@ make_fault make.Write = fault.Write
 abbrev pub audit_fault : AuditFault → RunFault
 audit_fault (audit.Page made) = make_fault made
 audit_fault audit.Evidence = fault.Evidence file.Read
+
+-- why no leads were written
+abbrev pub lead_fault : LeadFault → RunFault
+lead_fault lead.OutOfMemory = fault.OutOfMemory
+lead_fault lead.Read = fault.Read
+lead_fault (lead.Pbn refusal) = fault.Pbn refusal
+lead_fault lead.Write = fault.Write
+
+-- a word for a card
+abbrev pub place_words : WordPlace → List ℕ
+place_words First = codes "card 1: "
+place_words Second = codes "card 2: "
+place_words Third = codes "card 3: "
+
+-- why a card may not be played
+abbrev pub play_words : PlayFault → List ℕ
+play_words NotHeld = codes "2 NotHeld"
+play_words MustFollow = codes "3 MustFollow"
+play_words Over = codes "4 Over"
 
 -- a place of the input before a text
 abbrev pub after_line : Option ℕ → List ℕ → List ℕ
@@ -82,6 +111,8 @@ said_of (fault.AnswerFile (file.Open why)) = codes "answer: cannot open"
 said_of (fault.AnswerFile file.Read) = codes "answer: reading failed"
 said_of (fault.Unkept keep.Write) = codes "evidence: writing failed"
 said_of (fault.Unkept keep.OutOfMemory) = codes "evidence: out of memory"
+said_of (fault.NoCard place) = place_words place ++ codes "1 NoCard"
+said_of (fault.Unplayable place why) = place_words place ++ play_words why
 
 -- the line that tells it
 abbrev pub told_line : RunFault → List ℕ

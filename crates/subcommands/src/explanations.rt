@@ -5,13 +5,14 @@ ghost use Rattle.cards.specs.Devices.{Writes};
 ghost use Rattle.subcommands.specs.Explanations.{explains, opening_of, opening_line, second_line, reason_text};
 ghost use Rattle.subcommands.specs.Explanations.{shown_name};
 ghost use Rattle.subcommands.specs.Explanations.{shown_byte, text_explanation, layout_explanation, file_explanation};
-ghost use Rattle.subcommands.specs.Explanations.{keep_explanation, explanation_of};
+ghost use Rattle.subcommands.specs.Explanations.{keep_explanation, explanation_of, play_explanation};
 
 use crate::faults::RunFault;
 use answer_subcommands::FileFault;
 use cards::{DeviceFault, Sink, write_all};
 use evidence_solvers::KeepFault;
 use pbn_deals::PbnFault;
+use play_rules::PlayFault;
 use streams::CannotOpen;
 
 /// Writes the line that explains a fault, if there is one. A file that can't be opened has this name.
@@ -97,6 +98,7 @@ fn reason_text(why: CannotOpen) -> &'static str
         CannotOpen::Missing => "no such file",
         CannotOpen::Denied => "permission denied",
         CannotOpen::NotAFile => "not a regular file",
+        CannotOpen::Exists => "the file is there already",
         CannotOpen::Refused => "the system does not open it",
     }
 }
@@ -154,8 +156,21 @@ fn keep_explanation(fault: KeepFault) -> &'static str
 {
     match fault {
         KeepFault::OutOfMemory =>
-            "the tables are written, but memory ran out for some of the evidence",
-        KeepFault::Write => "the tables are written, but some of their evidence is not in the file",
+            "the numbers are written, but memory ran out for some of their evidence",
+        KeepFault::Write =>
+            "the numbers are written, but some of their evidence is not in the file",
+    }
+}
+
+/// What explains that a card may not be played.
+fn play_explanation(why: PlayFault) -> &'static str
+    ensures { result.now ≡ play_explanation why }
+{
+    match why {
+        PlayFault::NotHeld => "the seat to play does not hold this card",
+        PlayFault::MustFollow =>
+            "the seat to play has a card of the suit led, and must follow suit",
+        PlayFault::Over => "all cards were played",
     }
 }
 
@@ -178,5 +193,7 @@ fn explanation_of(fault: RunFault) -> &'static str
             file_explanation(fault)
         }
         RunFault::Unkept(fault) => keep_explanation(fault),
+        RunFault::NoCard(_) => "a card is its suit and its rank, as SQ, h10 or 9d",
+        RunFault::Unplayable(_, why) => play_explanation(why),
     }
 }

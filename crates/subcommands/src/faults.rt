@@ -1,19 +1,22 @@
 //! Why a run fails or is refused, and the line that tells it.
 
-ghost use Rattle.std.specs.Prelude.{◌≡◌, None, option_map};
+ghost use Rattle.std.specs.Prelude.{◌≡◌, ◌++◌, None, option_map};
 ghost use Rattle.cards.specs.Devices.{Writes};
 ghost use Rattle.pbn_deals.specs.Faults.{fault_text};
 ghost use Rattle.subcommands.specs.declared.faults.RunFault.TheVariants as faults;
 ghost use Rattle.subcommands.specs.Explanations.{told_text};
 ghost use Rattle.subcommands.specs.Statuses.{fault_status, IsTold, told_line, said_of, after_line};
+ghost use Rattle.subcommands.specs.Statuses.{place_words, play_words};
 ghost use Rattle.pbn_deals.specs.Faults.{fault_line};
 
 use crate::explanations::write_explanation;
-use answer_subcommands::{AnswerFault, FileFault, Status};
+use answer_subcommands::{AnswerFault, FileFault, Status, WordPlace};
 use audits::AuditFault;
 use cards::{DeviceFault, Sink, write_all, write_number};
 use evidence_solvers::KeepFault;
+use opening_leads::LeadFault;
 use pbn_deals::PbnFault;
+use play_rules::PlayFault;
 use tournaments::MakeFault;
 
 /// Why a run fails or is refused.
@@ -47,6 +50,10 @@ pub enum RunFault {
     AnswerFile(FileFault),
     /// Not all evidence was kept that was to be kept, or memory ran out while it was read.
     Unkept(KeepFault),
+    /// The word in this place names no card.
+    NoCard(WordPlace),
+    /// The word in this place names a card that may not be played.
+    Unplayable(WordPlace, PlayFault),
 }
 
 impl From<AnswerFault> for RunFault {
@@ -64,6 +71,8 @@ impl From<AnswerFault> for RunFault {
             AnswerFault::NoResult => RunFault::NoResult,
             AnswerFault::NoAnswer => RunFault::NoAnswer,
             AnswerFault::File(why) => RunFault::AnswerFile(why),
+            AnswerFault::NoCard(place) => RunFault::NoCard(place),
+            AnswerFault::Unplayable(place, why) => RunFault::Unplayable(place, why),
         }
     }
 }
@@ -97,6 +106,21 @@ impl From<AuditFault> for RunFault {
     }
 }
 
+impl From<LeadFault> for RunFault {
+    ghost use Rattle.subcommands.specs.Statuses.{lead_fault};
+
+    ghost from_gives = { λ fault answer. answer ≡ lead_fault fault };
+
+    fn from(fault: LeadFault) -> RunFault {
+        match fault {
+            LeadFault::OutOfMemory => RunFault::OutOfMemory,
+            LeadFault::Read => RunFault::Read,
+            LeadFault::Pbn(refusal) => RunFault::Pbn(refusal),
+            LeadFault::Write => RunFault::Write,
+        }
+    }
+}
+
 /// Writes the fault on the error output, with what explains it, and answers how the run ends. If the error output
 /// fails, nobody is left to be told.
 pub fn tell<E: Sink>(fault: RunFault, errors: &mut E) -> Status
@@ -126,6 +150,8 @@ pub(crate) fn tell_of_file<E: Sink>(fault: RunFault, name: Option<&str>, errors:
         | RunFault::Layout(_)
         | RunFault::TooLarge
         | RunFault::Pbn(_)
+        | RunFault::NoCard(_)
+        | RunFault::Unplayable(_, _)
         | RunFault::NoResult => Status::Refused,
         RunFault::NoAnswer => Status::Incomplete,
     }
@@ -176,6 +202,8 @@ fn write_fault<E: Sink>(fault: RunFault, errors: &mut E) -> Result<(), DeviceFau
         RunFault::AnswerFile(FileFault::Read) => write_all(errors, b"answer: reading failed"),
         RunFault::Unkept(KeepFault::OutOfMemory) => write_all(errors, b"evidence: out of memory"),
         RunFault::Unkept(KeepFault::Write) => write_all(errors, b"evidence: writing failed"),
+        RunFault::NoCard(place) => write_card_refusal(place, b"1 NoCard", errors),
+        RunFault::Unplayable(place, why) => write_card_refusal(place, play_words(why), errors),
     }
 }
 
@@ -185,6 +213,40 @@ fn write_layout_refusal<E: Sink>(refusal: PbnFault, errors: &mut E) -> Result<()
 {
     write_all(errors, b"layout: ")?;
     write_refusal(refusal, errors)
+}
+
+/// Returns the number and the name of why a card may not be played.
+fn play_words(why: PlayFault) -> &'static [u8]
+    ensures { result.now ≡ play_words why }
+{
+    match why {
+        PlayFault::NotHeld => b"2 NotHeld",
+        PlayFault::MustFollow => b"3 MustFollow",
+        PlayFault::Over => b"4 Over",
+    }
+}
+
+/// Returns what precedes a refusal of the word in this place.
+fn place_words(place: WordPlace) -> &'static [u8]
+    ensures { result.now ≡ place_words place }
+{
+    match place {
+        WordPlace::First => b"card 1: ",
+        WordPlace::Second => b"card 2: ",
+        WordPlace::Third => b"card 3: ",
+    }
+}
+
+/// Writes why the word in this place is refused.
+fn write_card_refusal<E: Sink>(
+    place: WordPlace,
+    why: &[u8],
+    errors: &mut E,
+) -> Result<(), DeviceFault>
+    ensures { Writes (E.state errors.old) (E.state errors.new) (place_words place ++ why.now) result }
+{
+    write_all(errors, place_words(place))?;
+    write_all(errors, why)
 }
 
 /// Writes why a PBN text is refused, after its line.

@@ -5,14 +5,17 @@
 
 mod auditing;
 mod beside;
+mod card_runs;
 mod counted;
 mod damage_lines;
 mod explanations;
 mod faults;
 mod kept_files;
 mod kept_tables;
+mod lead_runs;
 mod making;
 mod named_boards;
+mod new_files;
 mod notes;
 mod outcomes;
 mod pages;
@@ -25,4 +28,5 @@ pub use asked::{AuditOptions, Page, PageForm, ParTags, Subcommand, TableOptions}
 pub use faults::{RunFault, tell};
 pub use kept_files::KeptFiles;
 pub use making::make_tables;
+pub use new_files::NewFiles;
 pub use running::{close_output, run_subcommand, show};

@@ -22,7 +22,7 @@ use std::sync::Wait;
 use std::thread::Threads;
 
 /// What came of a run with a file of boards as its input: if the input has failed, the file has.
-fn of_boards(answer: Result<Outcome, RunFault>) -> Result<Outcome, RunFault>
+pub(crate) fn of_boards(answer: Result<Outcome, RunFault>) -> Result<Outcome, RunFault>
     ensures { result ≡ of_boards answer }
 {
     match answer {

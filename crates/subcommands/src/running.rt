@@ -8,20 +8,24 @@ ghost use Rattle.subcommands.specs.Outcomes.{shelf_fault};
 ghost use Rattle.subcommands.specs.Explanations.{told_text};
 ghost use Rattle.subcommands.specs.Statuses.{IsTold};
 ghost use Rattle.subcommands.specs.Runs.{Closes, Ends, EndsRead, RunsSubcommand, Shows, boards_of, file_named, file_of};
+ghost use Rattle.subcommands.specs.Runs.{proof_file};
 
+use crate::card_runs::do_cards;
 use crate::damage_lines::tell_damage;
 use crate::faults::{RunFault, tell, tell_of_file};
 use crate::kept_files::KeptFiles;
+use crate::lead_runs::lead_boards;
 use crate::named_boards::{audit_boards, table_boards};
+use crate::new_files::NewFiles;
 use crate::notes::tell_notes;
 use crate::outcomes::{Outcome, done_quietly, quietly};
 use answer_subcommands::{
     FileFault, NamedFiles, Status, check_answer, follow_answer, plain_line, play_answer,
     solve_layout,
 };
-use asked::Subcommand;
+use asked::{CardProof, Subcommand};
 use cards::{Sink, Source, write_all};
-use certificate_graph::Solver;
+use certificate_graph::{CardSolver, Solver};
 use evidence_solvers::KeepFault;
 use farm::{Clock, Means};
 use lease_book::Gate;
@@ -38,13 +42,13 @@ use streams::{InputFault, Streams, WriterSink};
 /// was passed over of evidence, the notes, and what could not be read or kept. Otherwise it stays as it was. If it fails,
 /// nobody is left to be told.
 pub fn run_subcommand<
-    P: Solver + Sync,
+    P: Solver + CardSolver + Sync,
     G: Gate + Sync,
     C: Clock + Sync,
     I: Source,
     O: Sink,
     E: Sink,
-    R: Threads + Wait + Sync + NamedFiles + KeptFiles,
+    R: Threads + Wait + Sync + NamedFiles + KeptFiles + NewFiles,
 >(
     rt: &R,
     alloc: Global,
@@ -52,8 +56,10 @@ pub fn run_subcommand<
     means: &Means<'_, P, G, C>,
     streams: &mut Streams<I, O, E>,
 ) -> Status
-    ensures { RunsSubcommand (P.may_find means.now.solver.now) (C.may_tell means.now.clock.now)
-        (record { to_read = R.may_open rt.now; to_keep = R.may_keep rt.now }) asked.entry
+    ensures { RunsSubcommand
+        (record { answers = P.may_find means.now.solver.now; cards = P.may_find_cards means.now.solver.now })
+        (C.may_tell means.now.clock.now)
+        (record { to_read = R.may_open rt.now; to_keep = R.may_keep rt.now; to_make = R.may_make rt.now }) asked.entry
         (devices_of I.state O.state E.state streams.old)
         (devices_of I.state O.state E.state streams.new) result }
 {
@@ -87,6 +93,8 @@ pub fn run_subcommand<
         } => quietly(follow_answer(alloc, layout.as_bytes(), declarer, trump, input, output)),
         Subcommand::Play(options) => quietly(play_answer(rt, alloc, options, input, output)),
         Subcommand::Audit(options) => audit_boards(rt, alloc, options, input, output),
+        Subcommand::Cards(options) => do_cards(rt, alloc, options, means.solver, output),
+        Subcommand::Leads(options) => lead_boards(rt, alloc, options, means.solver, input, output),
     };
     end(asked, answer, &mut streams.errors)
 }
@@ -99,10 +107,22 @@ fn file_of(asked: Subcommand<'_>) -> Option<&str>
         Subcommand::Table(options) => options.evidence,
         Subcommand::Play(options) => Some(options.answer),
         Subcommand::Audit(options) => Some(options.file),
+        Subcommand::Cards(options) => proof_file(options.proof),
         Subcommand::Plain { .. }
         | Subcommand::Solve { .. }
         | Subcommand::Check { .. }
-        | Subcommand::Line { .. } => None,
+        | Subcommand::Line { .. }
+        | Subcommand::Leads(_) => None,
+    }
+}
+
+/// The name of the file with the evidence of cards, if there is one.
+fn proof_file(proof: CardProof<'_>) -> Option<&str>
+    ensures { option_map (λ name. name.now) result ≡ proof_file proof.entry }
+{
+    match proof {
+        CardProof::Dropped => None,
+        CardProof::Kept(name) | CardProof::Audited(name) => Some(name),
     }
 }
 
@@ -113,6 +133,7 @@ fn boards_of(asked: Subcommand<'_>) -> Option<&str>
     match asked {
         Subcommand::Table(options) => options.boards,
         Subcommand::Audit(options) => options.boards,
+        Subcommand::Leads(options) => options.boards,
         _ => None,
     }
 }

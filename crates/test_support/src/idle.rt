@@ -1,7 +1,7 @@
-//! A solver, a gate and a clock that do nothing.
+//! Solvers, a gate and a clock that do nothing.
 
-use cards::{Layout, Seat, Trump};
-use certificate_graph::{Bundle, Solver};
+use cards::{Card, Layout, Seat, Trump};
+use certificate_graph::{Bundle, CardBundle, CardSolver, Solver};
 use lease_book::{Clock, Gate};
 use std::alloc::{AllocError, Global};
 
@@ -19,6 +19,54 @@ impl Solver for FindsNothing {
         _budget: u64,
     ) -> Result<Option<Bundle>, AllocError> {
         Ok(None)
+    }
+}
+
+impl CardSolver for FindsNothing {
+    fn solve_cards(
+        &self,
+        _alloc: Global,
+        _layout: &Layout,
+        _leaders: &[Seat],
+        _trump: Trump,
+        _played: &[Card],
+        _budget: u64,
+    ) -> Result<Option<CardBundle>, AllocError> {
+        Ok(None)
+    }
+}
+
+/// Answers for tables as a solver does, and finds nothing for cards.
+#[derive(Drop)]
+pub struct OnlyTables<'a, S> {
+    /// The solver.
+    pub solver: &'a S,
+}
+
+impl<S: Solver> Solver for OnlyTables<'_, S> {
+    fn solve(
+        &self,
+        alloc: Global,
+        layout: &Layout,
+        declarers: &[Seat],
+        trump: Trump,
+        budget: u64,
+    ) -> Result<Option<Bundle>, AllocError> {
+        self.solver.solve(alloc, layout, declarers, trump, budget)
+    }
+}
+
+impl<S> CardSolver for OnlyTables<'_, S> {
+    fn solve_cards(
+        &self,
+        alloc: Global,
+        layout: &Layout,
+        leaders: &[Seat],
+        trump: Trump,
+        played: &[Card],
+        budget: u64,
+    ) -> Result<Option<CardBundle>, AllocError> {
+        FindsNothing.solve_cards(alloc, layout, leaders, trump, played, budget)
     }
 }
 

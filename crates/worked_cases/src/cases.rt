@@ -11,11 +11,11 @@ use partition_solver::Partition;
 use std::alloc::{AllocError, Global};
 use std::sync::Wait;
 use std::thread::Threads;
-use subcommands::{KeptFiles, NamedFiles};
+use subcommands::{KeptFiles, NamedFiles, NewFiles};
 use test_support::idle::FindsNothing;
 
 /// Says what the libraries answer now. The first word of a case is its kind.
-pub fn answer_case<R: NamedFiles + KeptFiles + Threads + Wait + Sync>(
+pub fn answer_case<R: NamedFiles + KeptFiles + NewFiles + Threads + Wait + Sync>(
     rt: &R,
     alloc: Global,
     case: &str,

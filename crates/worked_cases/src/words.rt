@@ -8,7 +8,7 @@ use std::alloc::{AllocError, Global};
 use std::sync::Wait;
 use std::thread::Threads;
 use streams::Streams;
-use subcommands::{KeptFiles, NamedFiles};
+use subcommands::{KeptFiles, NamedFiles, NewFiles};
 use test_support::idle::{FindsNothing, LetsPass, StandsStill};
 
 /// Room for what a run prints.
@@ -35,7 +35,7 @@ fn memory(
 }
 
 /// Does what words ask for, with a solver that finds nothing.
-fn run_words<R: NamedFiles + KeptFiles + Threads + Wait + Sync>(
+fn run_words<R: NamedFiles + KeptFiles + NewFiles + Threads + Wait + Sync>(
     rt: &R,
     alloc: Global,
     words: &[&str],
@@ -50,7 +50,7 @@ fn run_words<R: NamedFiles + KeptFiles + Threads + Wait + Sync>(
 }
 
 /// Says what comes of words: the exit status, and what is on both outputs.
-fn say_run<R: NamedFiles + KeptFiles + Threads + Wait + Sync>(
+fn say_run<R: NamedFiles + KeptFiles + NewFiles + Threads + Wait + Sync>(
     rt: &R,
     alloc: Global,
     words: &[&str],
@@ -64,7 +64,7 @@ fn say_run<R: NamedFiles + KeptFiles + Threads + Wait + Sync>(
 }
 
 /// What `plain` prints of a layout.
-pub fn answer_plain<R: NamedFiles + KeptFiles + Threads + Wait + Sync>(
+pub fn answer_plain<R: NamedFiles + KeptFiles + NewFiles + Threads + Wait + Sync>(
     rt: &R,
     alloc: Global,
     case: &str,
@@ -82,7 +82,7 @@ pub fn answer_plain<R: NamedFiles + KeptFiles + Threads + Wait + Sync>(
 }
 
 /// What `check` or `line` prints of an answer.
-pub fn answer_check<R: NamedFiles + KeptFiles + Threads + Wait + Sync>(
+pub fn answer_check<R: NamedFiles + KeptFiles + NewFiles + Threads + Wait + Sync>(
     rt: &R,
     alloc: Global,
     subcommand: &str,
@@ -102,7 +102,7 @@ pub fn answer_check<R: NamedFiles + KeptFiles + Threads + Wait + Sync>(
 }
 
 /// What `table` prints of a PBN text.
-pub fn answer_table<R: NamedFiles + KeptFiles + Threads + Wait + Sync>(
+pub fn answer_table<R: NamedFiles + KeptFiles + NewFiles + Threads + Wait + Sync>(
     rt: &R,
     alloc: Global,
     case: &str,
@@ -133,7 +133,7 @@ fn room_of(field: &str) -> usize {
 
 /// What comes of the words of a case: the exit status, what is on the output and on the error output, and what is left
 /// of an input of at most 64 bytes.
-pub fn answer_words<R: NamedFiles + KeptFiles + Threads + Wait + Sync>(
+pub fn answer_words<R: NamedFiles + KeptFiles + NewFiles + Threads + Wait + Sync>(
     rt: &R,
     alloc: Global,
     case: &str,
@@ -167,7 +167,7 @@ fn say_told(printed: &[u8], told: &[u8], out: &mut String) -> Result<(), AllocEr
 }
 
 /// Whether what comes of the words of a case is what it tells.
-pub fn answer_told<R: NamedFiles + KeptFiles + Threads + Wait + Sync>(
+pub fn answer_told<R: NamedFiles + KeptFiles + NewFiles + Threads + Wait + Sync>(
     rt: &R,
     alloc: Global,
     case: &str,
@@ -204,7 +204,7 @@ fn say_lines(name: &str, printed: &[u8], out: &mut String) -> Result<(), AllocEr
 
 /// What comes of the words of a case, over no input: the exit status, and the lines on the output and on the error
 /// output.
-pub fn answer_lines<R: NamedFiles + KeptFiles + Threads + Wait + Sync>(
+pub fn answer_lines<R: NamedFiles + KeptFiles + NewFiles + Threads + Wait + Sync>(
     rt: &R,
     alloc: Global,
     case: &str,

@@ -19,16 +19,20 @@ returns c =
     let shape = λ (a : App). a.top in
     let table = c.in_ok-table_command.ensures in
     let audit = c.in_ok-audit_command.ensures in
+    let leads = c.in_ok-leads_command.ensures in
     let solve = c.in_ok-solve_command.ensures in
     let check = c.in_ok-check_command.ensures in
     let line = c.in_ok-line_command.ensures in
     let play = c.in_ok-play_command.ensures in
+    let cards = c.in_ok-cards_command.ensures in
     let plain = c.in_ok-plain_command.ensures in
     let one = c.in_ok-subcommand.ensures.shape table.1 ∙ ap₂ with_subcommand top (ap shape table.0) in
     let two = c.in_ok-subcommand-2.ensures.shape audit.1 ∙ ap₂ with_subcommand one (ap shape audit.0) in
-    let three = c.in_ok-subcommand-3.ensures.shape solve.1 ∙ ap₂ with_subcommand two (ap shape solve.0) in
-    let four = c.in_ok-subcommand-4.ensures.shape check.1 ∙ ap₂ with_subcommand three (ap shape check.0) in
-    let five = c.in_ok-subcommand-5.ensures.shape line.1 ∙ ap₂ with_subcommand four (ap shape line.0) in
-    let six = c.in_ok-subcommand-6.ensures.shape play.1 ∙ ap₂ with_subcommand five (ap shape play.0) in
-    IfOk-weaker c.subcommand-7.result _ _
-    (λ made added. added.shape plain.1 ∙ ap₂ with_subcommand six (ap shape plain.0)) c.subcommand-7.ensures
+    let three = c.in_ok-subcommand-3.ensures.shape leads.1 ∙ ap₂ with_subcommand two (ap shape leads.0) in
+    let four = c.in_ok-subcommand-4.ensures.shape solve.1 ∙ ap₂ with_subcommand three (ap shape solve.0) in
+    let five = c.in_ok-subcommand-5.ensures.shape check.1 ∙ ap₂ with_subcommand four (ap shape check.0) in
+    let six = c.in_ok-subcommand-6.ensures.shape line.1 ∙ ap₂ with_subcommand five (ap shape line.0) in
+    let seven = c.in_ok-subcommand-7.ensures.shape play.1 ∙ ap₂ with_subcommand six (ap shape play.0) in
+    let eight = c.in_ok-subcommand-8.ensures.shape cards.1 ∙ ap₂ with_subcommand seven (ap shape cards.0) in
+    IfOk-weaker c.subcommand-9.result _ _
+    (λ made added. added.shape plain.1 ∙ ap₂ with_subcommand eight (ap shape plain.0)) c.subcommand-9.ensures

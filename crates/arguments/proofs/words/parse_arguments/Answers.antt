@@ -1,7 +1,7 @@
 use Rattle.std.proofs.Common.{rules, ◌∙◌, List, Option, map, ap, sym, subst}
 use Rattle.clap.specs.Words.{App, HasKind, Row, Text, fault_of, is_simple, is_simple_and_free, subcommand_of}
-use Rattle.matched_words.specs.Matches.{SaysMatched, asks_for_both}
-use Rattle.arguments.specs.Words.{refusal_kind}
+use Rattle.matched_words.specs.Matches.{SaysMatched}
+use Rattle.arguments.specs.Words.{refusal_kind, exclude_each_other}
 use Rattle.arguments.proofs.ReadLemmas.{simple, simple_and_free, none_from, none_without, refused_by}
 use Rattle.arguments.proofs.words.parse_arguments.Goals as goal
 
@@ -46,5 +46,5 @@ returns g c =
       c.known_letters-letters.ensures,
       none_without letters words c.args.processors c.in_ok-refusal-in-None.field-0 (sym (ap (λ (app : App). fault_of app words) same) ∙ taken)
           (λ asked said. c.in-None.ensures asked (subst (λ (o : Option (Text × List Row)). SaysMatched o c.args.processors asked) (sym matched) said))
-          (c.in_ok-refusal-in-None.ensures ∙ ap refusal_kind (c.asks_for_both.ensures ∙ ap asks_for_both matched)),
+          (c.in_ok-refusal-in-None.ensures ∙ ap refusal_kind (c.excluded.ensures ∙ ap exclude_each_other matched)),
     )

@@ -21,3 +21,9 @@ returns-in-play c = says_matched _ _ _ _ _ _ _ _ c.in_ok-name.ensures.name c.in_
 
 pub returns-in-audit : goal.returns-in-audit
 returns-in-audit c = says_matched _ _ _ _ _ _ _ _ c.in_ok-name.ensures.name c.in_ok-name.ensures.rows c.in-audit.is (c.audit_subcommand.ensures c.args.processors)
+
+pub returns-in-cards : goal.returns-in-cards
+returns-in-cards c = says_matched _ _ _ _ _ _ _ _ c.in_ok-name.ensures.name c.in_ok-name.ensures.rows c.in-cards.is (c.cards_subcommand.ensures c.args.processors)
+
+pub returns-in-leads : goal.returns-in-leads
+returns-in-leads c = says_matched _ _ _ _ _ _ _ _ c.in_ok-name.ensures.name c.in_ok-name.ensures.rows c.in-leads.is c.leads_subcommand.ensures

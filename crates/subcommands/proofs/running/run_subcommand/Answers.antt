@@ -1,7 +1,7 @@
 use Rattle.std.proofs.Common.{refl}
 use Rattle.subcommands.proofs.RunLemmas.{ends_of}
 use Rattle.subcommands.proofs.running.run_subcommand.Goals as goal
-use Rattle.subcommands.proofs.running.run_subcommand.Goals.{in-Plain, in-Solve, in-Table, in-Check, in-Line, in-Play, in-Audit}
+use Rattle.subcommands.proofs.running.run_subcommand.Goals.{in-Plain, in-Solve, in-Table, in-Check, in-Line, in-Play, in-Audit, in-Cards, in-Leads}
 
 pub returns : goal.returns
 returns g c = elim c.match-asked.branch [
@@ -39,5 +39,15 @@ returns g c = elim c.match-asked.branch [
     answer = w.audit_boards-answer.result;
     does = w.audit_boards-answer.ensures;
     ends = ends_of _ _ _ _ w.in-Audit.is (rw w.streams-is at (rw w.answer-is at c.end.ensures));
+  }))
+  | in-Cards w ↦ rw w.streams-is (rw w.in-Cards.is (record {
+    answer = w.do_cards-answer.result;
+    does = (refl, w.do_cards-answer.ensures);
+    ends = ends_of _ _ _ _ w.in-Cards.is (rw w.streams-is at (rw w.answer-is at c.end.ensures));
+  }))
+  | in-Leads w ↦ rw w.streams-is (rw w.in-Leads.is (record {
+    answer = w.lead_boards-answer.result;
+    does = w.lead_boards-answer.ensures;
+    ends = ends_of _ _ _ _ w.in-Leads.is (rw w.streams-is at (rw w.answer-is at c.end.ensures));
   }))
 ]

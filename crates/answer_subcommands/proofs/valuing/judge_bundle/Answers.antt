@@ -1,0 +1,18 @@
+use Rattle.std.proofs.Common.{◌∙◌}
+use Rattle.answer_subcommands.proofs.ValuingLemmas.{shows_values, lacks_values}
+use Rattle.answer_subcommands.proofs.valuing.judge_bundle.Goals as goal
+
+pub returns-in-Ok : goal.returns-in-Ok
+returns-in-Ok c =
+    shows_values c.args.bundle.now c.args.trick c.in-Ok.values _ c.as_slice.result.now c.as_slice.ensures.value
+    (record { ns = c.of-ns.ensures ∙ c.in_ok-clone.ensures.cases; ew = c.of-ew.ensures ∙ c.in_ok-clone-2.ensures.cases }) c.in-Ok.ensures c.invariant.ensures
+
+pub returns : goal.returns
+returns c =
+    lacks_values c.args.bundle.now c.args.trick c.in-Err.fault
+    (record { ns = record { ref_ptr = (0, 0); now = c.of-ns.result }; ew = record { ref_ptr = (0, 0); now = c.of-ew.result } })
+    c.as_slice.result.now c.as_slice.ensures.value
+    (record {
+      ns = c.of-ns.ensures ∙ c.in_ok-clone.ensures.cases;
+      ew = c.of-ew.ensures ∙ c.in_ok-clone-2.ensures.cases;
+    }) c.in-Err.ensures

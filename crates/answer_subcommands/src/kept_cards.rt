@@ -1,0 +1,79 @@
+//! The tricks of each card that may be played, with the text of their evidence.
+
+ghost use Rattle.std.specs.Prelude.{IfOk};
+ghost use Rattle.answer_subcommands.specs.KeptCards.{FindsKept, KeepsValues};
+ghost use Rattle.card_evidence.specs.SectionTexts.{IsTextOf};
+
+use crate::faults::AnswerFault;
+use crate::played::trick_of;
+use crate::valuing::{ask_solver, judge_bundle};
+use asked::CardsOptions;
+use card_evidence::{CardSection, write_card_section};
+use card_values::{CardValues, TrickInProgress};
+use cards::OutOfMemory;
+use certificate_graph::CardSolver;
+use evidence::VecSink;
+use std::alloc::Global;
+
+/// The values of cards, and the text of the section that shows them.
+#[derive(Drop)]
+pub struct KeptCards {
+    pub values: CardValues,
+    pub text: Vec<u8>,
+}
+
+/// Returns the text of a section. Fails only if memory runs out.
+fn text_of(alloc: Global, section: &CardSection) -> Result<Vec<u8>, OutOfMemory>
+    ensures { IfOk result (λ text. IsTextOf text.items section.now) }
+{
+    section.invariant();
+    let mut sink = VecSink::new(alloc);
+    match write_card_section(&mut sink, section) {
+        Ok(()) => Ok(sink.into_bytes()),
+        Err(_) => Err(OutOfMemory),
+    }
+}
+
+/// Has the solver look for the tricks of each card that may be played to this trick, makes a section of its answer, and
+/// judges that.
+fn find_section<P: CardSolver>(
+    alloc: Global,
+    trick: TrickInProgress,
+    budget: u64,
+    solver: &P,
+) -> Result<KeptCards, AnswerFault>
+    ensures { KeepsValues (P.may_find_cards solver.now) trick budget result }
+{
+    let bundle = match ask_solver(alloc, &trick, budget, solver) {
+        Ok(bundle) => bundle,
+        Err(fault) => return Err(fault),
+    };
+    let Ok(section) = CardSection::new(trick, bundle) else {
+        return Err(AnswerFault::NoAnswer);
+    };
+    let Ok(text) = text_of(alloc, &section) else {
+        return Err(AnswerFault::OutOfMemory);
+    };
+    let (trick, bundle) = section.into_parts();
+    match judge_bundle(trick, &bundle) {
+        Ok(Ok(values)) => Ok(KeptCards { values, text }),
+        Ok(Err(_)) => Err(AnswerFault::NoAnswer),
+        Err(OutOfMemory) => Err(AnswerFault::OutOfMemory),
+    }
+}
+
+/// Returns the values of the cards that may be played, as [`find_cards`](crate::find_cards) does, with the text of
+/// their evidence.
+pub fn find_kept<P: CardSolver>(
+    alloc: Global,
+    options: CardsOptions<'_>,
+    solver: &P,
+) -> Result<KeptCards, AnswerFault>
+    ensures { FindsKept (P.may_find_cards solver.now) options.entry result }
+{
+    let trick = match trick_of(options) {
+        Ok(trick) => trick,
+        Err(fault) => return Err(fault),
+    };
+    find_section(alloc, trick, options.budget, solver)
+}
