@@ -23,13 +23,13 @@ use Rattle.scoring.specs.declared.bids.Level.{Level}
 use Rattle.scoring.specs.declared.bids.Level.TheVariants.{One, Two, Three, Four, Five, Six, Seven}
 use Rattle.scoring.specs.declared.scores.Doubling.{Doubling}
 use Rattle.scoring.specs.declared.scores.Doubling.TheVariants.{Undoubled, Doubled}
-use Rattle.scoring.specs.declared.scores.Outcome.{Outcome}
-use Rattle.scoring.specs.declared.scores.Outcome.TheVariants.{Made, Down}
+use Rattle.scoring.specs.declared.scores.ContractResult.{ContractResult}
+use Rattle.scoring.specs.declared.scores.ContractResult.TheVariants.{Made, Down}
 use Rattle.scoring.specs.Bids.{level_number}
 use Rattle.par.specs.declared.contracts.Declarers.{Declarers}
 use Rattle.par.specs.declared.contracts.Declarers.TheVariants.{Either, Only}
 use Rattle.par.specs.declared.contracts.ParContract.{ParContract}
-use Rattle.par.specs.Texts.{gaining_side, score_text, declarers_text, bid_text, doubling_text, outcome_text, contract_text, next_text, contracts_text}
+use Rattle.par.specs.Texts.{gaining_side, score_text, declarers_text, bid_text, doubling_text, outcome_text, contract_text, next_text, contracts_text, IsSmallResult}
 
 abbrev pub is_par_byte : ℕ → Bool
 is_par_byte byte =
@@ -103,19 +103,14 @@ doubling-bytes : (doubling : Doubling) → are_par_bytes (doubling_text doubling
 doubling-bytes Undoubled = refl
 doubling-bytes Doubled = refl
 
--- a number of tricks over or under that is small
-abbrev pub IsSmall : Outcome → Type 0
-IsSmall (Made over) = over < 2 ^ 16
-IsSmall (Down under) = under < 2 ^ 16
-
-outcome-bytes : (outcome : Outcome) → IsSmall outcome → are_par_bytes (outcome_text outcome) ≡ true
+outcome-bytes : (outcome : ContractResult) → IsSmallResult outcome → are_par_bytes (outcome_text outcome) ≡ true
 outcome-bytes (Made zero) small = refl
 outcome-bytes (Made (suc over)) small =
     bytes-append (codes "+") (decimal (suc over)) refl (number-bytes (suc over) (omega (arith, small)))
 outcome-bytes (Down under) small =
     bytes-append (codes "-") (decimal under) refl (number-bytes under (omega (arith, small)))
 
-contract-bytes : (contract : ParContract) → IsSmall contract.outcome → are_par_bytes (contract_text contract) ≡ true
+contract-bytes : (contract : ParContract) → IsSmallResult contract.outcome → are_par_bytes (contract_text contract) ≡ true
 unfolding contract_text
 contract-bytes contract small =
     let ending = doubling_text contract.doubling ++ outcome_text contract.outcome in
@@ -127,19 +122,19 @@ contract-bytes contract small =
     (outcome-bytes contract.outcome small))))
 
 abbrev pub AreSmall : List ParContract → Type 0
-AreSmall contracts = All (λ contract. IsSmall contract.outcome) contracts
+AreSmall contracts = All (λ contract. IsSmallResult contract.outcome) contracts
 
 others-bytes : (contracts : List ParContract) → AreSmall contracts → are_par_bytes (flat_map next_text contracts) ≡ true
 others-bytes [] small = refl
 others-bytes (contract ∷ contracts) small =
     bytes-append (next_text contract) (flat_map next_text contracts)
     (bytes-append (codes ", ") (contract_text contract) refl
-    (contract-bytes contract (All-head (λ (c : ParContract). IsSmall c.outcome) contract contracts small)))
-    (others-bytes contracts (All-tail (λ (c : ParContract). IsSmall c.outcome) contract contracts small))
+    (contract-bytes contract (All-head (λ (c : ParContract). IsSmallResult c.outcome) contract contracts small)))
+    (others-bytes contracts (All-tail (λ (c : ParContract). IsSmallResult c.outcome) contract contracts small))
 
 pub contracts-bytes : (contracts : List ParContract) → AreSmall contracts → are_par_bytes (contracts_text contracts) ≡ true
 contracts-bytes [] small = refl
 contracts-bytes (contract ∷ contracts) small =
     bytes-append (contract_text contract) (flat_map next_text contracts)
-    (contract-bytes contract (All-head (λ (c : ParContract). IsSmall c.outcome) contract contracts small))
-    (others-bytes contracts (All-tail (λ (c : ParContract). IsSmall c.outcome) contract contracts small))
+    (contract-bytes contract (All-head (λ (c : ParContract). IsSmallResult c.outcome) contract contracts small))
+    (others-bytes contracts (All-tail (λ (c : ParContract). IsSmallResult c.outcome) contract contracts small))

@@ -9,8 +9,8 @@ use Rattle.cards.specs.declared.suits.Trump.{Trump}
 use Rattle.cards.specs.Seats.{is_same_side}
 use Rattle.scoring.specs.declared.scores.Doubling.{Doubling}
 use Rattle.scoring.specs.declared.scores.Doubling.TheVariants.{Undoubled, Doubled}
-use Rattle.scoring.specs.declared.scores.Outcome.{Outcome}
-use Rattle.scoring.specs.declared.scores.Outcome.TheVariants.{Made, Down}
+use Rattle.scoring.specs.declared.scores.ContractResult.{ContractResult}
+use Rattle.scoring.specs.declared.scores.ContractResult.TheVariants.{Made, Down}
 use Rattle.scoring.specs.Scores.{outcome_of, score}
 use Rattle.scoring.specs.declared.vulnerable_sides.VulnerableSides.{VulnerableSides}
 use Rattle.par.specs.declared.contracts.Contract.{Contract}
@@ -31,12 +31,12 @@ most_tricks tricks side denomination =
     max (tricks (first_hand side) denomination) (tricks (second_hand side) denomination)
 
 -- how the contract ends if the better hand declares it
-abbrev pub final_outcome : (Seat → Trump → ℕ) → Contract → Outcome
+abbrev pub final_outcome : (Seat → Trump → ℕ) → Contract → ContractResult
 final_outcome tricks contract =
     outcome_of contract.bid (most_tricks tricks contract.side contract.bid.denomination)
 
 -- a contract is doubled if it fails, and not if it is made
-abbrev pub final_doubling : Outcome → Doubling
+abbrev pub final_doubling : ContractResult → Doubling
 final_doubling (Made over) = Undoubled
 final_doubling (Down under) = Doubled
 

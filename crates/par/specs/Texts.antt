@@ -1,5 +1,5 @@
 -- The texts of par, as `EW 110`, and of the par contracts, as `E 5Hx-1, EW 5Cx-1`.
-use Rattle.std.specs.Prelude.{ℕ, zero, suc, List, [], ◌∷◌, ◌++◌, codes, ℤ, pos, negsuc, unsigned_abs}
+use Rattle.std.specs.Prelude.{ℕ, zero, suc, ◌<◌, ◌^◌, List, [], ◌∷◌, ◌++◌, codes, ℤ, pos, negsuc, unsigned_abs}
 use Rattle.std.specs.List.{flat_map}
 use Rattle.std.specs.Fmt.{decimal}
 use Rattle.cards.specs.declared.seats.Side.{Side}
@@ -9,8 +9,8 @@ use Rattle.cards.specs.Pack.{trump_letters}
 use Rattle.scoring.specs.declared.bids.Bid.{Bid}
 use Rattle.scoring.specs.declared.scores.Doubling.{Doubling}
 use Rattle.scoring.specs.declared.scores.Doubling.TheVariants.{Undoubled, Doubled}
-use Rattle.scoring.specs.declared.scores.Outcome.{Outcome}
-use Rattle.scoring.specs.declared.scores.Outcome.TheVariants.{Made, Down}
+use Rattle.scoring.specs.declared.scores.ContractResult.{ContractResult}
+use Rattle.scoring.specs.declared.scores.ContractResult.TheVariants.{Made, Down}
 use Rattle.scoring.specs.Bids.{level_number}
 use Rattle.par.specs.declared.contracts.Declarers.{Declarers}
 use Rattle.par.specs.declared.contracts.Declarers.TheVariants.{Either, Only}
@@ -39,7 +39,7 @@ doubling_text Undoubled = []
 doubling_text Doubled = codes "x"
 
 -- the tricks over or under, if there are any
-abbrev pub outcome_text : Outcome → List ℕ
+abbrev pub outcome_text : ContractResult → List ℕ
 outcome_text (Made zero) = []
 outcome_text (Made (suc over)) = codes "+" ++ decimal (suc over)
 outcome_text (Down under) = codes "-" ++ decimal under
@@ -58,3 +58,8 @@ next_text contract = codes ", " ++ contract_text contract
 abbrev pub contracts_text : List ParContract → List ℕ
 contracts_text [] = codes "Pass"
 contracts_text (contract ∷ contracts) = contract_text contract ++ flat_map next_text contracts
+
+-- so few tricks over or under that they are a number of sixteen bits
+abbrev pub IsSmallResult : ContractResult → Type 0
+IsSmallResult (Made over) = over < 2 ^ 16
+IsSmallResult (Down under) = under < 2 ^ 16

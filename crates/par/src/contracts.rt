@@ -1,7 +1,7 @@
 //! Contracts of a side, and the par contracts.
 
 use cards::{Seat, Side, Trump};
-use scoring::{Bid, Doubling, Level, Outcome};
+use scoring::{Bid, ContractResult, Doubling, Level};
 
 /// A contract: the last bid, and the side that made it.
 #[derive(Clone, Copy, Debug, PartialEq, Eq)]
@@ -31,7 +31,7 @@ pub struct ParContract {
     /// Whether it is doubled: it is exactly if it fails.
     pub doubling: Doubling,
     /// By how many tricks it is made, or fails.
-    pub outcome: Outcome,
+    pub outcome: ContractResult,
 }
 
 impl Default for ParContract {
@@ -48,7 +48,7 @@ impl Default for ParContract {
                 denomination: Trump::Nt,
             },
             doubling: Doubling::Undoubled,
-            outcome: Outcome::Made(0),
+            outcome: ContractResult::Made(0),
         }
     }
 }

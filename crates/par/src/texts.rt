@@ -9,7 +9,7 @@ ghost use Rattle.par.specs.Texts.{contract_text, next_text, contracts_text};
 
 use crate::contracts::{Declarers, ParContract};
 use cards::{DeviceFault, Side, Sink, write_all, write_number};
-use scoring::{Bid, Doubling, Outcome};
+use scoring::{Bid, ContractResult, Doubling};
 
 /// Writes the side that gains and what it gains, as `EW 110`; `NS 0` if par is 0. After a fault the sink has taken a
 /// beginning of the text. Takes no memory.
@@ -104,13 +104,13 @@ fn write_doubling<S: Sink>(sink: &mut S, doubling: Doubling) -> Result<(), Devic
 }
 
 /// Writes the tricks over or under, if there are any.
-fn write_outcome<S: Sink>(sink: &mut S, outcome: Outcome) -> Result<(), DeviceFault>
+fn write_outcome<S: Sink>(sink: &mut S, outcome: ContractResult) -> Result<(), DeviceFault>
     ensures { Writes (S.state sink.old) (S.state sink.new) (outcome_text outcome) result }
 {
     match outcome {
-        Outcome::Made(0) => Ok(()),
-        Outcome::Made(over) => write_difference(sink, b"+", over),
-        Outcome::Down(under) => write_difference(sink, b"-", under),
+        ContractResult::Made(0) => Ok(()),
+        ContractResult::Made(over) => write_difference(sink, b"+", over),
+        ContractResult::Down(under) => write_difference(sink, b"-", under),
     }
 }
 

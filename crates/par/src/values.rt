@@ -9,7 +9,7 @@ ghost use Rattle.par.specs.Par.{IsPar};
 use crate::boards::Tricks;
 use crate::contracts::Contract;
 use cards::{Seat, Side, Trump};
-use scoring::{Bid, Doubling, Outcome, VulnerableSides, outcome_of, score_of};
+use scoring::{Bid, ContractResult, Doubling, VulnerableSides, outcome_of, score_of};
 
 /// The two hands of a side.
 pub(crate) fn hands(side: Side) -> (Seat, Seat)
@@ -33,7 +33,7 @@ fn most_tricks(tricks: &Tricks, side: Side, denomination: Trump) -> u8
 }
 
 /// How the contract ends if the better hand declares it.
-pub(crate) fn final_outcome(tricks: &Tricks, contract: Contract) -> Outcome
+pub(crate) fn final_outcome(tricks: &Tricks, contract: Contract) -> ContractResult
     ensures { result ≡ final_outcome (tricks_in tricks.now) contract }
 {
     outcome_of(
@@ -43,12 +43,12 @@ pub(crate) fn final_outcome(tricks: &Tricks, contract: Contract) -> Outcome
 }
 
 /// A contract that fails is doubled.
-pub(crate) fn final_doubling(outcome: Outcome) -> Doubling
+pub(crate) fn final_doubling(outcome: ContractResult) -> Doubling
     ensures { result ≡ final_doubling outcome }
 {
     match outcome {
-        Outcome::Made(_) => Doubling::Undoubled,
-        Outcome::Down(_) => Doubling::Doubled,
+        ContractResult::Made(_) => Doubling::Undoubled,
+        ContractResult::Down(_) => Doubling::Doubled,
     }
 }
 

@@ -11,8 +11,8 @@ use Rattle.scoring.specs.declared.scores.Vulnerability.{Vulnerability}
 use Rattle.scoring.specs.declared.scores.Vulnerability.TheVariants.{NotVulnerable, Vulnerable}
 use Rattle.scoring.specs.declared.scores.Doubling.{Doubling}
 use Rattle.scoring.specs.declared.scores.Doubling.TheVariants.{Undoubled, Doubled}
-use Rattle.scoring.specs.declared.scores.Outcome.{Outcome}
-use Rattle.scoring.specs.declared.scores.Outcome.TheVariants.{Made, Down}
+use Rattle.scoring.specs.declared.scores.ContractResult.{ContractResult}
+use Rattle.scoring.specs.declared.scores.ContractResult.TheVariants.{Made, Down}
 use Rattle.scoring.specs.Bids.{level_number}
 
 -- ---- the outcome
@@ -21,7 +21,7 @@ abbrev pub tricks_bid : Bid → ℕ
 tricks_bid bid = 6 + level_number bid.level
 
 -- the contract is made with this many overtricks, or it is down this many tricks
-abbrev pub outcome_of : Bid → ℕ → Outcome
+abbrev pub outcome_of : Bid → ℕ → ContractResult
 outcome_of bid tricks =
     if nat_lt tricks (tricks_bid bid) then Down (tricks_bid bid - tricks) else Made (tricks - tricks_bid bid)
 
@@ -109,7 +109,7 @@ made_score bid doubling vulnerability over =
     + slam_premium bid.level vulnerability
     + doubled_premium doubling
 
-abbrev pub outcome_score : Bid → Doubling → Vulnerability → Outcome → ℤ
+abbrev pub outcome_score : Bid → Doubling → Vulnerability → ContractResult → ℤ
 outcome_score bid doubling vulnerability (Made over) = pos (made_score bid doubling vulnerability over)
 outcome_score bid doubling vulnerability (Down under) = neg_ℤ (pos (penalty doubling vulnerability under))
 

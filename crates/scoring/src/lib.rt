@@ -13,5 +13,5 @@ mod vulnerable_sides;
 
 pub use bids::{Bid, Level};
 pub use laws::{bids_are_in_order, made_contracts_gain};
-pub use scores::{Doubling, Outcome, Vulnerability, outcome_of, score_of};
+pub use scores::{ContractResult, Doubling, Vulnerability, outcome_of, score_of};
 pub use vulnerable_sides::VulnerableSides;

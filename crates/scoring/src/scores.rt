@@ -26,9 +26,9 @@ pub enum Doubling {
     Doubled,
 }
 
-/// How a contract ends.
+/// The result of a contract.
 #[derive(Clone, Copy, Debug, PartialEq, Eq)]
-pub enum Outcome {
+pub enum ContractResult {
     /// It is made, with this many overtricks.
     Made(u8),
     /// It fails by this many undertricks.
@@ -36,14 +36,14 @@ pub enum Outcome {
 }
 
 /// How a contract of this bid ends if declarer takes so many tricks.
-pub fn outcome_of(bid: Bid, tricks: u8) -> Outcome
+pub fn outcome_of(bid: Bid, tricks: u8) -> ContractResult
     ensures { result ≡ outcome_of bid tricks }
 {
     let needed = 6 + bid.level.number();
     if tricks < needed {
-        Outcome::Down(needed - tricks)
+        ContractResult::Down(needed - tricks)
     } else {
-        Outcome::Made(tricks - needed)
+        ContractResult::Made(tricks - needed)
     }
 }
 
@@ -54,8 +54,8 @@ pub fn score_of(bid: Bid, doubling: Doubling, vulnerability: Vulnerability, tric
     ensures small { unsigned_abs result < 2 ^ 16 }
 {
     match outcome_of(bid, tricks) {
-        Outcome::Made(over) => made(bid, doubling, vulnerability, over) as i32,
-        Outcome::Down(under) => -(lost(doubling, vulnerability, under) as i32),
+        ContractResult::Made(over) => made(bid, doubling, vulnerability, over) as i32,
+        ContractResult::Down(under) => -(lost(doubling, vulnerability, under) as i32),
     }
 }
 

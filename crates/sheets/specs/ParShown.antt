@@ -6,7 +6,7 @@ use Rattle.par.specs.declared.contracts.ParContract.{ParContract}
 use Rattle.par.specs.Texts.{score_text, contracts_text}
 use Rattle.tables.specs.declared.pars.BoardPar.{BoardPar}
 use Rattle.tables.specs.declared.pars.BoardPar.TheVariants.{Known, NoDealer, NoVulnerability}
-use Rattle.tables.specs.ParText.{IsSmallOutcome}
+use Rattle.par.specs.Texts.{IsSmallResult}
 use Rattle.sheets.specs.declared.pars.ParPlace.{ParPlace}
 use Rattle.sheets.specs.declared.pars.ParPlace.TheVariants.{Score, Contracts}
 use Rattle.sheets.specs.declared.templates.TheConstants.{PAR, PAR_UNKNOWN}
@@ -20,7 +20,7 @@ pub record ParValues : Type 0 where
 -- their numbers are small
 abbrev pub AreSmall : ℤ → List ParContract → Type 0
 AreSmall score contracts =
-    (unsigned_abs score < 2 ^ 16) × All (λ contract. IsSmallOutcome contract.outcome) contracts
+    (unsigned_abs score < 2 ^ 16) × All (λ contract. IsSmallResult contract.outcome) contracts
 
 -- ---- the places of par's template
 abbrev pub par_place : List ℕ → Option ParPlace

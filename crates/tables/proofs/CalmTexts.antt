@@ -3,8 +3,6 @@ use Rattle.std.specs.List.{AllByRecursion}
 use Rattle.pbn_deals.specs.Lines.{is_line_feed}
 use Rattle.std.proofs.Common.{◌≡◌, ◌≢◌, ℕ, ◌<◌, ◌≤◌, Bool, true, false, not, ◌&&◌, eqb, List, [], ◌∷◌, ◌++◌, length, refl, arith, inl, inr}
 use Rattle.std.specs.Fmt.{decimal}
-use Rattle.std.specs.Str.Parse.{AllDigits}
-use Rattle.std.proofs.lemmas.Str.Parse.{digit_at}
 use Rattle.std.proofs.lemmas.Bool.{cases_Bool, ne_eqb, eqb-false, and_parts, and_from, not-true, le-ltb}
 use Rattle.cards.specs.declared.seats.Seat.{Seat}
 use Rattle.cards.specs.declared.seats.Seat.TheVariants.{North, East, South, West}
@@ -102,16 +100,3 @@ calm-no_feed (byte ∷ bytes) h =
     let parts = and_parts (is_calm_byte byte) (is_calm bytes) h in
     let one = and_parts (not (eqb byte 10)) _ parts.0 in
     (ne_eqb byte 10 (differs byte 10 one.0), calm-no_feed bytes parts.1)
-
--- digits are calm
-calm_digit : (byte : ℕ) → 48 ≤ byte → byte ≤ 57 → is_calm_byte byte ≡ true
-calm_digit byte low high =
-    let apart : (other : ℕ) → other < 48 → byte ≢ other = λ other under e. absurd (omega (arith, under, e, low)) in
-    let above : (other : ℕ) → 57 < other → byte ≢ other = λ other over e. absurd (omega (arith, over, e, high)) in
-    rw (ne_eqb byte 10 (apart 10 (omega arith)), ne_eqb byte 13 (apart 13 (omega arith)), ne_eqb byte 34 (apart 34 (omega arith)), ne_eqb byte 59 (above 59 (omega arith)), ne_eqb byte 91 (above 91 (omega arith)), ne_eqb byte 123 (above 123 (omega arith))) refl
-
-pub digits-calm : (text : List ℕ) → AllDigits 10 text → is_calm text ≡ true
-digits-calm [] h = refl
-digits-calm (byte ∷ bytes) h =
-    let range = digit_at (byte ∷ bytes) 0 h (omega arith) in
-    and_from (is_calm_byte byte) (is_calm bytes) (calm_digit byte range.0 range.1) (digits-calm bytes h.1)

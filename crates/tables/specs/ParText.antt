@@ -1,9 +1,7 @@
 -- What is printed of a board's par, before its table (PBN 2.1, the OptimumScore tag).
 use Rattle.std.specs.Prelude.{ℕ, ◌<◌, ◌^◌, List, [], ◌∷◌, ◌++◌, codes, All, Option, None, Some, unsigned_abs, ⊤}
 use Rattle.std.specs.List.{flat_map}
-use Rattle.scoring.specs.declared.scores.Outcome.{Outcome}
-use Rattle.scoring.specs.declared.scores.Outcome.TheVariants.{Made, Down}
-use Rattle.par.specs.Texts.{score_text, contracts_text}
+use Rattle.par.specs.Texts.{score_text, contracts_text, IsSmallResult}
 use Rattle.tables.specs.declared.pars.BoardPar.{BoardPar}
 use Rattle.tables.specs.declared.pars.BoardPar.TheVariants.{Known, NoDealer, NoVulnerability}
 
@@ -16,14 +14,10 @@ abbrev pub body_line : List ℕ → List ℕ → List ℕ
 body_line end body = body ++ end
 
 -- ---- small numbers
-abbrev pub IsSmallOutcome : Outcome → Type 0
-IsSmallOutcome (Made over) = over < 2 ^ 16
-IsSmallOutcome (Down under) = under < 2 ^ 16
-
 -- the numbers that are printed of a par
 abbrev pub IsSmallPar : BoardPar → Type 0
 IsSmallPar (Known score contracts) =
-    (unsigned_abs score < 2 ^ 16) × All (λ contract. IsSmallOutcome contract.outcome) contracts.items
+    (unsigned_abs score < 2 ^ 16) × All (λ contract. IsSmallResult contract.outcome) contracts.items
 IsSmallPar NoDealer = ⊤
 IsSmallPar NoVulnerability = ⊤
 

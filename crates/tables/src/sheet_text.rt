@@ -31,7 +31,8 @@ fn write_board<S: Sink, T: Sheet>(
     place: usize,
     board: &Board,
 ) -> Result<(), DeviceFault>
-    ensures { Writes (S.state sink.old) (S.state sink.new) (board_text board.now (T.printed_of sheet.now place)) result }
+    ensures { Writes (S.state sink.old) (S.state sink.new)
+        (board_text board.now (T.printed_of sheet.now place)) result }
 {
     write_pieces(sink, &[b"[Board \"", board.name.as_bytes(), b"\"]\n"])?;
     write_deal(sink, &board.deal)?;

@@ -45,7 +45,8 @@ fn write_rows<S: Sink, T: Sheet>(
     board: usize,
     end: &[u8],
 ) -> Result<(), DeviceFault>
-    ensures { Writes (S.state sink.old) (S.state sink.new) (rows_text end.now (T.printed_of sheet.now board).results) result }
+    ensures { Writes (S.state sink.old) (S.state sink.new)
+        (rows_text end.now (T.printed_of sheet.now board).results) result }
 {
     for declarer in DECLARERS {
         write_declarer_rows(sink, sheet, board, declarer, end)?;
@@ -113,7 +114,8 @@ fn write_table<S: Sink, T: Sheet>(
     board: usize,
     end: &[u8],
 ) -> Result<(), DeviceFault>
-    ensures { Writes (S.state sink.old) (S.state sink.new) (table_text end.now (T.printed_of sheet.now board).results) result }
+    ensures { Writes (S.state sink.old) (S.state sink.new)
+        (table_text end.now (T.printed_of sheet.now board).results) result }
 {
     let published = count_results(sheet, board);
     if published < 20 {
@@ -131,7 +133,8 @@ pub fn write_section<S: Sink, T: Sheet>(
     board: usize,
     end: &[u8],
 ) -> Result<(), DeviceFault>
-    ensures { Writes (S.state sink.old) (S.state sink.new) (section_text end.now (T.printed_of sheet.now board)) result }
+    ensures { Writes (S.state sink.old) (S.state sink.new)
+        (section_text end.now (T.printed_of sheet.now board)) result }
 {
     write_par(sink, sheet.par(board), end)?;
     write_table(sink, sheet, board, end)

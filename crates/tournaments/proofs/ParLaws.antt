@@ -15,7 +15,7 @@ use Rattle.scoring.specs.declared.bids.Bid.{Bid}
 use Rattle.scoring.specs.declared.bids.Level.{Level}
 use Rattle.scoring.specs.declared.bids.Level.TheVariants.{One, Two, Three, Four, Five, Six, Seven}
 use Rattle.scoring.specs.Bids.{level_number}
-use Rattle.scoring.specs.declared.scores.Outcome.TheVariants.{Made, Down}
+use Rattle.scoring.specs.declared.scores.ContractResult.TheVariants.{Made, Down}
 use Rattle.scoring.specs.Scores.{tricks_bid, outcome_of}
 use Rattle.scoring.specs.declared.vulnerable_sides.VulnerableSides.{VulnerableSides}
 use Rattle.par.specs.declared.contracts.Contract.{Contract}
@@ -25,7 +25,8 @@ use Rattle.par.specs.FinalScores.{first_hand, second_hand, most_tricks}
 use Rattle.par.specs.ParContracts.{AreParContracts, as_printed}
 use Rattle.board_conditions.specs.declared.conditions.Conditions.{Conditions}
 use Rattle.tables.specs.declared.pars.BoardPar.{BoardPar}
-use Rattle.tables.specs.ParText.{IsSmallOutcome, IsSmallPar}
+use Rattle.par.specs.Texts.{IsSmallResult}
+use Rattle.tables.specs.ParText.{IsSmallPar}
 use Rattle.tables.specs.TablesText.{Results}
 use Rattle.tournaments.specs.BoardTricks.{AreAtMost13, HasTricks, IsRow}
 use Rattle.tournaments.specs.Pages.{Pars, AreSmallPars}
@@ -78,13 +79,13 @@ at_most_seven Five = omega arith
 at_most_seven Six = omega arith
 at_most_seven Seven = omega arith
 
-small_outcome : (bid : Bid) (tricks : ℕ) → tricks ≤ 13 → IsSmallOutcome (outcome_of bid tricks)
+small_outcome : (bid : Bid) (tricks : ℕ) → tricks ≤ 13 → IsSmallResult (outcome_of bid tricks)
 small_outcome bid tricks most = go (nat_lt tricks (tricks_bid bid))
   where
     seven : level_number bid.level ≤ 7
     seven = at_most_seven bid.level
 
-    go : (fails : Bool) → IsSmallOutcome (if fails then Down (tricks_bid bid - tricks) else Made (tricks - tricks_bid bid))
+    go : (fails : Bool) → IsSmallResult (if fails then Down (tricks_bid bid - tricks) else Made (tricks - tricks_bid bid))
     go true = let small : tricks_bid bid - tricks ≤ 13 = omega (arith, seven) in omega (arith, small)
     go false = let small : tricks - tricks_bid bid ≤ 13 = omega (arith, most) in omega (arith, small)
 
@@ -94,10 +95,10 @@ small_most tricks most contract =
     let second = most (second_hand contract.side) contract.bid.denomination in
     omega (arith, first, second)
 
-pub small_contracts : (tricks : Seat → Trump → ℕ) (vulnerable : VulnerableSides) (score : ℤ) (list : List ParContract) → AreAtMost13 tricks → AreParContracts tricks vulnerable score list → All (λ (contract : ParContract). IsSmallOutcome contract.outcome) list
+pub small_contracts : (tricks : Seat → Trump → ℕ) (vulnerable : VulnerableSides) (score : ℤ) (list : List ParContract) → AreAtMost13 tricks → AreParContracts tricks vulnerable score list → All (λ (contract : ParContract). IsSmallResult contract.outcome) list
 small_contracts tricks vulnerable score list most are =
-    subst (All (λ (contract : ParContract). IsSmallOutcome contract.outcome)) (sym are.printed)
-    (All-map (λ (contract : ParContract). IsSmallOutcome contract.outcome) (as_printed tricks) are.contracts
+    subst (All (λ (contract : ParContract). IsSmallResult contract.outcome)) (sym are.printed)
+    (All-map (λ (contract : ParContract). IsSmallResult contract.outcome) (as_printed tricks) are.contracts
     (λ k d within. let contract = get_or are.contracts k d in small_outcome contract.bid (most_tricks tricks contract.side contract.bid.denomination) (small_most tricks most contract)))
 
 -- ---- the boards
