@@ -15,7 +15,7 @@ use Rattle.tables.specs.declared.pars.BoardPar.TheVariants.{Known, NoDealer, NoV
 use Rattle.tables.specs.ParText.{tag_text, body_line, par_bodies, par_text}
 use Rattle.whole_texts.specs.OldTables.{left_of, has_deal}
 use Rattle.whole_texts.specs.WholeText.{Game, games_of, as_data, row_lines, entry_lines, table_pair, table_lines, with_end, par_kinds, section_lines, if_none, first_end, new_end, deal_end, with_ends, with_section, dealt_lines, behind, games_lines}
-use Rattle.whole_texts.specs.Laws.{Part, OfText, Put, part_bytes, text_bytes, IsLineEnd, IsPut, game_without, LoseNothing}
+use Rattle.whole_texts.specs.Laws.{Segment, OfText, Put, segment_bytes, text_bytes, IsLineEnd, IsPut, game_without, LoseNothing}
 use Rattle.whole_texts.proofs.LeftLines.{Ended}
 use Rattle.whole_texts.proofs.WholeLines.{games_follow, games_whole, deal_ended, first_ended}
 use Rattle.whole_texts.proofs.WrittenLines.{lines_follow, lines_ended}
@@ -64,30 +64,30 @@ section-text end printed =
     ∙ (ap (λ (t : List ℕ). t ++ flat_map line_bytes (table_lines end printed.results)) (par-text end printed.par)
     ∙ ap (λ (t : List ℕ). flat_map (body_line end) (par_bodies printed.par) ++ t) (table-text end printed.results))
 
--- ---- parts
+-- ---- segments
 record Parted (results : ℕ → Printed) (written kept : List ℕ) : Type 0 where
-  parts : List Part
-  whole : flat_map part_bytes parts ≡ written
-  kept_is : flat_map text_bytes parts ≡ kept
-  put : All (IsPut results) parts
+  segments : List Segment
+  whole : flat_map segment_bytes segments ≡ written
+  kept_is : flat_map text_bytes segments ≡ kept
+  put : All (IsPut results) segments
 
 module _ (old : Renews) (results : ℕ → Printed) where
   of_text : (bytes : List ℕ) → Parted results bytes bytes
-  of_text bytes = record { parts = OfText bytes ∷ []; whole = append-nil bytes; kept_is = append-nil bytes; put = All-cons (IsPut results) (OfText bytes) [] tt (All-nil (IsPut results)) }
+  of_text bytes = record { segments = OfText bytes ∷ []; whole = append-nil bytes; kept_is = append-nil bytes; put = All-cons (IsPut results) (OfText bytes) [] tt (All-nil (IsPut results)) }
 
   of_put : (bytes : List ℕ) → IsPut results (Put bytes) → Parted results bytes []
-  of_put bytes is = record { parts = Put bytes ∷ []; whole = append-nil bytes; kept_is = refl; put = All-cons (IsPut results) (Put bytes) [] is (All-nil (IsPut results)) }
+  of_put bytes is = record { segments = Put bytes ∷ []; whole = append-nil bytes; kept_is = refl; put = All-cons (IsPut results) (Put bytes) [] is (All-nil (IsPut results)) }
 
   join : {written kept written' kept' : List ℕ} → Parted results written kept → Parted results written' kept' → Parted results (written ++ written') (kept ++ kept')
   join {written} {kept} {written'} {kept'} one other = record {
-    parts = one.parts ++ other.parts;
-    whole = flat_map-append part_bytes one.parts other.parts ∙ (ap (λ w. w ++ flat_map part_bytes other.parts) one.whole ∙ ap (λ w. written ++ w) other.whole);
-    kept_is = flat_map-append text_bytes one.parts other.parts ∙ (ap (λ w. w ++ flat_map text_bytes other.parts) one.kept_is ∙ ap (λ w. kept ++ w) other.kept_is);
-    put = All-append (IsPut results) one.parts other.parts one.put other.put;
+    segments = one.segments ++ other.segments;
+    whole = flat_map-append segment_bytes one.segments other.segments ∙ (ap (λ w. w ++ flat_map segment_bytes other.segments) one.whole ∙ ap (λ w. written ++ w) other.whole);
+    kept_is = flat_map-append text_bytes one.segments other.segments ∙ (ap (λ w. w ++ flat_map text_bytes other.segments) one.kept_is ∙ ap (λ w. kept ++ w) other.kept_is);
+    put = All-append (IsPut results) one.segments other.segments one.put other.put;
   }
 
   same : {written kept written' kept' : List ℕ} → written ≡ written' → kept ≡ kept' → Parted results written kept → Parted results written' kept'
-  same e f h = record { parts = h.parts; whole = h.whole ∙ e; kept_is = h.kept_is ∙ f; put = h.put }
+  same e f h = record { segments = h.segments; whole = h.whole ∙ e; kept_is = h.kept_is ∙ f; put = h.put }
 
   -- the last line, which may have had no end
   last_parted : (body new end : List ℕ) → IsLineEnd new → Parted results ((body ++ if_none new end) ++ []) ((body ++ end) ++ [])
@@ -157,7 +157,7 @@ lose_nothing old text boards results written whole =
     record {
       lines = lines;
       read = whole.read;
-      parts = it.parts;
+      segments = it.segments;
       whole = whole.is ∙ sym it.whole;
       kept = it.kept_is;
       put = it.put;

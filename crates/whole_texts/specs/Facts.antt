@@ -9,7 +9,8 @@ use Rattle.tables.specs.declared.sheets.Renews.{Renews}
 
 -- those of these pieces; the flags tell that section data before them is a table's, and that a brace comment is open
 -- behind them
-pub record AreFacts (old : Renews) (in_table : Bool) (pieces : List Piece) (is_open : Bool) (facts : PieceFacts) : Type 0 where
+pub record AreFacts (old : Renews) (in_table : Bool) (pieces : List Piece) (is_open : Bool) (facts : PieceFacts)
+    : Type 0 where
   pub left : facts.left ≡ left_kind old (left_pieces old in_table pieces)
   pub opened : facts.is_open ≡ is_open
   pub behind : facts.in_table ≡ table_behind old in_table pieces

@@ -36,7 +36,8 @@ pub record HasGameLines (old : Renews) (lines : List Line) (game : GameText) : T
   pub back_lines : AreLines is_open (rows_of game.back.now) back false
   pub left :
       left_of old lines
-      ≡ without_tables old false front ++ without_any_count old (without_tables old (tables_behind old false front) back)
+      ≡ without_tables old false front
+      ++ without_any_count old (without_tables old (tables_behind old false front) back)
   pub deal : IsDealEnd game.deal_end lines
 
 -- the first of the games of these lines, and the lines behind it

@@ -44,16 +44,16 @@ StayTheSame =
     WholeText old written boards results written
 
 -- ---- nothing is lost
--- what is written, part by part: bytes of the text, and bytes that were put between them
-pub data Part : Type 0 where
-  OfText : List ℕ → Part
-  Put : List ℕ → Part
+-- what is written, segment by segment: bytes of the text, and bytes that were put between them
+pub data Segment : Type 0 where
+  OfText : List ℕ → Segment
+  Put : List ℕ → Segment
 
-abbrev pub part_bytes : Part → List ℕ
-part_bytes (OfText bytes) = bytes
-part_bytes (Put bytes) = bytes
+abbrev pub segment_bytes : Segment → List ℕ
+segment_bytes (OfText bytes) = bytes
+segment_bytes (Put bytes) = bytes
 
-abbrev pub text_bytes : Part → List ℕ
+abbrev pub text_bytes : Segment → List ℕ
 text_bytes (OfText bytes) = bytes
 text_bytes (Put bytes) = []
 
@@ -62,7 +62,7 @@ abbrev pub IsLineEnd : List ℕ → Type 0
 IsLineEnd end = (end ≡ 13 ∷ 10 ∷ []) ⊎ (end ≡ 10 ∷ [])
 
 -- what is put is a section of some place, or the end of the last line
-abbrev pub IsPut : (ℕ → Printed) → Part → Type 0
+abbrev pub IsPut : (ℕ → Printed) → Segment → Type 0
 IsPut results (OfText bytes) = Unit {0}
 IsPut results (Put bytes) =
     (end : List ℕ) × IsLineEnd end × ((bytes ≡ end) ⊎ ((place : ℕ) × (bytes ≡ section_text end (results place))))
@@ -78,10 +78,10 @@ lines_without old lines = flat_map (game_without old) (games_of lines)
 pub record LosesNothing (old : Renews) (text : List ℕ) (results : ℕ → Printed) (written : List ℕ) : Type 0 where
   pub lines : List Line
   pub read : HasLines text lines
-  pub parts : List Part
-  pub whole : written ≡ flat_map part_bytes parts
-  pub kept : flat_map text_bytes parts ≡ mark_of text ++ flat_map line_bytes (lines_without old lines)
-  pub put : All (IsPut results) parts
+  pub segments : List Segment
+  pub whole : written ≡ flat_map segment_bytes segments
+  pub kept : flat_map text_bytes segments ≡ mark_of text ++ flat_map line_bytes (lines_without old lines)
+  pub put : All (IsPut results) segments
 
 abbrev pub LoseNothing : Type 0
 LoseNothing =
@@ -122,7 +122,7 @@ ShowGames old results (numbered ∷ more) (game ∷ games) =
     Where (has_deal game.lines) (ShowsBoard old results numbered game.lines × ShowGames old results more games)
     (ShowGames old results (numbered ∷ more) games)
 
--- Read by its lines, what is written has in each game with a Deal tag, whose board has a deal, one section: one table or
+-- Read by its lines, what is written has one section in each game with a Deal tag whose board has a deal: one table, or
 -- one line of how many results are known.
 abbrev pub ShowEachOnce : Type 0
 ShowEachOnce =

@@ -1,5 +1,5 @@
--- What goes of a game that has a Deal tag: the tables that stand in it, and the line at its end that tells how many
--- results were known.
+-- What is dropped of a game that has a Deal tag: the tables in it, and the line at its end that says how many results
+-- were known.
 use Rattle.std.specs.Prelude.{ℕ, ◌&&◌, ◌||◌, Bool, true, false, List, [], ◌∷◌, codes, bytes_eq, if◌then◌else◌}
 use Rattle.std.specs.List.{list_any, list_all, range_with_len}
 use Rattle.pbn_deals.specs.Tags.{is_same_name, is_deal}
@@ -22,12 +22,12 @@ abbrev pub renews_pars : Renews → Bool
 renews_pars Tables = false
 renews_pars TablesAndPars = true
 
--- the names of the tag pairs that go
+-- the names of the tag pairs that are dropped
 abbrev pub is_old : Renews → List ℕ → Bool
 is_old old name = is_table name || (is_par_tag name && renews_pars old)
 
--- What is left of a line's pieces. A table's tag pair goes, and the section data behind it up to the next tag pair; the
--- flag tells that there is a table before the pieces.
+-- What is left of a line's pieces. A table's tag pair is dropped, and the section data after it up to the next tag
+-- pair. The flag says that there is a table before the pieces.
 abbrev pub left_pieces : Renews → Bool → List Piece → List Piece
 left_pieces old in_table [] = []
 left_pieces old in_table (Space byte ∷ pieces) = Space byte ∷ left_pieces old in_table pieces
@@ -56,7 +56,7 @@ has_more (Pair name value bytes ∷ pieces) = true
 has_more (Data bytes ∷ pieces) = true
 has_more (NoPair bytes ∷ pieces) = true
 
--- a line of which nothing is left but blanks goes whole, with its end
+-- a line of which only blanks are left is dropped whole, with its end
 abbrev pub put_left : Renews → Bool → Kind → List ℕ → List Line → List Line
 put_left old in_table (Gap bytes) end lines = record { kind = Gap bytes; end = end } ∷ lines
 put_left old in_table (Escaped bytes) end lines = record { kind = Escaped bytes; end = end } ∷ lines

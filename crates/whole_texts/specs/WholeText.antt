@@ -132,7 +132,8 @@ abbrev pub games_lines : Renews → List ℕ → (ℕ → Printed) → List (ℕ
 games_lines old other results boards [] = []
 games_lines old other results boards (game ∷ games) =
     if has_deal game.lines
-    then dealt_lines old other results boards game.lines ++ (game.gap ++ games_lines old other results (behind boards) games)
+    then dealt_lines old other results boards game.lines
+    ++ (game.gap ++ games_lines old other results (behind boards) games)
     else game.lines ++ (game.gap ++ games_lines old other results boards games)
 
 abbrev pub whole_lines : Renews → List Board → (ℕ → Printed) → List Line → List Line
@@ -144,7 +145,8 @@ abbrev pub IsOfLines : List ℕ → Type 0
 IsOfLines text = (lines : List Line) × HasLines text lines
 
 -- what is written of a text that is read as these boards, with their results
-pub record WholeText (old : Renews) (text : List ℕ) (boards : List Board) (results : ℕ → Printed) (written : List ℕ) : Type 0 where
+pub record WholeText (old : Renews) (text : List ℕ) (boards : List Board) (results : ℕ → Printed) (written : List ℕ)
+    : Type 0 where
   pub lines : List Line
   pub read : HasLines text lines
   pub is : written ≡ mark_of text ++ flat_map line_bytes (whole_lines old boards results lines)

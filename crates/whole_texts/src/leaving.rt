@@ -7,7 +7,7 @@ ghost use Rattle.pbn_deals.specs.Pieces.{bytes_of, body_of, HasPieces, Kind, Lin
 ghost use Rattle.pbn_deals.specs.Pieces.{AreLines};
 ghost use Rattle.pbn_deals.specs.FirstPieces.{ArePieces};
 ghost use Rattle.whole_texts.specs.OldTables.{left_pieces, table_behind, put_left, table_behind_line, without_tables};
-ghost use Rattle.whole_texts.specs.LineFacts.{FactsOfLine, line_goes};
+ghost use Rattle.whole_texts.specs.LineFacts.{FactsOfLine, line_is_dropped};
 ghost use Rattle.whole_texts.specs.LeftText.{kind_left, kept, tables_behind, WritesLast, Passes, WritesLeft};
 
 use crate::lefts::Left;
@@ -77,8 +77,8 @@ fn piece_left<'a>(renews: Renews, in_table: bool, piece: Piece<'a>) -> (&'a [u8]
         | Piece::OpenComment(bytes)
         | Piece::NoPair(bytes) => (bytes, in_table),
         Piece::Pair { name, bytes, .. } => {
-            let goes = is_old(renews, name);
-            (if goes { &[] } else { bytes }, goes)
+            let is_dropped = is_old(renews, name);
+            (if is_dropped { &[] } else { bytes }, is_dropped)
         }
         Piece::Data(bytes) => (if in_table { &[] } else { bytes }, in_table),
     }
@@ -133,14 +133,14 @@ fn write_left<S: Sink>(
     }
 }
 
-/// Whether a line that does this goes whole.
-fn goes(facts: LineFacts, counts_go: bool) -> bool
-    ensures { result ≡ line_goes counts_go facts }
+/// Whether the whole line is dropped, by what it does.
+fn is_dropped(facts: LineFacts, drops_counts: bool) -> bool
+    ensures { result ≡ line_is_dropped drops_counts facts }
 {
     match facts {
         LineFacts::OfGame(facts) => match facts.left {
             Left::Nothing | Left::Blanks => true,
-            Left::Count => counts_go,
+            Left::Count => drops_counts,
             Left::More => false,
         },
         LineFacts::Gap | LineFacts::Escaped => false,
@@ -153,15 +153,15 @@ fn write_line<S: Sink>(
     renews: Renews,
     before: Before,
     row: Row<'_>,
-    counts_go: bool,
+    drops_counts: bool,
 ) -> Result<Before, DeviceFault>
     ensures { (kind : Kind) (is_open : Bool) → LineIs before.is_open row.entry.bytes.now kind is_open
         → WritesLeft (S.state sink.old) (S.state sink.new) before.last
-        (flat_map line_bytes (kept renews counts_go (put_left renews before.in_table kind row.entry.end.now [])))
+        (flat_map line_bytes (kept renews drops_counts (put_left renews before.in_table kind row.entry.end.now [])))
         is_open (table_behind_line renews before.in_table kind) result }
 {
     let facts = line_facts(renews, before.is_open, before.in_table, row.bytes);
-    if goes(facts, counts_go) {
+    if is_dropped(facts, drops_counts) {
         return Ok(before.behind(renews, facts, before.last));
     }
     let last = write_left(sink, renews, before, row.bytes)?;
@@ -169,24 +169,24 @@ fn write_line<S: Sink>(
     Ok(before.behind(renews, facts, last_of(last, row.end)))
 }
 
-/// Writes what is left of lines of a game; lines that tell how many results were known go, or stay. Answers what is
-/// known behind them.
+/// Writes what is left of lines of a game; lines that say how many results were known are dropped, or stay. Answers
+/// what is known after them.
 pub(crate) fn write_lines<S: Sink>(
     sink: &mut S,
     renews: Renews,
     before: Before,
     lines: &[u8],
-    counts_go: bool,
+    drops_counts: bool,
 ) -> Result<Before, DeviceFault>
     ensures { (those : List Line) (is_open : Bool) → AreLines before.is_open (rows_of lines.now) those is_open
         → WritesLeft (S.state sink.old) (S.state sink.new) before.last
-        (flat_map line_bytes (kept renews counts_go (without_tables renews before.in_table those)))
+        (flat_map line_bytes (kept renews drops_counts (without_tables renews before.in_table those)))
         is_open (tables_behind renews before.in_table those) result }
 {
     let mut before = before;
     let mut rest = lines;
     while let Some((row, after)) = first_row(rest) {
-        before = write_line(sink, renews, before, row, counts_go)?;
+        before = write_line(sink, renews, before, row, drops_counts)?;
         rest = after;
     }
     Ok(before)

@@ -16,7 +16,7 @@ pub(crate) enum Left {
     Nothing,
     /// Blanks.
     Blanks,
-    /// A comment that goes if it ends the game, and nothing else.
+    /// A comment that is dropped if it ends the game, and nothing else.
     Count,
     /// More than that.
     More,

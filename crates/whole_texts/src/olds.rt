@@ -1,4 +1,4 @@
-//! What goes of a text: the names of tag pairs, and comments.
+//! What is dropped of a text: the names of tag pairs, and comments.
 
 ghost use Rattle.std.specs.Prelude.{◌≡◌};
 ghost use Rattle.whole_texts.specs.OldTables.{renews_pars, is_par_tag, is_old, is_count_text, is_unknown_text};
@@ -32,7 +32,7 @@ fn is_par_tag(name: &[u8]) -> bool
     is_same_name(SCORE, name) || is_same_name(CONTRACTS, name)
 }
 
-/// Whether a tag pair of this name goes.
+/// Whether a tag pair of this name is dropped.
 pub(crate) fn is_old(renews: Renews, name: &[u8]) -> bool
     ensures { result ≡ is_old renews name.now }
 {
@@ -47,7 +47,7 @@ fn is_unknown_text(bytes: &[u8]) -> bool
         || bytes == b"; par unknown: no vulnerability".as_slice()
 }
 
-/// Whether the comment goes if it ends a game.
+/// Whether the comment is dropped if it ends a game.
 pub(crate) fn is_old_comment(renews: Renews, bytes: &[u8]) -> bool
     ensures { result ≡ is_old_comment renews bytes.now }
 {

@@ -21,14 +21,14 @@ pub(crate) struct PieceFacts {
     pub(crate) left: Left,
     /// Whether a brace comment is open behind them.
     pub(crate) is_open: bool,
-    /// Whether section data behind them goes: it is a table's or an old par's.
+    /// Whether section data after them is dropped: it is a table's or an old par's.
     pub(crate) in_table: bool,
     /// Whether there is a Deal tag.
     pub(crate) has_deal: bool,
 }
 
 impl PieceFacts {
-    /// Those of no piece, where section data goes or not.
+    /// Those of no piece, if section data is dropped or not.
     pub(crate) fn new(renews: Renews, in_table: bool) -> PieceFacts
         ensures { AreFacts renews in_table [] false result }
     {
@@ -76,14 +76,14 @@ impl PieceFacts {
             → AreFacts renews in_table before false self → ArePieces pair.entry (Pair name.now value bytes ∷ [])
             → AreFacts renews in_table (before ++ Pair name.now value bytes ∷ []) false result }
     {
-        let goes = is_old(renews, name);
+        let is_dropped = is_old(renews, name);
         PieceFacts {
-            left: if goes {
+            left: if is_dropped {
                 self.left
             } else {
                 self.left.with(renews, pair)
             },
-            in_table: goes,
+            in_table: is_dropped,
             has_deal: self.has_deal | is_same_name(DEAL, name),
             ..self
         }

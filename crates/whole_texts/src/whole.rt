@@ -53,7 +53,7 @@ fn write_left_of_game<S: Sink>(
     Ok(behind.last)
 }
 
-/// Writes the section of a board behind lines with this last byte: with the end of the Deal tag's line, and where it has
+/// Writes the section of a board after lines with this last byte: with the end of the Deal tag's line, or if that has
 /// none, with the end that it gets.
 fn write_section<T: Sheet, S: Sink>(
     sink: &mut S,
@@ -83,8 +83,8 @@ fn write_game<T: Sheet, S: Sink>(
     other: &[u8],
 ) -> Result<usize, DeviceFault>
     ensures { (lines : List Line) → HasGameLines (T.renews_of sheet.now) lines game.now
-        → WritesGame (T.renews_of sheet.now) (S.state sink.old) (S.state sink.new) (T.boards_of sheet.now) (T.printed_of sheet.now) place
-        other.now lines result }
+        → WritesGame (T.renews_of sheet.now) (S.state sink.old) (S.state sink.new) (T.boards_of sheet.now)
+        (T.printed_of sheet.now) place other.now lines result }
 {
     let Some(deal_end) = game.deal_end else {
         write_same(sink, game)?;
@@ -104,7 +104,8 @@ fn write_game<T: Sheet, S: Sink>(
 fn write_games<T: Sheet, S: Sink>(sink: &mut S, sheet: &T, text: &[u8]) -> Result<(), DeviceFault>
     ensures { (lines : List Line) → AreLines false (rows_of text.now) lines false
         → Writes (S.state sink.old) (S.state sink.new)
-        (flat_map line_bytes (whole_lines (T.renews_of sheet.now) (T.boards_of sheet.now) (T.printed_of sheet.now) lines)) result }
+        (flat_map line_bytes
+        (whole_lines (T.renews_of sheet.now) (T.boards_of sheet.now) (T.printed_of sheet.now) lines)) result }
 {
     let other = first_end(text);
     let mut rest = text;

@@ -11,12 +11,12 @@ use Rattle.whole_texts.proofs.Gone.{stops}
 use Rattle.whole_texts.proofs.LinesGo.{goes_text, stays_text}
 use Rattle.whole_texts.proofs.leaving.write_line.Goals as goal
 
-pub returns-then-goes : goal.returns-then-goes
-returns-then-goes g c = λ kind is_open h.
+pub returns-then-is_dropped : goal.returns-then-is_dropped
+returns-then-is_dropped g c = λ kind is_open h.
     let before = c.args.before in
     let device = g.S.Sink.state c.args.sink.now in
     let facts = c.line_facts-facts.ensures kind is_open h in
-    let text = goes_text c.args.renews c.args.counts_go before.in_table is_open kind c.args.row.end.now c.line_facts-facts.result facts c.if-goes.ensures in (
+    let text = goes_text c.args.renews c.args.drops_counts before.in_table is_open kind c.args.row.end.now c.line_facts-facts.result facts c.if-is_dropped.ensures in (
       subst (λ t. Adds device device t) (sym text) (Adds-none device),
       subst (λ t. Passes (last_of before.last t) is_open (table_behind_line c.args.renews before.in_table kind) c.behind.result) (sym text) (c.behind.ensures kind is_open facts),
     )
@@ -25,7 +25,7 @@ pub returns-in_err-last : goal.returns-in_err-last
 returns-in_err-last g c = λ kind is_open h.
     let before = c.args.before in
     let facts = c.line_facts-facts.ensures kind is_open h in
-    let text = stays_text c.args.renews c.args.counts_go before.in_table is_open kind c.args.row.end.now c.line_facts-facts.result facts c.if-goes.ensures in
+    let text = stays_text c.args.renews c.args.drops_counts before.in_table is_open kind c.args.row.end.now c.line_facts-facts.result facts c.if-is_dropped.ensures in
     stops c.from_residual.result _ _ c.from_residual.ensures.1
     (subst (λ t. AddsBeginning (g.S.Sink.state c.args.sink.now) (g.S.Sink.state c.write_left.new.sink) t) (sym text)
     (AddsBeginning-stop c.args.row.end.now (c.in_err-last.ensures kind is_open h).0))
@@ -34,7 +34,7 @@ pub returns-in_err-write_all : goal.returns-in_err-write_all
 returns-in_err-write_all g c = λ kind is_open h.
     let before = c.args.before in
     let facts = c.line_facts-facts.ensures kind is_open h in
-    let text = stays_text c.args.renews c.args.counts_go before.in_table is_open kind c.args.row.end.now c.line_facts-facts.result facts c.if-goes.ensures in
+    let text = stays_text c.args.renews c.args.drops_counts before.in_table is_open kind c.args.row.end.now c.line_facts-facts.result facts c.if-is_dropped.ensures in
     stops c.from_residual-in_err-write_all.result _ _ c.from_residual-in_err-write_all.ensures.1
     (subst (λ t. AddsBeginning (g.S.Sink.state c.args.sink.now) (g.S.Sink.state c.write_all.new.sink) t) (sym text)
     (AddsBeginning-then (c.in_ok-last.ensures kind is_open h).0 c.in_err-write_all.ensures))
@@ -45,7 +45,7 @@ returns g c = λ kind is_open h.
     let end = c.args.row.end.now in
     let body = body_of (kind_left c.args.renews before.in_table kind) in
     let facts = c.line_facts-facts.ensures kind is_open h in
-    let text = stays_text c.args.renews c.args.counts_go before.in_table is_open kind end c.line_facts-facts.result facts c.if-goes.ensures in
+    let text = stays_text c.args.renews c.args.drops_counts before.in_table is_open kind end c.line_facts-facts.result facts c.if-is_dropped.ensures in
     let left = c.in_ok-last.ensures kind is_open h in
     let last = c.last_of.ensures ∙ (ap (λ l. last_of l end) left.1 ∙ (sym (last-append before.last body end) ∙ ap (last_of before.last) (sym text))) in (
       subst (λ t. Adds (g.S.Sink.state c.args.sink.now) (g.S.Sink.state c.write_all.new.sink) t) (sym text) (Adds-twice left.0 c.in_ok-write_all.ensures),

@@ -4,7 +4,7 @@ use Rattle.whole_texts.proofs.LinesGo.{first, fault_in_line, one_line_more, line
 use Rattle.whole_texts.proofs.leaving.write_lines.Goals as goal
 
 pub loop-row-init : goal.loop-row-init
-loop-row-init g c = λ those is_open h. lines_begin c.args.renews (g.S.Sink.state c.args.sink.now) c.args.counts_go c.args.before those is_open c.args.lines.now h
+loop-row-init g c = λ those is_open h. lines_begin c.args.renews (g.S.Sink.state c.args.sink.now) c.args.drops_counts c.args.before those is_open c.args.lines.now h
 
 pub returns-in_err-before : goal.returns-in_err-before
 returns-in_err-before g c = λ those is_open h.
