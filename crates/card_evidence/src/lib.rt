@@ -5,7 +5,6 @@
 //! no section. Whether the claims are true is not asked here: [`card_values::judge_cards`] judges them.
 #![tactic(auto)]
 
-mod begun_nodes;
 mod card_reading;
 mod claim_reading;
 mod laws;

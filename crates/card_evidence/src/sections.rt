@@ -5,7 +5,6 @@ ghost use Rattle.std.specs.List.{AllByRecursion};
 ghost use Rattle.std.specs.Option.{option_copied};
 ghost use Rattle.card_evidence.specs.Sections.{IsBegun, IsKeptClaim, AreKeptClaims, IsCardSection, MakesCardSection};
 
-use crate::begun_nodes::is_node;
 use card_values::TrickInProgress;
 use cards::Side;
 use certificate_graph::{CardBundle, CardClaim, Graph, Node};
@@ -42,7 +41,7 @@ fn is_begun(node: Option<&Node>) -> bool
     ensures { IsTrue result ↔ IsBegun (option_copied node.entry) }
 {
     match node {
-        Some(node) => is_node(node),
+        Some(node) => node.fits_largest(),
         None => true,
     }
 }

@@ -32,18 +32,14 @@ pub struct CardBundle {
 
 /// Something that looks for the tricks that each card leads to. Nothing is promised of what it answers.
 pub trait CardSolver {
-    ghost use Rattle.std.specs.Prelude.{ℕ, List, Option, ⊤};
+    ghost use Rattle.std.specs.Prelude.{⊤};
     ghost use Rattle.std.specs.Option.{option_flatten};
     ghost use Rattle.std.specs.Result.{result_ok};
-    ghost use Rattle.cards.specs.Deal.{Deal};
-    ghost use Rattle.cards.specs.declared.pack.Card.{Card};
-    ghost use Rattle.cards.specs.declared.seats.Seat.{Seat};
-    ghost use Rattle.cards.specs.declared.suits.Trump.{Trump};
-    ghost use Rattle.certificate_graph.specs.declared.card_claims.CardBundle.{CardBundle};
+    ghost use Rattle.certificate_graph.specs.Solvers.{MayFindCards};
 
     /// What may be found for a deal, leaders, a denomination and cards played, within a budget: anything. Whoever is to
     /// show that it may be found has to ask for it.
-    ghost may_find_cards: { Self → Deal → List Seat → Trump → List Card → ℕ → Option CardBundle → Type 0 } = { λ _ _ _ _ _ _ _. ⊤ };
+    ghost may_find_cards: { Self → MayFindCards } = { λ _ _ _ _ _ _ _. ⊤ };
 
     /// Claims for cards that may be played after these, the first cards of the layout's first trick, at most three. If
     /// none is played there may be several leaders: the claims for a leader's cards say what they lead to as its

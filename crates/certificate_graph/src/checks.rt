@@ -1,6 +1,6 @@
 //! Whether nodes make a graph.
 
-ghost use Rattle.std.specs.Prelude.{◌≡◌, MatchResult, length};
+ghost use Rattle.std.specs.Prelude.{◌≡◌, ◌↔◌, IsTrue, MatchResult, length};
 ghost use Rattle.certificate_graph.specs.Graphs.{IsNode, AreNodes};
 ghost use Rattle.certificate_graph.specs.GraphFaults.{IsNodeFault, IsGraphFault};
 
@@ -13,6 +13,14 @@ pub(crate) const GREATEST_COUNT: usize = 1_000_000;
 
 /// The greatest need: the tricks of a deal.
 const GREATEST_NEED: u8 = 13;
+
+/// Whether this is a node of a graph with so many nodes.
+pub(crate) fn is_node(node: &Node, count: u32) -> bool
+    ensures { IsTrue result ↔ IsNode count node.now }
+{
+    node.pattern.invariant();
+    node.need >= 1 && node.need <= GREATEST_NEED && tree_fits(node.tree.root(), TRICK_CARDS, count)
+}
 
 /// Whether this is a node of a graph with so many nodes, else its first fault.
 pub(crate) fn check_node(node: &Node, count: u32) -> Result<(), GraphFault>

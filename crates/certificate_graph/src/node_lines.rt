@@ -1,13 +1,13 @@
 //! The line of a node by itself, for nodes that are kept beside a graph.
 
-ghost use Rattle.std.specs.Prelude.{◌≡◌, ◌≢◌, [], MatchOption, IfOk};
+ghost use Rattle.std.specs.Prelude.{◌≡◌, ◌≢◌, ◌↔◌, IsTrue, [], MatchOption, IfOk};
 ghost use Rattle.cards.specs.Devices.{Writes};
 ghost use Rattle.certificate_graph.specs.Graphs.{IsNode, IsTree, greatest_count};
 ghost use Rattle.certificate_graph.specs.NodeLines.{LacksNodeLine};
 ghost use Rattle.certificate_graph.specs.Texts.{node_text};
 ghost use Rattle.certificate_graph.specs.declared.faults.TextFault.TheVariants as text_fault;
 
-use crate::checks::GREATEST_COUNT;
+use crate::checks::{GREATEST_COUNT, is_node};
 use crate::faults::TextFault;
 use crate::line_writing::write_node;
 use crate::node_reading::read_node;
@@ -16,6 +16,13 @@ use cards::{DeviceFault, OutOfMemory, Sink};
 use std::alloc::Global;
 
 impl Node {
+    /// Whether this could be a node of the largest graph.
+    pub fn fits_largest(&self) -> bool
+        ensures { IsTrue result ↔ IsNode greatest_count self.now }
+    {
+        is_node(self, GREATEST_COUNT as u32)
+    }
+
     /// Writes the line of the node, as the text of a graph has it.
     pub fn write_line<S: Sink>(&self, sink: &mut S) -> Result<(), DeviceFault>
         requires { IsTree self.now.tree }
