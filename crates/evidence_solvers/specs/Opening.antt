@@ -13,6 +13,16 @@ abbrev pub is_read_only : Access → Bool
 is_read_only ReadAndAdd = false
 is_read_only ReadOnly = true
 
+-- whether a PBN text begins with this byte: a directive or a tag pair
+abbrev pub begins_pbn : ℕ → Bool
+begins_pbn byte = nat_eq byte 37 || nat_eq byte 91
+
+-- whether a file of this length begins as a PBN text: its first byte was read, if it has any
+abbrev pub IsBegun : {F : Type 0} → (F → Option (List ℕ)) → F → F → ℕ → Bool → Type 0
+IsBegun remaining old new length begins =
+    ((length ≡ 0) × (begins ≡ false))
+    ⊎ ((first : ℕ) × Consumes (remaining old) (remaining new) (first ∷ []) × (begins ≡ begins_pbn first))
+
 -- the last of so many bytes of a file was read: the file stood at that byte before, as far as it tells its place
 pub record ReadsLast {F : Type 0} (place : F → Option ℕ) (remaining : F → Option (List ℕ)) (old new : F)
     (length last : ℕ)
@@ -31,14 +41,16 @@ IsLineEnd place remaining old new length ends =
 abbrev pub length_of_end : Bool → ℕ
 length_of_end ends = if ends then 0 else 1
 
--- It was read whether the last line of a file of this length has its end. If not, a line feed was written, or that has
--- failed; but nothing was written to a file that can only be read. The file is read as far as it goes with that line
--- feed.
+-- A file of this length does not begin as a PBN text. It was read whether its last line has its end. If not, a line
+-- feed was written, or that has failed; but nothing was written to a file that can only be read. The file is read as
+-- far as it goes with that line feed.
 pub record IsOpened {F : Type 0} (place : F → Option ℕ) (remaining contents : F → Option (List ℕ)) (opened : Opened F)
     : Type 0 where
+  pub first : F
   pub end : F
   pub seen : F
   pub length : ℕ
+  pub begun : IsBegun remaining first end length false
   pub ends : Bool
   pub line_end : IsLineEnd place remaining end seen length ends
   pub line :

@@ -3,7 +3,7 @@
 ghost use Rattle.std.specs.Prelude.{◌≡◌, true, false, IfOk, SomeIff};
 ghost use Rattle.std.specs.Fs.{asks_read, asks_append, asks_create, asks_create_new, asks_truncate, file_type};
 ghost use Rattle.std.specs.Fs.{IsFile, metadata_len};
-ghost use Rattle.evidence_solvers.specs.Opening.{IsLineEnd, IsOpened};
+ghost use Rattle.evidence_solvers.specs.Opening.{IsBegun, IsLineEnd, IsOpened};
 
 use crate::access::Access;
 use crate::tails::Tail;
@@ -47,6 +47,18 @@ fn regular_length(metadata: &Metadata) -> Option<u64>
     Some(metadata.len())
 }
 
+/// Whether a file of this length, which is at its beginning, begins as a PBN text does: with a directive or a tag pair.
+fn begins_pbn<F: Read>(file: &mut F, length: u64) -> io::Result<bool>
+    ensures { IfOk result (IsBegun F.remaining file.old file.new length) }
+{
+    if length == 0 {
+        return Ok(false);
+    }
+    let mut first = [0u8; 1];
+    file.read_exact(&mut first)?;
+    Ok(first[0] == b'%' || first[0] == b'[')
+}
+
 /// Whether the last line of a file of this length has its end.
 fn ends_line<F: Read + Seek>(file: &mut F, length: u64) -> io::Result<bool>
     ensures { IfOk result (IsLineEnd F.stream_position F.remaining file.old file.new length) }
@@ -75,9 +87,9 @@ fn open_end<R: Files>(files: &R, path: &str) -> Result<(R::File, Access), Cannot
     }
 }
 
-/// Opens a file to be read and to be added to. A missing file is made. If its last line has no end, a line feed is
-/// written. Nothing else is written, and no section is read. If the system lets nothing be added, the file is opened to
-/// be read, and its last line stays as it is.
+/// Opens a file to be read and to be added to. A missing file is made. One that begins as a PBN text does is refused.
+/// If the last line has no end, a line feed is written. Nothing else is written, and no section is read. If the system
+/// lets nothing be added, the file is opened to be read, and its last line stays as it is.
 pub fn open_evidence<R: Files>(files: &R, path: &str) -> Result<Opened<R::File>, CannotOpen>
     ensures { IfOk result (IsOpened R.File.stream_position R.File.remaining R.File.contents) }
 {
@@ -88,6 +100,11 @@ pub fn open_evidence<R: Files>(files: &R, path: &str) -> Result<Opened<R::File>,
     let Some(length) = regular_length(&metadata) else {
         return Err(CannotOpen::NotAFile);
     };
+    match begins_pbn(&mut end, length) {
+        Ok(false) => {}
+        Ok(true) => return Err(CannotOpen::PbnText),
+        Err(_) => return Err(CannotOpen::Refused),
+    }
     let Ok(ends_line) = ends_line(&mut end, length) else {
         return Err(CannotOpen::Refused);
     };

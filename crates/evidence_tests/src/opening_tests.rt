@@ -99,6 +99,21 @@ fn refusals(rt: HostRuntime) -> Result<(), Fail> {
     Ok(())
 }
 
+/// A file that begins as a PBN text does is refused, and nothing is written, although its last line has no end.
+#[test]
+fn pbn_files(rt: HostRuntime) -> Result<(), Fail> {
+    let texts: [&[u8]; 3] = [b"% PBN 2.1\n[Board \"1\"]", b"[Event \"Club\"]", b"["];
+    for text in texts {
+        let disk = disk_of(&rt, rt.alloc(), text)?;
+        expect_eq(
+            &rt,
+            &refusal(&rt, &disk, "kept.dde"),
+            &Some(CannotOpen::PbnText),
+        );
+    }
+    Ok(())
+}
+
 /// A file that can only be read is read as it is: its last line gets no end, so its last section is damaged. A section
 /// that is to be added to it is lost, and that is said.
 #[test]

@@ -21,6 +21,9 @@ pub enum CannotOpen {
     /// A new file was to be made, and something of its name is there.
     #[error("the file is there already")]
     Exists,
+    /// Evidence was to be added to it, and it begins as a PBN text does.
+    #[error("a PBN file, not a file of evidence")]
+    PbnText,
     /// The system has another reason.
     #[error("the system does not open it")]
     Refused,

@@ -5,7 +5,8 @@ use Rattle.std.specs.List.{flat_map}
 use Rattle.pbn_deals.specs.declared.faults.PbnFault.{PbnFault}
 use Rattle.pbn_deals.specs.declared.faults.PbnFault.TheVariants as pbn
 use Rattle.streams.specs.declared.opening.CannotOpen.{CannotOpen}
-use Rattle.streams.specs.declared.opening.CannotOpen.TheVariants.{Missing, Denied, NotAFile, Exists, Refused}
+use Rattle.streams.specs.declared.opening.CannotOpen.TheVariants.{Missing, Denied, NotAFile, Exists}
+use Rattle.streams.specs.declared.opening.CannotOpen.TheVariants.{PbnText, Refused}
 use Rattle.evidence_solvers.specs.declared.faults.KeepFault.{KeepFault}
 use Rattle.evidence_solvers.specs.declared.faults.KeepFault.TheVariants as keep
 use Rattle.play_rules.specs.declared.faults.PlayFault.{PlayFault}
@@ -33,6 +34,7 @@ reason_text Missing = codes "no such file"
 reason_text Denied = codes "permission denied"
 reason_text NotAFile = codes "not a regular file"
 reason_text Exists = codes "the file is there already"
+reason_text PbnText = codes "a PBN file, not a file of evidence"
 reason_text Refused = codes "the system does not open it"
 
 -- a byte of a name, or a question mark for a control character

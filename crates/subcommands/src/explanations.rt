@@ -99,6 +99,7 @@ fn reason_text(why: CannotOpen) -> &'static str
         CannotOpen::Denied => "permission denied",
         CannotOpen::NotAFile => "not a regular file",
         CannotOpen::Exists => "the file is there already",
+        CannotOpen::PbnText => "a PBN file, not a file of evidence",
         CannotOpen::Refused => "the system does not open it",
     }
 }
