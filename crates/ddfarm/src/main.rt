@@ -97,5 +97,5 @@ fn main(rt: HostRuntime) -> ExitCode {
         &means,
         &mut streams,
     );
-    ExitCode::from(close_output(status, &mut streams.output, &mut streams.errors))
+    ExitCode::from(close_output(status, &mut streams))
 }

@@ -1,13 +1,13 @@
 //! How runs end whose last bytes can't go out.
 
 use crate::expect::{ROOM, expect_eq};
-use cards::{Buffer, Sink};
+use cards::{Buffer, Bytes, Sink};
 use std::alloc::Global;
 use std::io;
 use std::io::BufWriter;
 use std::process::Abort;
 use std::test::Fail;
-use streams::WriterSink;
+use streams::{Streams, WriterSink};
 use subcommands::{Status, close_output};
 
 /// A writer that takes no byte, or one that fails.
@@ -37,11 +37,14 @@ fn expect_closed<W: io::Write + Drop>(
     code: u8,
     wanted: (u8, &str),
 ) -> Result<(), Fail> {
-    let mut errors = Buffer::new(alloc, ROOM, ROOM)?;
-    let mut sink = WriterSink::new(BufWriter::new(alloc, writer)?);
-    expect_eq(rt, &sink.write(b"NS 1\n"), &Ok(5));
-    expect_eq(rt, &close_output(code, &mut sink, &mut errors), &wanted.0);
-    expect_eq(rt, &errors.bytes(), &wanted.1.as_bytes());
+    let mut streams = Streams {
+        input: Bytes::new(b"", ROOM),
+        output: WriterSink::new(BufWriter::new(alloc, writer)?),
+        errors: Buffer::new(alloc, ROOM, ROOM)?,
+    };
+    expect_eq(rt, &streams.output.write(b"NS 1\n"), &Ok(5));
+    expect_eq(rt, &close_output(code, &mut streams), &wanted.0);
+    expect_eq(rt, &streams.errors.bytes(), &wanted.1.as_bytes());
     Ok(())
 }
 

@@ -29,7 +29,7 @@ use Rattle.audits.specs.Shown.{PublishesShown}
 use Rattle.audits.specs.Shows.{ShowsSections}
 use Rattle.audits.proofs.PublishLaws.{timed_by}
 use Rattle.subcommands.specs.declared.faults.RunFault.{RunFault}
-use Rattle.subcommands.specs.declared.outcomes.Outcome.{Outcome}
+use Rattle.subcommands.specs.declared.finished_runs.FinishedRun.{FinishedRun}
 use Rattle.subcommands.specs.Halts.{halted_fault}
 use Rattle.subcommands.specs.Statuses.{make_fault}
 use Rattle.subcommands.specs.Beside.{IsRunBeside, IsRunBesideSome, MakesBookBeside, MakesPageBeside, WritesBeside}
@@ -89,6 +89,6 @@ unmade_page told may_tell options source source' sink (Pbn fault) none = (none.0
 unmade_page told may_tell options source source' sink NoThread none = (none.0, none.1, refl)
 unmade_page told may_tell options source source' sink Write none = absurd none
 
-pub unmade : (told : Option (List ℕ)) (may_tell : MayTell) (options : TableOptions) (source source' sink : Device) (fault : MakeFault) (answer : Result Outcome RunFault) → MakesBookBeside told may_tell options.settings source source' (Err fault) → IsErrAnd answer (λ told. told ≡ make_fault fault) → WritesBeside told may_tell options (devices source sink) (devices source' sink) answer
+pub unmade : (told : Option (List ℕ)) (may_tell : MayTell) (options : TableOptions) (source source' sink : Device) (fault : MakeFault) (answer : Result FinishedRun RunFault) → MakesBookBeside told may_tell options.settings source source' (Err fault) → IsErrAnd answer (λ told. told ≡ make_fault fault) → WritesBeside told may_tell options (devices source sink) (devices source' sink) answer
 unmade told may_tell options source source' sink fault (Ok outcome) none is = absurd is
 unmade told may_tell options source source' sink fault (Err made) none is = (fault, is, unmade_page told may_tell options source source' sink fault none)

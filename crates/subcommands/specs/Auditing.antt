@@ -13,9 +13,9 @@ use Rattle.audits.specs.Audits.{AuditsTables}
 use Rattle.subcommands.specs.declared.faults.RunFault.{RunFault}
 use Rattle.subcommands.specs.declared.faults.RunFault.TheVariants.{Evidence}
 use Rattle.answer_subcommands.specs.declared.named_files.FileFault.TheVariants.{Open}
-use Rattle.subcommands.specs.declared.outcomes.Outcome.{Outcome}
+use Rattle.subcommands.specs.declared.finished_runs.FinishedRun.{FinishedRun}
 use Rattle.answer_subcommands.specs.NamedFiles.{Opens}
-use Rattle.subcommands.specs.Outcomes.{quiet}
+use Rattle.subcommands.specs.FinishedRuns.{quiet}
 use Rattle.tournaments.specs.Putting.{page_fact}
 use Rattle.subcommands.specs.Reports.{page_status, unshown_notes}
 use Rattle.subcommands.specs.Statuses.{audit_fault}
@@ -43,7 +43,7 @@ pub record OpensNothing (opens : Opens) (name : List ℕ) (why : CannotOpen) (ol
 
 -- What was answered, what the input has given and what the output has got: the page is that of the audit, which counts
 -- the damage.
-abbrev pub AuditsFile : Opens → List ℕ → Page → Devices → Devices → Result Outcome RunFault → Type 0
+abbrev pub AuditsFile : Opens → List ℕ → Page → Devices → Devices → Result FinishedRun RunFault → Type 0
 AuditsFile opens name page old new (Ok outcome) =
     (report : Report) × (book : Ledger)
     × (outcome ≡ record (quiet (page_status page.form report book.terms.boards)) {

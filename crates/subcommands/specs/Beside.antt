@@ -29,7 +29,7 @@ use Rattle.audits.specs.declared.reading.EvidenceRead.{EvidenceRead}
 use Rattle.audits.specs.Reads.{sections_of, ReadsUntil}
 use Rattle.audits.specs.Shown.{PublishesShown}
 use Rattle.subcommands.specs.declared.faults.RunFault.{RunFault}
-use Rattle.subcommands.specs.declared.outcomes.Outcome.{Outcome}
+use Rattle.subcommands.specs.declared.finished_runs.FinishedRun.{FinishedRun}
 use Rattle.subcommands.specs.Auditing.{unread}
 use Rattle.subcommands.specs.Pages.{IsOutcomeOf}
 use Rattle.subcommands.specs.Statuses.{make_fault}
@@ -104,15 +104,15 @@ abbrev pub IsRunBesideSome : Option (List ℕ) → MayTell → RunFact
 IsRunBesideSome told may_tell terms events = (read : EvidenceRead) × IsRunBesideFile told read may_tell terms events
 
 -- what came of a page beside a file: but for what is said of the file, it is what comes of one without
-abbrev pub IsOutcomeBeside : PageForm → Report → Ledger → Outcome → Type 0
+abbrev pub IsOutcomeBeside : PageForm → Report → Ledger → FinishedRun → Type 0
 IsOutcomeBeside page report book outcome =
-    (plain : Outcome) × IsOutcomeOf page report book plain × (outcome.status ≡ plain.status)
+    (plain : FinishedRun) × IsOutcomeOf page report book plain × (outcome.status ≡ plain.status)
     × (record outcome.notes { read_only = false } ≡ plain.notes)
 
 -- The tables of the boards of the input beside a file that tells this: how far it was read, and this is the damage of
 -- what was read.
 abbrev pub WritesBeside : Option (List ℕ) → MayTell → TableOptions → Devices → Devices
-    → Result Outcome RunFault → Type 0
+    → Result FinishedRun RunFault → Type 0
 WritesBeside told may_tell options old new (Ok outcome) =
     (report : Report) × (book : Ledger) × IsOutcomeBeside options.page.form report book outcome
     × MakesPageBeside (IsRunBesideFile told (record { damage = outcome.damage; ended = outcome.read }) may_tell)

@@ -20,13 +20,13 @@ use Rattle.answer_subcommands.specs.KeptCards.{FindsKept, KeepsFor}
 use Rattle.answer_subcommands.specs.Valuing.{ValuesCards}
 use Rattle.subcommands.specs.declared.faults.RunFault.{RunFault}
 use Rattle.subcommands.specs.declared.faults.RunFault.TheVariants.{Evidence, Write}
-use Rattle.subcommands.specs.declared.outcomes.Outcome.{Outcome}
-use Rattle.subcommands.specs.Outcomes.{DoneQuietly, quiet, quiet_answer}
+use Rattle.subcommands.specs.declared.finished_runs.FinishedRun.{FinishedRun}
+use Rattle.subcommands.specs.FinishedRuns.{DoneQuietly, quiet, quiet_answer}
 use Rattle.subcommands.specs.Statuses.{answer_fault}
 
 -- ---- an audit
 -- what comes of what it answers: the file that was named is that of the evidence
-abbrev pub evidence_answer : Result Status AnswerFault → Result Outcome RunFault
+abbrev pub evidence_answer : Result Status AnswerFault → Result FinishedRun RunFault
 evidence_answer (Err (answer.File why)) = Err (Evidence why)
 evidence_answer ended = quiet_answer ended
 
@@ -65,7 +65,7 @@ LacksFile may_find makes options name _ = ⊥
 
 -- What was answered, and what the sink has got: with all faults but its own nothing.
 pub data KeepsCards (may_find : MayFindCards) (makes : Opens) (options : CardsOptions) (name : List ℕ)
-    (sink sink' : Device) (ended : Result Outcome RunFault) : Type 0 where
+    (sink sink' : Device) (ended : Result FinishedRun RunFault) : Type 0 where
   is_done : (written : Result Unit KeepFault) → ended ≡ Ok (record (quiet Done) { kept = written })
       → HasKept may_find makes options name written (λ text. Adds sink sink' text)
       → KeepsCards may_find makes options name sink sink' ended
@@ -79,7 +79,7 @@ pub data KeepsCards (may_find : MayFindCards) (makes : Opens) (options : CardsOp
 
 -- ---- all three
 abbrev pub DoesCards : MayFindCards → Opens → Opens → CardsOptions → CardProof → Device → Device
-    → Result Outcome RunFault → Type 0
+    → Result FinishedRun RunFault → Type 0
 DoesCards may_find opens makes options Dropped sink sink' ended =
     DoneQuietly (ValuesCards may_find options sink sink') ended
 DoesCards may_find opens makes options (Kept name) sink sink' ended =

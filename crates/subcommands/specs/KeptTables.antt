@@ -12,7 +12,7 @@ use Rattle.evidence_solvers.specs.Opening.{is_read_only}
 use Rattle.subcommands.specs.declared.faults.RunFault.{RunFault}
 use Rattle.subcommands.specs.declared.faults.RunFault.TheVariants.{Evidence}
 use Rattle.answer_subcommands.specs.declared.named_files.FileFault.TheVariants as file
-use Rattle.subcommands.specs.declared.outcomes.Outcome.{Outcome}
+use Rattle.subcommands.specs.declared.finished_runs.FinishedRun.{FinishedRun}
 use Rattle.subcommands.specs.KeptFiles.{OpensToKeep}
 use Rattle.subcommands.specs.Pages.{WritesTables}
 use Rattle.subcommands.specs.Beside.{WritesBeside}
@@ -22,13 +22,13 @@ abbrev pub IsOpened : OpensToKeep → List ℕ → Option (List ℕ) → Access 
 IsOpened opens name told access = opens name (Ok (record { bytes = told; failed = 0 }, access))
 
 -- what came of tables, with what is said of the file to which evidence is added
-abbrev pub with_file : Result Outcome RunFault → Access → Result Unit KeepFault → Result Outcome RunFault
+abbrev pub with_file : Result FinishedRun RunFault → Access → Result Unit KeepFault → Result FinishedRun RunFault
 with_file (Ok outcome) access kept =
     Ok (record outcome { notes = record outcome.notes { read_only = is_read_only access }; kept = kept })
 with_file (Err fault) access kept = Err fault
 
 -- it is said of a file that can only be read
-abbrev pub IsSaidOf : Access → Result Outcome RunFault → Type 0
+abbrev pub IsSaidOf : Access → Result FinishedRun RunFault → Type 0
 IsSaidOf access answer = IfOk answer (λ outcome. outcome.notes.read_only ≡ is_read_only access)
 
 -- the file can't be opened, for this reason, and nothing was read or written
@@ -39,14 +39,14 @@ pub record OpensNoFile (opens : OpensToKeep) (name : List ℕ) (why : CannotOpen
 
 -- The file that held this has this now: whole sections were added, as far as it is said that all was kept. Whatever
 -- came of the tables, nothing but sections was added, of which the last may be a beginning.
-abbrev pub HasKept : Option (List ℕ) → Option (List ℕ) → Result Outcome RunFault → Type 0
+abbrev pub HasKept : Option (List ℕ) → Option (List ℕ) → Result FinishedRun RunFault → Type 0
 HasKept told now (Ok outcome) = IsKeptAs told now outcome.kept
 HasKept told now (Err fault) = (kept : Result Unit KeepFault) × IsKeptAs told now kept
 
 -- What `table` answers with a file of this name, and what the input has given and the output has got: the file was
 -- opened, and the tables are those beside it; or it can't be opened, and nothing was read or written.
 abbrev pub KeepsTables : OpensToKeep → MayTell → TableOptions → List ℕ → Devices → Devices
-    → Result Outcome RunFault → Type 0
+    → Result FinishedRun RunFault → Type 0
 KeepsTables opens may_tell options name old new answer =
     ((told : Option (List ℕ)) × (access : Access) × IsOpened opens name told access × IsSaidOf access answer
     × WritesBeside told may_tell options old new answer)
@@ -55,7 +55,7 @@ KeepsTables opens may_tell options name old new answer =
 
 -- what `table` does
 abbrev pub FillsTables : OpensToKeep → MayTell → TableOptions → Option (Bor (List ℕ)) → Devices → Devices
-    → Result Outcome RunFault → Type 0
+    → Result FinishedRun RunFault → Type 0
 FillsTables opens may_tell options None old new answer =
     WritesTables may_tell options old new answer
 FillsTables opens may_tell options (Some name) old new answer =

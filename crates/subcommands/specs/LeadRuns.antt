@@ -9,8 +9,8 @@ use Rattle.opening_leads.specs.Making.{MakesLeads}
 use Rattle.answer_subcommands.specs.declared.statuses.Status.{Status}
 use Rattle.answer_subcommands.specs.declared.statuses.Status.TheVariants.{Done, Incomplete}
 use Rattle.subcommands.specs.declared.faults.RunFault.{RunFault}
-use Rattle.subcommands.specs.declared.outcomes.Outcome.{Outcome}
-use Rattle.subcommands.specs.Outcomes.{quiet}
+use Rattle.subcommands.specs.declared.finished_runs.FinishedRun.{FinishedRun}
+use Rattle.subcommands.specs.FinishedRuns.{quiet}
 use Rattle.subcommands.specs.Statuses.{lead_fault}
 
 -- how a run ends from whose page as many rows are missing
@@ -18,12 +18,12 @@ abbrev pub lead_status : ℕ → Status
 lead_status missing = if nat_eq missing 0 then Done else Incomplete
 
 -- what comes of leads
-abbrev pub lead_outcome : Result LeadReport LeadFault → Result Outcome RunFault
+abbrev pub lead_outcome : Result LeadReport LeadFault → Result FinishedRun RunFault
 lead_outcome (Ok report) = Ok (quiet (lead_status report.missing))
 lead_outcome (Err fault) = Err (lead_fault fault)
 
 -- the leads of the boards of the input were written, or why they were not
-abbrev pub LeadsBoards : MayFindCards → LeadsOptions → Devices → Devices → Result Outcome RunFault → Type 0
+abbrev pub LeadsBoards : MayFindCards → LeadsOptions → Devices → Devices → Result FinishedRun RunFault → Type 0
 LeadsBoards may_find options old new ended =
     (made : Result LeadReport LeadFault) × (ended ≡ lead_outcome made)
     × MakesLeads may_find options.budget old new made

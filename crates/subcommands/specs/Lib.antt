@@ -4,7 +4,7 @@ pub mod Counted
 pub mod Notes
 pub mod Reports
 pub mod KeptFiles
-pub mod Outcomes
+pub mod FinishedRuns
 pub mod Halts
 pub mod Made
 pub mod Pages

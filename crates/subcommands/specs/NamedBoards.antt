@@ -8,43 +8,43 @@ use Rattle.answer_subcommands.specs.NamedFiles.{Opens}
 use Rattle.answer_subcommands.specs.declared.named_files.FileFault.TheVariants as file
 use Rattle.subcommands.specs.declared.faults.RunFault.{RunFault}
 use Rattle.subcommands.specs.declared.faults.RunFault.TheVariants as fault
-use Rattle.subcommands.specs.declared.outcomes.Outcome.{Outcome}
+use Rattle.subcommands.specs.declared.finished_runs.FinishedRun.{FinishedRun}
 use Rattle.subcommands.specs.Auditing.{OpensNothing}
 
 -- what comes of two devices
 abbrev pub Doing : Type 1
-Doing = Devices → Devices → Result Outcome RunFault → Type 0
+Doing = Devices → Devices → Result FinishedRun RunFault → Type 0
 
 -- what came of a run with a file of boards as its input: if the input has failed, the file has
 abbrev pub fault_of_boards : RunFault → RunFault
 fault_of_boards fault.Read = fault.Boards file.Read
 fault_of_boards other = other
 
-abbrev pub of_boards : Result Outcome RunFault → Result Outcome RunFault
+abbrev pub of_boards : Result FinishedRun RunFault → Result FinishedRun RunFault
 of_boards (Ok outcome) = Ok outcome
 of_boards (Err told) = Err (fault_of_boards told)
 
--- The file of this name was opened, and that was done with what it tells, from its first byte on, in place of the input,
--- which stays as it was.
+-- The file of this name was opened, and that was done with what it says, from its first byte on, in place of the
+-- input, which stays as it was.
 pub record DoesOpened (opens : Opens) (name : List ℕ) (Does : Doing) (old new : Devices)
-    (answer : Result Outcome RunFault)
+    (answer : Result FinishedRun RunFault)
     : Type 0 where
   pub file : Device
   pub opened : opens name (Ok file)
   pub none_failed : file.failed ≡ 0
   pub left : Device
-  pub done : Result Outcome RunFault
+  pub done : Result FinishedRun RunFault
   pub does : Does (devices file old.sink) (devices left new.sink) done
   pub answer_is : answer ≡ of_boards done
   pub input_stays : new.source ≡ old.source
 
 -- that, or the file can't be opened, and nothing was read or written
-abbrev pub DoesNamed : Opens → List ℕ → Doing → Devices → Devices → Result Outcome RunFault → Type 0
+abbrev pub DoesNamed : Opens → List ℕ → Doing → Devices → Devices → Result FinishedRun RunFault → Type 0
 DoesNamed opens name Does old new answer =
     DoesOpened opens name Does old new answer
     ⊎ ((why : CannotOpen) × (answer ≡ Err (fault.Boards (file.Open why))) × OpensNothing opens name why old new)
 
 -- the same with the file that is named, or with the input
-abbrev pub DoesOn : Opens → Option (Bor (List ℕ)) → Doing → Devices → Devices → Result Outcome RunFault → Type 0
+abbrev pub DoesOn : Opens → Option (Bor (List ℕ)) → Doing → Devices → Devices → Result FinishedRun RunFault → Type 0
 DoesOn opens None Does old new answer = Does old new answer
 DoesOn opens (Some name) Does old new answer = DoesNamed opens name.now Does old new answer

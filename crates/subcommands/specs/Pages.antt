@@ -12,14 +12,14 @@ use Rattle.tournaments.specs.Making.{MakesPage}
 use Rattle.tournaments.specs.Putting.{page_fact}
 use Rattle.subcommands.specs.declared.faults.RunFault.{RunFault}
 use Rattle.subcommands.specs.declared.notes.Searches.{Searches}
-use Rattle.subcommands.specs.declared.outcomes.Outcome.{Outcome}
-use Rattle.subcommands.specs.Outcomes.{quiet}
+use Rattle.subcommands.specs.declared.finished_runs.FinishedRun.{FinishedRun}
+use Rattle.subcommands.specs.FinishedRuns.{quiet}
 use Rattle.subcommands.specs.Reports.{page_status, refusal_count, searched_notes}
 use Rattle.subcommands.specs.Statuses.{make_fault}
 
 -- What came of a page that was written for the book of a run: whether a table of it is incomplete, and what is said of
 -- that. Of how searches ended, only the number of refused answers is known here.
-pub record IsOutcomeOf (page : PageForm) (report : Report) (book : Ledger) (outcome : Outcome) : Type 0 where
+pub record IsOutcomeOf (page : PageForm) (report : Report) (book : Ledger) (outcome : FinishedRun) : Type 0 where
   pub searches : Searches
   pub refused : searches.refused ≡ refusal_count book.events
   pub is : outcome ≡ record (quiet (page_status page report book.terms.boards)) {
@@ -27,7 +27,7 @@ pub record IsOutcomeOf (page : PageForm) (report : Report) (book : Ledger) (outc
   }
 
 -- the tables of the boards of the input, and what came of them
-abbrev pub WritesTables : MayTell → TableOptions → Devices → Devices → Result Outcome RunFault → Type 0
+abbrev pub WritesTables : MayTell → TableOptions → Devices → Devices → Result FinishedRun RunFault → Type 0
 WritesTables may_tell options old new (Ok outcome) =
     (report : Report) × (book : Ledger) × IsOutcomeOf options.page.form report book outcome
     × MakesPage (IsRun may_tell) (page_fact options.page) options.settings.term options.settings.tries old new

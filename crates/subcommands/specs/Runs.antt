@@ -9,7 +9,7 @@ use Rattle.streams.specs.declared.inputs.InputFault.{InputFault}
 use Rattle.evidence_solvers.specs.declared.faults.KeepFault.{KeepFault}
 use Rattle.subcommands.specs.declared.faults.RunFault.{RunFault}
 use Rattle.subcommands.specs.declared.faults.RunFault.TheVariants.{Boards, Write, Unkept}
-use Rattle.subcommands.specs.declared.outcomes.Outcome.{Outcome}
+use Rattle.subcommands.specs.declared.finished_runs.FinishedRun.{FinishedRun}
 use Rattle.answer_subcommands.specs.declared.statuses.Status.{Status}
 use Rattle.answer_subcommands.specs.declared.statuses.Status.TheVariants.{Done, Failed, Refused, Incomplete, Rejected}
 use Rattle.asked.specs.declared.subcommands.Subcommand.{Subcommand}
@@ -22,7 +22,7 @@ use Rattle.subcommands.specs.Notes.{TellsNotes}
 use Rattle.answer_subcommands.specs.Statuses.{status_code}
 use Rattle.subcommands.specs.Statuses.{fault_status, IsTold}
 use Rattle.subcommands.specs.KeptFiles.{MayOpen}
-use Rattle.subcommands.specs.Outcomes.{Quietly, DoneQuietly, TellsDamage, shelf_fault}
+use Rattle.subcommands.specs.FinishedRuns.{Quietly, DoneQuietly, TellsDamage, shelf_fault}
 use Rattle.answer_subcommands.specs.PlainLine.{MeetsPlainLine}
 use Rattle.answer_subcommands.specs.Checks.{ChecksAnswer}
 use Rattle.answer_subcommands.specs.Solves.{SolvesLayout}
@@ -42,7 +42,7 @@ pub record MaySolve : Type 1 where
 -- What came of a run, by what the solver may find, the clock may tell and the opening of a file may come to, and what
 -- its devices have given and got. A single layout leaves the input as it was.
 abbrev pub Does : MaySolve → MayTell → MayOpen → Subcommand → Devices → Devices
-    → Result Outcome RunFault → Type 0
+    → Result FinishedRun RunFault → Type 0
 Does may_solve may_tell may_open (Plain layout leader trump) old new answer =
     (new.source ≡ old.source) × DoneQuietly (MeetsPlainLine layout.now leader trump old.sink new.sink) answer
 Does may_solve may_tell may_open (Solve layout declarer trump budget) old new answer =
@@ -109,7 +109,7 @@ file_named run _ = file_of run
 
 -- How the run ends. The error output gets what was passed over of evidence, the
 -- notes, and that not all of it was read or kept; or a fault, with what explains it. Nothing else touches it.
-abbrev pub Ends : Subcommand → Result Outcome RunFault → Device → Device → Status → Type 0
+abbrev pub Ends : Subcommand → Result FinishedRun RunFault → Device → Device → Status → Type 0
 Ends run (Ok outcome) errors errors' status =
     (between : Device) × (noted : Device) × TellsDamage outcome.damage errors between
     × TellsNotes outcome.notes between noted
@@ -121,7 +121,7 @@ Ends run (Err fault) errors errors' status =
 pub record RunsSubcommand (may_solve : MaySolve) (may_tell : MayTell) (may_open : MayOpen) (run : Subcommand)
     (old new : RunDevices) (status : Status)
     : Type 0 where
-  pub answer : Result Outcome RunFault
+  pub answer : Result FinishedRun RunFault
   pub does : Does may_solve may_tell may_open run old.both new.both answer
   pub ends : Ends run answer old.errors new.errors status
 
@@ -141,14 +141,18 @@ abbrev pub IsUndone : ℕ → Type 0
 IsUndone code = (code ≡ status_code Failed) ⊎ (code ≡ status_code Refused)
 
 -- The end of a run with this exit status. However it ended, the writer below the output's buffer has got all that was
--- written, or that failed: then a run that was done has failed, which is told, and one that had failed or was refused
--- stays so, and nothing more is told.
-pub data Closes (sink sink' : Device) (below : Option (List ℕ)) (errors errors' : Device) (code ended : ℕ)
-    : Type 0 where
-  is_flushed : ended ≡ code → HandsOn sink sink' below → errors' ≡ errors
-      → Closes sink sink' below errors errors' code ended
-  fails : (IsUndone code → ⊥) → ended ≡ status_code Failed → Fails sink sink'
-      → IsTold errors errors' (told_text None Write)
-      → Closes sink sink' below errors errors' code ended
-  fails_too : IsUndone code → ended ≡ code → Fails sink sink' → errors' ≡ errors
-      → Closes sink sink' below errors errors' code ended
+-- written, or that failed. Then a run that was done has failed, and the error output says so. One that had failed or
+-- was refused stays so, and the error output says nothing more.
+pub data ClosesOutput (old new : RunDevices) (below : Option (List ℕ)) (code ended : ℕ) : Type 0 where
+  is_flushed : ended ≡ code → HandsOn old.both.sink new.both.sink below → new.errors ≡ old.errors
+      → ClosesOutput old new below code ended
+  fails : (IsUndone code → ⊥) → ended ≡ status_code Failed → Fails old.both.sink new.both.sink
+      → IsTold old.errors new.errors (told_text None Write)
+      → ClosesOutput old new below code ended
+  fails_too : IsUndone code → ended ≡ code → Fails old.both.sink new.both.sink → new.errors ≡ old.errors
+      → ClosesOutput old new below code ended
+
+-- the same, and the input stays as it was
+abbrev pub EndsStreams : RunDevices → RunDevices → Option (List ℕ) → ℕ → ℕ → Type 0
+EndsStreams old new below code ended =
+    (new.both.source ≡ old.both.source) × ClosesOutput old new below code ended

@@ -5,7 +5,7 @@ ghost use Rattle.streams.specs.RunStreams.{devices};
 ghost use Rattle.subcommands.specs.Auditing.{AuditsFile};
 
 use crate::faults::RunFault;
-use crate::outcomes::Outcome;
+use crate::finished_runs::FinishedRun;
 use crate::reports::{page_status, unshown_notes};
 use answer_subcommands::{FileFault, NamedFiles};
 use asked::AuditOptions;
@@ -25,7 +25,7 @@ pub(crate) fn audit_file<R: Threads + Sync + NamedFiles, I: Source, O: Sink>(
     options: AuditOptions<'_>,
     input: &mut I,
     output: &mut O,
-) -> Result<Outcome, RunFault>
+) -> Result<FinishedRun, RunFault>
     ensures { AuditsFile (R.may_open rt.now) options.entry.file.now options.entry.page
         (devices (I.state input.old) (O.state output.old))
         (devices (I.state input.new) (O.state output.new)) result }
@@ -36,7 +36,7 @@ pub(crate) fn audit_file<R: Threads + Sync + NamedFiles, I: Source, O: Sink>(
     };
     let mut evidence = Sections::new(alloc, file);
     match audit_tables(rt, alloc, options.page, input, &mut evidence, output) {
-        Ok((report, book, damage)) => Ok(Outcome {
+        Ok((report, book, damage)) => Ok(FinishedRun {
             status: page_status(options.page.form, report, book.boards()),
             damage,
             notes: unshown_notes(report, &book),

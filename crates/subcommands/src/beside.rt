@@ -5,8 +5,8 @@ ghost use Rattle.streams.specs.RunStreams.{devices};
 ghost use Rattle.subcommands.specs.Beside.{MakesBookBeside, WritesBeside, tries_beside};
 
 use crate::faults::RunFault;
+use crate::finished_runs::FinishedRun;
 use crate::making::halted;
-use crate::outcomes::Outcome;
 use crate::pages::outcome_of;
 use crate::searches::{Counted, Tally};
 use asked::{Settings, TableOptions};
@@ -90,7 +90,7 @@ pub(crate) fn write_tables_beside<
     file: F,
     input: &mut I,
     output: &mut O,
-) -> Result<Outcome, RunFault>
+) -> Result<FinishedRun, RunFault>
     ensures { WritesBeside (F.remaining file) (C.may_tell making.entry.means.now.clock.now) making.entry.options
         (devices (I.state input.old) (O.state output.old))
         (devices (I.state input.new) (O.state output.new)) result }
@@ -108,7 +108,7 @@ pub(crate) fn write_tables_beside<
     };
     let (text, book, read) = make_book_beside(rt, alloc, file, input, options.settings, means)?;
     let report = put_page(alloc, text.as_slice(), &book, options.page, output)?;
-    Ok(Outcome {
+    Ok(FinishedRun {
         damage: read.damage,
         read: read.ended,
         ..outcome_of(options.page.form, report, &book, &tally)

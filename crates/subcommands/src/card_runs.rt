@@ -4,8 +4,8 @@ ghost use Rattle.std.specs.Prelude.{◌≡◌};
 ghost use Rattle.subcommands.specs.CardRuns.{DoesCards, KeepsCards, WritesEvidence, evidence_answer};
 
 use crate::faults::RunFault;
+use crate::finished_runs::{FinishedRun, done_quietly, quietly};
 use crate::new_files::NewFiles;
-use crate::outcomes::{Outcome, done_quietly, quietly};
 use answer_subcommands::{
     AnswerFault, FileFault, NamedFiles, Status, audit_cards, find_kept, value_cards,
 };
@@ -17,7 +17,7 @@ use evidence_solvers::KeepFault;
 use std::alloc::Global;
 
 /// What came of an audit of cards: if the file that was named is of no use, it is that of the evidence.
-fn evidence_answer(answer: Result<Status, AnswerFault>) -> Result<Outcome, RunFault>
+fn evidence_answer(answer: Result<Status, AnswerFault>) -> Result<FinishedRun, RunFault>
     ensures { result ≡ evidence_answer answer }
 {
     match answer {
@@ -45,7 +45,7 @@ fn keep_cards<P: CardSolver, O: Sink, R: NewFiles>(
     name: &str,
     solver: &P,
     output: &mut O,
-) -> Result<Outcome, RunFault>
+) -> Result<FinishedRun, RunFault>
     ensures { KeepsCards (P.may_find_cards solver.now) (R.may_make rt.now) options.entry name.now
         (O.state output.old) (O.state output.new) result }
 {
@@ -59,9 +59,9 @@ fn keep_cards<P: CardSolver, O: Sink, R: NewFiles>(
     };
     let written = write_evidence(&mut file, kept.text.as_slice());
     match write_values(output, &kept.values) {
-        Ok(()) => Ok(Outcome {
+        Ok(()) => Ok(FinishedRun {
             kept: written,
-            ..Outcome::quiet(Status::Done)
+            ..FinishedRun::quiet(Status::Done)
         }),
         Err(_) => Err(RunFault::Write),
     }
@@ -74,7 +74,7 @@ pub(crate) fn do_cards<P: CardSolver, O: Sink, R: NamedFiles + NewFiles>(
     options: CardsOptions<'_>,
     solver: &P,
     output: &mut O,
-) -> Result<Outcome, RunFault>
+) -> Result<FinishedRun, RunFault>
     ensures { DoesCards (P.may_find_cards solver.now) (R.may_open rt.now) (R.may_make rt.now) options.entry
         options.entry.proof (O.state output.old) (O.state output.new) result }
 {

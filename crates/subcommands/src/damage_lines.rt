@@ -3,7 +3,7 @@
 ghost use Rattle.std.specs.Prelude.{◌∷◌, ◌++◌, []};
 ghost use Rattle.std.specs.Fmt.{decimal};
 ghost use Rattle.cards.specs.Devices.{Writes};
-ghost use Rattle.subcommands.specs.Outcomes.{TellsDamage, damage_line};
+ghost use Rattle.subcommands.specs.FinishedRuns.{TellsDamage, damage_line};
 
 use crate::counted::write_counted;
 use cards::{DeviceFault, Sink, write_all, write_number};

@@ -9,9 +9,9 @@ ghost use Rattle.subcommands.specs.KeptTables.{FillsTables, HasKept, IsSaidOf, w
 
 use crate::beside::{Making, write_tables_beside};
 use crate::faults::RunFault;
+use crate::finished_runs::FinishedRun;
 use crate::kept_files::KeptFiles;
 use crate::notes::Notes;
-use crate::outcomes::Outcome;
 use crate::pages::{Unwatched, write_page};
 use answer_subcommands::FileFault;
 use asked::TableOptions;
@@ -28,17 +28,17 @@ use std::thread::Threads;
 /// What came of the tables beside a file, and the file.
 #[derive(Drop)]
 struct Ended<F> {
-    answer: Result<Outcome, RunFault>,
+    answer: Result<FinishedRun, RunFault>,
     file: F,
 }
 
 /// What came of tables, with what is said of the file to which evidence is added: how it can be used, and whether all
 /// was kept.
 fn with_file(
-    answer: Result<Outcome, RunFault>,
+    answer: Result<FinishedRun, RunFault>,
     access: Access,
     kept: Result<(), KeepFault>,
-) -> Result<Outcome, RunFault>
+) -> Result<FinishedRun, RunFault>
     ensures { result ≡ with_file answer access kept }
 {
     let outcome = answer?;
@@ -46,7 +46,7 @@ fn with_file(
         read_only: access.is_read_only(),
         ..outcome.notes
     };
-    Ok(Outcome {
+    Ok(FinishedRun {
         notes,
         kept,
         ..outcome
@@ -119,7 +119,7 @@ fn fill_tables<
     means: &Means<'_, P, G, C>,
     input: &mut I,
     output: &mut O,
-) -> Result<Outcome, RunFault>
+) -> Result<FinishedRun, RunFault>
     ensures { FillsTables (R.may_keep rt.now) (C.may_tell means.now.clock.now) options.entry options.entry.evidence
         (devices (I.state input.old) (O.state output.old))
         (devices (I.state input.new) (O.state output.new)) result }
@@ -150,7 +150,7 @@ pub(crate) fn keep_tables<
     means: &Means<'_, P, G, C>,
     input: &mut I,
     output: &mut O,
-) -> Result<Outcome, RunFault>
+) -> Result<FinishedRun, RunFault>
     ensures { FillsTables (R.may_keep rt.now) (C.may_tell means.now.clock.now) options.entry options.entry.evidence
         (devices (I.state input.old) (O.state output.old))
         (devices (I.state input.new) (O.state output.new)) result }

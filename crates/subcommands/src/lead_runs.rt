@@ -6,8 +6,8 @@ ghost use Rattle.subcommands.specs.LeadRuns.{LeadsBoards, lead_outcome, lead_sta
 ghost use Rattle.subcommands.specs.NamedBoards.{DoesOn};
 
 use crate::faults::RunFault;
+use crate::finished_runs::FinishedRun;
 use crate::named_boards::of_boards;
-use crate::outcomes::Outcome;
 use answer_subcommands::{FileFault, NamedFiles, Status};
 use asked::LeadsOptions;
 use cards::{Sink, Source};
@@ -28,11 +28,11 @@ fn lead_status(report: LeadReport) -> Status
 }
 
 /// What came of leads.
-fn lead_outcome(answer: Result<LeadReport, LeadFault>) -> Result<Outcome, RunFault>
+fn lead_outcome(answer: Result<LeadReport, LeadFault>) -> Result<FinishedRun, RunFault>
     ensures { result ≡ lead_outcome answer }
 {
     match answer {
-        Ok(report) => Ok(Outcome::quiet(lead_status(report))),
+        Ok(report) => Ok(FinishedRun::quiet(lead_status(report))),
         Err(fault) => Err(RunFault::from(fault)),
     }
 }
@@ -45,7 +45,7 @@ fn write_leads<P: CardSolver + Sync, I: Source, O: Sink, R: Threads + Sync>(
     solver: &P,
     input: &mut I,
     output: &mut O,
-) -> Result<Outcome, RunFault>
+) -> Result<FinishedRun, RunFault>
     ensures { LeadsBoards (P.may_find_cards solver.now) options.entry
         (devices (I.state input.old) (O.state output.old)) (devices (I.state input.new) (O.state output.new)) result }
 {
@@ -65,7 +65,7 @@ pub(crate) fn lead_boards<P: CardSolver + Sync, I: Source, O: Sink, R: Threads +
     solver: &P,
     input: &mut I,
     output: &mut O,
-) -> Result<Outcome, RunFault>
+) -> Result<FinishedRun, RunFault>
     ensures { DoesOn (R.may_open rt.now) options.entry.boards
         (LeadsBoards (P.may_find_cards solver.now) options.entry)
         (devices (I.state input.old) (O.state output.old)) (devices (I.state input.new) (O.state output.new)) result }

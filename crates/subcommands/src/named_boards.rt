@@ -8,9 +8,9 @@ ghost use Rattle.subcommands.specs.NamedBoards.{DoesOn, of_boards};
 
 use crate::auditing::audit_file;
 use crate::faults::RunFault;
+use crate::finished_runs::FinishedRun;
 use crate::kept_files::KeptFiles;
 use crate::kept_tables::keep_tables;
-use crate::outcomes::Outcome;
 use answer_subcommands::{FileFault, NamedFiles};
 use asked::{AuditOptions, TableOptions};
 use cards::{Sink, Source};
@@ -22,7 +22,7 @@ use std::sync::Wait;
 use std::thread::Threads;
 
 /// What came of a run with a file of boards as its input: if the input has failed, the file has.
-pub(crate) fn of_boards(answer: Result<Outcome, RunFault>) -> Result<Outcome, RunFault>
+pub(crate) fn of_boards(answer: Result<FinishedRun, RunFault>) -> Result<FinishedRun, RunFault>
     ensures { result ≡ of_boards answer }
 {
     match answer {
@@ -32,8 +32,8 @@ pub(crate) fn of_boards(answer: Result<Outcome, RunFault>) -> Result<Outcome, Ru
     }
 }
 
-/// Writes the tables of the boards of the file that is named, or of the input. The input is not read if a file is named.
-/// If the file can't be opened, nothing else is.
+/// Writes the tables of the boards of the named file, or of the input. The input is not read if a file is named. If the
+/// file can't be opened, nothing else is.
 pub(crate) fn table_boards<
     P: Solver + Sync,
     G: Gate + Sync,
@@ -48,7 +48,7 @@ pub(crate) fn table_boards<
     means: &Means<'_, P, G, C>,
     input: &mut I,
     output: &mut O,
-) -> Result<Outcome, RunFault>
+) -> Result<FinishedRun, RunFault>
     ensures { DoesOn (R.may_open rt.now) options.entry.boards
         (FillsTables (R.may_keep rt.now) (C.may_tell means.now.clock.now) options.entry options.entry.evidence)
         (devices (I.state input.old) (O.state output.old))
@@ -71,7 +71,7 @@ pub(crate) fn audit_boards<R: Threads + Sync + NamedFiles, I: Source, O: Sink>(
     options: AuditOptions<'_>,
     input: &mut I,
     output: &mut O,
-) -> Result<Outcome, RunFault>
+) -> Result<FinishedRun, RunFault>
     ensures { DoesOn (R.may_open rt.now) options.entry.boards
         (AuditsFile (R.may_open rt.now) options.entry.file.now options.entry.page)
         (devices (I.state input.old) (O.state output.old))

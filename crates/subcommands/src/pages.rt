@@ -5,8 +5,8 @@ ghost use Rattle.streams.specs.RunStreams.{devices};
 ghost use Rattle.subcommands.specs.Pages.{IsOutcomeOf, WritesTables};
 
 use crate::faults::RunFault;
+use crate::finished_runs::FinishedRun;
 use crate::making::make_tables;
-use crate::outcomes::Outcome;
 use crate::reports::{count_refusals, page_status, searched_notes};
 use crate::searches::{Counted, Tally};
 use asked::{PageForm, TableOptions};
@@ -45,7 +45,7 @@ pub(crate) fn write_page<
     means: &Means<'_, P, G, C>,
     input: &mut I,
     output: &mut O,
-) -> Result<Outcome, RunFault>
+) -> Result<FinishedRun, RunFault>
     ensures { WritesTables (C.may_tell means.now.clock.now) options.entry
         (devices (I.state input.old) (O.state output.old)) (devices (I.state input.new) (O.state output.new)) result }
 {
@@ -64,11 +64,11 @@ pub(crate) fn write_page<
 }
 
 /// What came of a page that was written for the book of a run.
-pub(crate) fn outcome_of(page: PageForm, report: Report, book: &Book, tally: &Tally) -> Outcome
+pub(crate) fn outcome_of(page: PageForm, report: Report, book: &Book, tally: &Tally) -> FinishedRun
     ensures { IsOutcomeOf page report book.now result }
 {
     let searches = tally.with_refused(count_refusals(book.history()));
-    Outcome {
+    FinishedRun {
         status: page_status(page, report, book.boards()),
         damage: Damage { count: 0, first: 0 },
         notes: searched_notes(report, book, searches),

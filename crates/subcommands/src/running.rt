@@ -4,21 +4,21 @@ ghost use Rattle.std.specs.Prelude.{◌≡◌, None, option_map};
 ghost use Rattle.streams.specs.Flushes.{inner_contents};
 ghost use Rattle.streams.specs.RunStreams.{devices_of};
 ghost use Rattle.answer_subcommands.specs.declared.statuses.Status.TheVariants.{Failed};
-ghost use Rattle.subcommands.specs.Outcomes.{shelf_fault};
+ghost use Rattle.subcommands.specs.FinishedRuns.{shelf_fault};
 ghost use Rattle.subcommands.specs.Explanations.{told_text};
 ghost use Rattle.subcommands.specs.Statuses.{IsTold};
-ghost use Rattle.subcommands.specs.Runs.{Closes, Ends, EndsRead, RunsSubcommand, Shows, boards_of, file_named, file_of};
-ghost use Rattle.subcommands.specs.Runs.{proof_file};
+ghost use Rattle.subcommands.specs.Runs.{Ends, EndsRead, EndsStreams, RunsSubcommand, Shows};
+ghost use Rattle.subcommands.specs.Runs.{boards_of, file_named, file_of, proof_file};
 
 use crate::card_runs::do_cards;
 use crate::damage_lines::tell_damage;
 use crate::faults::{RunFault, tell, tell_of_file};
+use crate::finished_runs::{FinishedRun, done_quietly, quietly};
 use crate::kept_files::KeptFiles;
 use crate::lead_runs::lead_boards;
 use crate::named_boards::{audit_boards, table_boards};
 use crate::new_files::NewFiles;
 use crate::notes::tell_notes;
-use crate::outcomes::{Outcome, done_quietly, quietly};
 use answer_subcommands::{
     FileFault, NamedFiles, Status, check_answer, follow_answer, plain_line, play_answer,
     solve_layout,
@@ -37,10 +37,10 @@ use streams::{InputFault, Streams, WriterSink};
 
 /// Does what is asked, and answers how the run ends.
 ///
-/// A fault is written on the error output, with a line that explains it. Then the output has nothing but what `play` has
-/// written, and the beginning that a failed output has taken. After a page that was written, the error output has what
-/// was passed over of evidence, the notes, and what could not be read or kept. Otherwise it stays as it was. If it fails,
-/// nobody is left to be told.
+/// A fault is written on the error output, with a line that explains it. Then the output has nothing but what `play`
+/// has written, and the beginning that a failed output has taken. After a page that was written, the error output has
+/// what was passed over of evidence, the notes, and what could not be read or kept. Otherwise it stays as it was. If it
+/// fails, nobody is left to be told.
 pub fn run_subcommand<
     P: Solver + CardSolver + Sync,
     G: Gate + Sync,
@@ -149,7 +149,11 @@ fn file_named(asked: Subcommand<'_>, fault: RunFault) -> Option<&str>
 }
 
 /// Writes what there is to say of a run, and answers how it ends.
-fn end<E: Sink>(asked: Subcommand<'_>, answer: Result<Outcome, RunFault>, errors: &mut E) -> Status
+fn end<E: Sink>(
+    asked: Subcommand<'_>,
+    answer: Result<FinishedRun, RunFault>,
+    errors: &mut E,
+) -> Status
     ensures { Ends asked.entry answer (E.state errors.old) (E.state errors.new) result }
 {
     match answer {
@@ -164,7 +168,7 @@ fn end<E: Sink>(asked: Subcommand<'_>, answer: Result<Outcome, RunFault>, errors
 
 /// Tells what hindered that all evidence was read or kept, the reading before the keeping, and answers how the run
 /// ends.
-fn end_done<E: Sink>(outcome: Outcome, errors: &mut E) -> Status
+fn end_done<E: Sink>(outcome: FinishedRun, errors: &mut E) -> Status
     ensures { EndsRead outcome.read outcome.kept outcome.status (E.state errors.old) (E.state errors.new) result }
 {
     match outcome.read {
@@ -199,21 +203,20 @@ pub fn show<I: Source, O: Sink, E: Sink>(text: &[u8], streams: &mut Streams<I, O
     }
 }
 
-/// Flushes the output, however the run ended, and answers the exit status: what was written goes out, also before a
-/// fault, as tables beside which evidence could not be kept. Where the flush fails, a run that was done has failed, and
-/// that is told on the error output; one that had failed or was refused was told of already, and ends as it did.
-pub fn close_output<W: Write + Drop, E: Sink>(
+/// Flushes the output, however the run ended, and answers the exit status. So what was written is there also after a
+/// fault, such as tables whose evidence could not be kept. If the flush fails, a run that was done has failed, and the
+/// error output says so. A run that had failed or was refused has said why, and ends as it did.
+pub fn close_output<I: Source, W: Write + Drop, E: Sink>(
     code: u8,
-    output: &mut WriterSink<BufWriter<W>>,
-    errors: &mut E,
+    streams: &mut Streams<I, WriterSink<BufWriter<W>>, E>,
 ) -> u8
-    ensures { Closes (⟦<WriterSink<BufWriter<W>> as Sink>⟧.state output.old)
-        (⟦<WriterSink<BufWriter<W>> as Sink>⟧.state output.new)
-        (inner_contents W.contents output.new) (E.state errors.old) (E.state errors.new) code result }
+    ensures { EndsStreams (devices_of I.state ⟦<WriterSink<BufWriter<W>> as Sink>⟧.state E.state streams.old)
+        (devices_of I.state ⟦<WriterSink<BufWriter<W>> as Sink>⟧.state E.state streams.new)
+        (inner_contents W.contents streams.new.output) code result }
 {
-    match output.flush() {
+    match streams.output.flush() {
         Ok(()) => code,
         Err(_) if code == Status::Failed.code() || code == Status::Refused.code() => code,
-        Err(_) => tell(RunFault::Write, errors).code(),
+        Err(_) => tell(RunFault::Write, &mut streams.errors).code(),
     }
 }

@@ -4,7 +4,7 @@ use Rattle.pbn_deals.specs.Reading.{TextAnswers}
 use Rattle.lease_book.specs.Histories.{Terms}
 use Rattle.subcommands.specs.Beside.{IsRunBesideFile, IsRunBesideSome}
 use Rattle.subcommands.specs.declared.notes.Notes.{Notes}
-use Rattle.subcommands.specs.declared.outcomes.Outcome.{Outcome}
+use Rattle.subcommands.specs.declared.finished_runs.FinishedRun.{FinishedRun}
 use Rattle.tournaments.specs.Putting.{PutsPage, page_fact}
 use Rattle.tournaments.proofs.PutLaws.{page_filled, page_begun}
 use Rattle.subcommands.proofs.BesideLaws.{unmade}
@@ -29,7 +29,7 @@ returns g c =
     let page = c.args.making.options.page in
     let is_run = IsRunBesideFile (g.F.Read.remaining c.args.file) c.in_ok-text.read (g.C.Clock.may_tell c.args.making.means.now.clock.now) in
     let run = subst (λ (terms : Terms). is_run terms book.events) (sym made.terms_are) made.run in
-    let said = ap (λ (o : Outcome). o.notes) c.outcome_of.ensures.is in
+    let said = ap (λ (o : FinishedRun). o.notes) c.outcome_of.ensures.is in
     let same_notes : record c.outcome_of.result.notes { read_only = false } ≡ c.outcome_of.result.notes =
     ap (λ (n : Notes). let m : Notes = record n { read_only = false } in m) said ∙ sym said in
     let put = subst (λ (t : List ℕ). PutsPage (page_fact page) t book (g.O.Sink.state c.args.output.now) (g.O.Sink.state c.put_page.new.output) (Ok c.in_ok-report.report)) c.as_slice.ensures.value c.in_ok-report.ensures in (

@@ -10,7 +10,7 @@ use Rattle.evidence_solvers.specs.declared.faults.KeepFault.TheVariants as keep
 use Rattle.subcommands.specs.declared.faults.RunFault.{RunFault}
 use Rattle.subcommands.specs.declared.faults.RunFault.TheVariants.{Evidence, Unkept}
 use Rattle.answer_subcommands.specs.declared.named_files.FileFault.TheVariants as file
-use Rattle.subcommands.specs.declared.outcomes.Outcome.{Outcome}
+use Rattle.subcommands.specs.declared.finished_runs.FinishedRun.{FinishedRun}
 use Rattle.answer_subcommands.specs.declared.statuses.Status.{Status}
 use Rattle.answer_subcommands.specs.declared.statuses.Status.TheVariants.{Done}
 use Rattle.subcommands.specs.Counted.{counted}
@@ -22,25 +22,25 @@ abbrev pub undamaged : Damage
 undamaged = record { count = 0; first = 0 }
 
 -- a run of which nothing is said, that has passed nothing over and had nothing to keep
-abbrev pub quiet : Status → Outcome
+abbrev pub quiet : Status → FinishedRun
 quiet status =
     record { status = status; damage = undamaged; notes = quiet_notes; read = Ok tt; kept = Ok tt }
 
 -- what comes of what such a run answers
-abbrev pub quiet_answer : Result Status AnswerFault → Result Outcome RunFault
+abbrev pub quiet_answer : Result Status AnswerFault → Result FinishedRun RunFault
 quiet_answer (Ok status) = Ok (quiet status)
 quiet_answer (Err fault) = Err (answer_fault fault)
 
 -- what such a run answers is so
-abbrev pub Quietly : (Result Status AnswerFault → Type 0) → Result Outcome RunFault → Type 0
+abbrev pub Quietly : (Result Status AnswerFault → Type 0) → Result FinishedRun RunFault → Type 0
 Quietly Fact answer = (ended : Result Status AnswerFault) × (answer ≡ quiet_answer ended) × Fact ended
 
 -- the same of a run that answers no more than that all is done
-abbrev pub done_answer : Result Unit AnswerFault → Result Outcome RunFault
+abbrev pub done_answer : Result Unit AnswerFault → Result FinishedRun RunFault
 done_answer (Ok done) = Ok (quiet Done)
 done_answer (Err fault) = Err (answer_fault fault)
 
-abbrev pub DoneQuietly : (Result Unit AnswerFault → Type 0) → Result Outcome RunFault → Type 0
+abbrev pub DoneQuietly : (Result Unit AnswerFault → Type 0) → Result FinishedRun RunFault → Type 0
 DoneQuietly Fact answer = (ended : Result Unit AnswerFault) × (answer ≡ done_answer ended) × Fact ended
 
 -- ---- what is told

@@ -1,7 +1,7 @@
 //! What came of a run that was done.
 
 ghost use Rattle.std.specs.Prelude.{◌≡◌};
-ghost use Rattle.subcommands.specs.Outcomes.{done_answer, quiet, quiet_answer};
+ghost use Rattle.subcommands.specs.FinishedRuns.{done_answer, quiet, quiet_answer};
 
 use crate::faults::RunFault;
 use crate::notes::Notes;
@@ -12,7 +12,7 @@ use streams::InputFault;
 
 /// What came of a run that was done.
 #[derive(Clone, Copy)]
-pub(crate) struct Outcome {
+pub(crate) struct FinishedRun {
     /// How it ends.
     pub(crate) status: Status,
     /// What was passed over of its evidence, as far as that was read.
@@ -25,12 +25,12 @@ pub(crate) struct Outcome {
     pub(crate) kept: Result<(), KeepFault>,
 }
 
-impl Outcome {
+impl FinishedRun {
     /// Of a run of which nothing is said, that has passed nothing over and had nothing to keep.
-    pub(crate) fn quiet(status: Status) -> Outcome
+    pub(crate) fn quiet(status: Status) -> FinishedRun
         ensures { result ≡ quiet status }
     {
-        Outcome {
+        FinishedRun {
             status,
             damage: Damage { count: 0, first: 0 },
             notes: Notes::none(),
@@ -41,21 +41,21 @@ impl Outcome {
 }
 
 /// What came of a run of which nothing is said, that passes nothing over and has nothing to keep.
-pub(crate) fn quietly(answer: Result<Status, AnswerFault>) -> Result<Outcome, RunFault>
+pub(crate) fn quietly(answer: Result<Status, AnswerFault>) -> Result<FinishedRun, RunFault>
     ensures { result ≡ quiet_answer answer }
 {
     match answer {
-        Ok(status) => Ok(Outcome::quiet(status)),
+        Ok(status) => Ok(FinishedRun::quiet(status)),
         Err(fault) => Err(RunFault::from(fault)),
     }
 }
 
 /// The same of a run that answers no more than that all is done.
-pub(crate) fn done_quietly(answer: Result<(), AnswerFault>) -> Result<Outcome, RunFault>
+pub(crate) fn done_quietly(answer: Result<(), AnswerFault>) -> Result<FinishedRun, RunFault>
     ensures { result ≡ done_answer answer }
 {
     match answer {
-        Ok(()) => Ok(Outcome::quiet(Status::Done)),
+        Ok(()) => Ok(FinishedRun::quiet(Status::Done)),
         Err(fault) => Err(RunFault::from(fault)),
     }
 }
