@@ -1,7 +1,6 @@
 //! The tables of whole lists of requests.
 
 use crate::expect::{expect_bytes, expect_eq};
-use crate::table_tests::TABLE;
 use crate::tournament_tests::{BUDGET, NOT_COMPLETE, ONE_SUIT_EACH, incomplete};
 use cards::{Buffer, Seat, Suit, Trump};
 use certificate_graph::{Graph, Solver};
@@ -12,6 +11,7 @@ use std::alloc::{AllocError, Global};
 use std::process::Abort;
 use std::test::Fail;
 use tables::Report;
+use test_support::four_suits::TABLE;
 use tournaments::{MakeFault, replay_tables};
 
 /// A graph of an ending of one card a hand: North wins the trick in no-trump.
@@ -125,7 +125,13 @@ fn all_answers(rt: HostRuntime) -> Result<(), Fail> {
         boards: 1,
         complete: 1,
     };
-    expect_replayed(&rt, rt.alloc(), requests.as_slice(), complete, TABLE)
+    expect_replayed(
+        &rt,
+        rt.alloc(),
+        requests.as_slice(),
+        complete,
+        TABLE.as_bytes(),
+    )
 }
 
 /// A lease, and a hand-in that is good for another deal. Then a good hand-in, which counts though its lease ran out;

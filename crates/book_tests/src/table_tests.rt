@@ -10,39 +10,12 @@ use std::alloc::{AllocError, Global};
 use std::process::Abort;
 use std::test::Fail;
 use tables::{BoardPar, Renews, Report, Sheet, write_sheet};
+use test_support::four_suits::TABLE;
 use test_support::texts::joined;
 
 /// The board of four hands of one suit each, spades with North and then clockwise.
 const ONE_SUIT_EACH: &[u8] =
     b"N:AKQJT98765432... .AKQJT98765432.. ..AKQJT98765432. ...AKQJT98765432";
-
-/// Its table, of 320 bytes.
-pub(crate) const TABLE: &[u8] = b"% PBN 2.1
-[Board \"1\"]
-[Deal \"N:AKQJT98765432... .AKQJT98765432.. ..AKQJT98765432. ...AKQJT98765432\"]
-[OptimumResultTable \"Declarer;Denomination\\2R;Result\\2R\"]
-N NT  0
-N  S 13
-N  H  0
-N  D 13
-N  C  0
-S NT  0
-S  S 13
-S  H  0
-S  D 13
-S  C  0
-E NT  0
-E  S  0
-E  H 13
-E  D  0
-E  C 13
-W NT  0
-W  S  0
-W  H 13
-W  D  0
-W  C 13
-
-";
 
 /// Its results, clockwise from North, and for each seat no-trump first and then the suits in their order.
 const RESULTS: &[u8; 20] = &[
@@ -149,12 +122,19 @@ fn a_complete_table(rt: HostRuntime) -> Result<(), Fail> {
         complete: 1,
     };
     for greatest_piece in [1, 7, 1000] {
-        expect_written(&rt, alloc, &sheet, greatest_piece, complete, TABLE)?;
+        expect_written(
+            &rt,
+            alloc,
+            &sheet,
+            greatest_piece,
+            complete,
+            TABLE.as_bytes(),
+        )?;
     }
     for room in 0..TABLE.len() {
         let mut sink = Buffer::new(alloc, room, 7)?;
         expect_eq(&rt, &write_sheet(&sheet, &mut sink), &Err(DeviceFault));
-        expect_bytes(&rt, sink.bytes(), &TABLE[..room]);
+        expect_bytes(&rt, sink.bytes(), &TABLE.as_bytes()[..room]);
     }
     Ok(())
 }
