@@ -4,7 +4,8 @@ use Rattle.checker.specs.FaultWords.{node_fault_text, step_fault_text}
 use Rattle.play_dialogues.specs.CardTexts.{card_text}
 use Rattle.card_values.specs.declared.faults.AfterFault.{AfterFault}
 use Rattle.card_values.specs.declared.faults.AfterFault.TheVariants.{RootMissing, RootNeedless, RootTrump, RootSide}
-use Rattle.card_values.specs.declared.faults.AfterFault.TheVariants.{RootForm, RootLead, RootNeed, RootPattern, Begun, Node}
+use Rattle.card_values.specs.declared.faults.AfterFault.TheVariants.{RootForm, RootLead, RootNeed, RootPattern}
+use Rattle.card_values.specs.declared.faults.AfterFault.TheVariants.{Begun, Node}
 use Rattle.card_values.specs.declared.faults.CardFault.TheVariants.{ClaimMissing, TricksTooLarge, Player, Others}
 use Rattle.answer_subcommands.specs.declared.card_audits.EvidenceRefusal.{EvidenceRefusal}
 use Rattle.answer_subcommands.specs.declared.card_audits.EvidenceRefusal.TheVariants.{Text, Position, Card}

@@ -70,9 +70,9 @@ fn audit_text<R: Threads + Sync, I: Source, E: Source>(
     }
 }
 
-/// Reads the boards of a PBN text to its end and then the evidence, checks each section of it whose deal is on a board,
-/// and writes the page that is asked for, with what was shown. The book and what was passed over are handed out. Nothing
-/// is searched.
+/// Reads the boards of a PBN text to its end and then the evidence, checks each section whose deal is on a board, and
+/// writes the page that is asked for, with what was shown. It hands out the book and what was passed over. Nothing is
+/// searched.
 ///
 /// Whatever the evidence is, a number that is written is the double-dummy value of its deal. An entry has one exactly
 /// where a section for its deal and denomination has a claim for its declarer that the graphs of the section show, and

@@ -70,8 +70,8 @@ NothingIsLeft =
     ⊎ ((list_any (is_for_place (place_of (twin_of terms.boards entry))) (held_after before) ≡ true)
     ⊎ (times_leased before (place_of (twin_of terms.boards entry)) ≡ terms.tries))
 
--- a lease of a legal history that is held, and that no event has settled, may be given up: then no lease is settled twice
--- that was not before
+-- A lease of a legal history that is held, and that no event has settled, may be given up. Then no lease is settled
+-- twice that was not before.
 abbrev pub MayGiveUpUnsettled : Type 0
 MayGiveUpUnsettled =
     (terms : Terms) (events : List Event) (place lease : ℕ) (reply : Reply) → IsLegal terms events

@@ -99,8 +99,8 @@ receipts_for place chairs = sum_by (λ chair. count_by (is_for place) (receipts_
 abbrev pub shown_of : Chair → ℕ × List Receipt
 shown_of chair = (number_of chair, receipts_in chair)
 
--- The closed book: its history is legal over the terms of the opening and begins with that of the opening, each receipt
--- stands in it at its place, each later place is in one chair, once, and no earlier one is in any, and there are as many
+-- The closed book: its history is legal over the terms of the opening and begins with that of the opening. Each receipt
+-- is in it at its place. Each later place is in one chair, once, and no earlier one is in any, and there are as many
 -- later events as receipts. The chairs have the receipts that they had.
 pub record IsClosed (terms : Terms) (start : List Event) (chairs : List Chair) (book : Ledger) (closed : List Chair)
     : Type 0 where

@@ -104,7 +104,8 @@ heard v w = record {
 
 -- a chair's receipts are those on the last page, where it was told the page
 abbrev pub Compared : View → List Message → Type 0
-Compared v items = (k : ℕ) (last : SeenMessage) → v.number ≡ Some k → v.told ≡ Some last → v.receipts ≡ receipts_on last k
+Compared v items =
+    (k : ℕ) (last : SeenMessage) → v.number ≡ Some k → v.told ≡ Some last → v.receipts ≡ receipts_on last k
 
 abbrev pub Silent : View → List Message → Type 0
 Silent v items = Unit {0}

@@ -28,7 +28,8 @@ pub enum LineStart<'a> {
 
 /// What a line is, where `is_open` says that a brace comment is open before it.
 pub fn line_start(is_open: bool, line: &[u8]) -> LineStart<'_>
-    ensures { (kind : Kind) (last : Bool) → LineIs is_open line.now kind last → Starts is_open line.now kind last result }
+    ensures { (kind : Kind) (last : Bool) → LineIs is_open line.now kind last
+        → Starts is_open line.now kind last result }
 {
     if is_open {
         let Some((_, rest)) = split_at_byte(line, b'}') else {

@@ -34,8 +34,8 @@ impl<S: Sink> Told<S> {
         self.moment = now;
     }
 
-    /// A claim for this entry had this reply at this moment. A published result counts, and a line is written unless one
-    /// was in the same moment. Any other reply changes nothing.
+    /// A claim for this entry had this reply at this moment. A published result counts, and a line is written unless
+    /// one was in the same moment. Any other reply changes nothing.
     fn hear(&mut self, entry: Entry, reply: Reply, now: u64)
         ensures other { (IsPublished reply → ⊥) → self.new ≡ self.old }
         ensures counts { IsPublished reply → AddsResult self.old.counts self.new.counts entry.board }

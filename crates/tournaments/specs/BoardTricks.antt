@@ -10,7 +10,8 @@ AreAtMost13 tricks = (declarer : Seat) (denomination : Trump) → tricks declare
 
 -- the results are these
 pub record HasTricks (results : Results) (tricks : Seat → Trump → ℕ) : Type 0 where
-  pub are : (declarer : Seat) (denomination : Trump) → results declarer denomination ≡ Some (tricks declarer denomination)
+  pub are : (declarer : Seat) (denomination : Trump)
+      → results declarer denomination ≡ Some (tricks declarer denomination)
   pub at_most : AreAtMost13 tricks
 
 -- the row has those of a declarer

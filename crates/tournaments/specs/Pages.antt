@@ -39,8 +39,8 @@ IsTrueTable board (Rows rows) = All (IsTrueRow board) rows
 IsTrueTable board (Incomplete count) = ⊤
 
 -- The page is read as one block for each board, in their order, and nothing else. A block has the board's name and its
--- deal. Then it has its par, if it has one, and twenty rows, one for each declarer and denomination, with the number that
--- the history publishes, or it says how many of the twenty are published (`SaysBoard`). Each number in it is the
+-- deal. Then it has its par, if it has one, and twenty rows, one for each declarer and denomination, with the number
+-- that the history publishes, or it says how many of the twenty are published (`SaysBoard`). Each number in it is the
 -- double-dummy value.
 pub record IsReadOnce (pars : Pars) (boards : List Board) (events : List Event) (page : List ℕ) : Type 0 where
   pub blocks : List Block

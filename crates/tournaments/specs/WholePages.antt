@@ -19,11 +19,11 @@ use Rattle.whole_texts.specs.Laws.{LosesNothing, ShowsBoard, ShowGames}
 abbrev pub games_with_deal : List Line → List Game
 games_with_deal lines = filter (λ game. has_deal game.lines) (games_of lines)
 
--- The page is the text with these pars and the tables of its boards in place of its old tables and, if `renews` says so,
--- of its old pars. It is read as the same boards, and without what was put in it, it is the text without what went. Read
--- by its lines, the games with a Deal tag show the boards, in order: each shows the par and the results of its board
--- once, and each result is the double-dummy value of its deal. If the board has no deal, the game shows no results. A
--- game without a Deal tag is as it was.
+-- The page is the text with these pars and the tables of its boards in place of its old tables and, if `renews` says
+-- so, of its old pars. It is read as the same boards. Without what was put in it, it is the text without what was
+-- dropped. Read by its lines, the games with a Deal tag show the boards, in order: each shows the par and the results
+-- of its board once, and each result is the double-dummy value of its deal. If the board has no deal, the game shows no
+-- results. A game without a Deal tag is as it was.
 pub record IsWholePage (renews : Renews) (pars : Pars) (text : List ℕ) (boards : List Board) (events : List Event)
     (page : List ℕ)
     : Type 0 where
