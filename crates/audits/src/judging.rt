@@ -1,19 +1,22 @@
 //! What pieces of evidence show.
 
-ghost use Rattle.std.specs.Prelude.{IfOk};
+ghost use Rattle.std.specs.Prelude.{◌≡◌, IfOk};
 ghost use Rattle.std.specs.List.{AllZip};
 ghost use Rattle.lease_book.specs.Books.{AreBoards};
+ghost use Rattle.checker.specs.Pairs.{IsPairOf};
 ghost use Rattle.audits.specs.Firsts.{AreShownBy};
 ghost use Rattle.audits.specs.Batches.{Judges, JudgesSection};
 
 use crate::boards::board_with;
 use crate::firsts::FirstProofs;
 use cards::OutOfMemory;
-use checker::{CheckedPair, Proven, check_claim, graphs_have_one_answer};
+use certificate_graph::{Bundle, Graph};
+use checker::{CheckedGraph, CheckedPair, Proven, check_claim, graphs_have_one_answer};
 use evidence::{Part, Piece, Section};
 use pbn_deals::Board;
 use rayon::prelude::*;
 use std::alloc::{AllocError, Global};
+use std::sync::Arc;
 use std::thread::Threads;
 
 /// What a piece of evidence shows.
@@ -29,17 +32,45 @@ pub(crate) enum Judged {
     NoMemory,
 }
 
+/// Checks a graph once, on this thread.
+fn checked(alloc: Global, graph: &Arc<Graph>) -> Result<Arc<CheckedGraph>, AllocError>
+    ensures { IfOk result (λ checked. checked.value ≡ graph.now.value) }
+{
+    let graph = graph.clone()?;
+    Ok(Arc::new(alloc, CheckedGraph::of(graph))?)
+}
+
+/// Checks the graphs of a bundle. If it is alone, several threads check a large graph. Otherwise they have other pieces
+/// to check, and each new thread would cost more than it gains.
+fn checked_pair<R: Threads + Sync>(
+    rt: &R,
+    alloc: Global,
+    bundle: &Bundle,
+    is_alone: bool,
+) -> Result<CheckedPair, AllocError>
+    ensures { IfOk result (IsPairOf bundle.now) }
+{
+    if is_alone {
+        return CheckedPair::of(rt, alloc, bundle);
+    }
+    Ok(CheckedPair {
+        ns: checked(alloc, &bundle.ns)?,
+        ew: checked(alloc, &bundle.ew)?,
+    })
+}
+
 /// Checks the graphs of a section, and gives the proofs of those of its claims that they show.
 fn proofs_of<R: Threads + Sync>(
     rt: &R,
     alloc: Global,
     section: Section,
+    is_alone: bool,
 ) -> Result<Vec<Proven>, OutOfMemory>
     ensures { IfOk result (λ proofs. AreShownBy section proofs.items) }
 {
     let (layout, trump) = (*section.layout(), section.trump());
     let bundle = section.into_bundle();
-    let Ok(pair) = CheckedPair::of(rt, alloc, &bundle) else {
+    let Ok(pair) = checked_pair(rt, alloc, &bundle, is_alone) else {
         return Err(OutOfMemory);
     };
     graphs_have_one_answer();
@@ -65,6 +96,7 @@ fn judge_section<R: Threads + Sync>(
     boards: &[Board],
     firsts: &FirstProofs,
     section: Section,
+    is_alone: bool,
 ) -> Judged
     requires { AreBoards boards.now }
     ensures { JudgesSection boards.now firsts.now section result }
@@ -75,7 +107,7 @@ fn judge_section<R: Threads + Sync>(
     if firsts.are_known(board, section.trump(), section.claims()) {
         return Judged::Passed;
     }
-    match proofs_of(rt, alloc, section) {
+    match proofs_of(rt, alloc, section, is_alone) {
         Ok(proofs) => Judged::Shows { board, proofs },
         Err(_) => Judged::NoMemory,
     }
@@ -88,12 +120,13 @@ fn judge<R: Threads + Sync>(
     boards: &[Board],
     firsts: &FirstProofs,
     piece: &Piece,
+    is_alone: bool,
 ) -> Judged
     requires { AreBoards boards.now }
     ensures { Judges boards.now firsts.now piece.now result }
 {
     match piece.read(alloc) {
-        Ok(Part::Found(section)) => judge_section(rt, alloc, boards, firsts, section),
+        Ok(Part::Found(section)) => judge_section(rt, alloc, boards, firsts, section, is_alone),
         Ok(Part::Damaged { at }) => Judged::Damaged { at },
         Ok(Part::End) | Err(_) => Judged::NoMemory,
     }
@@ -110,6 +143,7 @@ pub(crate) fn judge_all<R: Threads + Sync>(
     requires { AreBoards boards.now }
     ensures { IfOk result (λ judged. AllZip (Judges boards.now firsts.now) pieces.now judged.items) }
 {
+    let is_alone = pieces.len() == 1;
     pieces
         .par_iter()
         .with_min_len(1)
@@ -117,7 +151,7 @@ pub(crate) fn judge_all<R: Threads + Sync>(
             |piece: &Piece| -> Judged
                 requires { AreBoards boards.now }
                 ensures { Judges boards.entry.now firsts.entry.now piece.now result }
-            { judge(rt, alloc, boards, firsts, piece) },
+            { judge(rt, alloc, boards, firsts, piece, is_alone) },
         )
         .collect(rt, alloc)
 }
