@@ -13,10 +13,11 @@ use crate::sections::Section;
 use cards::Source;
 use memchr::memmem;
 use std::alloc::Global;
+use std::mem;
 use streams::InputFault;
 
 /// How many bytes are asked for at a time.
-const PIECE: usize = 16_384;
+pub(crate) const PIECE: usize = 16_384;
 
 /// What stands where two pieces meet: the end of a line, and a title.
 const BORDER: &[u8] = b"\nDDE 1\n";
@@ -114,6 +115,8 @@ pub(crate) struct Pieces<S> {
     pub(crate) held: Vec<u8>,
     /// How many bytes stand before them.
     pub(crate) before: u64,
+    /// Where the source puts bytes.
+    pub(crate) buffer: [u8; PIECE],
 }
 
 impl<S: Source> Pieces<S> {
@@ -131,14 +134,13 @@ impl<S: Source> Pieces<S> {
             self.new.held.items result }
         ensures before { self.new.before ≡ self.old.before }
     {
-        let mut buffer = [0u8; PIECE];
-        let Ok(count) = self.source.read(&mut buffer) else {
+        let Ok(count) = self.source.read(&mut self.buffer) else {
             return Err(InputFault::Read);
         };
         if count == 0 {
             return Ok(false);
         }
-        match self.held.extend_from_slice(&buffer[..count]) {
+        match self.held.extend_from_slice(&self.buffer[..count]) {
             Ok(()) => Ok(true),
             Err(_) => Err(InputFault::OutOfMemory),
         }
@@ -214,10 +216,12 @@ impl<S: Source> Pieces<S> {
         if end == 0 {
             return Ok(None);
         }
-        let Ok(bytes) = Vec::from_slice(alloc, &self.held[..end]) else {
+        // what is held becomes the piece, and only the few bytes after it are copied
+        let Ok(after) = Vec::from_slice(alloc, &self.held[end..]) else {
             return Err(InputFault::OutOfMemory);
         };
-        remove_front(&mut self.held, end);
+        let mut bytes = mem::replace(&mut self.held, after);
+        bytes.truncate(end);
         self.before = self.before.saturating_add(end as u64);
         Ok(Some(Piece { at, bytes, is_long }))
     }

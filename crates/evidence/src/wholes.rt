@@ -5,7 +5,7 @@ ghost use Rattle.evidence.specs.Wholes.{IsNextOf};
 ghost use Rattle.evidence.specs.Cuts.{IsNextCutOf};
 ghost use Rattle.evidence.specs.Pieces.{StopsSections};
 
-use crate::parts::{Part, Piece, Pieces};
+use crate::parts::{PIECE, Part, Piece, Pieces};
 use cards::Source;
 use std::alloc::Global;
 use std::marker::Model;
@@ -41,6 +41,7 @@ impl<S: Source> Sections<S> {
                 source,
                 held: Vec::new(alloc),
                 before: 0,
+                buffer: [0; PIECE],
             },
         }
     }

@@ -1,4 +1,4 @@
-use Rattle.std.proofs.Common.{◌<◌, ◌^◌, take, drop, refl, ap, sym, ◌∙◌, arith, length-take-le}
+use Rattle.std.proofs.Common.{◌<◌, ◌^◌, ◌-◌, ℕ, Vec, Global, length, length-drop, take_all, take, drop, refl, ap, sym, ◌∙◌, arith, length-take-le}
 use Rattle.evidence.proofs.PartLemmas.{at_end, cut_is}
 use Rattle.evidence.proofs.parts.Pieces.cut.Goals as goal
 
@@ -17,6 +17,10 @@ pub returns : goal.returns
 returns g c =
     let held = c.find_end.new.self.held.items in
     let end = c.in_ok-end.end in
-    cut_is _ _ _ _ held c.args.self.now.before _ _ end c.in_ok-end.is_long (take end held) _ c.in_ok-end.ensures refl refl c.remove_front.ensures
-    c.saturating_add-self.ensures (let some = c.if-end-eq0.false in omega arith) c.place-at.result c.in-Ok.bytes.items c.in_ok-end.is_long c.place-at.ensures.is
-    (c.in-Ok.ensures.items ∙ ap (take end) c.deref.ensures.value) refl
+    let seen = c.deref.result.now in
+    let behind = take_all (length seen - end) (drop end seen) (omega (arith, length-drop end seen)) in
+    let left = ap (λ (v : Vec ℕ Global). v.items) c.replace-bytes.ensures.after ∙ c.in-Ok.ensures.items ∙ behind ∙ ap (drop end) c.deref.ensures.value in
+    let whole = ap (λ (v : Vec ℕ Global). v.items) c.replace-bytes.ensures.value in
+    cut_is _ _ _ _ held c.args.self.now.before _ _ end c.in_ok-end.is_long (take end held) _ c.in_ok-end.ensures refl refl left
+    c.saturating_add-self.ensures (let some = c.if-end-eq0.false in omega arith) c.place-at.result c.truncate.new.self.items c.in_ok-end.is_long c.place-at.ensures.is
+    (c.truncate.ensures.items ∙ ap (take end) whole) refl
