@@ -6,7 +6,8 @@ pub(crate) struct Cursor<'a> {
     pub(crate) rest: &'a [u8],
 }
 
-/// Why a form was not read. Beside a rest of the text it goes in the same two registers.
+/// Why a form was not read. It is answered beside no rest of the text, which the cursor has: so the answer goes in
+/// registers.
 #[derive(Clone, Copy)]
 pub(crate) enum Stop {
     /// The text begins otherwise.

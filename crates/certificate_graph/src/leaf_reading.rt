@@ -8,7 +8,7 @@ ghost use Rattle.certificate_graph.specs.Rows.{children_row};
 ghost use Rattle.certificate_graph.specs.declared.children.Child.{Child};
 
 use crate::children::Child;
-use crate::cursors::Stop;
+use crate::cursors::{Cursor, Stop};
 use crate::rows::Token;
 use crate::scanning::{after_byte, read_number, read_seat};
 
@@ -26,17 +26,19 @@ fn read_child(text: &[u8]) -> Option<(Child, &[u8])>
     Some((Child { winner, number }, rest))
 }
 
-/// Puts children that follow another one, whose seats rise from this number on, at the end of a row. Answers the text
+/// Puts children that follow another one, whose seats rise from this number on, at the end of a row. Moves the cursor
 /// after the closing brace.
-fn read_more<'a>(text: &'a [u8], least: usize, row: &mut Vec<Token>) -> Result<&'a [u8], Stop>
+fn read_more(cursor: &mut Cursor<'_>, least: usize, row: &mut Vec<Token>) -> Result<(), Stop>
     requires { least ≤ 4 }
     ensures { Ends result
-        (λ rest. (more : List Child) × BeginsMore least text.now more rest.now
+        (λ done. (more : List Child) × BeginsMore least cursor.old.rest.now more cursor.new.rest.now
         × (row.new.items ≡ row.old.items ++ children_row more))
-        (LacksMore least text.now) }
+        (LacksMore least cursor.old.rest.now) }
 {
+    let text = cursor.rest;
     if let Some(rest) = after_byte(text, b'}') {
-        return Ok(rest);
+        cursor.rest = rest;
+        return Ok(());
     }
     let Some(rest) = after_byte(text, b' ') else {
         return Err(Stop::Other);
@@ -51,18 +53,21 @@ fn read_more<'a>(text: &'a [u8], least: usize, row: &mut Vec<Token>) -> Result<&
     let Ok(()) = row.push(Token::Child(child)) else {
         return Err(Stop::NoMemory);
     };
-    read_more(rest, seat + 1, row)
+    cursor.rest = rest;
+    read_more(cursor, seat + 1, row)
 }
 
-/// Puts the children of a leaf, whose seats rise, at the end of a row. Answers the text after the closing brace.
-pub(crate) fn read_children<'a>(text: &'a [u8], row: &mut Vec<Token>) -> Result<&'a [u8], Stop>
+/// Puts the children of a leaf, whose seats rise, at the end of a row. Moves the cursor after the closing brace.
+pub(crate) fn read_children(cursor: &mut Cursor<'_>, row: &mut Vec<Token>) -> Result<(), Stop>
     ensures { Ends result
-        (λ rest. (children : List Child) × BeginsChildren text.now children rest.now
+        (λ done. (children : List Child) × BeginsChildren cursor.old.rest.now children cursor.new.rest.now
         × (row.new.items ≡ row.old.items ++ children_row children))
-        (LacksChildren text.now) }
+        (LacksChildren cursor.old.rest.now) }
 {
+    let text = cursor.rest;
     if let Some(rest) = after_byte(text, b'}') {
-        return Ok(rest);
+        cursor.rest = rest;
+        return Ok(());
     }
     let Some((child, rest)) = read_child(text) else {
         return Err(Stop::Other);
@@ -70,5 +75,11 @@ pub(crate) fn read_children<'a>(text: &'a [u8], row: &mut Vec<Token>) -> Result<
     let Ok(()) = row.push(Token::Child(child)) else {
         return Err(Stop::NoMemory);
     };
-    read_more(rest, child.winner.number() + 1, row)
+    // most leaves have one child
+    if let Some(rest) = after_byte(rest, b'}') {
+        cursor.rest = rest;
+        return Ok(());
+    }
+    cursor.rest = rest;
+    read_more(cursor, child.winner.number() + 1, row)
 }

@@ -8,7 +8,7 @@ ghost use Rattle.certificate_graph.specs.TextFaults.{BeginsNode, LacksNode};
 ghost use Rattle.certificate_graph.specs.Readings.{BeginsClaim, LacksClaim};
 ghost use Rattle.certificate_graph.specs.Suits.{node_read, words_read};
 
-use crate::cursors::Stop;
+use crate::cursors::{Cursor, Stop};
 use crate::forms::TRICK_CARDS;
 use crate::pattern_reading::{Suits, read_suits};
 use crate::rows::Token;
@@ -66,12 +66,13 @@ pub(crate) fn read_line<'a>(
         return Ok(None);
     };
     row.clear();
-    let rest = match read_tree(rest, TRICK_CARDS, row) {
-        Ok(rest) => rest,
+    let mut cursor = Cursor { rest };
+    match read_tree(&mut cursor, TRICK_CARDS, row) {
+        Ok(()) => {}
         Err(Stop::Other) => return Ok(None),
         Err(Stop::NoMemory) => return Err(AllocError),
-    };
-    let Some(rest) = after_byte(rest, b'\n') else {
+    }
+    let Some(rest) = after_byte(cursor.rest, b'\n') else {
         return Ok(None);
     };
     let tokens = Vec::from_slice(alloc, row.as_slice())?;

@@ -163,15 +163,16 @@ pub(crate) fn value_of(digits: &[u8]) -> u32
     value
 }
 
-/// A number of whatever digits, of which at most seven are read, and the text after it.
+/// A number of whatever digits, of which at most seven are read, and how many digits it has.
 #[cold]
 #[inline(never)]
-fn read_long_number(text: &[u8]) -> Option<(u32, &[u8])>
-    ensures { MatchOption result (LacksNumber text.now) (λ p. BeginsNumber text.now p.0 p.1.now) }
+fn read_long_number(text: &[u8]) -> Option<(u32, usize)>
+    ensures { MatchOption result (LacksNumber text.now)
+        (λ p. (p.1 ≤ length text.now) × BeginsNumber text.now p.0 (drop p.1 text.now)) }
 {
-    let (digits, rest) = split_digits(text);
+    let (digits, _) = split_digits(text);
     if is_number(digits) && digits.len() <= GREATEST_DIGITS {
-        Some((value_of(digits), rest))
+        Some((value_of(digits), digits.len()))
     } else {
         None
     }
@@ -202,7 +203,11 @@ pub(crate) fn read_number(text: &[u8]) -> Option<(u32, &[u8])>
     if end <= GREATEST_DIGITS && is_number(digits) {
         return Some((value, rest));
     }
-    read_long_number(text)
+    let Some((value, end)) = read_long_number(text) else {
+        return None;
+    };
+    let (_, rest) = text.split_at(end);
+    Some((value, rest))
 }
 
 /// Whether a digit stands in this place, and the byte behind it.

@@ -10,7 +10,7 @@ ghost use Rattle.certificate_graph.specs.Rows.{tree_row, branches_row};
 ghost use Rattle.certificate_graph.specs.Trees.{TrickTree, Branches};
 ghost use Rattle.certificate_graph.specs.declared.rows.Token.TheVariants as token;
 
-use crate::cursors::Stop;
+use crate::cursors::{Cursor, Stop};
 use crate::forms::card_place;
 use crate::leaf_reading::read_children;
 use crate::rows::Token;
@@ -18,87 +18,90 @@ use crate::scanning::{after_byte, read_card};
 use pattern_step::PatCard;
 use std::alloc::AllocError;
 
-/// Reads a tree with room for so many cards one below another, and puts it at the end of a row. Answers the text after
+/// Reads a tree with room for so many cards one below another, and puts it at the end of a row. Moves the cursor after
 /// it, as each function here does after what it reads.
 #[cycle(tree)]
-pub(crate) fn read_tree<'a>(
-    text: &'a [u8],
-    room: u8,
-    row: &mut Vec<Token>,
-) -> Result<&'a [u8], Stop>
+pub(crate) fn read_tree(cursor: &mut Cursor<'_>, room: u8, row: &mut Vec<Token>) -> Result<(), Stop>
     ensures { Ends result
-        (λ rest. (tree : TrickTree) × BeginsTree room text.now tree rest.now
+        (λ done. (tree : TrickTree) × BeginsTree room cursor.old.rest.now tree cursor.new.rest.now
         × (row.new.items ≡ row.old.items ++ tree_row tree))
-        (LacksTree room text.now) }
+        (LacksTree room cursor.old.rest.now) }
 {
+    let text = cursor.rest;
     if let Some(rest) = after_byte(text, b'{') {
-        return read_leaf(rest, row);
+        cursor.rest = rest;
+        return read_leaf(cursor, row);
     }
     if room == 0 {
         return Err(Stop::Other);
     }
     if let Some(rest) = after_byte(text, b'(') {
-        return read_reply(rest, room - 1, row);
+        cursor.rest = rest;
+        return read_reply(cursor, room - 1, row);
     }
-    read_own(text, room - 1, row)
+    read_own(cursor, room - 1, row)
 }
 
 /// A leaf after its opening brace.
-fn read_leaf<'a>(text: &'a [u8], row: &mut Vec<Token>) -> Result<&'a [u8], Stop>
+fn read_leaf(cursor: &mut Cursor<'_>, row: &mut Vec<Token>) -> Result<(), Stop>
     ensures { Ends result
-        (λ rest. (tree : TrickTree) × BeginsLeaf text.now tree rest.now
+        (λ done. (tree : TrickTree) × BeginsLeaf cursor.old.rest.now tree cursor.new.rest.now
         × (row.new.items ≡ row.old.items ++ tree_row tree))
-        (LacksLeaf text.now) }
+        (LacksLeaf cursor.old.rest.now) }
 {
-    read_children(text, row)
+    read_children(cursor, row)
 }
 
 /// A card of the side with what follows it.
 #[cycle(tree)]
-fn read_own<'a>(text: &'a [u8], room: u8, row: &mut Vec<Token>) -> Result<&'a [u8], Stop>
+fn read_own(cursor: &mut Cursor<'_>, room: u8, row: &mut Vec<Token>) -> Result<(), Stop>
     ensures { Ends result
-        (λ rest. (tree : TrickTree) × BeginsOwn room text.now tree rest.now
+        (λ done. (tree : TrickTree) × BeginsOwn room cursor.old.rest.now tree cursor.new.rest.now
         × (row.new.items ≡ row.old.items ++ tree_row tree))
-        (LacksOwn room text.now) }
+        (LacksOwn room cursor.old.rest.now) }
 {
-    let Some((card, rest)) = read_card(text) else {
+    let Some((card, rest)) = read_card(cursor.rest) else {
         return Err(Stop::Other);
     };
     let Ok(()) = row.push(Token::Own(card)) else {
         return Err(Stop::NoMemory);
     };
-    read_tree(rest, room, row)
+    cursor.rest = rest;
+    read_tree(cursor, room, row)
 }
 
 /// The opponents' cards after the opening parenthesis, to the closing one.
 #[cycle(tree)]
-fn read_reply<'a>(text: &'a [u8], room: u8, row: &mut Vec<Token>) -> Result<&'a [u8], Stop>
+fn read_reply(cursor: &mut Cursor<'_>, room: u8, row: &mut Vec<Token>) -> Result<(), Stop>
     ensures { Ends result
-        (λ rest. (tree : TrickTree) × BeginsReply room text.now tree rest.now
+        (λ done. (tree : TrickTree) × BeginsReply room cursor.old.rest.now tree cursor.new.rest.now
         × (row.new.items ≡ row.old.items ++ tree_row tree))
-        (LacksReply room text.now) }
+        (LacksReply room cursor.old.rest.now) }
 {
     let Ok(()) = row.push(Token::Reply) else {
         return Err(Stop::NoMemory);
     };
-    read_branches(text, room, 0, row)
+    read_branches(cursor, room, 0, row)
 }
 
 /// Branches whose cards rise from this place on, to the closing parenthesis.
 #[cycle(tree)]
-fn read_branches<'a>(
-    text: &'a [u8],
+fn read_branches(
+    cursor: &mut Cursor<'_>,
     room: u8,
     least: u16,
     row: &mut Vec<Token>,
-) -> Result<&'a [u8], Stop>
+) -> Result<(), Stop>
     ensures { Ends result
-        (λ rest. (branches : Branches) × BeginsBranches room least text.now branches rest.now
+        (λ done. (branches : Branches)
+        × BeginsBranches room least cursor.old.rest.now branches cursor.new.rest.now
         × (row.new.items ≡ row.old.items ++ branches_row branches))
-        (LacksBranches room least text.now) }
+        (LacksBranches room least cursor.old.rest.now) }
 {
+    let text = cursor.rest;
     if let Some(rest) = after_byte(text, b')') {
-        return Ok(rest);
+        cursor.rest = rest;
+        return Ok(());
     }
     let Some((card, rest)) = read_card(text) else {
         return Err(Stop::Other);
@@ -106,8 +109,9 @@ fn read_branches<'a>(
     let Some(next) = next_place(card, least) else {
         return Err(Stop::Other);
     };
-    match read_branch(rest, room, card, row) {
-        Ok(rest) => read_branches(rest, room, next, row),
+    cursor.rest = rest;
+    match read_branch(cursor, room, card, row) {
+        Ok(()) => read_branches(cursor, room, next, row),
         Err(stop) => Err(stop),
     }
 }
@@ -126,24 +130,24 @@ fn next_place(card: PatCard, least: u16) -> Option<u16>
 
 /// What follows a card of the opponents, with the card before it.
 #[cycle(tree)]
-fn read_branch<'a>(
-    text: &'a [u8],
+fn read_branch(
+    cursor: &mut Cursor<'_>,
     room: u8,
     card: PatCard,
     row: &mut Vec<Token>,
-) -> Result<&'a [u8], Stop>
+) -> Result<(), Stop>
     ensures { Ends result
-        (λ rest. (below : TrickTree) × BeginsTree room text.now below rest.now
+        (λ done. (below : TrickTree) × BeginsTree room cursor.old.rest.now below cursor.new.rest.now
         × (row.new.items ≡ row.old.items ++ token.Branch card (length (tree_row below)) ∷ tree_row below))
-        (LacksTree room text.now) }
+        (LacksTree room cursor.old.rest.now) }
 {
     let place = row.len();
     let Ok(()) = row.push(Token::Branch(card, 0)) else {
         return Err(Stop::NoMemory);
     };
-    match read_tree(text, room, row) {
-        Ok(rest) => match end_branch(row, place, card) {
-            Ok(()) => Ok(rest),
+    match read_tree(cursor, room, row) {
+        Ok(()) => match end_branch(row, place, card) {
+            Ok(()) => Ok(()),
             Err(_) => Err(Stop::NoMemory),
         },
         Err(stop) => Err(stop),

@@ -5,21 +5,21 @@ use Rattle.certificate_graph.proofs.LeafLemmas.{ends_map, lacks_by_blank, lacks_
 use Rattle.certificate_graph.proofs.leaf_reading.+read_more.Goals as goal
 
 pub returns-in_default-after_byte : goal.returns-in_default-after_byte
-returns-in_default-after_byte t c = lacks_by_blank c.args.least c.args.text.now c.in_default.ensures c.in_default-after_byte.ensures
+returns-in_default-after_byte t c = lacks_by_blank c.args.least c.args.cursor.now.rest.now c.in_default.ensures c.in_default-after_byte.ensures
 
 pub returns-in_default-read_child : goal.returns-in_default-read_child
 returns-in_default-read_child t c =
-    lacks_by_child c.args.least c.args.text.now _ c.in_default.ensures c.in-Some-after_byte.ensures c.in_default-read_child.ensures
+    lacks_by_child c.args.least c.args.cursor.now.rest.now _ c.in_default.ensures c.in-Some-after_byte.ensures c.in_default-read_child.ensures
 
 pub returns-then-seat-least : goal.returns-then-seat-least
 returns-then-seat-least t c =
     let seat = c.number-seat.ensures.place in
-    lacks_by_seat c.args.least c.args.text.now _ _ _ c.in_default.ensures c.in-Some-after_byte.ensures c.in-Some-read_child.ensures (omega arith)
+    lacks_by_seat c.args.least c.args.cursor.now.rest.now _ _ _ c.in_default.ensures c.in-Some-after_byte.ensures c.in-Some-read_child.ensures (omega arith)
 
 pub returns : goal.returns
 returns t c =
     let seat = c.number-seat.ensures.place in
-    let text = c.args.text.now in
+    let text = c.args.cursor.now.rest.now in
     let child = c.in-Some-read_child.child in
     let after = c.in-Some-read_child.rest.now in
     let before = c.args.row.now.items in

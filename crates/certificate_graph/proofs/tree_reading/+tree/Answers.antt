@@ -9,18 +9,18 @@ use Rattle.certificate_graph.proofs.tree_reading.+tree.Goals as goal
 
 pub read_tree-returns-in-Some : goal.read_tree-returns-in-Some
 read_tree-returns-in-Some t c =
-    let text = c.args.text.now in
+    let text = c.args.cursor.now.rest.now in
     ends_map c.read_leaf.result
     (λ rest begins. (begins.0, leaf_tree c.args.room text _ begins.0 _ c.in-Some.ensures begins.1, begins.2))
     (λ lacks. lacks_leaf c.args.room text _ c.in-Some.ensures lacks)
     c.read_leaf.ensures
 
 pub read_tree-returns-then-room-eq0 : goal.read_tree-returns-then-room-eq0
-read_tree-returns-then-room-eq0 t c = no_room c.args.room c.args.text.now c.in_default.ensures c.if-room-eq0.true
+read_tree-returns-then-room-eq0 t c = no_room c.args.room c.args.cursor.now.rest.now c.in_default.ensures c.if-room-eq0.true
 
 pub read_tree-returns-in-Some-after_byte : goal.read_tree-returns-in-Some-after_byte
 read_tree-returns-in-Some-after_byte t c =
-    let text = c.args.text.now in
+    let text = c.args.cursor.now.rest.now in
     ends_map c.read_reply.result
     (λ rest begins. (begins.0, reply_tree c.args.room text _ begins.0 _ (omega arith) c.in-Some-after_byte.ensures begins.1, begins.2))
     (λ lacks. lacks_reply c.args.room text _ c.in-Some-after_byte.ensures lacks)
@@ -28,7 +28,7 @@ read_tree-returns-in-Some-after_byte t c =
 
 pub read_tree-returns : goal.read_tree-returns
 read_tree-returns t c =
-    let text = c.args.text.now in
+    let text = c.args.cursor.now.rest.now in
     ends_map c.read_own.result
     (λ rest begins. (begins.0, own_tree c.args.room text begins.0 _ (omega arith) begins.1, begins.2))
     (λ lacks. lacks_own c.args.room text c.in_default.ensures c.in_default-after_byte.ensures lacks)
@@ -36,7 +36,7 @@ read_tree-returns t c =
 
 pub read_own-returns : goal.read_own-returns
 read_own-returns t c =
-    let text = c.args.text.now in
+    let text = c.args.cursor.now.rest.now in
     let card = c.in-Some.card in
     let after = c.in-Some.rest.now in
     let before = c.args.row.now.items in
@@ -58,7 +58,7 @@ read_reply-returns t c =
       begins.1,
       begins.2 ∙ (ap (λ list. list ++ branches_row begins.0) c.in-Ok.ensures.items ∙ append_assoc before (token.Reply ∷ []) (branches_row begins.0)),
     ))
-    (λ lacks. no_reply c.args.room c.args.text.now lacks)
+    (λ lacks. no_reply c.args.room c.args.cursor.now.rest.now lacks)
     c.read_branches.ensures
 
 pub read_branches-returns-in-Some : goal.read_branches-returns-in-Some
@@ -66,17 +66,17 @@ read_branches-returns-in-Some t c = (NoBranch, record { form = tt; numbers = tt;
 
 pub read_branches-returns-in_default-read_card : goal.read_branches-returns-in_default-read_card
 read_branches-returns-in_default-read_card t c =
-    let text = c.args.text.now in
+    let text = c.args.cursor.now.rest.now in
     lacks_by_first c.args.room c.args.least text c.in_default.ensures (no_branch_card c.args.room text c.in_default-read_card.ensures)
 
 pub read_branches-returns-in_default-next_place : goal.read_branches-returns-in_default-next_place
 read_branches-returns-in_default-next_place t c =
-    lacks_by_card c.args.room c.args.least c.args.text.now c.in-Some-read_card.card _ c.in_default.ensures
+    lacks_by_card c.args.room c.args.least c.args.cursor.now.rest.now c.in-Some-read_card.card _ c.in_default.ensures
     c.in-Some-read_card.ensures c.in_default-next_place.ensures
 
 pub read_branches-returns-in-Err : goal.read_branches-returns-in-Err
 read_branches-returns-in-Err t c =
-    let text = c.args.text.now in
+    let text = c.args.cursor.now.rest.now in
     stops_map _ _ c.in-Err.stop
     (λ lacks. lacks_by_first c.args.room c.args.least text c.in_default.ensures
     (no_branch_tree c.args.room text c.in-Some-read_card.card _ c.in-Some-read_card.ensures lacks))
@@ -85,7 +85,7 @@ read_branches-returns-in-Err t c =
 pub read_branches-returns-in-Ok : goal.read_branches-returns-in-Ok
 read_branches-returns-in-Ok t c =
     let next = c.in-Some-next_place.ensures in
-    let text = c.args.text.now in
+    let text = c.args.cursor.now.rest.now in
     let card = c.in-Some-read_card.card in
     let before = c.args.row.now.items in
     let tree = c.in-Ok.ensures in

@@ -7,5 +7,5 @@ pub returns : goal.returns
 returns c =
     ends_map c.read_children.result
     (λ rest begins. (Leaf begins.0, begins.1, begins.2))
-    (λ lacks. no_leaf c.args.text.now lacks)
+    (λ lacks. no_leaf c.args.cursor.now.rest.now lacks)
     c.read_children.ensures
