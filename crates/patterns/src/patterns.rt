@@ -88,6 +88,7 @@ impl Pattern {
 
     /// Whether the pattern covers the rest: the lengths are equal, and in each suit the pattern's owners are a
     /// beginning of the rest's.
+    #[inline(always)]
     pub fn covers(&self, rest: &Rest) -> bool
         ensures { IsTrue result ↔ Covers self.now rest.now }
     {

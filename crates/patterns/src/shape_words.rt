@@ -201,6 +201,7 @@ impl ShapeWords {
     }
 
     /// Whether these four suits, as a pattern, cover the others, as a rest.
+    #[inline(always)]
     pub(crate) fn covers(&self, rest: &ShapeWords) -> bool
         ensures { IsTrue result ↔ Covers self.now rest.now }
     {
@@ -211,6 +212,7 @@ impl ShapeWords {
     }
 
     /// Whether the one suit covers the other's.
+    #[inline(always)]
     fn covers_suit(&self, rest: &ShapeWords, suit: Suit) -> bool
         ensures { IsTrue result ↔ CoversSuit (suit_of self.now suit) (suit_of rest.now suit) }
     {

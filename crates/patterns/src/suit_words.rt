@@ -213,8 +213,18 @@ impl SuitWord {
         self.places_of(seat).count_ones() as u8
     }
 
-    /// Whether no seat is an owner more often than it has cards.
+    /// Whether no seat is an owner more often than it has cards. Half of the suits that are read have no owner.
     pub(crate) fn has_its_owners(&self) -> bool
+        ensures { MatchBool result (HasItsOwners self.now) (HasExcessOwner self.now) }
+    {
+        if self.owner_count() == 0 {
+            return true;
+        }
+        self.tops_fit()
+    }
+
+    /// Whether no seat is an owner more often than it has cards, counted for each seat.
+    fn tops_fit(&self) -> bool
         ensures { MatchBool result (HasItsOwners self.now) (HasExcessOwner self.now) }
     {
         self.tops(Seat::North) <= self.len(Seat::North)
@@ -283,6 +293,7 @@ impl SuitWord {
     }
 
     /// Whether the lengths are those of the rest, and these owners are a beginning of its.
+    #[inline(always)]
     pub(crate) fn covers(&self, rest: &SuitWord) -> bool
         ensures { IsTrue result ↔ CoversSuit self.now rest.now }
     {
