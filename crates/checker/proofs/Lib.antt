@@ -26,6 +26,7 @@ pub mod ClaimsAreSound
 pub mod ExtractLaws
 pub mod VersionLaws
 pub mod BranchLaws
+pub mod TrickWordLaws
 mod CardSetLaws
 pub mod SuitSetLaws
 pub mod PathLaws

@@ -14,3 +14,4 @@ pub mod CardSets
 pub mod Pairs
 pub mod Begun
 pub mod ValuesAfter
+pub mod TrickWords

@@ -143,8 +143,8 @@ pub(crate) fn check_leaf(
     let Some(trick) = played.whole() else {
         return Err(StepFault::TreeShape);
     };
-    if !lists_winners(graph, node, trick, children) {
+    if !lists_winners(graph, node, &trick, children) {
         return Err(StepFault::LeafWinners);
     }
-    check_children(graph, node, trick, children)
+    check_children(graph, node, &trick, children)
 }

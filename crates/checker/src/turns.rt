@@ -26,6 +26,7 @@ fn player_after(node: &Node, played: &Played) -> Seat
 }
 
 /// Returns whether the card is legal after these cards.
+#[inline(always)]
 pub(crate) fn may_come_next(node: &Node, played: &Played, card: PatCard) -> bool
     requires { length played.now < 4 }
     ensures { IsTrue result ↔ MayComeNext node.now played.now card }

@@ -19,5 +19,5 @@ check_children-requires-clause-legal c = rw c.in-Some.ensures.0 (four_are_legal 
 
 pub returns : goal.returns
 returns c =
-    children_told c.args.graph.now c.args.node.now c.args.played.now c.in-Some.trick.now c.args.children.now c.check_children.result
+    children_told c.args.graph.now c.args.node.now c.args.played.now c.in-Some.trick c.args.children.now c.check_children.result
     c.in-Some.ensures.0 c.in-Some.ensures.1 (c.lists_winners.ensures.0 c.if-not-lists_winners.false) c.check_children.ensures
