@@ -1,5 +1,6 @@
 //! In which order leads are tried.
 
+use crate::lead_suits::SuitScores;
 use crate::moves::{HandRuns, Moves};
 use crate::order::{NO_BIT, best_two, rank_of, sum_of, whole};
 use crate::positions::Turn;
@@ -92,14 +93,16 @@ fn group_of(trumps: CardSet, start: u32) -> u32 {
 
 impl SuitLeads {
     /// Those of the suit that starts here.
-    fn of(turn: &Turn, start: u32) -> SuitLeads {
+    fn of(turn: &Turn, suits: SuitScores, start: u32) -> SuitLeads {
         let (best, second) = best_two(turn.left, start);
         let (first, next) = first_owners(turn, start, second != NO_BIT);
         let trumps = turn.deal.trumps;
         let group = group_of(trumps, start);
         let factors = if trumps == 0 { 0 } else { 8 };
         let lengths = turn.lengths(start);
-        let sum = weigh_lengths(&turn.weights.lead_lengths, factors, lengths);
+        let sum = weigh_lengths(&turn.weights.lead_lengths, factors, lengths).wrapping_add(
+            suits[(start >> 4 & 3) as usize],
+        );
         let (highest, others) = if group == 1 {
             weigh_chances(turn, lengths, first)
         } else {
@@ -139,14 +142,14 @@ impl SuitLeads {
 }
 
 impl Moves {
-    /// Adds the leads.
+    /// Adds the leads, with these scores of their suits.
     #[inline(always)]
-    pub fn add_leads(&mut self, mut runs: HandRuns, turn: &Turn) {
-        let mut suit = SuitLeads::of(turn, runs.first_suit());
+    pub fn add_leads(&mut self, mut runs: HandRuns, turn: &Turn, suits: SuitScores) {
+        let mut suit = SuitLeads::of(turn, suits, runs.first_suit());
         for _ in 0..runs.count() {
             let run = runs.next();
             if !suit.are_of(run.top) {
-                suit = SuitLeads::of(turn, run.top & 48);
+                suit = SuitLeads::of(turn, suits, run.top & 48);
             }
             self.add(run, true, suit.weigh(run.top));
         }

@@ -15,6 +15,7 @@ mod followers;
 mod graph_writing;
 mod hints;
 mod last_hand;
+mod lead_suits;
 mod leads;
 mod leaves;
 mod memory;

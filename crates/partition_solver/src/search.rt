@@ -2,7 +2,8 @@
 //! is changed before a call, and put back after it.
 
 use crate::deals::DealTables;
-use crate::hints::{FEW_TRICKS, Hints, lead_key};
+use crate::hints::Hints;
+use crate::lead_suits::LeadSuits;
 use crate::moves::{HandRuns, Moves};
 use crate::positions::{Holdings, Trick, seat_to_left};
 use crate::relevant_cards::{needs_fewer, relevant_after};
@@ -35,6 +36,8 @@ pub(crate) struct Search {
     pub leads: Hints,
     /// The cards of second and third hands that did.
     pub follows: Hints,
+    /// How leads have fared by suit.
+    pub lead_suits: LeadSuits,
 }
 
 /// The turn of the second or of the third hand: the hand's number clockwise from the leader, the function that names
@@ -89,6 +92,7 @@ impl Search {
             adds: 0,
             leads: Hints::new(alloc)?,
             follows: Hints::new(alloc)?,
+            lead_suits: LeadSuits::new(),
         })
     }
 
@@ -156,12 +160,9 @@ impl Search {
                 return answer;
             }
             if found.side == mover {
-                if tricks > FEW_TRICKS {
-                    self.leads
-                        .keep(lead_key(&self.held.hands, start), tried.card);
-                }
-                return self.remember(start, found, tried.card);
+                return self.lead_succeeded(tricks, start, tried.card, found);
             }
+            self.lead_suits.learn(tricks, seat, tried.card, false);
             answer = answer.with_failed(tried, found);
             moves.skip(tried, found.relevant);
         }

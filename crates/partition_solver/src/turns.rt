@@ -65,6 +65,21 @@ impl Search {
         runs.of_choice(self.follows.card(key?), trick, trumps)
     }
 
+    /// Remembers what was found of a lead that succeeded, and learns from the lead.
+    pub(crate) fn lead_succeeded(
+        &mut self,
+        tricks: u32,
+        start: &Start,
+        card: CardSet,
+        found: Found,
+    ) -> Found {
+        self.lead_suits.learn(tricks, start.leader, card, true);
+        if tricks > FEW_TRICKS {
+            self.leads.keep(lead_key(&self.held.hands, start), card);
+        }
+        self.remember(start, found, card)
+    }
+
     /// What was found of a card that succeeded, which is remembered under its key.
     pub(crate) fn succeeded(&mut self, key: Option<usize>, card: CardSet, found: Found) -> Found {
         if let Some(key) = key {
@@ -83,7 +98,8 @@ impl Search {
         moves: &mut Moves,
     ) -> Option<Move> {
         if moves.are_unsorted() {
-            moves.add_leads(runs, &self.turn(tricks, start, 0));
+            let suits = self.lead_suits.of(tricks, start.leader);
+            moves.add_leads(runs, &self.turn(tricks, start, 0), suits);
         }
         moves.next()
     }
