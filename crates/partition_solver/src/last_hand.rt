@@ -10,7 +10,7 @@ use pattern_store::List;
 
 /// What is remembered of the rest for the side of the last hand, after a card of it.
 #[derive(Clone, Copy)]
-struct Outcome {
+struct KnownRest {
     /// How many tricks the side needs of it.
     need: u32,
     /// The records, if there are any.
@@ -19,13 +19,13 @@ struct Outcome {
 
 /// What is remembered of the rest after a card of this suit: where it wins the trick, and where it does not.
 #[derive(Clone, Copy)]
-struct Outcomes {
+struct KnownRests {
     suit: CardSet,
-    won: Outcome,
-    lost: Outcome,
+    won: KnownRest,
+    lost: KnownRest,
 }
 
-impl Outcome {
+impl KnownRest {
     /// Whether nothing is known, whatever the cards.
     fn is_unknown(&self) -> bool {
         self.need != 0 && self.list.is_none()
@@ -51,14 +51,14 @@ impl Search {
     }
 
     /// What is remembered for a side where this seat wins the trick, and the shape of what is left has this number.
-    fn outcome(
+    fn known_rest(
         &self,
         rest: u32,
         start: &Start,
         side: u32,
         winner: usize,
         shape: Option<u32>,
-    ) -> Outcome {
+    ) -> KnownRest {
         let next = start.next(winner, 0, shape);
         let need = next.wanted_by(side, rest);
         let list = if need == 0 {
@@ -66,27 +66,27 @@ impl Search {
         } else {
             self.list(&next, side)
         };
-        Outcome { need, list }
+        KnownRest { need, list }
     }
 
     /// What is remembered after a card of this suit. The number is that of the shape, if it is known.
     #[inline(always)]
-    fn outcomes(
+    fn known_rests(
         &self,
         rest: u32,
         start: &Start,
         trick: &Trick,
         suit: CardSet,
         shape: Option<u32>,
-    ) -> Outcomes {
+    ) -> KnownRests {
         let seat = seat_to_left(start.leader, 3);
         let side = side_of(seat);
         let lengths = self.held.lengths.wrapping_sub(one_of(suit, seat));
         let shape = self.shape_near(shape, lengths);
-        Outcomes {
+        KnownRests {
             suit,
-            won: self.outcome(rest, start, side, seat, shape),
-            lost: self.outcome(rest, start, side, trick.winner as usize, shape),
+            won: self.known_rest(rest, start, side, seat, shape),
+            lost: self.known_rest(rest, start, side, trick.winner as usize, shape),
         }
     }
 
@@ -105,11 +105,11 @@ impl Search {
         } else {
             suit_of(runs.own)
         };
-        let outcomes = self.outcomes(rest, start, trick, suit, shape);
-        if follows && outcomes.won.is_unknown() && outcomes.lost.is_unknown() {
+        let known_rests = self.known_rests(rest, start, trick, suit, shape);
+        if follows && known_rests.won.is_unknown() && known_rests.lost.is_unknown() {
             return None;
         }
-        self.best_known(rest, start, trick, runs, outcomes)
+        self.best_known(rest, start, trick, runs, known_rests)
     }
 
     /// Of the cards that are known to succeed the one that needs the fewest owners. What is remembered after cards of
@@ -120,7 +120,7 @@ impl Search {
         start: &Start,
         trick: &Trick,
         mut runs: HandRuns,
-        mut outcomes: Outcomes,
+        mut known_rests: KnownRests,
     ) -> Option<(CardSet, Found)> {
         let trumps = self.deal.trumps;
         let seat = seat_to_left(start.leader, 3);
@@ -131,10 +131,14 @@ impl Search {
             let run = runs.next();
             let wins = trick.beats(run.highest(), trumps);
             let card = card_at(run.choice(wins));
-            if card & outcomes.suit == 0 {
-                outcomes = self.outcomes(rest, start, trick, suit_of(card), None);
+            if card & known_rests.suit == 0 {
+                known_rests = self.known_rests(rest, start, trick, suit_of(card), None);
             }
-            let after = if wins { outcomes.won } else { outcomes.lost };
+            let after = if wins {
+                known_rests.won
+            } else {
+                known_rests.lost
+            };
             if let Some(found) = self.known_from(
                 after.list,
                 all & !card,
