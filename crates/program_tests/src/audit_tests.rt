@@ -185,8 +185,8 @@ const OF_AUDIT: [(u64, End<'static>); 3] = [
 
 /// Those of tables: the opening, for which the first and the last byte are read; the reading of the section for North's
 /// no-trump, to where the file ended when it was opened (if that fails, a search finds nothing); the adding of what was
-/// found of the spades; the sync; and none. And how many searches find nothing, and whether the section of the spades is
-/// kept.
+/// found of the spades; the sync; and none. And how many searches find nothing, and whether the section of the spades
+/// is kept.
 const OF_TABLE: [(u64, End<'static>, u8, bool); 5] = [
     (6, (Status::Failed, "", OPENING_FILE), 0, false),
     (READS - 2, (Status::Failed, ONE, READING_FILE), 19, true),
