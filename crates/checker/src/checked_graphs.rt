@@ -12,8 +12,8 @@ use std::marker::Model;
 use std::sync::Arc;
 use std::thread::Threads;
 
-/// From this number of nodes on several threads gain something.
-const WIDE: usize = 2_048;
+/// With fewer nodes new threads cost more than they gain.
+const WIDE: usize = 16_384;
 
 /// A graph with the result of [`check_graph`]. One check serves all claims of the graph's nodes, and every holder of
 /// the value, in any thread, knows that it was made. Contracts see the graph alone, from which the verdict follows.
@@ -50,7 +50,7 @@ impl CheckedGraph {
         CheckedGraph { graph, verdict }
     }
 
-    /// Checks the graph once. If it has 2,048 nodes or more, as many threads as there are processors check it, unless
+    /// Checks the graph once. If it has 16,384 nodes or more, as many threads as there are processors check it, unless
     /// memory runs out for them.
     pub fn of_wide(graph: Arc<Graph>, rt: &(impl Threads + Sync)) -> CheckedGraph
         ensures { result ≡ graph.value }

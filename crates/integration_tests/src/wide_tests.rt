@@ -61,7 +61,7 @@ fn fault_at(number: u32, fault: StepFault) -> Result<(), NodeFault> {
 
 #[test]
 fn the_first_fault_of_a_large_graph(rt: HostRuntime) -> Result<(), Fail> {
-    for count in [2_047u32, 2_048, 5_000] {
+    for count in [2_047u32, 2_048, 5_000, 16_383, 16_384] {
         let (middle, last) = (count / 2, count - 1);
         for (ended, others, answer) in [
             (middle, 1, fault_at(middle, StepFault::TreeShape)),
@@ -95,7 +95,7 @@ fn two_hundred_damaged_graphs(rt: HostRuntime) -> Result<(), Fail> {
 }
 
 /// How often a graph is checked while the processors' time is taken.
-const TIMES: u32 = 200;
+const TIMES: u32 = 50;
 
 /// The processors' time that this thread has used, and what all others of the process have, those that have ended too.
 fn used(rt: &impl CpuClock) -> io::Result<(Duration, Duration)> {
@@ -116,12 +116,11 @@ fn is_shared<R: Threads + Sync + CpuClock>(rt: &R, graph: &Arc<Graph>) -> Result
     Ok(others.saturating_mul(3) >= own)
 }
 
-/// From 2,048 nodes on, where there are several processors: one half of so many is checked by a thread of its own. With
-/// one node fewer no thread is started.
+/// From 16,384 nodes on, where there are several processors. With one node fewer no thread is started.
 #[test]
 fn large_graphs_are_checked_by_several_threads(rt: HostRuntime) -> Result<(), Fail> {
     let are_several = available_parallelism(&rt)?.get() > 1;
-    for (count, shared) in [(2_047u32, false), (2_048, are_several)] {
+    for (count, shared) in [(16_383u32, false), (16_384, are_several)] {
         let graph = Arc::new(rt.alloc(), graph_of(rt.alloc(), count, count, 0)?)?;
         expect_eq(&rt, &is_shared(&rt, &graph)?, &shared);
     }
