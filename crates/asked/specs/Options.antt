@@ -58,7 +58,7 @@ budget_option = record {
   is_by_machine = false;
 }
 
--- how many entries are lent to a search at a time
+-- how many entries are lent at a time
 abbrev pub batch_option : OptionNumbers
 batch_option = record { name = codes "batch"; least = 1; most = 20; default = codes "20"; is_by_machine = false }
 

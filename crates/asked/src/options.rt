@@ -133,7 +133,7 @@ pub const BUDGET: NumberOption = NumberOption {
     help: "How many steps a search for an answer may take, each one card tried: 1 to 1000000000",
 };
 
-/// How many entries are lent to a search at a time.
+/// How many entries are lent at a time.
 pub const BATCH: NumberOption = NumberOption {
     name: "batch",
     value_name: "ENTRIES",
@@ -142,7 +142,7 @@ pub const BATCH: NumberOption = NumberOption {
     default: 20,
     default_text: "20",
     is_by_machine: false,
-    help: "How many entries are lent to a search at a time: 1 to 20",
+    help: "How many entries are lent at a time: 1 to 20",
 };
 
 static TABLE: [NumberOption; 6] = [SOLVERS, CHECKERS, TERM, TRIES, BUDGET, BATCH];

@@ -20,7 +20,7 @@ pub struct Settings {
     pub tries: u32,
     /// How many steps of its own a solver has for an entry, at least 1.
     pub budget: u64,
-    /// How many entries a solver leases at a time.
+    /// How many entries are lent at a time.
     pub batch: usize,
     pub ghost solvers_are: { IsIn solvers_option solvers },
     pub ghost checkers_are: { IsIn checkers_option checkers },

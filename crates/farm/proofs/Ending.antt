@@ -1,8 +1,8 @@
 -- What follows from the posts of a run for its chairs and its relays.
-use Rattle.std.proofs.Common.{◌≡◌, ℕ, ◌+◌, ◌<◌, ◌≤◌, List, [], ◌∷◌, ◌++◌, All, Contains, map, length, sum_by, refl, sym, ap, ◌∙◌, subst, arith}
+use Rattle.std.proofs.Common.{◌≡◌, ℕ, ◌+◌, ◌≤◌, List, [], ◌∷◌, ◌++◌, All, Contains, map, length, sum_by, refl, sym, ap, ◌∙◌, subst, arith}
 use Rattle.std.proofs.lemmas.List.{map-append, length-map}
 use Rattle.std.proofs.lemmas.List.Elements.{All-nil, All-cons, All-head, All-tail, All-append, Contains-append_left, Contains-push}
-use Rattle.std.proofs.lemmas.List.Sums.{sum_by-append}
+use Rattle.std.proofs.lemmas.List.Sums.{sum_by-append, sum_by-cons}
 use Rattle.lease_desk.specs.declared.chairs.Chair.{Chair}
 use Rattle.lease_desk.specs.declared.desk.Desk.{Desk}
 use Rattle.lease_desk.specs.Desks.{number_of, receipts_in}
@@ -13,8 +13,10 @@ use Rattle.farm_relay.proofs.RelayLaws.{still_putter, still_taker}
 use Rattle.farm_threads.specs.Beside.{AreBeside}
 use Rattle.farm.specs.declared.crews.Crew.{Crew}
 use Rattle.asked.specs.declared.settings.Settings.{Settings}
+use Rattle.farm.specs.declared.tasks.Group.{Group}
 use Rattle.farm.specs.declared.tasks.FoundBundle.{FoundBundle}
 use Rattle.farm.specs.declared.tasks.CheckedClaim.{CheckedClaim}
+use Rattle.farm.specs.declared.posts.LenderPost.{LenderPost}
 use Rattle.farm.specs.declared.posts.SolverPost.{SolverPost}
 use Rattle.farm.specs.declared.posts.CheckerPost.{CheckerPost}
 use Rattle.farm.specs.declared.posts.ClerkPost.{ClerkPost}
@@ -24,9 +26,8 @@ use Rattle.farm.specs.declared.relays.RelayEnds.{RelayEnds}
 use Rattle.lease_book.specs.Moments.{MayTell}
 use Rattle.certificate_graph.specs.Solvers.{MayFind}
 use Rattle.farm.specs.Working.{IsNew, IsOnDuty}
-use Rattle.farm.specs.Requests.{EndsIdle}
-use Rattle.farm.specs.Flows.{given, settled, of_found, of_claim, all_found, all_claimed}
-use Rattle.farm.specs.Posts.{IsNewSolver, IsNewChecker, IsNewClerk, HasSolved, HasChecked, HasSettled, CanBeManned, AreManned}
+use Rattle.farm.specs.Flows.{given, settled, of_group, of_found, of_claim, all_lent, all_found, all_claimed}
+use Rattle.farm.specs.Posts.{IsNewLender, IsNewSolver, IsNewChecker, IsNewClerk, HasLent, HasSolved, HasChecked, HasSettled, CanBeManned, AreManned}
 use Rattle.farm.specs.Relaying.{AreOpened, AreAllEndsOf, IsRelayed}
 use Rattle.farm.specs.Running.{AreNewPosts, HaveEnded, HaveWorked}
 use Rattle.farm.proofs.Beside.{carried, each_after, as_many, same_of_each}
@@ -49,6 +50,14 @@ of_parts P Q N f g make (x ∷ xs) one other =
     (make x (All-head P (f x) (map f xs) one) (All-head Q (g x) (map g xs) other))
     (of_parts P Q N f g make xs (All-tail P (f x) (map f xs) one) (All-tail Q (g x) (map g xs) other))
 
+-- what holds of things by what holds of them and one of their parts
+also_part : {X B : Type 0} (P : X → Type 0) (Q : B → Type 0) (N : X → Type 0) (g : X → B) → ((x : X) → P x → Q (g x) → N x) → (xs : List X) → All P xs → All Q (map g xs) → All N xs
+also_part P Q N g make [] one other = All-nil N
+also_part P Q N g make (x ∷ xs) one other =
+    All-cons N x xs
+    (make x (All-head P x xs one) (All-head Q (g x) (map g xs) other))
+    (also_part P Q N g make xs (All-tail P x xs one) (All-tail Q (g x) (map g xs) other))
+
 -- and of a part of things that it holds of
 to_parts : {X Y : Type 0} (P : Y → Type 0) (f : X → Y) (xs : List X) → All (λ x. P (f x)) xs → All P (map f xs)
 to_parts P f [] all = All-nil P
@@ -67,16 +76,37 @@ as_many_parts R f xs ys l m l_is m_is are =
     omega (arith, length-map xs f, length-map ys f, as_many R xs ys are)
 
 -- posts at new chairs with new ends are new
-module _ (settings : Settings) (desk : Desk) (relays : Relays) (chairs : List Chair) (ends : RelayEnds) (posts : Posts)
-    (new : All (IsNew desk) chairs) (opened : AreOpened settings relays ends) (manned : AreManned chairs ends posts) where
-  new_chairs : All (IsNew desk) (map (λ (p : SolverPost). p.chair) posts.solvers.items ++ map (λ (p : ClerkPost). p.chair) posts.clerks.items)
-  new_chairs = subst (λ (l : List Chair). All (IsNew desk) l) manned.chairs_are new
+module _ (settings : Settings) (desk : Desk) (relays : Relays) (chairs : List Chair) (ends : RelayEnds)
+    (lender : LenderPost) (posts : Posts)
+    (new : All (IsNew desk) chairs) (opened : AreOpened settings relays ends) (manned : AreManned chairs ends lender posts) where
+  abbrev Others : List Chair
+  Others = map (λ (p : SolverPost). p.chair) posts.solvers.items ++ map (λ (p : ClerkPost). p.chair) posts.clerks.items
+
+  all_new : All (IsNew desk) (lender.chair ∷ Others)
+  all_new = subst (λ (l : List Chair). All (IsNew desk) l) manned.chairs_are new
+
+  new_chairs : All (IsNew desk) Others
+  new_chairs = All-tail (IsNew desk) lender.chair Others all_new
+
+  pub new_lender : IsNewLender desk lender
+  new_lender =
+      let None : Putter Group → Type 0 = λ p. put_by p ≡ [] in
+      record {
+        chair = All-head (IsNew desk) lender.chair Others all_new;
+        none_put = All-head None lender.groups [] (subst (λ (l : List (Putter Group)). All None l) manned.lent opened.groups.none_put);
+      }
+
+  -- a solver's post without its second end
+  abbrev NewTaker : SolverPost → Type 0
+  NewTaker post = IsNew desk post.chair × (taken_by post.groups ≡ [])
 
   pub new_posts : AreNewPosts desk posts
   new_posts = record {
     solvers =
-        of_parts (IsNew desk) (λ (p : Putter FoundBundle). put_by p ≡ []) (IsNewSolver desk) (λ (p : SolverPost). p.chair) (λ (p : SolverPost). p.found) (λ p chair none. record { chair = chair; none_put = none }) posts.solvers.items
+        also_part NewTaker (λ (p : Putter FoundBundle). put_by p ≡ []) (IsNewSolver desk) (λ (p : SolverPost). p.found) (λ p both none. record { chair = both.0; none_taken = both.1; none_put = none }) posts.solvers.items
+        (of_parts (IsNew desk) (λ (t : Taker Group). taken_by t ≡ []) NewTaker (λ (p : SolverPost). p.chair) (λ (p : SolverPost). p.groups) (λ p chair none. (chair, none)) posts.solvers.items
         (all_left (IsNew desk) _ _ new_chairs)
+        (subst (λ (l : List (Taker Group)). All (λ (t : Taker Group). taken_by t ≡ []) l) manned.groups opened.groups.none_taken))
         (subst (λ (l : List (Putter FoundBundle)). All (λ (p : Putter FoundBundle). put_by p ≡ []) l) manned.finds opened.found.none_put);
     checkers =
         of_parts (λ (t : Taker FoundBundle). taken_by t ≡ []) (λ (p : Putter CheckedClaim). put_by p ≡ []) IsNewChecker (λ (p : CheckerPost). p.found) (λ (p : CheckerPost). p.claims) (λ p none no. record { none_taken = none; none_put = no }) posts.checkers.items
@@ -89,7 +119,7 @@ module _ (settings : Settings) (desk : Desk) (relays : Relays) (chairs : List Ch
   }
 
 -- each post gets what it needs
-pub can_be_manned : (settings : Settings) (relays : Relays) (chairs : List Chair) (ends : RelayEnds) → AreOpened settings relays ends → length chairs ≡ settings.solvers + settings.checkers → CanBeManned chairs ends
+pub can_be_manned : (settings : Settings) (relays : Relays) (chairs : List Chair) (ends : RelayEnds) → AreOpened settings relays ends → length chairs ≡ settings.solvers + settings.checkers + 1 → CanBeManned chairs ends
 can_be_manned settings relays chairs ends opened count =
     let a = opened.found.ends in
     let b = opened.claims.ends in
@@ -101,21 +131,40 @@ can_be_manned settings relays chairs ends opened count =
     let c' = a.all_takers in
     let d = b.all_putters in
     let d' = b.all_takers in
-    record { chairs_are = omega arith; ends_are = omega arith }
+    let e = opened.groups.putters_are in
+    let e' = opened.groups.takers_are in
+    let f = opened.groups.ends.all_putters in
+    let f' = opened.groups.ends.all_takers in
+    record { chairs_are = omega arith; lent_are = omega arith; groups_are = omega arith; ends_are = omega arith }
 
-module _ {S G C : Type 0} (may_tell : C → MayTell) (may_find : S → MayFind) (crew : Crew S G C) (relays : Relays) (chairs after : List Chair) (ends back : RelayEnds) (before worked : Posts)
-    (opened : AreOpened crew.settings relays ends) (manned : AreManned chairs ends before)
-    (ended : HaveEnded (HasSolved may_tell may_find crew) HasChecked (HasSettled may_tell crew) before worked) (apart : AreManned after back worked) where
+module _ {S G C : Type 0} (may_tell : C → MayTell) (may_find : S → MayFind) (crew : Crew S G C) (relays : Relays) (chairs after : List Chair) (ends back : RelayEnds) (lender lent : LenderPost) (before worked : Posts)
+    (opened : AreOpened crew.settings relays ends) (manned : AreManned chairs ends lender before)
+    (has_lent : HasLent may_tell crew lender lent)
+    (ended : HaveEnded (HasSolved may_tell may_find crew) HasChecked (HasSettled may_tell crew) before worked) (apart : AreManned after back lent worked) where
   -- all ends are back
   pub all_ends : AreAllEndsOf relays back
   all_ends =
+      let groups = opened.groups.ends in
       let found = opened.found.ends in
       let claims = opened.claims.ends in
+      let Puts : Putter Group → Type 0 = IsPutterOf relays.groups in
+      let put_groups = All-head Puts lender.groups [] (subst (λ (l : List (Putter Group)). All Puts l) manned.lent groups.putters_are) in
+      let lent_many : length back.lent.items ≡ length ends.lent.items = ap length apart.lent ∙ sym (ap length manned.lent) in
+      let groups_many = as_many_parts (HasSolved may_tell may_find crew) (λ (p : SolverPost). p.groups) _ _ _ _ manned.groups apart.groups ended.solvers in
       let finds_many = as_many_parts (HasSolved may_tell may_find crew) (λ (p : SolverPost). p.found) _ _ _ _ manned.finds apart.finds ended.solvers in
       let found_many = as_many_parts HasChecked (λ (p : CheckerPost). p.found) _ _ _ _ manned.found apart.found ended.checkers in
       let claims_many = as_many_parts HasChecked (λ (p : CheckerPost). p.claims) _ _ _ _ manned.claims apart.claims ended.checkers in
       let heard_many = as_many_parts (HasSettled may_tell crew) (λ (p : ClerkPost). p.claims) _ _ _ _ manned.heard apart.heard ended.clerks in
       record {
+        groups = record {
+          putters_are = subst (λ (l : List (Putter Group)). All Puts l) (sym apart.lent)
+              (All-cons Puts lent.groups [] (still_putter relays.groups lender.groups lent.groups has_lent.stays.groups put_groups) (All-nil Puts));
+          takers_are = subst (λ (l : List (Taker Group)). All (IsTakerOf relays.groups) l) (sym apart.groups)
+              (carried (HasSolved may_tell may_find crew) (IsTakerOf relays.groups) (λ (p : SolverPost). p.groups) (λ x y has is. still_taker relays.groups x.groups y.groups has.stays.groups is) _ _ ended.solvers
+              (subst (λ (l : List (Taker Group)). All (IsTakerOf relays.groups) l) manned.groups groups.takers_are));
+          all_putters = lent_many ∙ groups.all_putters;
+          all_takers = groups_many ∙ groups.all_takers;
+        };
         found = record {
           putters_are = subst (λ (l : List (Putter FoundBundle)). All (IsPutterOf relays.found) l) (sym apart.finds)
               (carried (HasSolved may_tell may_find crew) (IsPutterOf relays.found) (λ (p : SolverPost). p.found) (λ x y has is. still_putter relays.found x.found y.found has.stays.found is) _ _ ended.solvers
@@ -150,17 +199,14 @@ module _ {S G C : Type 0} (may_tell : C → MayTell) (may_find : S → MayFind) 
   abbrev desk_chair_of : ClerkPost → Chair
   desk_chair_of post = post.chair
 
+  abbrev AllOthers : List Chair
+  AllOthers = map chair_of Solved ++ map desk_chair_of Settled
+
   -- a number of each chair, summed up
-  sum_apart : (f : Chair → ℕ) → sum_by f after ≡ sum_by (λ (p : SolverPost). f p.chair) Solved + sum_by (λ (p : ClerkPost). f p.chair) Settled
+  sum_apart : (f : Chair → ℕ) → sum_by f after ≡ f lent.chair + (sum_by (λ (p : SolverPost). f p.chair) Solved + sum_by (λ (p : ClerkPost). f p.chair) Settled)
   sum_apart f =
       let a = ap (sum_by f) apart.chairs_are in
-      omega (arith, sum_by-append f (map chair_of Solved) (map desk_chair_of Settled), sum_of_parts f chair_of Solved, sum_of_parts f desk_chair_of Settled)
-
-  some_idle : (solved : List SolverPost) (others : List Chair) → 0 < length solved → All (λ (p : SolverPost). EndsIdle (receipts_in p.chair)) solved → (chair : Chair) × Contains (map chair_of solved ++ others) chair × EndsIdle (receipts_in chair)
-  some_idle [] others some idle = absurd (omega arith)
-  some_idle (p ∷ ps) others some idle =
-      let all : List Chair = map chair_of ps ++ others in
-      (p.chair, Contains-append_left (p.chair ∷ []) all p.chair (Contains-push [] p.chair), All-head (λ (p : SolverPost). EndsIdle (receipts_in p.chair)) p ps idle)
+      omega (arith, sum_by-cons f lent.chair AllOthers, sum_by-append f (map chair_of Solved) (map desk_chair_of Settled), sum_of_parts f chair_of Solved, sum_of_parts f desk_chair_of Settled)
 
   -- what was settled was given
   leases : IsRelayed back → (weight : ℕ → ℕ) → sum_by (λ chair. settled weight (receipts_in chair)) after ≤ sum_by (λ chair. given weight (receipts_in chair)) after
@@ -168,21 +214,26 @@ module _ {S G C : Type 0} (may_tell : C → MayTell) (may_find : S → MayFind) 
       let S1 : SolverPost → ℕ = λ p. settled weight (receipts_in p.chair) in
       let G1 : SolverPost → ℕ = λ p. given weight (receipts_in p.chair) in
       let F : SolverPost → ℕ = λ p. all_found weight (put_by p.found) in
+      let L : SolverPost → ℕ = λ p. all_lent weight (taken_by p.groups) in
       let T : CheckerPost → ℕ = λ p. all_found weight (taken_by p.found) in
       let Q : CheckerPost → ℕ = λ p. all_claimed weight (put_by p.claims) in
       let S2 : ClerkPost → ℕ = λ p. settled weight (receipts_in p.chair) in
       let G2 : ClerkPost → ℕ = λ p. given weight (receipts_in p.chair) in
       let K : ClerkPost → ℕ = λ p. all_claimed weight (taken_by p.claims) in
-      let none1 : SolverPost → ℕ = λ p. 0 in
       let none2 : CheckerPost → ℕ = λ p. 0 in
       let none3 : ClerkPost → ℕ = λ p. 0 in
       let checked = worked.checkers.items in
-      let solvers = sums_below S1 F G1 none1 Solved (each_after (HasSolved may_tell may_find crew) (λ p. S1 p + F p ≤ G1 p + none1 p) (λ x y has. let own = has.leases weight in omega arith) before.solvers.items Solved ended.solvers) in
+      let solvers = sums_below S1 F G1 L Solved (each_after (HasSolved may_tell may_find crew) (λ p. S1 p + F p ≤ G1 p + L p) (λ x y has. let own = has.leases weight in omega arith) before.solvers.items Solved ended.solvers) in
       let checkers = sums_below Q none2 T none2 checked (each_after HasChecked (λ p. Q p + none2 p ≤ T p + none2 p) (λ x y has. let own = has.leases weight in omega arith) before.checkers.items checked ended.checkers) in
       let clerks = sums_below S2 none3 G2 K Settled (each_after (HasSettled may_tell crew) (λ p. S2 p + none3 p ≤ G2 p + K p) (λ x y has. let own = has.leases weight in omega arith) before.clerks.items Settled ended.clerks) in
-      let n1 = sum_of_nothing Solved in
       let n2 = sum_of_nothing checked in
       let n3 = sum_of_nothing Settled in
+      let own = has_lent.leases weight in
+      let groups = relayed.groups (of_group weight) in
+      let P : Putter Group → ℕ = λ p. all_lent weight (put_by p) in
+      let l1 = ap (sum_by P) apart.lent in
+      let l2 = sum_by-cons P lent.groups [] in
+      let l3 = ap (sum_by (λ (t : Taker Group). all_lent weight (taken_by t))) apart.groups ∙ sum_of_parts (λ (t : Taker Group). all_lent weight (taken_by t)) (λ (p : SolverPost). p.groups) Solved in
       let found = relayed.found (of_found weight) in
       let claims = relayed.claims (of_claim weight) in
       let f1 = ap (sum_by (λ (p : Putter FoundBundle). all_found weight (put_by p))) apart.finds ∙ sum_of_parts (λ (p : Putter FoundBundle). all_found weight (put_by p)) (λ (p : SolverPost). p.found) Solved in
@@ -195,27 +246,22 @@ module _ {S G C : Type 0} (may_tell : C → MayTell) (may_find : S → MayFind) 
 
   pub have_worked : IsRelayed back → HaveWorked may_tell crew chairs after
   have_worked relayed =
-      let some : 0 < length Solved = (
-      let a = opened.found.ends.all_putters in
-      let b = opened.found.putters_are in
-      let c = ap length manned.finds in
-      let d = as_many (HasSolved may_tell may_find crew) before.solvers.items Solved ended.solvers in
-      let e = crew.settings.solvers_are in
-      omega (arith, length-map before.solvers.items (λ (p : SolverPost). p.found))
-      ) in
-      let idle = some_idle Solved (map desk_chair_of Settled) some (each_after (HasSolved may_tell may_find crew) (λ p. EndsIdle (receipts_in p.chair)) (λ x y has. has.idle) before.solvers.items Solved ended.solvers) in
+      let there : Contains (lent.chair ∷ AllOthers) lent.chair = Contains-append_left (lent.chair ∷ []) AllOthers lent.chair (Contains-push [] lent.chair) in
       record {
         duty = subst (λ (l : List Chair). All (IsOnDuty may_tell crew) l) (sym apart.chairs_are)
+            (All-cons (IsOnDuty may_tell crew) lent.chair AllOthers has_lent.stays.chair.duty
             (All-append (IsOnDuty may_tell crew) (map chair_of Solved) (map desk_chair_of Settled)
             (to_parts (IsOnDuty may_tell crew) chair_of Solved (each_after (HasSolved may_tell may_find crew) (λ p. IsOnDuty may_tell crew p.chair) (λ x y has. has.stays.chair.duty) before.solvers.items Solved ended.solvers))
-            (to_parts (IsOnDuty may_tell crew) desk_chair_of Settled (each_after (HasSettled may_tell crew) (λ p. IsOnDuty may_tell crew p.chair) (λ x y has. has.stays.chair.duty) before.clerks.items Settled ended.clerks)));
+            (to_parts (IsOnDuty may_tell crew) desk_chair_of Settled (each_after (HasSettled may_tell crew) (λ p. IsOnDuty may_tell crew p.chair) (λ x y has. has.stays.chair.duty) before.clerks.items Settled ended.clerks))));
         numbers =
+            let first = has_lent.stays.chair.number in
             let solved = same_of_each (HasSolved may_tell may_find crew) (λ (p : SolverPost). number_of p.chair) (λ x y has. has.stays.chair.number) before.solvers.items Solved ended.solvers in
             let settled = same_of_each (HasSettled may_tell crew) (λ (p : ClerkPost). number_of p.chair) (λ x y has. has.stays.chair.number) before.clerks.items Settled ended.clerks in
-            ap (map number_of) apart.chairs_are ∙ numbers_apart Solved Settled
-            ∙ (λ i. solved i ++ settled i)
-            ∙ sym (ap (map number_of) manned.chairs_are ∙ numbers_apart before.solvers.items before.clerks.items);
-        idle = (idle.0, subst (λ (l : List Chair). Contains l idle.0) (sym apart.chairs_are) idle.1, idle.2);
+            let others = numbers_apart Solved Settled ∙ (λ i. solved i ++ settled i) ∙ sym (numbers_apart before.solvers.items before.clerks.items) in
+            ap (map number_of) apart.chairs_are
+            ∙ (λ i. first i ∷ others i)
+            ∙ sym (ap (map number_of) manned.chairs_are);
+        idle = (lent.chair, subst (λ (l : List Chair). Contains l lent.chair) (sym apart.chairs_are) there, has_lent.idle);
         leases = leases relayed;
       }
     where

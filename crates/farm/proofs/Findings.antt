@@ -1,4 +1,4 @@
--- Messages, claims and hand-ins, one after another.
+-- Groups, messages, claims and hand-ins, one after another.
 use Rattle.std.proofs.Common.{◌≡◌, ℕ, ◌+◌, ◌<◌, ◌≤◌, Bool, not, List, [], ◌∷◌, ◌++◌, Option, Some, None, All, Contains, refl, sym, ap, ◌∙◌, subst, inl, inr, ⊎_elim, append_assoc, append-nil, arith, take, drop, length, get_or, take-append-drop}
 use Rattle.std.proofs.lemmas.List.{take_more}
 use Rattle.std.proofs.lemmas.List.Elements.{All-nil, All-cons, All-push, All-append, All-weaker, All-filter, Contains-push, Contains-append_left, Contains-append_right}
@@ -14,15 +14,17 @@ use Rattle.certificate_graph.specs.Solvers.{MayFind}
 use Rattle.checker.specs.declared.pairs.CheckedPair.{CheckedPair}
 use Rattle.checker.specs.Pairs.{IsPairOf}
 use Rattle.farm.specs.declared.tasks.Task.{Task}
+use Rattle.farm.specs.declared.tasks.Group.{Group}
 use Rattle.farm.specs.declared.tasks.FoundBundle.{FoundBundle}
 use Rattle.farm.specs.declared.tasks.CheckedClaim.{CheckedClaim}
 use Rattle.farm.specs.declared.crews.Crew.{Crew}
+use Rattle.farm.specs.declared.posts.LenderPost.{LenderPost}
 use Rattle.farm.specs.declared.posts.SolverPost.{SolverPost}
 use Rattle.farm.specs.declared.posts.CheckerPost.{CheckerPost}
 use Rattle.farm.specs.Groups.{group_of, others_of, is_with}
-use Rattle.farm.specs.Posts.{PutsOne, FindsOwn, ClaimsTaken}
+use Rattle.farm.specs.Posts.{PutsGroup, LendsOwn, FindsTaken, ClaimsTaken}
 use Rattle.farm.specs.Requests.{IsNextTask, FreesLeases, WasGiven, AreGiven, Continues, HandsIn, AreHandedIn}
-use Rattle.farm.specs.Findings.{PutsFound, IsFoundUnder, IsClaimFor, PutsClaim, AreClaimsFor, PutsClaims, IsClaimUnder}
+use Rattle.farm.specs.Findings.{IsLentUnder, PutsFound, IsFoundUnder, IsClaimFor, PutsClaim, AreClaimsFor, PutsClaims, IsClaimUnder}
 
 -- ---- receipts that go on
 pub same_receipts : (receipts : List Receipt) → Continues receipts receipts
@@ -84,59 +86,75 @@ others_given receipts tasks others is given = subst (λ (l : List Task). AreGive
     of [] given = given
     of (first ∷ rest) given = record { each = All-filter (λ task. not (is_with first task)) (WasGiven receipts) (first ∷ rest) given.each }
 
+-- ---- groups for solvers
+lent_still : (before after : List Receipt) → Continues before after → (group : Group) → IsLentUnder before group → IsLentUnder after group
+lent_still before after on group is = record {
+  tasks = is.tasks;
+  given = given_on before after is.tasks on is.given;
+  are = is.are;
+}
+
+-- who has put nothing
+pub lends_none : (post : LenderPost) → put_by post.groups ≡ [] → LendsOwn post
+lends_none post none =
+    let Of : Group → Type 0 = IsLentUnder (receipts_in post.chair) in
+    record { each = subst (λ (l : List Group). All Of l) (sym none) (All-nil Of) }
+
+-- the receipts go on
+pub lends_on : (old new : LenderPost) → Continues (receipts_in old.chair) (receipts_in new.chair) → put_by new.groups ≡ put_by old.groups → LendsOwn old → LendsOwn new
+lends_on old new on same lends =
+    let Of : Group → Type 0 = IsLentUnder (receipts_in new.chair) in
+    record {
+      each = subst (λ (l : List Group). All Of l) (sym same)
+          (All-weaker (IsLentUnder (receipts_in old.chair)) Of (lent_still (receipts_in old.chair) (receipts_in new.chair) on) (put_by old.groups) lends.each);
+    }
+
+-- one group more was put, or none was
+pub lends_more : (tasks chosen : List Task) (old new : LenderPost) → chosen ≡ group_of tasks → Continues (receipts_in old.chair) (receipts_in new.chair) → AreGiven (receipts_in old.chair) tasks → PutsGroup chosen old new → LendsOwn old → LendsOwn new
+lends_more tasks chosen old new is on given puts lends =
+    let Of : Group → Type 0 = IsLentUnder (receipts_in new.chair) in
+    let still : All Of (put_by old.groups) = All-weaker (IsLentUnder (receipts_in old.chair)) Of (lent_still (receipts_in old.chair) (receipts_in new.chair) on) (put_by old.groups) lends.each in
+    record {
+      each = ⊎_elim
+          (λ (none : put_by new.groups ≡ put_by old.groups). subst (λ (l : List Group). All Of l) (sym none) still)
+          (λ one.
+          let last : Of one.0 = record {
+            tasks = tasks;
+            given = given_on (receipts_in old.chair) (receipts_in new.chair) tasks on given;
+            are = one.1 ∙ is;
+          } in
+          subst (λ (l : List Group). All Of l) (sym one.2) (All-push Of (put_by old.groups) one.0 still last))
+          puts;
+    }
+
 -- ---- messages to checkers
 module _ (may_find : MayFind) (deals : List (Option Deal)) (budget : ℕ) where
-  -- what was found under receipts is found under later ones
-  found_still : (before after : List Receipt) → Continues before after → (message : FoundBundle) → IsFoundUnder may_find deals budget before message → IsFoundUnder may_find deals budget after message
-  found_still before after on message is = record {
-    tasks = is.tasks;
-    given = given_on before after is.tasks on is.given;
+  found_still : (groups : List Group) (group : Group) (message : FoundBundle) → IsFoundUnder may_find deals budget groups message → IsFoundUnder may_find deals budget (groups ++ group ∷ []) message
+  found_still groups group message is = record {
+    group = is.group;
+    is_one = Contains-append_left groups (group ∷ []) is.group is.is_one;
     answers = is.answers;
   }
 
-  all_found_still : (before after : List Receipt) → Continues before after → (messages : List FoundBundle) → All (IsFoundUnder may_find deals budget before) messages → All (IsFoundUnder may_find deals budget after) messages
-  all_found_still before after on messages all =
-      All-weaker (IsFoundUnder may_find deals budget before) (IsFoundUnder may_find deals budget after) (found_still before after on) messages all
-
-  -- one message more is found
-  found_more : (before after : List Receipt) (tasks : List Task) (old new : List FoundBundle) → Continues before after → AreGiven before tasks → PutsFound may_find deals budget (group_of tasks) old new → All (IsFoundUnder may_find deals budget before) old → All (IsFoundUnder may_find deals budget after) new
-  found_more before after tasks old new on given puts all =
-      let Of : FoundBundle → Type 0 = IsFoundUnder may_find deals budget after in
-      let still : All Of old = all_found_still before after on old all in
-      ⊎_elim
-      (λ (none : new ≡ old). subst (λ (l : List FoundBundle). All Of l) (sym none) still)
+  -- one message more was put for one group more, or none was
+  pub finds_more : (taken now : List Group) (group : Group) (before after : List FoundBundle) → now ≡ taken ++ group ∷ [] → PutsFound may_find deals budget group.tasks.items before after → All (IsFoundUnder may_find deals budget taken) before → All (IsFoundUnder may_find deals budget now) after
+  finds_more taken now group before after took puts all =
+      let With : List Group → List FoundBundle → Type 0 = λ groups messages. All (IsFoundUnder may_find deals budget groups) messages in
+      let Of : FoundBundle → Type 0 = IsFoundUnder may_find deals budget (taken ++ group ∷ []) in
+      let still : All Of before = All-weaker (IsFoundUnder may_find deals budget taken) Of (found_still taken group) before all in
+      subst (λ (g : List Group). With g after) (sym took)
+      (⊎_elim
+      (λ (none : after ≡ before). subst (λ (l : List FoundBundle). All Of l) (sym none) still)
       (λ one.
-      let last : Of one.0 = record {
-        tasks = tasks;
-        given = given_on before after tasks on given;
-        answers = one.1;
-      } in
-      subst (λ (l : List FoundBundle). All Of l) (sym one.2) (All-push Of old one.0 still last))
-      puts
+      let last : Of one.0 = record { group = group; is_one = Contains-push taken group; answers = one.1 } in
+      subst (λ (l : List FoundBundle). All Of l) (sym one.2) (All-push Of before one.0 still last))
+      puts)
 
-module _ {S G C : Type 0} (may_find : S → MayFind) (crew : Crew S G C) where
-  -- who has put nothing
-  pub finds_none : (post : SolverPost) → put_by post.found ≡ [] → FindsOwn may_find crew post
-  finds_none post none =
-      let Of : FoundBundle → Type 0 = IsFoundUnder (may_find crew.means.solver.now) crew.deals.now crew.settings.budget (receipts_in post.chair) in
-      record { each = subst (λ (l : List FoundBundle). All Of l) (sym none) (All-nil Of) }
-
-  -- the receipts go on
-  pub finds_on : (old new : SolverPost) → Continues (receipts_in old.chair) (receipts_in new.chair) → put_by new.found ≡ put_by old.found → FindsOwn may_find crew old → FindsOwn may_find crew new
-  finds_on old new on same finds =
-      let Of : FoundBundle → Type 0 = IsFoundUnder (may_find crew.means.solver.now) crew.deals.now crew.settings.budget (receipts_in new.chair) in
-      record {
-        each = subst (λ (l : List FoundBundle). All Of l) (sym same)
-            (all_found_still (may_find crew.means.solver.now) crew.deals.now crew.settings.budget (receipts_in old.chair) (receipts_in new.chair) on (put_by old.found) finds.each);
-      }
-
-  -- one message more was put, or none was
-  pub finds_more : (tasks group : List Task) (old new : SolverPost) → group ≡ group_of tasks → Continues (receipts_in old.chair) (receipts_in new.chair) → AreGiven (receipts_in old.chair) tasks → PutsOne may_find crew group old new → FindsOwn may_find crew old → FindsOwn may_find crew new
-  finds_more tasks group old new is on given puts finds =
-      let puts' = subst (λ (l : List Task). PutsOne may_find crew l old new) is puts in
-      record {
-        each = found_more (may_find crew.means.solver.now) crew.deals.now crew.settings.budget (receipts_in old.chair) (receipts_in new.chair) tasks (put_by old.found) (put_by new.found) on given puts' finds.each;
-      }
+-- who has put nothing
+pub finds_none : {S G C : Type 0} (may_find : S → MayFind) (crew : Crew S G C) (post : SolverPost) → put_by post.found ≡ [] → FindsTaken may_find crew post
+finds_none may_find crew post none =
+    let Of : FoundBundle → Type 0 = IsFoundUnder (may_find crew.means.solver.now) crew.deals.now crew.settings.budget (taken_by post.groups) in
+    record { each = subst (λ (l : List FoundBundle). All Of l) (sym none) (All-nil Of) }
 
 -- ---- claims to clerks
 module _ (bundle : Bundle) (pair : CheckedPair) where

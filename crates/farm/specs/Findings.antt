@@ -1,4 +1,4 @@
--- The messages of solvers to checkers, and the claims of checkers to clerks.
+-- The groups that the lender puts for solvers, the messages of solvers to checkers, and the claims of checkers to clerks.
 use Rattle.std.specs.Prelude.{◌≡◌, ◌⊎◌, ℕ, List, [], ◌∷◌, ◌++◌, Option, None, Some, Contains, filter, slice_get}
 use Rattle.std.specs.Option.{option_flatten}
 use Rattle.cards.specs.Deal.{Deal}
@@ -8,6 +8,7 @@ use Rattle.certificate_graph.specs.declared.bundles.Claim.{Claim}
 use Rattle.certificate_graph.specs.Bundles.{claim_for}
 use Rattle.certificate_graph.specs.Solvers.{MayFind}
 use Rattle.farm.specs.declared.tasks.Task.{Task}
+use Rattle.farm.specs.declared.tasks.Group.{Group}
 use Rattle.farm.specs.declared.tasks.FoundBundle.{FoundBundle}
 use Rattle.farm.specs.declared.tasks.CheckedClaim.{CheckedClaim}
 use Rattle.checker.specs.declared.pairs.CheckedPair.{CheckedPair}
@@ -15,6 +16,18 @@ use Rattle.checker.specs.Pairs.{IsPairOf, IsClaimedOf}
 use Rattle.lease_desk.specs.declared.receipts.Receipt.{Receipt}
 use Rattle.farm.specs.Groups.{group_of, declarers_in, is_claimed}
 use Rattle.farm.specs.Requests.{AreGiven}
+
+-- a group of these leases was put, or none was
+abbrev pub PutsTasks : List Task → List Group → List Group → Type 0
+PutsTasks tasks before after =
+    (after ≡ before) ⊎ ((group : Group) × (group.tasks.items ≡ tasks) × (after ≡ before ++ group ∷ []))
+
+-- Leases of one board and denomination: those that one search serves together with the first of some leases that these
+-- receipts show as given.
+pub record IsLentUnder (receipts : List Receipt) (group : Group) : Type 0 where
+  pub tasks : List Task
+  pub given : AreGiven receipts tasks
+  pub are : group.tasks.items ≡ group_of tasks
 
 -- the solver may find this for leases of one denomination on a deal; without a deal it finds nothing
 abbrev pub IsFoundOn : MayFind → ℕ → List Task → Trump → Option Deal → Option Bundle → Type 0
@@ -40,12 +53,11 @@ module _ (may_find : MayFind) (deals : List (Option Deal)) (budget : ℕ) where
   PutsFound group before after =
       (after ≡ before) ⊎ ((message : FoundBundle) × IsFoundIn group message × (after ≡ before ++ message ∷ []))
 
-  -- A message for leases of one board and denomination: those that one search serves together with the first of some
-  -- leases that these receipts show as given.
-  pub record IsFoundUnder (receipts : List Receipt) (message : FoundBundle) : Type 0 where
-    pub tasks : List Task
-    pub given : AreGiven receipts tasks
-    pub answers : IsFoundIn (group_of tasks) message
+  -- a message for one of these groups
+  pub record IsFoundUnder (groups : List Group) (message : FoundBundle) : Type 0 where
+    pub group : Group
+    pub is_one : Contains groups group
+    pub answers : IsFoundIn group.tasks.items message
 
 -- the claim for a lease: the first claim that the bundle has for its declarer
 pub record IsClaimFor (bundle : Bundle) (pair : CheckedPair) (task : Task) (checked : CheckedClaim) : Type 0 where

@@ -4,8 +4,10 @@ use Rattle.lease_desk.specs.declared.receipts.Receipt.{Receipt}
 use Rattle.lease_desk.specs.Desks.{receipts_in}
 use Rattle.farm_relay.specs.Relays.{put_by, taken_by}
 use Rattle.farm.specs.declared.tasks.Task.{Task}
+use Rattle.farm.specs.declared.tasks.Group.{Group}
 use Rattle.farm.specs.declared.tasks.FoundBundle.{FoundBundle}
 use Rattle.farm.specs.declared.tasks.CheckedClaim.{CheckedClaim}
+use Rattle.farm.specs.declared.posts.LenderPost.{LenderPost}
 use Rattle.farm.specs.declared.posts.SolverPost.{SolverPost}
 use Rattle.farm.specs.declared.posts.CheckerPost.{CheckerPost}
 use Rattle.farm.specs.declared.posts.ClerkPost.{ClerkPost}
@@ -19,12 +21,15 @@ module _ (weight : ℕ → ℕ) where
   abbrev pub settled : List Receipt → ℕ
   settled receipts = sum_by (λ receipt. settled_by weight receipt.event.asked) receipts
 
-  -- the leases of tasks, of messages to checkers, and of claims
+  -- the leases of tasks, of groups, of messages to checkers, and of claims
   abbrev pub of_task : Task → ℕ
   of_task task = weight task.lease
 
   abbrev pub of_tasks : List Task → ℕ
   of_tasks tasks = sum_by of_task tasks
+
+  abbrev pub of_group : Group → ℕ
+  of_group group = of_tasks group.tasks.items
 
   abbrev pub of_found : FoundBundle → ℕ
   of_found message = of_tasks message.tasks.items
@@ -32,20 +37,29 @@ module _ (weight : ℕ → ℕ) where
   abbrev pub of_claim : CheckedClaim → ℕ
   of_claim claim = weight claim.task.lease
 
+  abbrev pub all_lent : List Group → ℕ
+  all_lent groups = sum_by of_group groups
+
   abbrev pub all_found : List FoundBundle → ℕ
   all_found messages = sum_by of_found messages
 
   abbrev pub all_claimed : List CheckedClaim → ℕ
   all_claimed claims = sum_by of_claim claims
 
-  -- Between earlier and later receipts of a solver: the leases that it settled since then and has in hand are those
+  -- Between earlier and later receipts of a thread: the leases that it settled since then and has in hand are those
   -- that it had and those that it was given since then.
   abbrev pub Moves : List Receipt → List Receipt → ℕ → ℕ → Type 0
   Moves old new had has = settled new + has + given old ≡ settled old + had + given new
 
-  -- a solver settled or put all the leases that it was given
-  abbrev pub SettlesOwn : SolverPost → Type 0
-  SettlesOwn post = settled (receipts_in post.chair) + all_found (put_by post.found) ≡ given (receipts_in post.chair)
+  -- the lender settled or put all the leases that it was given
+  abbrev pub SettlesOwn : LenderPost → Type 0
+  SettlesOwn post = settled (receipts_in post.chair) + all_lent (put_by post.groups) ≡ given (receipts_in post.chair)
+
+  -- a solver settled or put all the leases of the groups that it took, beside those that it was given
+  abbrev pub SettlesTaken : SolverPost → Type 0
+  SettlesTaken post =
+      settled (receipts_in post.chair) + all_found (put_by post.found)
+      ≡ given (receipts_in post.chair) + all_lent (taken_by post.groups)
 
   -- the claims that a checker put are for leases of the messages that it took, each for another lease
   abbrev pub ClaimsOwn : CheckerPost → Type 0

@@ -1,5 +1,5 @@
 -- The facts about a post before and after the work.
-use Rattle.std.specs.Prelude.{◌≡◌, ℕ, ◌+◌, true, List, [], ◌++◌, All, map, length}
+use Rattle.std.specs.Prelude.{◌≡◌, ℕ, ◌+◌, true, List, [], ◌∷◌, ◌++◌, All, map, length}
 use Rattle.lease_desk.specs.declared.chairs.Chair.{Chair}
 use Rattle.lease_desk.specs.declared.desk.Desk.{Desk}
 use Rattle.lease_desk.specs.Desks.{receipts_in, terms_of}
@@ -7,6 +7,7 @@ use Rattle.farm_relay.specs.Relays.{PutsAtSame, TakesAtSame, put_by, taken_by, m
 use Rattle.farm.specs.declared.crews.Crew.{Crew}
 use Rattle.farm.specs.declared.tasks.Task.{Task}
 use Rattle.farm.specs.declared.tasks.CheckedClaim.{CheckedClaim}
+use Rattle.farm.specs.declared.posts.LenderPost.{LenderPost}
 use Rattle.farm.specs.declared.posts.SolverPost.{SolverPost}
 use Rattle.farm.specs.declared.posts.CheckerPost.{CheckerPost}
 use Rattle.farm.specs.declared.posts.ClerkPost.{ClerkPost}
@@ -17,12 +18,17 @@ use Rattle.lease_book.specs.Moments.{MayTell}
 use Rattle.certificate_graph.specs.Solvers.{MayFind}
 use Rattle.farm.specs.Working.{IsNew, StaysOnDuty}
 use Rattle.farm.specs.Requests.{AreHandedIn, EndsIdle}
-use Rattle.farm.specs.Findings.{PutsFound, IsFoundUnder, IsClaimUnder}
-use Rattle.farm.specs.Flows.{SettlesOwn, ClaimsOwn, SettlesClaims}
+use Rattle.farm.specs.Findings.{PutsTasks, IsLentUnder, PutsFound, IsFoundUnder, IsClaimUnder}
+use Rattle.farm.specs.Flows.{SettlesOwn, SettlesTaken, ClaimsOwn, SettlesClaims}
 
 -- posts at which nobody has worked
+pub record IsNewLender (desk : Desk) (post : LenderPost) : Type 0 where
+  pub chair : IsNew desk post.chair
+  pub none_put : put_by post.groups ≡ []
+
 pub record IsNewSolver (desk : Desk) (post : SolverPost) : Type 0 where
   pub chair : IsNew desk post.chair
+  pub none_taken : taken_by post.groups ≡ []
   pub none_put : put_by post.found ≡ []
 
 pub record IsNewChecker (post : CheckerPost) : Type 0 where
@@ -33,6 +39,14 @@ pub record IsNewClerk (desk : Desk) (post : ClerkPost) : Type 0 where
   pub chair : IsNew desk post.chair
   pub none_taken : taken_by post.claims ≡ []
 
+-- one group of these leases was put, or none was
+abbrev pub PutsGroup : List Task → LenderPost → LenderPost → Type 0
+PutsGroup tasks old new = PutsTasks tasks (put_by old.groups) (put_by new.groups)
+
+-- each group that the lender put is of leases that it was given
+pub record LendsOwn (post : LenderPost) : Type 0 where
+  pub each : All (IsLentUnder (receipts_in post.chair)) (put_by post.groups)
+
 module _ {S G C : Type 0} (may_find : S → MayFind) (crew : Crew S G C) where
   -- one message for a group of leases was put, or none was
   abbrev pub PutsOne : List Task → SolverPost → SolverPost → Type 0
@@ -40,11 +54,11 @@ module _ {S G C : Type 0} (may_find : S → MayFind) (crew : Crew S G C) where
       PutsFound (may_find crew.means.solver.now) crew.deals.now crew.settings.budget group (put_by old.found)
       (put_by new.found)
 
-  -- each message that a solver put is for leases that it was given
-  pub record FindsOwn (post : SolverPost) : Type 0 where
+  -- each message that a solver put is for a group that it took
+  pub record FindsTaken (post : SolverPost) : Type 0 where
     pub each :
         All
-        (IsFoundUnder (may_find crew.means.solver.now) crew.deals.now crew.settings.budget (receipts_in post.chair))
+        (IsFoundUnder (may_find crew.means.solver.now) crew.deals.now crew.settings.budget (taken_by post.groups))
         (put_by post.found)
 
 -- each claim that a checker put is for a message that it took
@@ -57,8 +71,14 @@ pub record HandsInTaken (terms : Terms) (old new : ClerkPost) : Type 0 where
   pub taken : taken_by new.claims ≡ taken_by old.claims ++ claims
   pub handed_in : AreHandedIn terms claims (receipts_in old.chair) (receipts_in new.chair)
 
--- a solver has finished putting messages, even if its work failed
+-- the lender has finished putting groups, even if its work failed
+pub record LeavesLender (old new : LenderPost) : Type 0 where
+  pub same : PutsAtSame old.groups new.groups
+  pub finished : is_finished new.groups ≡ true
+
+-- a solver took an end mark, and has finished putting messages, even if its work failed
 pub record LeavesSolver (old new : SolverPost) : Type 0 where
+  pub ended : marks_of new.groups ≡ marks_of old.groups + 1
   pub same : PutsAtSame old.found new.found
   pub finished : is_finished new.found ≡ true
 
@@ -73,14 +93,26 @@ abbrev pub LeavesClerk : ClerkPost → ClerkPost → Type 0
 LeavesClerk old new = marks_of new.claims ≡ marks_of old.claims + 1
 
 module _ {S G C : Type 0} (may_tell : C → MayTell) (crew : Crew S G C) where
-  -- the post has the same chair, and the same end of the same relay
+  -- the post has the same chair, and the same ends of the same relays
+  pub record StaysLender (old new : LenderPost) : Type 0 where
+    pub chair : StaysOnDuty may_tell crew old.chair new.chair
+    pub groups : PutsAtSame old.groups new.groups
+
   pub record StaysSolver (old new : SolverPost) : Type 0 where
     pub chair : StaysOnDuty may_tell crew old.chair new.chair
+    pub groups : TakesAtSame old.groups new.groups
     pub found : PutsAtSame old.found new.found
 
   pub record StaysClerk (old new : ClerkPost) : Type 0 where
     pub chair : StaysOnDuty may_tell crew old.chair new.chair
     pub claims : TakesAtSame old.claims new.claims
+
+  -- The lender works until no entry is open and no lease has run out. It puts or settles the leases that it is given.
+  pub record HasLent (old new : LenderPost) : Type 0 where
+    pub stays : StaysLender old new
+    pub idle : EndsIdle (receipts_in new.chair)
+    pub leases : (weight : ℕ → ℕ) → SettlesOwn weight new
+    pub lends : LendsOwn new
 
   -- a clerk works until it takes an end mark, and hands in the claims that it takes, in their order
   pub record HasSettled (old new : ClerkPost) : Type 0 where
@@ -90,13 +122,13 @@ module _ {S G C : Type 0} (may_tell : C → MayTell) (crew : Crew S G C) where
     pub hands_in : HandsInTaken (terms_of crew.desk.now) old new
 
 module _ {S G C : Type 0} (may_tell : C → MayTell) (may_find : S → MayFind) (crew : Crew S G C) where
-  -- A solver works until no entry is open and no lease has run out. It puts or settles the leases that it is given, and
-  -- each message is one that the solver may find for them.
+  -- A solver works until it takes an end mark. It puts or settles the leases that it takes, and each message is one that
+  -- the solver may find for a group of them.
   pub record HasSolved (old new : SolverPost) : Type 0 where
     pub stays : StaysSolver may_tell crew old new
-    pub idle : EndsIdle (receipts_in new.chair)
-    pub leases : (weight : ℕ → ℕ) → SettlesOwn weight new
-    pub finds : FindsOwn may_find crew new
+    pub ended : marks_of new.groups ≡ marks_of old.groups + 1
+    pub leases : (weight : ℕ → ℕ) → SettlesTaken weight new
+    pub finds : FindsTaken may_find crew new
 
 -- the post has the same ends of the same relays
 pub record StaysChecker (old new : CheckerPost) : Type 0 where
@@ -110,14 +142,21 @@ pub record HasChecked (old new : CheckerPost) : Type 0 where
   pub leases : (weight : ℕ → ℕ) → ClaimsOwn weight new
   pub claims_taken : ClaimsTaken new
 
--- there is a chair for each solver and each clerk, and both ends for each checker
+-- there is a chair for the lender, for each solver and for each clerk, one end for the lender, and both ends for each
+-- solver and each checker
 pub record CanBeManned (chairs : List Chair) (ends : RelayEnds) : Type 0 where
-  pub chairs_are : length chairs ≡ length ends.finds.items + length ends.heard.items
+  pub chairs_are : length chairs ≡ length ends.finds.items + length ends.heard.items + 1
+  pub lent_are : length ends.lent.items ≡ 1
+  pub groups_are : length ends.finds.items ≡ length ends.groups.items
   pub ends_are : length ends.found.items ≡ length ends.claims.items
 
--- the chairs and ends are those at the posts, the solvers' chairs first
-pub record AreManned (chairs : List Chair) (ends : RelayEnds) (posts : Posts) : Type 0 where
-  pub chairs_are : chairs ≡ map (λ post. post.chair) posts.solvers.items ++ map (λ post. post.chair) posts.clerks.items
+-- the chairs and ends are those at the posts, the lender's chair first and then the solvers'
+pub record AreManned (chairs : List Chair) (ends : RelayEnds) (lender : LenderPost) (posts : Posts) : Type 0 where
+  pub chairs_are :
+      chairs
+      ≡ lender.chair ∷ map (λ post. post.chair) posts.solvers.items ++ map (λ post. post.chair) posts.clerks.items
+  pub lent : ends.lent.items ≡ lender.groups ∷ []
+  pub groups : ends.groups.items ≡ map (λ post. post.groups) posts.solvers.items
   pub finds : ends.finds.items ≡ map (λ post. post.found) posts.solvers.items
   pub found : ends.found.items ≡ map (λ post. post.found) posts.checkers.items
   pub claims : ends.claims.items ≡ map (λ post. post.claims) posts.checkers.items

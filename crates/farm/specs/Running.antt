@@ -6,6 +6,7 @@ use Rattle.lease_desk.specs.Desks.{number_of, receipts_in}
 use Rattle.farm_threads.specs.Beside.{AreBeside}
 use Rattle.farm_threads.specs.Posts.{AreThreadsOf}
 use Rattle.farm.specs.declared.crews.Crew.{Crew}
+use Rattle.farm.specs.declared.posts.LenderPost.{LenderPost}
 use Rattle.farm.specs.declared.posts.SolverPost.{SolverPost}
 use Rattle.farm.specs.declared.posts.CheckerPost.{CheckerPost}
 use Rattle.farm.specs.declared.posts.ClerkPost.{ClerkPost}
@@ -18,7 +19,7 @@ use Rattle.lease_book.specs.Moments.{MayTell}
 use Rattle.farm.specs.Working.{IsOnDuty}
 use Rattle.farm.specs.Requests.{EndsIdle}
 use Rattle.farm.specs.Flows.{given, settled}
-use Rattle.farm.specs.Posts.{IsNewSolver, IsNewChecker, IsNewClerk, AreManned}
+use Rattle.farm.specs.Posts.{IsNewLender, IsNewSolver, IsNewChecker, IsNewClerk, AreManned}
 use Rattle.farm.specs.Relaying.{AreOpened}
 
 -- the work may begin at these posts
@@ -33,11 +34,13 @@ abbrev pub AreNewPosts : Desk → Posts → Type 0
 AreNewPosts desk posts = MayBegin (IsNewSolver desk) IsNewChecker (IsNewClerk desk) posts
 
 -- posts at these chairs, with all ends of new relays, at which nobody has worked
-pub record AreOpenedPosts (settings : Settings) (desk : Desk) (chairs : List Chair) (relays : Relays) (posts : Posts)
+pub record AreOpenedPosts (settings : Settings) (desk : Desk) (chairs : List Chair) (relays : Relays)
+    (lender : LenderPost) (posts : Posts)
     : Type 0 where
   pub ends : RelayEnds
   pub opened : AreOpened settings relays ends
-  pub manned : AreManned chairs ends posts
+  pub manned : AreManned chairs ends lender posts
+  pub new_lender : IsNewLender desk lender
   pub new : AreNewPosts desk posts
 
 module _ {A B D : Type 0} where

@@ -1,4 +1,4 @@
-//! The batch of entries that a solver leases at a time.
+//! The batch of entries that the lender leases at a time.
 
 ghost use Rattle.std.specs.Prelude.{ℕ, ◌≤◌, IfOk, OnOk, length};
 ghost use Rattle.lease_desk.specs.Desks.{receipts_in};
@@ -8,8 +8,8 @@ ghost use Rattle.farm.specs.Flows.{Moves, of_task, of_tasks};
 
 use crate::crews::Crew;
 use crate::requests::next_task;
-use crate::signals::Leasing;
 use crate::tasks::{Task, Tasks};
+use crate::turns::Turn;
 use cards::OutOfMemory;
 use lease_book::Clock;
 use lease_desk::Chair;
@@ -21,7 +21,7 @@ pub(crate) fn lease_batch<S, G, C: Clock, R: Wait>(
     crew: &Crew<'_, S, G, C>,
     chair: &mut Chair,
     first: Task,
-    leasing: &Leasing<'_>,
+    turn: &Turn<'_>,
 ) -> Result<Tasks, OutOfMemory>
     requires duty { IsOnDuty C.may_tell crew.now chair.old }
     requires given { WasGiven (receipts_in chair.old) first }
@@ -36,7 +36,7 @@ pub(crate) fn lease_batch<S, G, C: Clock, R: Wait>(
     let mut batch = Tasks::new();
     batch.push(first);
     for _more in 1..crew.settings.batch {
-        let Some(task) = next_task(rt, crew, chair, leasing)? else {
+        let Some(task) = next_task(rt, crew, chair, turn)? else {
             return Ok(batch);
         };
         batch.push(task);

@@ -2,17 +2,17 @@
 
 ghost use Rattle.std.specs.Prelude.{◌≡◌, ◌+◌, ℕ, OnOk, OnErr};
 ghost use Rattle.lease_desk.specs.Desks.{receipts_in, terms_of};
-ghost use Rattle.farm_relay.specs.Relays.{TakesAtSame, marks_of};
+ghost use Rattle.farm_relay.specs.Relays.{marks_of};
 ghost use Rattle.farm.specs.Working.{IsOnDuty, StaysOnDuty};
 ghost use Rattle.farm.specs.Requests.{HandsIn};
 ghost use Rattle.farm.specs.Posts.{StaysClerk, HandsInTaken};
 ghost use Rattle.farm.specs.Flows.{SettlesClaims};
 
 use crate::crews::Crew;
+use crate::draining::take_rest;
 use crate::posts::ClerkPost;
 use crate::tasks::CheckedClaim;
 use cards::OutOfMemory;
-use farm_relay::Taker;
 use lease_book::{Clock, Gate};
 use lease_desk::Chair;
 use std::sync::Wait;
@@ -63,18 +63,6 @@ fn hand_in_all<S, G: Gate, C: Clock, R: Wait>(
         hand_in(rt, crew, &mut post.chair, &claim)?;
     }
     unreachable!()
-}
-
-/// Takes claims until an end mark comes, and drops them.
-fn take_rest<R: Wait>(rt: &R, claims: &mut Taker<CheckedClaim>)
-    ensures same { TakesAtSame claims.old claims.new }
-    ensures ended { marks_of claims.new ≡ marks_of claims.old + 1 }
-{
-    for _ in rt.forever() {
-        if claims.take(rt).is_none() {
-            return;
-        }
-    }
 }
 
 /// Takes claims until an end mark comes, and hands each in. After memory has run out it only takes them, so that no

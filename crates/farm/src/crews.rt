@@ -1,7 +1,7 @@
 //! The things that all threads of a round share.
 
 use crate::means::Means;
-use crate::signals::Signals;
+use crate::turns::Turns;
 use asked::Settings;
 use cards::Layout;
 use lease_desk::Desk;
@@ -15,7 +15,7 @@ pub(crate) struct Crew<'a, S, G, C> {
     pub(crate) deals: &'a [Option<Layout>],
     pub(crate) settings: Settings,
     pub(crate) means: Means<'a, S, G, C>,
-    pub(crate) signals: &'a Signals,
+    pub(crate) turns: &'a Turns,
 }
 
 impl<S, G, C> Drop for Crew<'_, S, G, C> {
@@ -26,7 +26,7 @@ impl<S, G, C> Drop for Crew<'_, S, G, C> {
             deals: _,
             settings: _,
             means: _,
-            signals: _,
+            turns: _,
         } = self;
     }
 }

@@ -1,17 +1,35 @@
-//! The work of solvers, of checkers and of clerks, each at its post. Even if its work fails, a thread finishes the
+//! The work of the lender, of solvers, of checkers and of clerks, each at its post. Even if its work fails, a thread finishes the
 //! relay that it puts into, and empties the relay that it takes from until an end mark comes.
 
 use crate::checking::check_all;
 use crate::clerks::settle_all;
 use crate::crews::Crew;
 use crate::halts::Halt;
-use crate::posts::{CheckerPost, ClerkPost, SolverPost};
+use crate::lending::lend_all;
+use crate::posts::{CheckerPost, ClerkPost, LenderPost, SolverPost};
 use crate::solving::solve_all;
 use certificate_graph::Solver;
 use farm_threads::Work;
 use lease_book::{Clock, Gate};
 use std::sync::Wait;
 use std::thread::Threads;
+
+impl<S: Solver, G: Gate, C: Clock> Work<LenderPost, Halt> for Crew<'_, S, G, C> {
+    ghost use Rattle.farm.specs.Posts.{IsNewLender, LeavesLender, HasLent};
+
+    ghost begins = { λ crew. IsNewLender crew.desk.now };
+
+    ghost leaves = { λ crew. LeavesLender };
+
+    ghost ends = { HasLent C.may_tell };
+
+    fn work<R: Threads + Wait + Sync>(&self, rt: &R, post: &mut LenderPost) -> Result<(), Halt> {
+        let outcome = lend_all(rt, self, post);
+        post.groups.finish(rt);
+        outcome?;
+        Ok(())
+    }
+}
 
 impl<S: Solver, G: Gate, C: Clock> Work<SolverPost, Halt> for Crew<'_, S, G, C> {
     ghost use Rattle.farm.specs.Posts.{IsNewSolver, LeavesSolver, HasSolved};
@@ -25,7 +43,8 @@ impl<S: Solver, G: Gate, C: Clock> Work<SolverPost, Halt> for Crew<'_, S, G, C> 
     fn work<R: Threads + Wait + Sync>(&self, rt: &R, post: &mut SolverPost) -> Result<(), Halt> {
         let outcome = solve_all(rt, self, post);
         post.found.finish(rt);
-        outcome
+        outcome?;
+        Ok(())
     }
 }
 

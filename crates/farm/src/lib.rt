@@ -1,20 +1,22 @@
 //! A lease book that threads work through.
 //!
-//! [`run_farm`] works through a list of boards in rounds. In a round a desk is open. Solvers lease entries from it,
-//! batch by batch, and search for certificates of their results. Checkers check each graph once, and clerks hand in the
-//! claims. Each has a thread of its own. When all have ended, the desk is closed, and another round begins if an entry
-//! is open. The solver, the gate and the clock may answer anything.
+//! [`run_farm`] works through a list of boards in rounds. In a round a desk is open. A lender leases entries from it,
+//! and lends those of one board and denomination together. Solvers search for certificates of their results, checkers
+//! check each graph once, and clerks hand in the claims, each in a thread of its own. When all have ended, the desk is
+//! closed, and another round begins if an entry is open. The solver, the gate and the clock may answer anything.
 #![tactic(auto)]
 
 mod batches;
 mod checking;
 mod clerks;
 mod crews;
+mod draining;
 mod duties;
 mod faults;
 mod groups;
 mod halts;
 mod leftovers;
+mod lending;
 mod manning;
 mod means;
 mod opening;
@@ -23,11 +25,11 @@ mod relays;
 mod requests;
 mod rounds;
 mod running;
-mod signals;
 mod solving;
 mod started;
 mod tasks;
 mod telling;
+mod turns;
 
 pub use asked::{Settings, SettingsFault};
 pub use faults::FarmFault;

@@ -1,33 +1,61 @@
 //! From chairs and ends of relays to posts, and back.
 
-ghost use Rattle.std.specs.Prelude.{◌≡◌, ◌≤◌, ◌++◌, IfOk, length, map};
+ghost use Rattle.std.specs.Prelude.{◌≡◌, ◌+◌, ◌≤◌, [], ◌∷◌, ◌++◌, IfOk, length, map};
 ghost use Rattle.farm.specs.Posts.{AreManned, CanBeManned};
 
-use crate::posts::{CheckerPost, ClerkPost, Posts, SolverPost};
+use crate::posts::{CheckerPost, ClerkPost, LenderPost, Posts, SolverPost};
 use crate::relays::RelayEnds;
-use crate::tasks::{CheckedClaim, FoundBundle};
+use crate::tasks::{CheckedClaim, FoundBundle, Group};
 use farm_relay::{Putter, Taker};
 use lease_desk::Chair;
 use std::alloc::{AllocError, Global};
 use std::collections::VecDeque;
 
+/// Makes the post of the lender, at the first of the chairs, with the only one of these ends.
+fn lender_post(chairs: &mut VecDeque<Chair>, lent: Vec<Putter<Group>>) -> LenderPost
+    requires chairs { 1 ≤ length chairs.old.items }
+    requires lent { length lent.items ≡ 1 }
+    ensures chairs { chairs.old.items ≡ result.chair ∷ chairs.new.items }
+    ensures lent { lent.items ≡ result.groups ∷ [] }
+{
+    let mut lent = VecDeque::from(lent);
+    let Some(chair) = chairs.pop_front() else {
+        unreachable!()
+    };
+    let Some(groups) = lent.pop_front() else {
+        unreachable!()
+    };
+    LenderPost { chair, groups }
+}
+
 /// Makes the posts of solvers, at the first of the chairs.
 fn solver_posts(
     alloc: Global,
     chairs: &mut VecDeque<Chair>,
+    groups: Vec<Taker<Group>>,
     finds: Vec<Putter<FoundBundle>>,
 ) -> Result<Vec<SolverPost>, AllocError>
-    requires { length finds.items ≤ length chairs.old.items }
+    requires chairs { length finds.items ≤ length chairs.old.items }
+    requires ends { length finds.items ≡ length groups.items }
     ensures chairs { IfOk result (λ posts. chairs.old.items ≡ map (λ post. post.chair) posts.items
         ++ chairs.new.items) }
+    ensures groups { IfOk result (λ posts. groups.items ≡ map (λ post. post.groups) posts.items) }
     ensures finds { IfOk result (λ posts. finds.items ≡ map (λ post. post.found) posts.items) }
 {
     let mut posts = Vec::with_capacity(alloc, finds.len())?;
+    let mut groups = VecDeque::from(groups);
     for found in finds {
         let Some(chair) = chairs.pop_front() else {
             unreachable!()
         };
-        posts.push(SolverPost { chair, found })?;
+        let Some(taker) = groups.pop_front() else {
+            unreachable!()
+        };
+        posts.push(SolverPost {
+            chair,
+            groups: taker,
+            found,
+        })?;
     }
     Ok(posts)
 }
@@ -77,21 +105,40 @@ fn clerk_posts(
     Ok(posts)
 }
 
-/// Returns the chairs and the ends of solvers' posts.
-fn solvers_apart(
+/// Returns the chair and the end of the lender's post.
+fn lender_apart(
     alloc: Global,
-    posts: Vec<SolverPost>,
-) -> Result<(Vec<Chair>, Vec<Putter<FoundBundle>>), AllocError>
+    post: LenderPost,
+) -> Result<(Vec<Chair>, Vec<Putter<Group>>), AllocError>
+    ensures chair { IfOk result (λ apart. apart.0.items ≡ post.chair ∷ []) }
+    ensures lent { IfOk result (λ apart. apart.1.items ≡ post.groups ∷ []) }
+{
+    let LenderPost { chair, groups } = post;
+    let mut chairs = Vec::with_capacity(alloc, 1)?;
+    let mut lent = Vec::with_capacity(alloc, 1)?;
+    chairs.push(chair)?;
+    lent.push(groups)?;
+    Ok((chairs, lent))
+}
+
+/// The chairs and the ends of solvers' posts.
+type SolversApart = (Vec<Chair>, Vec<Taker<Group>>, Vec<Putter<FoundBundle>>);
+
+/// Returns the chairs and the ends of solvers' posts.
+fn solvers_apart(alloc: Global, posts: Vec<SolverPost>) -> Result<SolversApart, AllocError>
     ensures chairs { IfOk result (λ apart. apart.0.items ≡ map (λ post. post.chair) posts.items) }
-    ensures finds { IfOk result (λ apart. apart.1.items ≡ map (λ post. post.found) posts.items) }
+    ensures groups { IfOk result (λ apart. apart.1.items ≡ map (λ post. post.groups) posts.items) }
+    ensures finds { IfOk result (λ apart. apart.2.items ≡ map (λ post. post.found) posts.items) }
 {
     let mut chairs = Vec::with_capacity(alloc, posts.len())?;
+    let mut groups = Vec::with_capacity(alloc, posts.len())?;
     let mut finds = Vec::with_capacity(alloc, posts.len())?;
     for post in posts {
         chairs.push(post.chair)?;
+        groups.push(post.groups)?;
         finds.push(post.found)?;
     }
-    Ok((chairs, finds))
+    Ok((chairs, groups, finds))
 }
 
 /// Returns the ends of checkers' posts.
@@ -129,47 +176,59 @@ fn clerks_apart(
 }
 
 impl Posts {
-    /// Makes posts with these chairs and ends, the solvers' at the first of the chairs.
+    /// Makes posts with these chairs and ends: the lender's at the first of the chairs, and the solvers' after it.
     pub(crate) fn of(
         alloc: Global,
         chairs: Vec<Chair>,
         ends: RelayEnds,
-    ) -> Result<Posts, AllocError>
+    ) -> Result<(LenderPost, Posts), AllocError>
         requires { CanBeManned chairs.items ends }
-        ensures { IfOk result (AreManned chairs.items ends) }
+        ensures { IfOk result (λ made. AreManned chairs.items ends made.0 made.1) }
     {
         let RelayEnds {
+            lent,
+            groups,
             finds,
             found,
             claims,
             heard,
         } = ends;
         let mut chairs = VecDeque::from(chairs);
-        let solvers = solver_posts(alloc, &mut chairs, finds)?;
+        let lender = lender_post(&mut chairs, lent);
+        let solvers = solver_posts(alloc, &mut chairs, groups, finds)?;
         let checkers = checker_posts(alloc, found, claims)?;
         let clerks = clerk_posts(alloc, chairs, heard)?;
-        Ok(Posts {
+        let posts = Posts {
             solvers,
             checkers,
             clerks,
-        })
+        };
+        Ok((lender, posts))
     }
 
-    /// Returns the chairs, the solvers' first, and the ends.
-    pub(crate) fn apart(self, alloc: Global) -> Result<(Vec<Chair>, RelayEnds), AllocError>
-        ensures { IfOk result (λ apart. AreManned apart.0.items apart.1 self) }
+    /// Returns the chairs, the lender's first and then the solvers', and the ends.
+    pub(crate) fn apart(
+        self,
+        alloc: Global,
+        lender: LenderPost,
+    ) -> Result<(Vec<Chair>, RelayEnds), AllocError>
+        ensures { IfOk result (λ apart. AreManned apart.0.items apart.1 lender self) }
     {
         let Posts {
             solvers,
             checkers,
             clerks,
         } = self;
-        let (solved, finds) = solvers_apart(alloc, solvers)?;
+        let (chairs, lent) = lender_apart(alloc, lender)?;
+        let (solved, groups, finds) = solvers_apart(alloc, solvers)?;
         let (found, claims) = checkers_apart(alloc, checkers)?;
         let (settled, heard) = clerks_apart(alloc, clerks)?;
-        let (mut chairs, mut settled) = (solved, settled);
-        chairs.append(&mut settled)?;
+        let (mut chairs, mut solved, mut settled) = (chairs, solved, settled);
+        solved.append(&mut settled)?;
+        chairs.append(&mut solved)?;
         let ends = RelayEnds {
+            lent,
+            groups,
             finds,
             found,
             claims,

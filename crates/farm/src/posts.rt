@@ -1,13 +1,21 @@
-//! The posts of the threads of a round.
+//! The posts of a round.
 
-use crate::tasks::{CheckedClaim, FoundBundle};
+use crate::tasks::{CheckedClaim, FoundBundle, Group};
 use farm_relay::{Putter, Taker};
 use lease_desk::Chair;
 
-/// The post of a solver: its chair at the desk, and its end of the relay to the checkers.
+/// The post of the lender: its chair at the desk, and its end of the relay to the solvers.
+#[derive(Drop)]
+pub(crate) struct LenderPost {
+    pub(crate) chair: Chair,
+    pub(crate) groups: Putter<Group>,
+}
+
+/// The post of a solver: its chair at the desk, and its ends of the relays from the lender and to the checkers.
 #[derive(Drop)]
 pub(crate) struct SolverPost {
     pub(crate) chair: Chair,
+    pub(crate) groups: Taker<Group>,
     pub(crate) found: Putter<FoundBundle>,
 }
 
@@ -25,7 +33,7 @@ pub(crate) struct ClerkPost {
     pub(crate) claims: Taker<CheckedClaim>,
 }
 
-/// The posts of a round.
+/// The posts of a round that have threads of their own.
 #[derive(Drop)]
 pub(crate) struct Posts {
     pub(crate) solvers: Vec<SolverPost>,

@@ -1,13 +1,14 @@
-//! The requests of a solver at the desk.
+//! The requests of the lender and of solvers at the desk.
 
-ghost use Rattle.std.specs.Prelude.{IfOk, OnOk};
+ghost use Rattle.std.specs.Prelude.{ℕ, IfOk, OnOk};
 ghost use Rattle.lease_desk.specs.Desks.{receipts_in};
 ghost use Rattle.farm.specs.Working.{IsOnDuty, StaysOnDuty};
-ghost use Rattle.farm.specs.Requests.{IsNextTask, FreesLeases, GivesUp};
+ghost use Rattle.farm.specs.Requests.{IsNextTask, FreesLeases, GivesUp, Continues};
+ghost use Rattle.farm.specs.Flows.{Moves, of_tasks};
 
 use crate::crews::Crew;
-use crate::signals::Leasing;
-use crate::tasks::Task;
+use crate::tasks::{Task, Tasks};
+use crate::turns::Turn;
 use cards::OutOfMemory;
 use lease_book::{Clock, Reply};
 use lease_desk::Chair;
@@ -18,7 +19,7 @@ pub(crate) fn next_task<S, G, C: Clock, R: Wait>(
     rt: &R,
     crew: &Crew<'_, S, G, C>,
     chair: &mut Chair,
-    _leasing: &Leasing<'_>,
+    _turn: &Turn<'_>,
 ) -> Result<Option<Task>, OutOfMemory>
     requires { IsOnDuty C.may_tell crew.now chair.old }
     ensures stays { StaysOnDuty C.may_tell crew.now chair.old chair.new }
@@ -60,5 +61,26 @@ pub(crate) fn give_up<S, G, C: Clock, R: Wait>(
     ensures told { OnOk result (GivesUp lease (receipts_in chair.old) (receipts_in chair.new)) }
 {
     let _told = crew.desk.give_up(rt, chair, lease)?;
+    Ok(())
+}
+
+/// Gives leases up, in one turn.
+pub(crate) fn give_up_all<S, G, C: Clock, R: Wait>(
+    rt: &R,
+    crew: &Crew<'_, S, G, C>,
+    chair: &mut Chair,
+    tasks: &Tasks,
+) -> Result<(), OutOfMemory>
+    requires { IsOnDuty C.may_tell crew.now chair.old }
+    ensures stays { StaysOnDuty C.may_tell crew.now chair.old chair.new }
+    ensures leases { OnOk result ((weight : ℕ → ℕ) →
+        Moves weight (receipts_in chair.old) (receipts_in chair.new) (of_tasks weight tasks.now.items) 0) }
+    ensures receipts { OnOk result (Continues (receipts_in chair.old) (receipts_in chair.new)) }
+{
+    let _turn = crew.turns.wait(rt);
+    let tasks = tasks.as_slice();
+    for task in tasks.iter() {
+        give_up(rt, crew, chair, task.lease)?;
+    }
     Ok(())
 }

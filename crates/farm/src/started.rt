@@ -9,7 +9,6 @@ ghost use Rattle.farm.specs.declared.posts.Posts.{Posts as PostsOfRun};
 use crate::halts::Halt;
 use crate::posts::{CheckerPost, ClerkPost, Posts, SolverPost};
 use crate::relays::Relays;
-use crate::signals::Stopped;
 use farm_threads::{Thread, Work, end_each, join_each, start_each};
 use std::alloc::AllocError;
 use std::sync::Wait;
@@ -104,15 +103,14 @@ pub(crate) fn join_all<
     })
 }
 
-/// Waits for the threads that were started, if not all were. No solver leases any more. When nobody is left to put into
-/// a relay, each of its takers gets an end mark. A message that nobody takes is handed back. So no thread waits for
-/// ever.
+/// Waits for the threads that were started, if not all were, so that nothing was lent. When nobody is left to put into a
+/// relay, each of its takers gets an end mark. A message that nobody takes is handed back. So no thread waits for ever.
 pub(crate) fn end_all<
     A: Work<SolverPost, Halt>,
     B: Work<CheckerPost, Halt>,
     D: Work<ClerkPost, Halt>,
     R: Threads + Wait,
->(rt: &R, _stopped: Stopped, relays: &mut Relays, started: Started<A, B, D>)
+>(rt: &R, relays: &mut Relays, started: Started<A, B, D>)
     ensures solvers { All (HasEnded (IsKept A.leaves A.ends)) started.solvers.items }
     ensures checkers { All (HasEnded (IsKept B.leaves B.ends)) started.checkers.items }
     ensures clerks { All (HasEnded (IsKept D.leaves D.ends)) started.clerks.items }
@@ -123,6 +121,7 @@ pub(crate) fn end_all<
         checkers,
         clerks,
     } = started;
+    relays.groups.end(rt);
     end_each(rt, solvers);
     relays.found.end(rt);
     end_each(rt, checkers);

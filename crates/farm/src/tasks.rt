@@ -1,4 +1,4 @@
-//! The values that pass from the desk to a solver, to a checker, and to a clerk.
+//! The values that pass from the desk to the lender, to a solver, to a checker, and to a clerk.
 
 use arrayvec::ArrayVec;
 use cards::{Seat, Trump};
@@ -6,7 +6,7 @@ use certificate_graph::Bundle;
 use checker::Claimed;
 use lease_book::Entry;
 
-/// The most leases that a solver has at a time: the entries of one board.
+/// The most leases of a batch: the entries of one board.
 pub(crate) const MOST_LEASES: usize = 20;
 
 /// An entry that was leased.
@@ -30,8 +30,14 @@ impl Default for Task {
     }
 }
 
-/// Entries that a solver has leased, in the order of their leases.
+/// Entries that were leased, in the order of their leases.
 pub(crate) type Tasks = ArrayVec<Task, MOST_LEASES>;
+
+/// Entries of one board and denomination that were leased: one search serves them.
+#[derive(Drop)]
+pub(crate) struct Group {
+    pub(crate) tasks: Tasks,
+}
 
 /// An answer of the solver for entries of one board and denomination. It has a claim for each.
 #[derive(Drop)]

@@ -1,4 +1,4 @@
-//! What a solver leases at a time, and how it is grouped.
+//! What is leased at a time, and how it is grouped.
 
 use crate::dividing::{CountsCalls, LetsOthersOn};
 use crate::expect::expect_eq;
@@ -249,7 +249,7 @@ const ROUND: [&str; 4] = [
     "N:K... Q... J... A...",
 ];
 
-/// Solvers that lease at once. The declarers of a denomination are asked for together, so that what was kept of them
+/// Several solvers. The declarers of a denomination are asked for together, so that what was kept of them
 /// serves the next run.
 #[test]
 fn denominations_are_not_divided(rt: HostRuntime) -> Result<(), Fail> {

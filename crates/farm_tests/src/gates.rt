@@ -155,28 +155,28 @@ impl Gate for TwoClerks {
     }
 }
 
-/// The first lease is worked on only once the last of forty is.
+/// The first lease is worked on only once the work on 39 others has begun.
 #[derive(Drop)]
 pub struct HoldsTheFirst {
-    last: AtomicBool,
+    others: AtomicU64,
+    all: AtomicBool,
 }
 
 impl HoldsTheFirst {
     pub fn new() -> HoldsTheFirst {
         HoldsTheFirst {
-            last: AtomicBool::new(false),
+            others: AtomicU64::new(0),
+            all: AtomicBool::new(false),
         }
     }
 }
 
 impl Gate for HoldsTheFirst {
     fn before_solve(&self, lease: u64) {
-        match lease {
-            1 => {
-                waits_for(&self.last);
-            }
-            40 => self.last.store(true, SeqCst),
-            _ => {}
+        if lease == 1 {
+            waits_for(&self.all);
+        } else if self.others.fetch_add(1, SeqCst) == 38 {
+            self.all.store(true, SeqCst);
         }
     }
 

@@ -1,4 +1,4 @@
-//! What shows that verdicts count which come after the last solver has ended.
+//! What shows that verdicts count which come after the lender has ended.
 
 use arrayvec::ArrayVec;
 use cards::{Layout, Seat, Trump};
@@ -12,41 +12,41 @@ use std::sync::atomic::Ordering::SeqCst;
 /// How often a gate looks before it gives up.
 const TURNS: u64 = 1_000_000_000;
 
-/// How often one solver asks the clock until it ends, for a board whose batch divides twenty: for each entry, for none,
+/// How often the lender asks the clock until it ends, for a board whose batch divides twenty: for each entry, for none,
 /// and for an expiry.
 const ASKED: u64 = 22;
 
-/// A clock that counts how often it was asked, and a gate at which no graph is checked before the only solver has asked
-/// for the last time.
+/// A clock that counts how often it was asked, and a gate at which no graph is checked before the lender has asked for
+/// the last time.
 #[derive(Drop)]
-pub struct AfterTheSolver {
+pub struct AfterTheLender {
     asked: AtomicU64,
     /// How often it has waited in vain.
     failed: AtomicU64,
 }
 
-impl AfterTheSolver {
-    pub fn new() -> AfterTheSolver {
-        AfterTheSolver {
+impl AfterTheLender {
+    pub fn new() -> AfterTheLender {
+        AfterTheLender {
             asked: AtomicU64::new(0),
             failed: AtomicU64::new(0),
         }
     }
 
-    /// Whether the solver had ended each time.
+    /// Whether the lender had asked for the last time each time.
     pub fn has_waited(&self) -> bool {
         self.asked.load(SeqCst) >= ASKED && self.failed.load(SeqCst) == 0
     }
 }
 
-impl Clock for AfterTheSolver {
+impl Clock for AfterTheLender {
     fn now(&self) -> u64 {
         self.asked.fetch_add(1, SeqCst);
         0
     }
 }
 
-impl Gate for AfterTheSolver {
+impl Gate for AfterTheLender {
     fn before_solve(&self, _lease: u64) {}
 
     fn before_graphs(&self, _lease: u64) {

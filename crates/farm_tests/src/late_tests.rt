@@ -1,7 +1,7 @@
-//! An entry whose claim is refused after the last solver has ended is searched again.
+//! An entry whose claim is refused after the lender has ended is searched again.
 
 use crate::expect::expect_eq;
-use crate::late::{AfterTheSolver, LiesOnce};
+use crate::late::{AfterTheLender, LiesOnce};
 use crate::tallies::{TableTally, one_board, tally_of};
 use farm::{Means, run_farm};
 use partition_solver::Partition;
@@ -17,7 +17,7 @@ fn what_is_refused_at_last_is_searched_again(rt: HostRuntime) -> Result<(), Fail
     let alloc = rt.alloc();
     let search = Partition::new();
     let solver = LiesOnce::new(&search);
-    let late = AfterTheSolver::new();
+    let late = AfterTheLender::new();
     let means = Means {
         solver: &solver,
         gate: &late,

@@ -19,7 +19,7 @@ use test_support::settings::once;
 /// How many steps a solver has for an entry.
 const BUDGET: u64 = 10_000_000;
 
-/// How many entries a solver leases at a time: one, or all of a board.
+/// How many entries are lent at a time: one, or all of a board.
 const BATCHES: [usize; 2] = [1, 20];
 
 /// A run over the four hands of one suit each, with one try an entry.

@@ -15,16 +15,17 @@ use test_support::deals::ACE;
 use test_support::idle::{FindsNothing, StandsStill};
 use test_support::settings::once;
 
-/// A run over the board of one card each, whose entries are leased one by one. What the solver answers is right for
-/// North in no-trump alone: else it is for another denomination, side or opening lead.
+/// A run over the board of one card each. What the solver answers is right for North in no-trump alone: else it is for
+/// another denomination, side or opening lead.
 fn run_on_the_ace<G: Gate + Sync, R: Threads + Wait + Abort + Sync>(
     rt: &R,
     alloc: Global,
     solvers: usize,
     checkers: usize,
+    batch: usize,
     gate: &G,
 ) -> Result<(), Fail> {
-    let settings = once(solvers, checkers, 1, 1)?;
+    let settings = once(solvers, checkers, 1, batch)?;
     let boards = one_board(alloc, ACE)?;
     let means = Means {
         solver: &FindsTheAce,
@@ -39,18 +40,21 @@ fn run_on_the_ace<G: Gate + Sync, R: Threads + Wait + Abort + Sync>(
     Ok(())
 }
 
+/// Entries that are leased one by one, and a batch of all, whose first two leases are in two denominations.
 #[test]
 fn two_solvers(rt: HostRuntime) -> Result<(), Fail> {
-    let gate = TwoSolvers::new();
-    run_on_the_ace(&rt, rt.alloc(), 2, 1, &gate)?;
-    expect_eq(&rt, &gate.have_met(), &true);
+    for batch in [1, 20] {
+        let gate = TwoSolvers::new();
+        run_on_the_ace(&rt, rt.alloc(), 2, 1, batch, &gate)?;
+        expect_eq(&rt, &gate.have_met(), &true);
+    }
     Ok(())
 }
 
 #[test]
 fn two_checkers(rt: HostRuntime) -> Result<(), Fail> {
     let gate = TwoCheckers::new();
-    run_on_the_ace(&rt, rt.alloc(), 1, 2, &gate)?;
+    run_on_the_ace(&rt, rt.alloc(), 1, 2, 1, &gate)?;
     expect_eq(&rt, &gate.have_met(), &true);
     Ok(())
 }
@@ -58,33 +62,26 @@ fn two_checkers(rt: HostRuntime) -> Result<(), Fail> {
 #[test]
 fn two_clerks(rt: HostRuntime) -> Result<(), Fail> {
     let gate = TwoClerks::new();
-    run_on_the_ace(&rt, rt.alloc(), 1, 2, &gate)?;
+    run_on_the_ace(&rt, rt.alloc(), 1, 2, 1, &gate)?;
     expect_eq(&rt, &gate.have_met(), &true);
     Ok(())
 }
 
-/// Whether the last of forty leases is of the first one's entry, and was given before the first was given up.
+/// Whether the first one's entry was leased twice before the first lease was given up.
 fn first_is_leased_again(book: &Book) -> bool {
-    let mut is_leased_again = false;
+    let mut times = 0u64;
     for event in book.history() {
         match (event.asked, event.reply) {
-            (
-                _,
-                Reply::Given {
-                    lease: 40,
-                    entry,
-                    ..
-                },
-            ) => is_leased_again = entry == NT,
-            (Asked::GiveUp { lease: 1 }, _) => return is_leased_again,
+            (_, Reply::Given { entry, .. }) if entry == NT => times = times.saturating_add(1),
+            (Asked::GiveUp { lease: 1 }, _) => return times == 2,
             _ => {}
         }
     }
     false
 }
 
-/// A lease that has run out while its solver works on it. The other solver, which has given up each other entry
-/// twice, frees it, and goes on with its entry.
+/// A lease that has run out while its solver works on it. The lender frees it when no entry is open, and the other
+/// solver, which gives up each entry, goes on with it too.
 #[test]
 fn a_freed_entry_is_leased_again(rt: HostRuntime) -> Result<(), Fail> {
     let settings = once(2, 1, 1, 1)?.with_term(0).with_tries(2)?;

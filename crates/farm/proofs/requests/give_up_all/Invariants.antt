@@ -3,7 +3,7 @@ use Rattle.lease_desk.specs.Desks.{receipts_in}
 use Rattle.farm.specs.Working.{StaysOnDuty}
 use Rattle.farm.specs.Requests.{Continues}
 use Rattle.farm.specs.Flows.{Moves, of_tasks}
-use Rattle.farm.proofs.solving.give_up_all.Given as goal
+use Rattle.farm.proofs.requests.give_up_all.Given as goal
 
 abbrev pub invariant-loop-task : goal.invariant-loop-task
 invariant-loop-task g l =

@@ -3,34 +3,34 @@ use Rattle.lease_desk.specs.Desks.{receipts_in}
 use Rattle.farm.specs.declared.tasks.Task.{Task}
 use Rattle.farm.specs.Requests.{IsNextTask}
 use Rattle.farm.proofs.Flows.{puts_then, task_moves, nothing_moves, freeing_moves}
-use Rattle.farm.proofs.Findings.{continues_then, next_on, nothing_on, freeing_on, finds_on}
-use Rattle.farm.proofs.solving.solve_all.Goals as goal
+use Rattle.farm.proofs.Findings.{continues_then, next_on, nothing_on, freeing_on, lends_on}
+use Rattle.farm.proofs.lending.lend_all.Goals as goal
 
-pub work_on_all-requires-clause-finds : goal.work_on_all-requires-clause-finds
-work_on_all-requires-clause-finds g c =
-    let had = receipts_in c.loop-turn.post.chair in
+pub lend_batch-requires-clause-lends : goal.lend_batch-requires-clause-lends
+lend_batch-requires-clause-lends g c =
+    let had = receipts_in c.loop-batch.post.chair in
     let one = receipts_in c.next_task.new.chair in
     let has = receipts_in c.lease_batch.new.chair in
     let first = c.in-Some-2.first in
     let next : IsNextTask had one (Some first) = subst (λ (o : Option Task). IsNextTask had one o) c.in-Some-2.is c.in_ok-first.ensures.told in
     let on = continues_then had one has (next_on had one first next) c.in_ok-batch.ensures.receipts in
-    finds_on g.S.Solver.may_find c.args.crew.now c.loop-turn.post (record { chair = c.lease_batch.new.chair; found = c.loop-turn.post.found }) on refl c.loop-turn.invariant.2
+    lends_on c.loop-batch.post (record { chair = c.lease_batch.new.chair; groups = c.loop-batch.post.groups }) on refl c.loop-batch.invariant.2
 
-pub loop-turn-preserved-in_ok-work_on_all : goal.loop-turn-preserved-in_ok-work_on_all
-loop-turn-preserved-in_ok-work_on_all g c =
-    let i = c.loop-turn.invariant in
-    let had = receipts_in c.loop-turn.post.chair in
+pub loop-batch-preserved-in_ok-lend_batch : goal.loop-batch-preserved-in_ok-lend_batch
+loop-batch-preserved-in_ok-lend_batch g c =
+    let i = c.loop-batch.invariant in
+    let had = receipts_in c.loop-batch.post.chair in
     let one = receipts_in c.next_task.new.chair in
     let first = c.in-Some-2.first in
     let next : IsNextTask had one (Some first) = subst (λ (o : Option Task). IsNextTask had one o) c.in-Some-2.is c.in_ok-first.ensures.told in
     let leased = c.in_ok-batch.ensures in
-    let worked = c.in_ok-work_on_all.ensures in (
+    let worked = c.in_ok-lend_batch.ensures in (
       record {
         chair = record {
           duty = worked.stays.chair.duty;
           number = worked.stays.chair.number ∙ leased.stays.number ∙ c.in_ok-first.ensures.stays.number ∙ i.0.chair.number;
         };
-        found = puts_then _ _ _ i.0.found worked.stays.found;
+        groups = puts_then _ _ _ i.0.groups worked.stays.groups;
       },
       λ weight. (
           let own = i.1 weight in
@@ -39,30 +39,30 @@ loop-turn-preserved-in_ok-work_on_all g c =
           let put = worked.leases weight in
           omega arith
           ),
-      worked.finds,
+      worked.lends,
     )
 
-pub returns-then-not-branch-clause-finds : goal.returns-then-not-branch-clause-finds
-returns-then-not-branch-clause-finds g c =
-    let had = receipts_in c.loop-turn.post.chair in
+pub returns-then-not-branch-clause-lends : goal.returns-then-not-branch-clause-lends
+returns-then-not-branch-clause-lends g c =
+    let had = receipts_in c.loop-batch.post.chair in
     let one = receipts_in c.next_task.new.chair in
     let has = receipts_in c.frees_a_lease.new.chair in
-    let none : IsNextTask had one None = subst (λ (o : Option Task). IsNextTask had one o) c.in_default-2.is c.in_ok-first.ensures.told in
+    let none : IsNextTask had one None = subst (λ (o : Option Task). IsNextTask had one o) c.in_default.is c.in_ok-first.ensures.told in
     let on = continues_then had one has (nothing_on had one none) (freeing_on one has _ c.in_ok-frees_a_lease.ensures.told) in
-    finds_on g.S.Solver.may_find c.args.crew.now c.loop-turn.post (record { chair = c.frees_a_lease.new.chair; found = c.loop-turn.post.found }) on refl c.loop-turn.invariant.2
+    lends_on c.loop-batch.post (record { chair = c.frees_a_lease.new.chair; groups = c.loop-batch.post.groups }) on refl c.loop-batch.invariant.2
 
-pub loop-turn-preserved : goal.loop-turn-preserved
-loop-turn-preserved g c =
-    let i = c.loop-turn.invariant in
-    let had = receipts_in c.loop-turn.post.chair in
+pub loop-batch-preserved : goal.loop-batch-preserved
+loop-batch-preserved g c =
+    let i = c.loop-batch.invariant in
+    let had = receipts_in c.loop-batch.post.chair in
     let one = receipts_in c.next_task.new.chair in
     let has = receipts_in c.frees_a_lease.new.chair in
-    let none : IsNextTask had one None = subst (λ (o : Option Task). IsNextTask had one o) c.in_default-2.is c.in_ok-first.ensures.told in
+    let none : IsNextTask had one None = subst (λ (o : Option Task). IsNextTask had one o) c.in_default.is c.in_ok-first.ensures.told in
     let freed = c.in_ok-frees_a_lease.ensures in
     let on = continues_then had one has (nothing_on had one none) (freeing_on one has _ freed.told) in (
       record {
         chair = record { duty = freed.stays.duty; number = freed.stays.number ∙ c.in_ok-first.ensures.stays.number ∙ i.0.chair.number };
-        found = i.0.found;
+        groups = i.0.groups;
       },
       λ weight. (
           let own = i.1 weight in
@@ -70,5 +70,5 @@ loop-turn-preserved g c =
           let freeing = freeing_moves weight one has _ freed.told in
           omega arith
           ),
-      finds_on g.S.Solver.may_find c.args.crew.now c.loop-turn.post (record { chair = c.frees_a_lease.new.chair; found = c.loop-turn.post.found }) on refl i.2,
+      lends_on c.loop-batch.post (record { chair = c.frees_a_lease.new.chair; groups = c.loop-batch.post.groups }) on refl i.2,
     )

@@ -1,6 +1,0 @@
-use Rattle.std.proofs.Common.{◌≡◌}
-use Rattle.farm_relay.specs.Relays.{TakesAtSame, marks_of}
-use Rattle.farm.proofs.clerks.take_rest.Given as goal
-
-abbrev pub invariant-loop : goal.invariant-loop
-invariant-loop g l = TakesAtSame l.initial.claims l.claims × (marks_of l.claims ≡ marks_of l.initial.claims)
