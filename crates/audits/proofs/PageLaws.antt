@@ -1,5 +1,5 @@
 -- The page after an audit of the text's boards.
-use Rattle.std.proofs.Common.{◌≡◌, ℕ, List, Ok, Err, sym, subst}
+use Rattle.std.proofs.Common.{ℕ, List, Ok, Err, sym, subst}
 use Rattle.cards.specs.Devices.{Device}
 use Rattle.pbn_deals.specs.Reading.{TextAnswers}
 use Rattle.streams.specs.RunStreams.{devices}

@@ -10,8 +10,8 @@ use streams::InputFault;
 /// The most pieces of a batch.
 const MOST_PIECES: usize = 64;
 
-/// A batch that holds so many bytes is full: 16 MiB.
-const FULL: usize = 16_777_216;
+/// A batch that holds so many bytes is full: 32 MiB.
+const FULL: usize = 33_554_432;
 
 /// Pieces that were cut.
 #[derive(Drop)]

@@ -1,7 +1,8 @@
 //! What pieces of evidence show.
 
-ghost use Rattle.std.specs.Prelude.{◌≡◌, IfOk};
+ghost use Rattle.std.specs.Prelude.{◌≡◌, ◌≤◌, IfOk, length};
 ghost use Rattle.std.specs.List.{AllZip};
+ghost use Rattle.std.specs.Thread.{IsSync};
 ghost use Rattle.lease_book.specs.Books.{AreBoards};
 ghost use Rattle.checker.specs.Pairs.{IsPairOf};
 ghost use Rattle.audits.specs.Firsts.{AreShownBy};
@@ -14,9 +15,9 @@ use certificate_graph::{Bundle, Graph};
 use checker::{CheckedGraph, CheckedPair, Proven, check_claim, graphs_have_one_answer};
 use evidence::{Part, Piece, Section};
 use pbn_deals::Board;
-use rayon::prelude::*;
 use std::alloc::{AllocError, Global};
 use std::sync::Arc;
+use std::thread;
 use std::thread::Threads;
 
 /// What a piece of evidence shows.
@@ -132,6 +133,78 @@ fn judge<R: Threads + Sync>(
     }
 }
 
+/// Reads pieces and checks their sections, one after another.
+fn judge_each<R: Threads + Sync>(
+    rt: &R,
+    alloc: Global,
+    boards: &[Board],
+    firsts: &FirstProofs,
+    pieces: &[Piece],
+    is_alone: bool,
+) -> Result<Vec<Judged>, AllocError>
+    requires { AreBoards boards.now }
+    ensures { IfOk result (λ judged. AllZip (Judges boards.now firsts.now) pieces.now judged.items) }
+{
+    let mut judged = Vec::with_capacity(alloc, pieces.len())?;
+    for piece in pieces {
+        judged.push(judge(rt, alloc, boards, firsts, piece, is_alone))?;
+    }
+    Ok(judged)
+}
+
+/// The place, from 1 on, before which about half of the bytes lie.
+fn middle_of(pieces: &[Piece]) -> usize
+    ensures { result ≤ length pieces.now }
+{
+    let mut all = 0usize;
+    for piece in pieces {
+        all = all.saturating_add(piece.len());
+    }
+    let mut before = 0usize;
+    for place in 0..pieces.len() {
+        let own = pieces[place].len();
+        if place > 0 && before.saturating_add(own / 2) >= all / 2 {
+            return place;
+        }
+        before = before.saturating_add(own);
+    }
+    pieces.len()
+}
+
+/// Reads pieces and checks their sections: those of one half of the bytes in a thread of its own, and so on with each
+/// half, so many times.
+fn judge_halves<R: Threads + Sync>(
+    rt: &R,
+    alloc: Global,
+    boards: &[Board],
+    firsts: &FirstProofs,
+    pieces: &[Piece],
+    halvings: u32,
+) -> Result<Vec<Judged>, AllocError>
+    requires { AreBoards boards.now }
+    ensures { IfOk result (λ judged. AllZip (Judges boards.now firsts.now) pieces.now judged.items) }
+{
+    if halvings == 0 || pieces.len() < 2 {
+        return judge_each(rt, alloc, boards, firsts, pieces, false);
+    }
+    let fewer = halvings - 1;
+    let (left, right) = pieces.split_at(middle_of(pieces));
+    let (one, other) = thread::join(
+        rt,
+        || -> Result<Vec<Judged>, AllocError>
+            requires { IsSync R.row × AreBoards boards.now }
+            ensures { IfOk result (λ judged. AllZip (Judges boards.entry.now firsts.entry.now) left.entry.now judged.items) }
+        { judge_halves(rt, alloc, boards, firsts, left, fewer) },
+        || -> Result<Vec<Judged>, AllocError>
+            requires { IsSync R.row × AreBoards boards.now }
+            ensures { IfOk result (λ judged. AllZip (Judges boards.entry.now firsts.entry.now) right.entry.now judged.items) }
+        { judge_halves(rt, alloc, boards, firsts, right, fewer) },
+    );
+    let (mut one, mut other) = (one?, other?);
+    one.append(&mut other)?;
+    Ok(one)
+}
+
 /// Reads pieces and checks their sections, with as many threads as there are processors.
 pub(crate) fn judge_all<R: Threads + Sync>(
     rt: &R,
@@ -143,15 +216,10 @@ pub(crate) fn judge_all<R: Threads + Sync>(
     requires { AreBoards boards.now }
     ensures { IfOk result (λ judged. AllZip (Judges boards.now firsts.now) pieces.now judged.items) }
 {
-    let is_alone = pieces.len() == 1;
-    pieces
-        .par_iter()
-        .with_min_len(1)
-        .map(
-            |piece: &Piece| -> Judged
-                requires { AreBoards boards.now }
-                ensures { Judges boards.entry.now firsts.entry.now piece.now result }
-            { judge(rt, alloc, boards, firsts, piece, is_alone) },
-        )
-        .collect(rt, alloc)
+    if pieces.len() == 1 {
+        return judge_each(rt, alloc, boards, firsts, pieces, true);
+    }
+    let others = rayon::current_num_threads(rt).saturating_sub(1);
+    let halvings = usize::BITS.saturating_sub(others.leading_zeros());
+    judge_halves(rt, alloc, boards, firsts, pieces, halvings)
 }
