@@ -1,5 +1,5 @@
-//! The work of the lender, of solvers, of checkers and of clerks, each at its post. Even if its work fails, a thread finishes the
-//! relay that it puts into, and empties the relay that it takes from until an end mark comes.
+//! The work of the lender, of solvers, of checkers and of clerks, each at its post. Even if its work fails, a thread
+//! finishes the relay that it puts into, and empties the relay that it takes from until an end mark comes.
 
 use crate::checking::check_all;
 use crate::clerks::settle_all;

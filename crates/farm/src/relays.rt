@@ -35,9 +35,9 @@ pub(crate) struct RelayEnds {
 }
 
 impl Relays {
-    /// Opens three relays with an end for the lender, two for each solver, two for each checker, and one for each clerk.
-    /// There are as many clerks as checkers. The first relay has a place for each solver: so no group waits long for its
-    /// search, and there is room for one end mark each.
+    /// Opens three relays with an end for the lender, two for each solver and each checker, and one for each clerk.
+    /// There are as many clerks as checkers. The first relay has a place for each solver: so no group waits long for
+    /// its search, and there is room for one end mark each.
     pub(crate) fn open(
         alloc: Global,
         settings: Settings,

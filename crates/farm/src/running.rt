@@ -121,7 +121,7 @@ fn work_as<
     work_at(rt, staff, staff, staff, staff, opened)
 }
 
-/// Opens relays, and posts at these chairs with all ends of the relays. The lender's post is at the first chair, and the
+/// Opens relays, and posts at these chairs with all ends of the relays. The lender's post is at the first chair, the
 /// solvers' are at the next ones.
 fn open_posts<S, G, C>(crew: &Crew<'_, S, G, C>, chairs: Vec<Chair>) -> Result<Opened, Halt>
     requires new { All (IsNew crew.now.desk.now) chairs.items }
@@ -151,8 +151,8 @@ fn work_all<S: Solver + Sync, G: Gate + Sync, C: Clock + Sync, R: Threads + Wait
     Ok(chairs)
 }
 
-/// Opens a desk over the book. One lender works in this thread, and in threads of their own as many solvers and checkers
-/// as the settings say, and as many clerks as checkers. Returns the book when all have ended.
+/// Opens a desk over the book. One lender works in this thread, and in threads of their own as many solvers and
+/// checkers as the settings say, and as many clerks as checkers. Returns the book when all have ended.
 ///
 /// The lender leases entries, batch by batch, each at the clock's moment, and puts those of one board and denomination
 /// together for the solvers. If no entry is open it frees the leases that have run out, and ends if there is none. A

@@ -103,8 +103,9 @@ pub(crate) fn join_all<
     })
 }
 
-/// Waits for the threads that were started, if not all were, so that nothing was lent. When nobody is left to put into a
-/// relay, each of its takers gets an end mark. A message that nobody takes is handed back. So no thread waits for ever.
+/// Waits for the threads that were started, if not all were, so that nothing was lent. When nobody is left to put into
+/// a relay, each of its takers gets an end mark. A message that nobody takes is handed back. So no thread waits for
+/// ever.
 pub(crate) fn end_all<
     A: Work<SolverPost, Halt>,
     B: Work<CheckerPost, Halt>,
