@@ -1,4 +1,4 @@
--- The groups that the lender puts for solvers, the messages of solvers to checkers, and the claims of checkers to clerks.
+-- The lender's groups for solvers, the messages of solvers to checkers, and the claims of checkers to clerks.
 use Rattle.std.specs.Prelude.{◌≡◌, ◌⊎◌, ℕ, List, [], ◌∷◌, ◌++◌, Option, None, Some, Contains, filter, slice_get}
 use Rattle.std.specs.Option.{option_flatten}
 use Rattle.cards.specs.Deal.{Deal}

@@ -122,8 +122,8 @@ module _ {S G C : Type 0} (may_tell : C → MayTell) (crew : Crew S G C) where
     pub hands_in : HandsInTaken (terms_of crew.desk.now) old new
 
 module _ {S G C : Type 0} (may_tell : C → MayTell) (may_find : S → MayFind) (crew : Crew S G C) where
-  -- A solver works until it takes an end mark. It puts or settles the leases that it takes, and each message is one that
-  -- the solver may find for a group of them.
+  -- A solver works until it takes an end mark. It puts or settles the leases that it takes, and each message is one
+  -- that the solver may find for a group of them.
   pub record HasSolved (old new : SolverPost) : Type 0 where
     pub stays : StaysSolver may_tell crew old new
     pub ended : marks_of new.groups ≡ marks_of old.groups + 1

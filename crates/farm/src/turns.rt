@@ -3,7 +3,7 @@
 use std::sync::{Mutex, MutexGuard, Wait};
 
 /// The turns of a round, beside the desk. The lender has a turn while it leases a batch, and a solver while it gives up
-/// the leases of a group. So no batch has a part of a group that is given up.
+/// the leases of a group. So no batch is leased while a part of a group is still to be given up.
 #[derive(Drop)]
 pub(crate) struct Turns {
     taken: Mutex<()>,
