@@ -6,7 +6,7 @@ use Rattle.cards.specs.declared.suits.Trump.{Trump}
 use Rattle.certificate_graph.specs.declared.bundles.Claim.{Claim}
 use Rattle.lease_book.specs.Entries.{place_of}
 use Rattle.std.specs.Option.{option_or}
-use Rattle.std.proofs.lemmas.List.{take-append-drop, take_all, drop_all}
+use Rattle.std.proofs.lemmas.List.{take-append-drop, drop_all}
 use Rattle.std.proofs.lemmas.Option.{none-some}
 use Rattle.checker.specs.declared.entries.Shown.{Shown}
 use Rattle.pbn_deals.specs.declared.boards.Board.{Board}
@@ -23,9 +23,9 @@ use Rattle.evidence.specs.Pieces.{Reading, reading_of, IsFound, IsDamaged, Passe
 use Rattle.evidence.specs.Wholes.{Whole, IsNextOf}
 use Rattle.audits.specs.Reads.{sections_of, as_source, ReadsUntil}
 use Rattle.audits.specs.Firsts.{AreFirstShown, AddsProofs, AllKnown, is_at}
-use Rattle.audits.specs.Batches.{Cuts, EndsBatch, ReadsBatch, Grows, IsPieceOf, AddsPart, NotesPiece, NotesPieces, NotesSome, fault_behind}
+use Rattle.audits.specs.Batches.{Cuts, EndsBatch, ReadsBatch, ReadsBehind, Grows, IsPieceOf, AddsPart, NotesPiece, NotesPieces, NotesSome, fault_behind}
 use Rattle.audits.specs.Shows.{ReadsFirsts}
-use Rattle.audits.proofs.ReadLaws.{ReadsSome, PassesBytes, bytes_passed, bytes_more, bytes_ended, stops_bytes, bytes_lost, next_found, next_damaged, next_end, sections_found, sections_damaged, stopped, fewer_turns, takes_none}
+use Rattle.audits.proofs.ReadLaws.{ReadsSome, PassesBytes, bytes_passed, bytes_more, bytes_ended, stops_bytes, bytes_lost, next_found, next_damaged, next_end, sections_found, sections_damaged, stopped, takes_none}
 
 -- ---- pieces that are cut
 pub cuts_push : (old middle new : Whole) (pieces : List Piece) (piece : Piece) → Cuts old pieces middle → IsNextCutOf middle new (Some piece) → Cuts old (pieces ++ piece ∷ []) new
@@ -58,43 +58,52 @@ ends_bytes old middle new (Some (Ok done)) passes end = bytes_lost old new (byte
 ends_bytes old middle new (Some (Err fault)) passes stops = stops_bytes old middle passes new.source fault stops
 
 -- what was read of a batch is lost
-pub batch_lost : (old now new : Whole) (turns : ℕ) (parts : List Part) (damage : Damage) (pieces : List Piece) (ended : Option (Result Unit InputFault)) → ReadsSome old now turns parts damage
+pub batch_lost : (old now new : Whole) (parts : List Part) (damage : Damage) (pieces : List Piece) (ended : Option (Result Unit InputFault)) → ReadsSome old now parts damage
     → ReadsBatch now new pieces ended → StopsSections (as_source old) new.source (fault_behind ended)
-batch_lost old now new turns parts damage pieces ended some batch =
-    ends_bytes old batch.middle new ended (cuts_bytes old now batch.middle pieces (bytes_passed old now turns parts damage some) batch.cuts) batch.ends
+batch_lost old now new parts damage pieces ended some batch =
+    ends_bytes old batch.middle new ended (cuts_bytes old now batch.middle pieces (bytes_passed old now parts damage some) batch.cuts) batch.ends
+
+-- what was read of a batch is lost, and what was read behind it
+pub behind_lost : (old now new last : Whole) (parts : List Part) (damage : Damage) (pieces next : List Piece) (ended ended' : Option (Result Unit InputFault)) → ReadsSome old now parts damage
+    → ReadsBatch now new pieces ended → ReadsBehind ended new last next ended' → StopsSections (as_source old) last.source (fault_behind ended')
+behind_lost old now new last parts damage pieces next None ended' some batch behind =
+    let passes = cuts_bytes old now batch.middle pieces (bytes_passed old now parts damage some) batch.cuts in
+    let here = subst (λ (w : Whole). PassesBytes old w) (sym batch.ends) passes in
+    ends_bytes old behind.middle last ended' (cuts_bytes old new behind.middle next here behind.cuts) behind.ends
+behind_lost old now new last parts damage pieces next (Some how) ended' some batch (same, none, is) =
+    subst (λ (e : Option (Result Unit InputFault)). StopsSections (as_source old) last.source (fault_behind e)) (sym is)
+    (subst (λ (w : Whole). StopsSections (as_source old) w.source (fault_behind (Some how))) (sym same) (batch_lost old now new parts damage pieces (Some how) some batch))
 
 -- ---- pieces that are noted
-pub record ReadsOn (boards : List Board) (old : Whole) (turns : ℕ) (firsts : List (Option Shown)) (damage : Damage) (rest : List Piece) (end : Whole) : Type 0 where
+pub record ReadsOn (boards : List Board) (old : Whole) (firsts : List (Option Shown)) (damage : Damage) (rest : List Piece) (end : Whole) : Type 0 where
   pub now : Whole
   pub parts : List Part
-  pub some : ReadsSome old now turns parts damage
+  pub some : ReadsSome old now parts damage
   pub cuts : Cuts now rest end
   pub firsts_are : AreFirstShown boards (sections_of parts) firsts
 
-pub notes_on : (boards : List Board) (old end : Whole) (turns : ℕ) (before after : List (Option Shown)) (damage damage' : Damage) (noted rest : List Piece)
-    → ReadsOn boards old turns before damage (noted ++ rest) end → NotesPieces boards noted before after damage damage' → ReadsOn boards old (turns + length noted) after damage' rest end
-notes_on boards old end turns before after damage damage' [] rest on (same, still) =
-    subst (λ (n : ℕ). ReadsOn boards old n after damage' rest end) (omega arith)
-    (subst (λ (f : List (Option Shown)). ReadsOn boards old turns f damage' rest end) (sym same) (subst (λ (d : Damage). ReadsOn boards old turns before d rest end) (sym still) on))
-notes_on boards old end turns before after damage damage' (piece ∷ more) rest on (middle, between, notes, later) =
-    subst (λ (n : ℕ). ReadsOn boards old n after damage' rest end) (omega arith)
-    (notes_on boards old end (turns + 1) middle after between damage' more rest (one notes.part notes.part_is notes.adds) later)
+pub notes_on : (boards : List Board) (old end : Whole) (before after : List (Option Shown)) (damage damage' : Damage) (noted rest : List Piece)
+    → ReadsOn boards old before damage (noted ++ rest) end → NotesPieces boards noted before after damage damage' → ReadsOn boards old after damage' rest end
+notes_on boards old end before after damage damage' [] rest on (same, still) =
+    subst (λ (f : List (Option Shown)). ReadsOn boards old f damage' rest end) (sym same) (subst (λ (d : Damage). ReadsOn boards old before d rest end) (sym still) on)
+notes_on boards old end before after damage damage' (piece ∷ more) rest on (middle, between, notes, later) =
+    notes_on boards old end middle after between damage' more rest (one notes.part notes.part_is notes.adds) later
   where
     next : Whole
     next = on.cuts.0
 
-    one : (here : Part) → IsPieceOf piece here → AddsPart boards here before middle damage between → ReadsOn boards old (turns + 1) middle between (more ++ rest) end
+    one : (here : Part) → IsPieceOf piece here → AddsPart boards here before middle damage between → ReadsOn boards old middle between (more ++ rest) end
     one (part.Found section) is (adds, still) =
         record {
           now = next;
           parts = on.parts ++ part.Found section ∷ [];
-          some = subst (λ (d : Damage). ReadsSome old next (turns + 1) (on.parts ++ part.Found section ∷ []) d) (sym still)
-              (next_found old on.now next turns on.parts damage on.some (part.Found section) (next_of_cut on.now next piece (part.Found section) on.cuts.1 is) section refl);
+          some = subst (λ (d : Damage). ReadsSome old next (on.parts ++ part.Found section ∷ []) d) (sym still)
+              (next_found old on.now next on.parts damage on.some (part.Found section) (next_of_cut on.now next piece (part.Found section) on.cuts.1 is) section refl);
           cuts = on.cuts.2;
           firsts_are = subst (λ (s : List SectionShape). AreFirstShown boards s middle) (sym (sections_found on.parts section)) (adds (sections_of on.parts) on.firsts_are);
         }
     one (part.Damaged at) is (same, counts) =
-        let more = next_damaged old on.now next turns on.parts damage on.some (part.Damaged at) (next_of_cut on.now next piece (part.Damaged at) on.cuts.1 is) at between refl counts in
+        let more = next_damaged old on.now next on.parts damage on.some (part.Damaged at) (next_of_cut on.now next piece (part.Damaged at) on.cuts.1 is) at between refl counts in
         record {
           now = next;
           parts = on.parts ++ part.Damaged (old.before + length (on.some).passed) ∷ [];
@@ -106,65 +115,67 @@ notes_on boards old end turns before after damage damage' (piece ∷ more) rest 
     one part.End is adds = absurd adds
 
 -- ---- a batch
-module _ (boards : List Board) (old now new : Whole) (turns : ℕ) (firsts after : List (Option Shown)) (damage damage' : Damage) (pieces : List Piece) (ended : Option (Result Unit InputFault))
-    (parts : List Part) (some : ReadsSome old now turns parts damage) (are : AreFirstShown boards (sections_of parts) firsts)
-    (batch : ReadsBatch now new pieces ended) where
-  start : ReadsOn boards old turns firsts damage pieces batch.middle
+module _ (boards : List Board) (old now new last : Whole) (firsts after : List (Option Shown)) (damage damage' : Damage) (pieces next : List Piece) (ended ended' : Option (Result Unit InputFault))
+    (parts : List Part) (some : ReadsSome old now parts damage) (are : AreFirstShown boards (sections_of parts) firsts)
+    (batch : ReadsBatch now new pieces ended) (behind : ReadsBehind ended new last next ended') where
+  start : ReadsOn boards old firsts damage pieces batch.middle
   start = record { now = now; parts = parts; some = some; cuts = batch.cuts; firsts_are = are }
 
   -- none of it was noted
-  pub batch_unread : ReadsFirsts boards old new firsts (record { damage = damage; ended = Err (fault_behind ended) })
+  pub batch_unread : ReadsFirsts boards old last firsts (record { damage = damage; ended = Err (fault_behind ended') })
   batch_unread =
       record {
         parts = parts;
-        read_is = stopped old now turns parts damage some new (fault_behind ended) (batch_lost old now new turns parts damage pieces ended some batch);
+        read_is = stopped old now parts damage some last (fault_behind ended') (behind_lost old now new last parts damage pieces next ended ended' some batch behind);
         firsts_are = are;
       }
 
-  on : (count : ℕ) → NotesPieces boards (take count pieces) firsts after damage damage' → ReadsOn boards old (turns + length (take count pieces)) after damage' (drop count pieces) batch.middle
+  on : (count : ℕ) → NotesPieces boards (take count pieces) firsts after damage damage' → ReadsOn boards old after damage' (drop count pieces) batch.middle
   on count notes =
-      notes_on boards old batch.middle turns firsts after damage damage' (take count pieces) (drop count pieces)
-      (subst (λ (l : List Piece). ReadsOn boards old turns firsts damage l batch.middle) (sym (take-append-drop count pieces)) start) notes
+      notes_on boards old batch.middle firsts after damage damage' (take count pieces) (drop count pieces)
+      (subst (λ (l : List Piece). ReadsOn boards old firsts damage l batch.middle) (sym (take-append-drop count pieces)) start) notes
 
   -- some of it was
-  pub batch_cut_off : (all : Bool) → NotesSome boards pieces firsts after damage damage' all → ReadsFirsts boards old new after (record { damage = damage'; ended = Err (fault_behind ended) })
+  pub batch_cut_off : (all : Bool) → NotesSome boards pieces firsts after damage damage' all → ReadsFirsts boards old last after (record { damage = damage'; ended = Err (fault_behind ended') })
   batch_cut_off all notes =
       let far = on notes.count notes.notes in
       record {
         parts = far.parts;
-        read_is = stopped old far.now (turns + length (take notes.count pieces)) far.parts damage' far.some new (fault_behind ended) (batch_lost old now new turns parts damage pieces ended some batch);
+        read_is = stopped old far.now far.parts damage' far.some last (fault_behind ended') (behind_lost old now new last parts damage pieces next ended ended' some batch behind);
         firsts_are = far.firsts_are;
       }
 
   -- all of it was
-  all_on : NotesSome boards pieces firsts after damage damage' true → ReadsOn boards old (turns + length pieces) after damage' [] batch.middle
+  all_on : NotesSome boards pieces firsts after damage damage' true → ReadsOn boards old after damage' [] batch.middle
   all_on notes =
       let count = notes.whole refl in
-      subst (λ (l : List Piece). ReadsOn boards old (turns + length pieces) after damage' l batch.middle) (drop_all notes.count pieces (omega (arith, count)))
-      (subst (λ (l : List Piece). ReadsOn boards old (turns + length l) after damage' (drop notes.count pieces) batch.middle) (take_all notes.count pieces (omega (arith, count))) (on notes.count notes.notes))
+      subst (λ (l : List Piece). ReadsOn boards old after damage' l batch.middle) (drop_all notes.count pieces (omega (arith, count))) (on notes.count notes.notes)
 
-  pub batch_ends : NotesSome boards pieces firsts after damage damage' true → (how : Result Unit InputFault) → ended ≡ Some how → ReadsFirsts boards old new after (record { damage = damage'; ended = how })
+  pub batch_ends : NotesSome boards pieces firsts after damage damage' true → (how : Result Unit InputFault) → ended ≡ Some how → ReadsFirsts boards old last after (record { damage = damage'; ended = how })
   batch_ends notes how is =
       let far = all_on notes in
-      record { parts = far.parts; read_is = go how is far; firsts_are = far.firsts_are }
+      let stays = subst (λ (e : Option (Result Unit InputFault)). ReadsBehind e new last next ended') is behind in
+      subst (λ (w : Whole). ReadsFirsts boards old w after (record { damage = damage'; ended = how })) (sym stays.0)
+      (record { parts = far.parts; read_is = go how is far; firsts_are = far.firsts_are })
     where
-      go : (how : Result Unit InputFault) → ended ≡ Some how → (far : ReadsOn boards old (turns + length pieces) after damage' [] batch.middle) → ReadsUntil old new far.parts damage' how
+      go : (how : Result Unit InputFault) → ended ≡ Some how → (far : ReadsOn boards old after damage' [] batch.middle) → ReadsUntil old new far.parts damage' how
       go (Ok done) is far =
           let ends = subst (λ (e : Option (Result Unit InputFault)). EndsBatch batch.middle new e) is batch.ends in
-          next_end old far.now new (turns + length pieces) far.parts damage' far.some part.End (subst (λ (w : Whole). IsNextCutOf w new None) far.cuts ends) refl
+          next_end old far.now new far.parts damage' far.some part.End (subst (λ (w : Whole). IsNextCutOf w new None) far.cuts ends) refl
       go (Err fault) is far =
-          stopped old far.now (turns + length pieces) far.parts damage' far.some new fault
-          (subst (λ (e : Option (Result Unit InputFault)). StopsSections (as_source old) new.source (fault_behind e)) is (batch_lost old now new turns parts damage pieces ended some batch))
+          stopped old far.now far.parts damage' far.some new fault
+          (subst (λ (e : Option (Result Unit InputFault)). StopsSections (as_source old) new.source (fault_behind e)) is (batch_lost old now new parts damage pieces ended some batch))
 
   pub batch_goes_on : NotesSome boards pieces firsts after damage damage' true → ended ≡ None
-      → (more : List Part) × ReadsSome old new (turns + 1) more damage' × AreFirstShown boards (sections_of more) after
+      → (then : Whole) × (more : List Part) × ReadsSome old then more damage' × AreFirstShown boards (sections_of more) after × ReadsBatch then last next ended'
   batch_goes_on notes is =
       let far = all_on notes in
-      let ends = subst (λ (e : Option (Result Unit InputFault)). EndsBatch batch.middle new e) is batch.ends in
-      let some_pieces = batch.some is in (
+      let ends = subst (λ (e : Option (Result Unit InputFault)). EndsBatch batch.middle new e) is batch.ends in (
+        new,
         far.parts,
-        subst (λ (w : Whole). ReadsSome old w (turns + 1) far.parts damage') (sym (ends ∙ far.cuts)) (fewer_turns old far.now (turns + length pieces) (turns + 1) far.parts damage' far.some (omega (arith, some_pieces))),
+        subst (λ (w : Whole). ReadsSome old w far.parts damage') (sym (ends ∙ far.cuts)) far.some,
         far.firsts_are,
+        subst (λ (e : Option (Result Unit InputFault)). ReadsBehind e new last next ended') is behind,
       )
 
 -- ---- values that stay

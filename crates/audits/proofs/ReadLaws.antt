@@ -1,5 +1,5 @@
 -- A part more of a text, its end, and a reading that stops.
-use Rattle.std.proofs.Common.{◌≡◌, ℕ, zero, suc, ◌+◌, ◌-◌, ◌^◌, ◌≤◌, min, List, [], ◌∷◌, ◌++◌, length, All, true, Option, None, Some, Result, Ok, Err, inl, inr, refl, sym, ◌∙◌, ap, subst, arith, append_assoc, append-nil}
+use Rattle.std.proofs.Common.{◌≡◌, ℕ, ◌+◌, ◌-◌, ◌^◌, ◌≤◌, min, List, [], ◌∷◌, ◌++◌, length, All, true, Option, None, Some, Result, Ok, Err, inl, inr, refl, sym, ◌∙◌, ap, subst, arith, append_assoc, append-nil}
 use Rattle.std.proofs.lemmas.List.{length-append}
 use Rattle.std.proofs.lemmas.Option.{same_Some}
 use Rattle.std.proofs.lemmas.List.Elements.{All-nil, All-push}
@@ -34,24 +34,22 @@ sections_damaged (Damaged byte ∷ parts) at = sections_damaged parts at
 sections_damaged (End ∷ parts) at = sections_damaged parts at
 
 -- ---- what was passed of a text
--- these bytes were passed, at least as many as turns; they have these parts
-pub record PassesTo (at : ℕ) (left rest passed : List ℕ) (turns : ℕ) (parts : List Part) : Type 0 where
+-- these bytes were passed, and they have these parts
+pub record PassesTo (at : ℕ) (left rest passed : List ℕ) (parts : List Part) : Type 0 where
   pub whole : left ≡ passed ++ rest
-  pub many : turns ≤ length passed
   pub firsts : AreFirstParts at left parts rest
 
-abbrev pub PassesWhereTold : ℕ → Option (List ℕ) → Option (List ℕ) → List ℕ → ℕ → List Part → Type 0
-PassesWhereTold at None left' passed turns parts = All IsAnyPart parts
-PassesWhereTold at (Some left) left' passed turns parts = (rest : List ℕ) × (left' ≡ Some rest) × PassesTo at left rest passed turns parts
+abbrev pub PassesWhereTold : ℕ → Option (List ℕ) → Option (List ℕ) → List ℕ → List Part → Type 0
+PassesWhereTold at None left' passed parts = All IsAnyPart parts
+PassesWhereTold at (Some left) left' passed parts = (rest : List ℕ) × (left' ≡ Some rest) × PassesTo at left rest passed parts
 
-none_passed : (at : ℕ) (left : Option (List ℕ)) → PassesWhereTold at left left [] 0 []
+none_passed : (at : ℕ) (left : Option (List ℕ)) → PassesWhereTold at left left [] []
 none_passed at None = All-nil IsAnyPart
 none_passed at (Some left) = (
   left,
   refl,
   record {
     whole = refl;
-    many = omega arith;
     firsts = refl;
   },
 )
@@ -75,47 +73,44 @@ firsts_all : (at : ℕ) (text : List ℕ) (parts : List Part) → AreFirstParts 
 firsts_all at text [] same = sym same
 firsts_all at text (part ∷ more) (piece, behind, first, is, later) = (piece, behind, first, is, firsts_all (at + length piece) behind more later)
 
-passed_more : (at : ℕ) (left middle left' : Option (List ℕ)) (passed piece : List ℕ) (turns : ℕ) (parts : List Part) (part : Part) → PassesWhereTold at left middle passed turns parts
-    → IsFirstWhereTold middle left' piece → IsPart (at + length passed) piece part → PassesWhereTold at left left' (passed ++ piece) (turns + 1) (parts ++ part ∷ [])
-passed_more at None middle left' passed piece turns parts part all first is = All-push IsAnyPart parts part all (at + length passed, piece, is)
-passed_more at (Some left) middle left' passed piece turns parts part (rest, told, passes) first is =
+passed_more : (at : ℕ) (left middle left' : Option (List ℕ)) (passed piece : List ℕ) (parts : List Part) (part : Part) → PassesWhereTold at left middle passed parts
+    → IsFirstWhereTold middle left' piece → IsPart (at + length passed) piece part → PassesWhereTold at left left' (passed ++ piece) (parts ++ part ∷ [])
+passed_more at None middle left' passed piece parts part all first is = All-push IsAnyPart parts part all (at + length passed, piece, is)
+passed_more at (Some left) middle left' passed piece parts part (rest, told, passes) first is =
     let next = subst (λ (m : Option (List ℕ)). IsFirstWhereTold m left' piece) told first in
-    let front = front_of rest piece next.0 next.2 in
-    let many = passes.many in
-    let some = front.1 in (
+    let front = front_of rest piece next.0 next.2 in (
       next.0,
       next.1,
       record {
         whole = passes.whole ∙ ap (λ (l : List ℕ). passed ++ l) front.0 ∙ sym (append_assoc passed piece next.0);
-        many = omega (arith, length-append passed piece);
         firsts =
             let counted : (at + length passed) + length rest ≡ at + length left = let long = ap length passes.whole in omega (arith, long, length-append passed rest) in
             firsts_push at (at + length passed) left rest piece next.0 parts part passes.firsts counted next.2 is;
       },
     )
 
-all_passed : (at : ℕ) (left middle left' : Option (List ℕ)) (passed : List ℕ) (turns : ℕ) (parts : List Part) → PassesWhereTold at left middle passed turns parts → NoneIsLeft middle → StaysWhereTold middle left'
+all_passed : (at : ℕ) (left middle left' : Option (List ℕ)) (passed : List ℕ) (parts : List Part) → PassesWhereTold at left middle passed parts → NoneIsLeft middle → StaysWhereTold middle left'
     → AreAllParts at left left' parts
-all_passed at None middle left' passed turns parts all none stays = all
-all_passed at (Some left) middle left' passed turns parts (rest, told, passes) none stays =
+all_passed at None middle left' passed parts all none stays = all
+all_passed at (Some left) middle left' passed parts (rest, told, passes) none stays =
     let nothing = subst (λ (m : Option (List ℕ)). NoneIsLeft m) told none in
     let same = subst (λ (m : Option (List ℕ)). StaysWhereTold m left') told stays in
     (firsts_all at left parts (subst (λ (r : List ℕ). AreFirstParts at left parts r) nothing passes.firsts), same ∙ ap (λ (r : List ℕ). Some r) nothing)
 
 -- the parts so far
-some_passed : (at : ℕ) (left left' : Option (List ℕ)) (passed : List ℕ) (turns : ℕ) (parts : List Part) → PassesWhereTold at left left' passed turns parts → AreSomeParts at left parts
-some_passed at None left' passed turns parts all = all
-some_passed at (Some left) left' passed turns parts (rest, told, passes) = (rest, passes.firsts)
+some_passed : (at : ℕ) (left left' : Option (List ℕ)) (passed : List ℕ) (parts : List Part) → PassesWhereTold at left left' passed parts → AreSomeParts at left parts
+some_passed at None left' passed parts all = all
+some_passed at (Some left) left' passed parts (rest, told, passes) = (rest, passes.firsts)
 
 -- ---- a reading so far
-pub record ReadsSome (old new : Whole) (turns : ℕ) (parts : List Part) (damage : Damage) : Type 0 where
+pub record ReadsSome (old new : Whole) (parts : List Part) (damage : Damage) : Type 0 where
   pub passed : List ℕ
-  pub told : PassesWhereTold old.before (as_source old).bytes (as_source new).bytes passed turns parts
+  pub told : PassesWhereTold old.before (as_source old).bytes (as_source new).bytes passed parts
   pub before_is : min new.before (2 ^ 64 - 1) ≡ min (old.before + length passed) (2 ^ 64 - 1)
   pub damage_is : IsDamageOf (damaged_of parts) damage
   pub none_failed : new.source.failed ≡ old.source.failed
 
-pub begins : (whole : Whole) (damage : Damage) → IsDamageOf [] damage → ReadsSome whole whole 0 [] damage
+pub begins : (whole : Whole) (damage : Damage) → IsDamageOf [] damage → ReadsSome whole whole [] damage
 begins whole damage is =
     record {
       passed = [];
@@ -125,16 +120,16 @@ begins whole damage is =
       none_failed = refl;
     }
 
-module _ (old middle new : Whole) (turns : ℕ) (parts : List Part) (damage : Damage) (some : ReadsSome old middle turns parts damage) where
+module _ (old middle new : Whole) (parts : List Part) (damage : Damage) (some : ReadsSome old middle parts damage) where
   more_passed : (Holds : List ℕ → Type 0) (part : Part) (after : Damage)
       → (passes : Passes (record { left = (as_source middle).bytes; before = middle.before; failed = middle.source.failed }) (record { left = (as_source new).bytes; before = new.before; failed = new.source.failed }) Holds)
       → IsPart (old.before + length some.passed) passes.piece part → IsDamageOf (damaged_of (parts ++ part ∷ [])) after
-      → ReadsSome old new (turns + 1) (parts ++ part ∷ []) after
+      → ReadsSome old new (parts ++ part ∷ []) after
   more_passed Holds part after passes is damage_is =
       let longer = length-append some.passed passes.piece in
       record {
         passed = some.passed ++ passes.piece;
-        told = passed_more old.before (as_source old).bytes (as_source middle).bytes (as_source new).bytes some.passed passes.piece turns parts part some.told passes.first is;
+        told = passed_more old.before (as_source old).bytes (as_source middle).bytes (as_source new).bytes some.passed passes.piece parts part some.told passes.first is;
         before_is =
             counts_on old.before middle.before new.before (length some.passed) (length passes.piece) (2 ^ 64 - 1) some.before_is passes.counted
             ∙ ap (λ (n : ℕ). min (old.before + n) (2 ^ 64 - 1)) (sym longer);
@@ -143,7 +138,7 @@ module _ (old middle new : Whole) (turns : ℕ) (parts : List Part) (damage : Da
       }
 
   module _ (part : Part) (next : IsNextOf middle new part) where
-    pub next_found : (section : SectionShape) → part ≡ Found section → ReadsSome old new (turns + 1) (parts ++ Found section ∷ []) damage
+    pub next_found : (section : SectionShape) → part ≡ Found section → ReadsSome old new (parts ++ Found section ∷ []) damage
     next_found section is =
         let passes = subst (λ (p : Part). IsNextOf middle new p) is next in
         more_passed (λ piece. IsFound piece section) (Found section) damage passes passes.holds
@@ -151,7 +146,7 @@ module _ (old middle new : Whole) (turns : ℕ) (parts : List Part) (damage : Da
 
     pub next_damaged : (at : ℕ) (after : Damage) → part ≡ Damaged at
         → ((damaged : List ℕ) (byte : ℕ) → min at (2 ^ 64 - 1) ≡ min byte (2 ^ 64 - 1) → IsDamageOf damaged damage → IsDamageOf (damaged ++ byte ∷ []) after)
-        → ReadsSome old new (turns + 1) (parts ++ Damaged (old.before + length some.passed) ∷ []) after
+        → ReadsSome old new (parts ++ Damaged (old.before + length some.passed) ∷ []) after
     next_damaged at after is adds =
         let both = subst (λ (p : Part). IsNextOf middle new p) is next in
         let passes = both.1 in
@@ -164,7 +159,7 @@ module _ (old middle new : Whole) (turns : ℕ) (parts : List Part) (damage : Da
     next_end is =
         let end = subst (λ (p : Part). IsNextOf middle new p) is next in
         record {
-          parts_are = all_passed old.before (as_source old).bytes (as_source middle).bytes (as_source new).bytes some.passed turns parts some.told end.none end.left_is;
+          parts_are = all_passed old.before (as_source old).bytes (as_source middle).bytes (as_source new).bytes some.passed parts some.told end.none end.left_is;
           damage_is = some.damage_is;
           none_failed = end.none_failed ∙ some.none_failed;
         }
@@ -176,9 +171,9 @@ pub record PassesBytes (old new : Whole) : Type 0 where
   pub told : TakesWhereTold (as_source old).bytes (as_source new).bytes passed
   pub none_failed : new.source.failed ≡ old.source.failed
 
-takes_passed : (at : ℕ) (left left' : Option (List ℕ)) (passed : List ℕ) (turns : ℕ) (parts : List Part) → PassesWhereTold at left left' passed turns parts → TakesWhereTold left left' passed
-takes_passed at None left' passed turns parts all = tt
-takes_passed at (Some left) left' passed turns parts (rest, told, passes) = (rest, told, passes.whole)
+takes_passed : (at : ℕ) (left left' : Option (List ℕ)) (passed : List ℕ) (parts : List Part) → PassesWhereTold at left left' passed parts → TakesWhereTold left left' passed
+takes_passed at None left' passed parts all = tt
+takes_passed at (Some left) left' passed parts (rest, told, passes) = (rest, told, passes.whole)
 
 takes_more : (left middle left' : Option (List ℕ)) (passed piece : List ℕ) → TakesWhereTold left middle passed → IsFirstWhereTold middle left' piece → TakesWhereTold left left' (passed ++ piece)
 takes_more None middle left' passed piece takes first = tt
@@ -190,9 +185,9 @@ takes_still : (left middle left' : Option (List ℕ)) (passed : List ℕ) → Ta
 takes_still None middle left' passed takes stays = tt
 takes_still (Some left) middle left' passed (rest, told, whole) stays = (rest, subst (λ (m : Option (List ℕ)). StaysWhereTold m left') told stays, whole)
 
-pub bytes_passed : (old new : Whole) (turns : ℕ) (parts : List Part) (damage : Damage) → ReadsSome old new turns parts damage → PassesBytes old new
-bytes_passed old new turns parts damage some =
-    record { passed = some.passed; told = takes_passed old.before (as_source old).bytes (as_source new).bytes some.passed turns parts some.told; none_failed = some.none_failed }
+pub bytes_passed : (old new : Whole) (parts : List Part) (damage : Damage) → ReadsSome old new parts damage → PassesBytes old new
+bytes_passed old new parts damage some =
+    record { passed = some.passed; told = takes_passed old.before (as_source old).bytes (as_source new).bytes some.passed parts some.told; none_failed = some.none_failed }
 
 pub bytes_more : (old middle new : Whole) → PassesBytes old middle → (piece : List ℕ) → IsFirstWhereTold (as_source middle).bytes (as_source new).bytes piece → new.source.failed ≡ middle.source.failed → PassesBytes old new
 bytes_more old middle new passes piece first failed =
@@ -208,22 +203,6 @@ bytes_ended old middle new passes stays failed =
       passed = passes.passed;
       told = takes_still (as_source old).bytes (as_source middle).bytes (as_source new).bytes passes.passed passes.told stays;
       none_failed = failed ∙ passes.none_failed;
-    }
-
--- a reading of which fewer turns are told
-turns_told : (at : ℕ) (left left' : Option (List ℕ)) (passed : List ℕ) (turns fewer : ℕ) (parts : List Part) → fewer ≤ turns → PassesWhereTold at left left' passed turns parts → PassesWhereTold at left left' passed fewer parts
-turns_told at None left' passed turns fewer parts less all = all
-turns_told at (Some left) left' passed turns fewer parts less (rest, told, passes) =
-    (rest, told, record { whole = passes.whole; many = (let many = passes.many in omega (arith, many, less)); firsts = passes.firsts })
-
-pub fewer_turns : (old new : Whole) (turns fewer : ℕ) (parts : List Part) (damage : Damage) → ReadsSome old new turns parts damage → fewer ≤ turns → ReadsSome old new fewer parts damage
-fewer_turns old new turns fewer parts damage some less =
-    record {
-      passed = some.passed;
-      told = turns_told old.before (as_source old).bytes (as_source new).bytes some.passed turns fewer parts less some.told;
-      before_is = some.before_is;
-      damage_is = some.damage_is;
-      none_failed = some.none_failed;
     }
 
 -- ---- a reading that stops
@@ -252,11 +231,6 @@ takes_held held (Some bytes) = (bytes, refl, refl)
 pub untouched : (whole : Whole) → StopsSections (as_source whole) whole.source OutOfMemory
 untouched whole = inl (record { lost = whole.held; first = takes_held whole.held whole.source.bytes; counted = refl })
 
--- a list as long as is wanted
-longest : (n : ℕ) → (list : List ℕ) × (n ≤ length list)
-longest zero = ([], omega arith)
-longest (suc n) = let shorter = longest n in let few = shorter.1 in (0 ∷ shorter.0, omega arith)
-
 module _ (old middle : Whole) (some : PassesBytes old middle) where
   pub stops_bytes : (new : Device) (fault : InputFault) → StopsSections middle.source new fault → StopsSections (as_source old) new fault
   stops_bytes new OutOfMemory (inl stops) =
@@ -283,28 +257,12 @@ module _ (old middle : Whole) (some : PassesBytes old middle) where
   pub bytes_lost : StopsSections (as_source old) middle.source OutOfMemory
   bytes_lost = stops_bytes middle.source OutOfMemory (inl (record { lost = []; first = takes_none middle.source.bytes; counted = refl }))
 
-module _ (old middle : Whole) (turns : ℕ) (parts : List Part) (damage : Damage) (some : ReadsSome old middle turns parts damage) where
-  given_up : (bytes : Option (List ℕ)) → PassesWhereTold old.before bytes (as_source middle).bytes some.passed turns parts → (most : ℕ) → most ≤ turns
-      → (taken : List ℕ) × TakesWhereTold bytes middle.source.bytes taken × (most ≤ length taken)
-  given_up None told most many = let long = longest most in (long.0, tt, long.1)
-  given_up (Some left) told most many =
-      let more = told.2.many in (
-        some.passed ++ (middle.held ++ []),
-        lost_more (Some left) middle.held middle.source.bytes middle.source.bytes some.passed [] (takes_passed old.before (Some left) (as_source middle).bytes some.passed turns parts told) (takes_none middle.source.bytes),
-        omega (arith, length-append some.passed (middle.held ++ [])),
-      )
-
-  -- so many turns that more bytes were read than are counted
-  pub stops_at_last : 2 ^ 64 - 1 ≤ turns → StopsSections (as_source old) middle.source Read
-  stops_at_last many =
-      let given = given_up (as_source old).bytes some.told (2 ^ 64 - 1) many in
-      inr (record { fault_is = refl; taken = given.0; first = given.1; many = given.2 })
-
+module _ (old middle : Whole) (parts : List Part) (damage : Damage) (some : ReadsSome old middle parts damage) where
   -- the parts so far, where reading stops
   pub stopped : (new : Whole) (fault : InputFault) → StopsSections (as_source old) new.source fault → ReadsBeginning old new parts damage fault
   stopped new fault stops =
       record {
-        parts_are = some_passed old.before (as_source old).bytes (as_source middle).bytes some.passed turns parts some.told;
+        parts_are = some_passed old.before (as_source old).bytes (as_source middle).bytes some.passed parts some.told;
         damage_is = some.damage_is;
         stops = stops;
       }

@@ -1,5 +1,6 @@
 -- Pieces of evidence that are read a batch at a time.
 use Rattle.std.specs.Prelude.{◌≡◌, ℕ, ◌≤◌, true, List, [], ◌∷◌, ◌++◌, length, min, ◌-◌, ◌^◌, ⊤, Bool}
+use Rattle.std.specs.List.{AllZip}
 use Rattle.std.specs.Prelude.{Option, None, Some, is_some, Result, Ok, Err, slice_index_or, take}
 use Rattle.checker.specs.declared.entries.Shown.{Shown}
 use Rattle.pbn_deals.specs.declared.boards.Board.{Board}
@@ -39,6 +40,12 @@ pub record ReadsBatch (old new : Whole) (pieces : List Piece) (ended : Option (R
   pub ends : EndsBatch middle new ended
   pub some : ended ≡ None → 1 ≤ length pieces
 
+-- what is read behind a batch that ended so: the next one, or nothing more
+abbrev pub ReadsBehind : Option (Result Unit InputFault) → Whole → Whole → List Piece
+    → Option (Result Unit InputFault) → Type 0
+ReadsBehind None old new pieces ended = ReadsBatch old new pieces ended
+ReadsBehind (Some how) old new pieces ended = (new ≡ old) × (pieces ≡ []) × (ended ≡ Some how)
+
 -- ---- what a piece shows
 -- each place that had a value has one
 abbrev pub Grows : List (Option Shown) → List (Option Shown) → Type 0
@@ -66,6 +73,10 @@ Judges boards firsts piece Passed =
     (section : SectionShape) × IsPieceOf piece (part.Found section) × JudgesSection boards firsts section Passed
 Judges boards firsts piece (Damaged at) = IsPieceOf piece (part.Damaged at)
 Judges boards firsts piece NoMemory = ⊤
+
+-- each piece shows what is said of it
+abbrev pub AreJudged : List Board → List (Option Shown) → List Piece → List Judged → Type 0
+AreJudged boards firsts pieces judged = AllZip (Judges boards firsts) pieces judged
 
 -- ---- pieces that are noted
 -- what a part adds to the first values, and to the damage

@@ -8,29 +8,43 @@ use std::alloc::Global;
 use streams::InputFault;
 
 /// The most pieces of a batch.
-const MOST_PIECES: usize = 64;
+const MOST_PIECES: usize = 256;
 
-/// A batch that holds so many bytes is full: 32 MiB.
-const FULL: usize = 33_554_432;
+/// The first batch is full when it holds so many bytes, 8 MiB: nothing is judged before it was cut.
+const FIRST: usize = 8_388_608;
+
+/// The greatest batch is full when it holds so many bytes: 64 MiB.
+const GREATEST: usize = 67_108_864;
 
 /// Pieces that were cut.
 #[derive(Drop)]
 pub(crate) struct Batch {
     pub(crate) pieces: Vec<Piece>,
+    /// How many bytes they hold.
+    pub(crate) bytes: usize,
     /// How the evidence ended, if it did.
     pub(crate) ended: Option<Result<(), InputFault>>,
 }
 
-/// Cuts pieces until a batch is full, or the evidence ends.
-pub(crate) fn read_batch<E: Source>(alloc: Global, evidence: &mut Sections<E>) -> Batch
+/// Cuts pieces until a batch is full, or the evidence ends. It is full with twice the bytes of the batch before it.
+pub(crate) fn read_batch<E: Source>(
+    alloc: Global,
+    before: usize,
+    evidence: &mut Sections<E>,
+) -> Batch
     ensures { ReadsBatch evidence.old evidence.new result.pieces.items result.ended }
 {
+    let full = before.saturating_mul(2).clamp(FIRST, GREATEST);
     let mut pieces = Vec::new(alloc);
     let mut bytes = 0usize;
     for _piece in 0..MOST_PIECES {
         if pieces.reserve(1).is_err() {
             let ended = Some(Err(InputFault::OutOfMemory));
-            return Batch { pieces, ended };
+            return Batch {
+                pieces,
+                bytes,
+                ended,
+            };
         }
         match evidence.next_piece(alloc) {
             Ok(Some(piece)) => {
@@ -40,22 +54,25 @@ pub(crate) fn read_batch<E: Source>(alloc: Global, evidence: &mut Sections<E>) -
             Ok(None) => {
                 return Batch {
                     pieces,
+                    bytes,
                     ended: Some(Ok(())),
                 };
             }
             Err(fault) => {
                 return Batch {
                     pieces,
+                    bytes,
                     ended: Some(Err(fault)),
                 };
             }
         }
-        if bytes >= FULL {
+        if bytes >= full {
             break;
         }
     }
     Batch {
         pieces,
+        bytes,
         ended: None,
     }
 }

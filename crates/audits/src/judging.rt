@@ -1,12 +1,11 @@
 //! What pieces of evidence show.
 
 ghost use Rattle.std.specs.Prelude.{◌≡◌, ◌≤◌, IfOk, length};
-ghost use Rattle.std.specs.List.{AllZip};
 ghost use Rattle.std.specs.Thread.{IsSync};
 ghost use Rattle.lease_book.specs.Books.{AreBoards};
 ghost use Rattle.checker.specs.Pairs.{IsPairOf};
 ghost use Rattle.audits.specs.Firsts.{AreShownBy};
-ghost use Rattle.audits.specs.Batches.{Judges, JudgesSection};
+ghost use Rattle.audits.specs.Batches.{AreJudged, Judges, JudgesSection};
 
 use crate::boards::board_with;
 use crate::firsts::FirstProofs;
@@ -19,6 +18,9 @@ use std::alloc::{AllocError, Global};
 use std::sync::Arc;
 use std::thread;
 use std::thread::Threads;
+
+/// A section is large whose piece has so many bytes: 4 MiB.
+const LARGE: usize = 4_194_304;
 
 /// What a piece of evidence shows.
 #[derive(Drop)]
@@ -41,17 +43,17 @@ fn checked(alloc: Global, graph: &Arc<Graph>) -> Result<Arc<CheckedGraph>, Alloc
     Ok(Arc::new(alloc, CheckedGraph::of(graph))?)
 }
 
-/// Checks the graphs of a bundle. If it is alone, several threads check a large graph. Otherwise they have other pieces
-/// to check, and each new thread would cost more than it gains.
+/// Checks the graphs of a bundle. If its section is large, several threads check a large graph: one alone would be at
+/// work when the other sections are done. Else each new thread would cost more than it gains.
 fn checked_pair<R: Threads + Sync>(
     rt: &R,
     alloc: Global,
     bundle: &Bundle,
-    is_alone: bool,
+    is_large: bool,
 ) -> Result<CheckedPair, AllocError>
     ensures { IfOk result (IsPairOf bundle.now) }
 {
-    if is_alone {
+    if is_large {
         return CheckedPair::of(rt, alloc, bundle);
     }
     Ok(CheckedPair {
@@ -65,13 +67,13 @@ fn proofs_of<R: Threads + Sync>(
     rt: &R,
     alloc: Global,
     section: Section,
-    is_alone: bool,
+    is_large: bool,
 ) -> Result<Vec<Proven>, OutOfMemory>
     ensures { IfOk result (λ proofs. AreShownBy section proofs.items) }
 {
     let (layout, trump) = (*section.layout(), section.trump());
     let bundle = section.into_bundle();
-    let Ok(pair) = checked_pair(rt, alloc, &bundle, is_alone) else {
+    let Ok(pair) = checked_pair(rt, alloc, &bundle, is_large) else {
         return Err(OutOfMemory);
     };
     graphs_have_one_answer();
@@ -97,7 +99,7 @@ fn judge_section<R: Threads + Sync>(
     boards: &[Board],
     firsts: &FirstProofs,
     section: Section,
-    is_alone: bool,
+    is_large: bool,
 ) -> Judged
     requires { AreBoards boards.now }
     ensures { JudgesSection boards.now firsts.now section result }
@@ -108,7 +110,7 @@ fn judge_section<R: Threads + Sync>(
     if firsts.are_known(board, section.trump(), section.claims()) {
         return Judged::Passed;
     }
-    match proofs_of(rt, alloc, section, is_alone) {
+    match proofs_of(rt, alloc, section, is_large) {
         Ok(proofs) => Judged::Shows { board, proofs },
         Err(_) => Judged::NoMemory,
     }
@@ -121,13 +123,14 @@ fn judge<R: Threads + Sync>(
     boards: &[Board],
     firsts: &FirstProofs,
     piece: &Piece,
-    is_alone: bool,
 ) -> Judged
     requires { AreBoards boards.now }
     ensures { Judges boards.now firsts.now piece.now result }
 {
     match piece.read(alloc) {
-        Ok(Part::Found(section)) => judge_section(rt, alloc, boards, firsts, section, is_alone),
+        Ok(Part::Found(section)) => {
+            judge_section(rt, alloc, boards, firsts, section, piece.len() >= LARGE)
+        },
         Ok(Part::Damaged { at }) => Judged::Damaged { at },
         Ok(Part::End) | Err(_) => Judged::NoMemory,
     }
@@ -140,14 +143,13 @@ fn judge_each<R: Threads + Sync>(
     boards: &[Board],
     firsts: &FirstProofs,
     pieces: &[Piece],
-    is_alone: bool,
 ) -> Result<Vec<Judged>, AllocError>
     requires { AreBoards boards.now }
-    ensures { IfOk result (λ judged. AllZip (Judges boards.now firsts.now) pieces.now judged.items) }
+    ensures { IfOk result (λ judged. AreJudged boards.now firsts.now pieces.now judged.items) }
 {
     let mut judged = Vec::with_capacity(alloc, pieces.len())?;
     for piece in pieces {
-        judged.push(judge(rt, alloc, boards, firsts, piece, is_alone))?;
+        judged.push(judge(rt, alloc, boards, firsts, piece))?;
     }
     Ok(judged)
 }
@@ -182,10 +184,10 @@ fn judge_halves<R: Threads + Sync>(
     halvings: u32,
 ) -> Result<Vec<Judged>, AllocError>
     requires { AreBoards boards.now }
-    ensures { IfOk result (λ judged. AllZip (Judges boards.now firsts.now) pieces.now judged.items) }
+    ensures { IfOk result (λ judged. AreJudged boards.now firsts.now pieces.now judged.items) }
 {
     if halvings == 0 || pieces.len() < 2 {
-        return judge_each(rt, alloc, boards, firsts, pieces, false);
+        return judge_each(rt, alloc, boards, firsts, pieces);
     }
     let fewer = halvings - 1;
     let (left, right) = pieces.split_at(middle_of(pieces));
@@ -193,11 +195,11 @@ fn judge_halves<R: Threads + Sync>(
         rt,
         || -> Result<Vec<Judged>, AllocError>
             requires { IsSync R.row × AreBoards boards.now }
-            ensures { IfOk result (λ judged. AllZip (Judges boards.entry.now firsts.entry.now) left.entry.now judged.items) }
+            ensures { IfOk result (λ judged. AreJudged boards.entry.now firsts.entry.now left.entry.now judged.items) }
         { judge_halves(rt, alloc, boards, firsts, left, fewer) },
         || -> Result<Vec<Judged>, AllocError>
             requires { IsSync R.row × AreBoards boards.now }
-            ensures { IfOk result (λ judged. AllZip (Judges boards.entry.now firsts.entry.now) right.entry.now judged.items) }
+            ensures { IfOk result (λ judged. AreJudged boards.entry.now firsts.entry.now right.entry.now judged.items) }
         { judge_halves(rt, alloc, boards, firsts, right, fewer) },
     );
     let (mut one, mut other) = (one?, other?);
@@ -205,7 +207,8 @@ fn judge_halves<R: Threads + Sync>(
     Ok(one)
 }
 
-/// Reads pieces and checks their sections, with as many threads as there are processors.
+/// Reads pieces and checks their sections, on several processors with two to four threads for each: so where some have
+/// less to do than others, no processor is idle for long.
 pub(crate) fn judge_all<R: Threads + Sync>(
     rt: &R,
     alloc: Global,
@@ -214,12 +217,19 @@ pub(crate) fn judge_all<R: Threads + Sync>(
     pieces: &[Piece],
 ) -> Result<Vec<Judged>, AllocError>
     requires { AreBoards boards.now }
-    ensures { IfOk result (λ judged. AllZip (Judges boards.now firsts.now) pieces.now judged.items) }
+    ensures { IfOk result (λ judged. AreJudged boards.now firsts.now pieces.now judged.items) }
 {
-    if pieces.len() == 1 {
-        return judge_each(rt, alloc, boards, firsts, pieces, true);
-    }
     let others = rayon::current_num_threads(rt).saturating_sub(1);
+    if others == 0 {
+        return judge_each(rt, alloc, boards, firsts, pieces);
+    }
     let halvings = usize::BITS.saturating_sub(others.leading_zeros());
-    judge_halves(rt, alloc, boards, firsts, pieces, halvings)
+    judge_halves(
+        rt,
+        alloc,
+        boards,
+        firsts,
+        pieces,
+        halvings.saturating_add(1),
+    )
 }

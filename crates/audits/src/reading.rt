@@ -1,19 +1,20 @@
 //! The whole of some evidence, as it is read.
 
-ghost use Rattle.std.specs.Prelude.{◌≡◌, []};
+ghost use Rattle.std.specs.Prelude.{◌≡◌, [], IfOk};
+ghost use Rattle.std.specs.Thread.{IsSync};
 ghost use Rattle.lease_book.specs.Books.{AreBoards};
 ghost use Rattle.audits.specs.Firsts.{HasPlaces};
-ghost use Rattle.audits.specs.Batches.{fault_behind};
+ghost use Rattle.audits.specs.Batches.{AreJudged, ReadsBehind, fault_behind};
 ghost use Rattle.audits.specs.Shows.{ReadsFirsts};
 
-use crate::batches::read_batch;
+use crate::batches::{Batch, read_batch};
 use crate::firsts::FirstProofs;
-use crate::judging::judge_all;
+use crate::judging::{Judged, judge_all};
 use cards::Source;
 use evidence::{Damage, Sections};
 use pbn_deals::Board;
-use std::alloc::Global;
-use std::thread::Threads;
+use std::alloc::{AllocError, Global};
+use std::thread::{Threads, join_mut};
 use streams::InputFault;
 
 /// How far evidence was read.
@@ -25,7 +26,7 @@ pub struct EvidenceRead {
     pub ended: Result<(), InputFault>,
 }
 
-/// How reading ended, if memory ran out for a piece of a batch: a fault of the reading itself comes first.
+/// How reading ended, if memory ran out for a piece after this was read: a fault of the reading itself comes first.
 fn fault_of(ended: &Option<Result<(), InputFault>>) -> InputFault
     ensures { result ≡ fault_behind ended.now }
 {
@@ -35,8 +36,41 @@ fn fault_of(ended: &Option<Result<(), InputFault>>) -> InputFault
     }
 }
 
-/// Reads evidence to its end, a batch of pieces at a time, checks each section whose deal is on a board, with as many
-/// threads as there are processors, and notes the first proof of each entry.
+/// Judges the pieces of a batch, and reads the next one at the same time. Behind the last batch comes one without
+/// pieces, which ends as the last one did.
+fn judge_and_read<R: Threads + Sync, E: Source>(
+    rt: &R,
+    alloc: Global,
+    boards: &[Board],
+    firsts: &FirstProofs,
+    batch: &Batch,
+    evidence: &mut Sections<E>,
+) -> (Result<Vec<Judged>, AllocError>, Batch)
+    requires { AreBoards boards.now }
+    ensures judged { IfOk result.0 (λ judged. AreJudged boards.now firsts.now batch.now.pieces.items judged.items) }
+    ensures behind { ReadsBehind batch.now.ended evidence.old evidence.new result.1.pieces.items result.1.ended }
+{
+    let (pieces, before) = (batch.pieces.as_slice(), batch.bytes);
+    if batch.ended.is_some() {
+        let next = Batch {
+            pieces: Vec::new(alloc),
+            bytes: 0,
+            ended: batch.ended,
+        };
+        return (judge_all(rt, alloc, boards, firsts, pieces), next);
+    }
+    join_mut(
+        rt,
+        &mut || -> Result<Vec<Judged>, AllocError>
+            requires { IsSync R.row × AreBoards boards.now }
+            ensures { IfOk result (λ made. AreJudged boards.entry.now firsts.entry.now pieces.entry.now made.items) }
+        { judge_all(rt, alloc, boards, firsts, pieces) },
+        &mut || read_batch(alloc, before, evidence),
+    )
+}
+
+/// Reads evidence to its end, a batch of pieces at a time, checks each section whose deal is on a board, with at least
+/// as many threads as there are processors, and notes the first proof of each entry.
 pub(crate) fn read_firsts<R: Threads + Sync, E: Source>(
     rt: &R,
     alloc: Global,
@@ -50,24 +84,24 @@ pub(crate) fn read_firsts<R: Threads + Sync, E: Source>(
     ensures places { HasPlaces boards.now firsts.new }
 {
     let mut damage = Damage::none();
+    let mut batch = read_batch(alloc, 0, evidence);
     for _turn in 0..u64::MAX {
-        let batch = read_batch(alloc, evidence);
-        let Ok(judged) = judge_all(rt, alloc, boards, firsts, batch.pieces.as_slice()) else {
-            let ended = Err(fault_of(&batch.ended));
+        let (judged, next) = judge_and_read(rt, alloc, boards, firsts, &batch, evidence);
+        let Ok(judged) = judged else {
+            let ended = Err(fault_of(&next.ended));
             return EvidenceRead { damage, ended };
         };
         let (after, is_whole) = firsts.note_batch(alloc, boards, damage, judged.as_slice());
         damage = after;
         if !is_whole {
-            let ended = Err(fault_of(&batch.ended));
+            let ended = Err(fault_of(&next.ended));
             return EvidenceRead { damage, ended };
         }
         if let Some(ended) = batch.ended {
             return EvidenceRead { damage, ended };
         }
+        batch = next;
     }
-    EvidenceRead {
-        damage,
-        ended: Err(InputFault::Read),
-    }
+    let ended = Err(fault_of(&batch.ended));
+    EvidenceRead { damage, ended }
 }

@@ -4,7 +4,7 @@ use Rattle.evidence.specs.declared.parts.Piece.{Piece}
 use Rattle.audits.specs.Batches.{Cuts}
 use Rattle.audits.proofs.BatchLaws.{cuts_push, batch_stops, batch_full}
 use Rattle.audits.proofs.batches.read_batch.Goals as goal
-use Rattle.audits.proofs.batches.read_batch.Goals.{else-loop-piece-test, then-loop-piece-test+else-is_err+in-Ok-Some+then-bytes-ge-FULL}
+use Rattle.audits.proofs.batches.read_batch.Goals.{else-loop-piece-test, then-loop-piece-test+else-is_err+in-Ok-Some+then-bytes-full}
 
 pub returns-then-is_err : goal.returns-then-is_err
 returns-then-is_err g c =
@@ -29,7 +29,7 @@ returns g c =
     elim c.loop-piece-test.branch [
       | else-loop-piece-test w ↦
           rw (w.evidence-is, w.pieces-is) (batch_full c.args.evidence.now c.loop-piece.evidence c.loop-piece.pieces.items inv.cuts (omega (arith, inv.many, w.loop-piece-test.false)))
-      | then-loop-piece-test+else-is_err+in-Ok-Some+then-bytes-ge-FULL w ↦
+      | then-loop-piece-test+else-is_err+in-Ok-Some+then-bytes-full w ↦
           let old = c.loop-piece.pieces.items in
           let piece = w.in-Ok-Some.piece in
           let next = rw w.in-Ok-Some.field-0-is at w.in-Ok-Some.ensures in

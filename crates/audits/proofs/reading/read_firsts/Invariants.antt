@@ -1,8 +1,11 @@
--- So many parts are read, and the first proofs are those of their sections.
+-- Whatever was read before the first batch: some parts were noted since, the first proofs are those of their sections, and
+-- this batch stands behind them.
 use Rattle.std.proofs.Common.{List}
 use Rattle.evidence.specs.declared.parts.Part.{Part}
+use Rattle.evidence.specs.Wholes.{Whole}
 use Rattle.audits.specs.Reads.{sections_of}
 use Rattle.audits.specs.Firsts.{AreFirstShown, HasPlaces}
+use Rattle.audits.specs.Batches.{ReadsBatch}
 use Rattle.audits.proofs.ReadLaws.{ReadsSome}
 use Rattle.audits.proofs.reading.read_firsts.Given as goal
 
@@ -10,8 +13,10 @@ abbrev pub invariant-loop-turn : goal.invariant-loop-turn
 invariant-loop-turn g l =
     record {
       so_far :
-          (parts : List Part)
-          × ReadsSome l.initial.evidence l.evidence l._turn parts l.damage
-          × AreFirstShown l.boards (sections_of parts) l.firsts;
+          (old : Whole) → ReadsBatch old l.initial.evidence l.initial.batch.pieces.items l.initial.batch.ended
+          → (now : Whole) × (parts : List Part)
+          × ReadsSome old now parts l.damage
+          × AreFirstShown l.boards (sections_of parts) l.firsts
+          × ReadsBatch now l.evidence l.batch.pieces.items l.batch.ended;
       places : HasPlaces l.boards l.firsts;
     }
