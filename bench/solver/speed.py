@@ -72,8 +72,9 @@ def filled(lines):
 def build(folder, lines, root=ROOT):
     """The program over the crates of a checkout."""
     crate = folder / "crates" / "solver_speed"
+    left_out = shutil.ignore_patterns("must-fail", "out")
     for name in CRATES:
-        shutil.copytree(root / "crates" / name, folder / "crates" / name, ignore=shutil.ignore_patterns("must-fail"))
+        shutil.copytree(root / "crates" / name, folder / "crates" / name, ignore=left_out)
     (crate / "src").mkdir(parents=True)
     (crate / "src" / "main.rt").write_text(filled(lines))
     kept = [line for line in (root / "crates.txt").read_text().splitlines() if line.split(":")[0] in CRATES]
