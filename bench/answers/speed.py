@@ -44,7 +44,8 @@ def build(folder, source=HERE / "speed.rt.txt"):
     lines = (ROOT / "crates.txt").read_text().splitlines()
     names = below(list(CRATES), lines)
     for name in names:
-        shutil.copytree(ROOT / "crates" / name, folder / "crates" / name, ignore=shutil.ignore_patterns("must-fail"))
+        shutil.copytree(ROOT / "crates" / name, folder / "crates" / name,
+                        ignore=shutil.ignore_patterns("must-fail", "out"))
     (crate / "src").mkdir(parents=True)
     shutil.copy(source, crate / "src" / "main.rt")
     shutil.copy(ROOT / "HANDLES", folder)

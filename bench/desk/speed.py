@@ -39,7 +39,8 @@ def build(folder):
     lines = (ROOT / "crates.txt").read_text().splitlines()
     names = below(list(CRATES), lines)
     for name in names:
-        shutil.copytree(ROOT / "crates" / name, folder / "crates" / name, ignore=shutil.ignore_patterns("must-fail"))
+        shutil.copytree(ROOT / "crates" / name, folder / "crates" / name,
+                        ignore=shutil.ignore_patterns("must-fail", "out"))
     (crate / "src").mkdir(parents=True)
     source = (HERE / "speed.rt.txt").read_text()
     for word, value in (("BOARDS", BOARDS), ("CALLS", CALLS), ("RUNS", RUNS)):

@@ -76,7 +76,7 @@ def build(folder, source_of=ROOT):
     names = below(list(CRATES), lines)
     for name in names:
         shutil.copytree(source_of / "crates" / name, folder / "crates" / name,
-                        ignore=shutil.ignore_patterns("must-fail"))
+                        ignore=shutil.ignore_patterns("must-fail", "out"))
     (crate / "src").mkdir(parents=True)
     source = (HERE / "speed.rt.txt").read_text().replace("@ANSWERS@", answers())
     (crate / "src" / "main.rt").write_text(source)

@@ -43,7 +43,8 @@ def filled(name, left, right):
 def rattle(folder):
     crate = folder / "crates" / "pattern_speed"
     for name in ("cards", "patterns", "pattern_step"):
-        shutil.copytree(ROOT / "crates" / name, folder / "crates" / name, ignore=shutil.ignore_patterns("must-fail"))
+        shutil.copytree(ROOT / "crates" / name, folder / "crates" / name,
+                        ignore=shutil.ignore_patterns("must-fail", "out"))
     (crate / "src").mkdir(parents=True)
     (crate / "src" / "main.rt").write_text(filled("speed.rt.txt", "[", "]"))
     lines = [line for line in (ROOT / "crates.txt").read_text().splitlines()

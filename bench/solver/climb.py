@@ -21,7 +21,18 @@ from pathlib import Path
 
 from weights import COUNT, ROOT, WEIGHTS, build, hands_of, numbers_in, read_numbers
 
-SETS = 4
+# How many numbers each of the four sets has.
+SIZE = COUNT // 4
+
+
+def packed_sets(numbers):
+    """The bytes of each set, as the program holds them."""
+    return [struct.pack(f"<{SIZE}i", *numbers[start : start + SIZE]) for start in range(0, COUNT, SIZE)]
+
+
+def packed_deals(deals):
+    """The bytes of the deals, as the program holds them."""
+    return b"".join(struct.pack("<4Q", *deal) for deal in deals)
 
 
 def place_of(program, words):
@@ -37,22 +48,15 @@ class Program:
     def __init__(self, folder, deals, numbers):
         self.folder = folder
         self.bytes = bytearray(build(folder, deals, numbers).read_bytes())
-        size = COUNT // SETS
-        sets = [numbers[start : start + size] for start in range(0, COUNT, size)]
-        self.sets = [place_of(self.bytes, struct.pack(f"<{size}i", *one)) for one in sets]
-        self.deals = place_of(self.bytes, self.packed(deals))
-
-    @staticmethod
-    def packed(deals):
-        return b"".join(struct.pack("<4Q", *deal) for deal in deals)
+        self.sets = [place_of(self.bytes, one) for one in packed_sets(numbers)]
+        self.deals = place_of(self.bytes, packed_deals(deals))
 
     def steps(self, name, numbers, deals):
         """How many steps an entry takes, with these numbers, on these deals."""
         text = bytearray(self.bytes)
-        size = COUNT // SETS
-        for place, start in zip(self.sets, range(0, COUNT, size)):
-            text[place : place + 4 * size] = struct.pack(f"<{size}i", *numbers[start : start + size])
-        text[self.deals : self.deals + 32 * len(deals)] = self.packed(deals)
+        words = [*packed_sets(numbers), packed_deals(deals)]
+        for place, one in zip([*self.sets, self.deals], words):
+            text[place : place + len(one)] = one
         path = self.folder / name
         path.write_bytes(text)
         path.chmod(0o755)

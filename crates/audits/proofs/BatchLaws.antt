@@ -63,7 +63,7 @@ pub batch_lost : (old now new : Whole) (parts : List Part) (damage : Damage) (pi
 batch_lost old now new parts damage pieces ended some batch =
     ends_bytes old batch.middle new ended (cuts_bytes old now batch.middle pieces (bytes_passed old now parts damage some) batch.cuts) batch.ends
 
--- what was read of a batch is lost, and what was read behind it
+-- a batch is lost, and the next one
 pub behind_lost : (old now new last : Whole) (parts : List Part) (damage : Damage) (pieces next : List Piece) (ended ended' : Option (Result Unit InputFault)) → ReadsSome old now parts damage
     → ReadsBatch now new pieces ended → ReadsBehind ended new last next ended' → StopsSections (as_source old) last.source (fault_behind ended')
 behind_lost old now new last parts damage pieces next None ended' some batch behind =

@@ -40,7 +40,7 @@ pub record ReadsBatch (old new : Whole) (pieces : List Piece) (ended : Option (R
   pub ends : EndsBatch middle new ended
   pub some : ended ≡ None → 1 ≤ length pieces
 
--- what is read behind a batch that ended so: the next one, or nothing more
+-- after a batch that ended like this: the next one was read, or nothing more
 abbrev pub ReadsBehind : Option (Result Unit InputFault) → Whole → Whole → List Piece
     → Option (Result Unit InputFault) → Type 0
 ReadsBehind None old new pieces ended = ReadsBatch old new pieces ended

@@ -10,41 +10,46 @@ use streams::InputFault;
 /// The most pieces of a batch.
 const MOST_PIECES: usize = 256;
 
-/// The first batch is full when it holds so many bytes, 8 MiB: nothing is judged before it was cut.
-const FIRST: usize = 8_388_608;
+/// The first batch is full with 8 MiB: while it is cut, nothing is judged.
+pub(crate) const FIRST_FULL: usize = 8_388_608;
 
-/// The greatest batch is full when it holds so many bytes: 64 MiB.
-const GREATEST: usize = 67_108_864;
+/// No batch is full with more than 64 MiB.
+const GREATEST_FULL: usize = 67_108_864;
 
 /// Pieces that were cut.
 #[derive(Drop)]
 pub(crate) struct Batch {
     pub(crate) pieces: Vec<Piece>,
-    /// How many bytes they hold.
-    pub(crate) bytes: usize,
     /// How the evidence ended, if it did.
     pub(crate) ended: Option<Result<(), InputFault>>,
 }
 
-/// Cuts pieces until a batch is full, or the evidence ends. It is full with twice the bytes of the batch before it.
-pub(crate) fn read_batch<E: Source>(
-    alloc: Global,
-    before: usize,
-    evidence: &mut Sections<E>,
-) -> Batch
+/// How many bytes the pieces hold.
+pub(crate) fn bytes_of(pieces: &[Piece]) -> usize {
+    let mut bytes = 0usize;
+    for piece in pieces {
+        bytes = bytes.saturating_add(piece.len());
+    }
+    bytes
+}
+
+/// With how many bytes the batch after these pieces is full: twice as many as they hold, and 8 to 64 MiB.
+pub(crate) fn full_after(pieces: &[Piece]) -> usize {
+    bytes_of(pieces)
+        .saturating_mul(2)
+        .clamp(FIRST_FULL, GREATEST_FULL)
+}
+
+/// Cuts pieces until a batch is full with this number of bytes, or the evidence ends.
+pub(crate) fn read_batch<E: Source>(alloc: Global, full: usize, evidence: &mut Sections<E>) -> Batch
     ensures { ReadsBatch evidence.old evidence.new result.pieces.items result.ended }
 {
-    let full = before.saturating_mul(2).clamp(FIRST, GREATEST);
     let mut pieces = Vec::new(alloc);
     let mut bytes = 0usize;
     for _piece in 0..MOST_PIECES {
         if pieces.reserve(1).is_err() {
             let ended = Some(Err(InputFault::OutOfMemory));
-            return Batch {
-                pieces,
-                bytes,
-                ended,
-            };
+            return Batch { pieces, ended };
         }
         match evidence.next_piece(alloc) {
             Ok(Some(piece)) => {
@@ -54,14 +59,12 @@ pub(crate) fn read_batch<E: Source>(
             Ok(None) => {
                 return Batch {
                     pieces,
-                    bytes,
                     ended: Some(Ok(())),
                 };
             }
             Err(fault) => {
                 return Batch {
                     pieces,
-                    bytes,
                     ended: Some(Err(fault)),
                 };
             }
@@ -72,7 +75,6 @@ pub(crate) fn read_batch<E: Source>(
     }
     Batch {
         pieces,
-        bytes,
         ended: None,
     }
 }

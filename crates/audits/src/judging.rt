@@ -7,6 +7,7 @@ ghost use Rattle.checker.specs.Pairs.{IsPairOf};
 ghost use Rattle.audits.specs.Firsts.{AreShownBy};
 ghost use Rattle.audits.specs.Batches.{AreJudged, Judges, JudgesSection};
 
+use crate::batches::bytes_of;
 use crate::boards::board_with;
 use crate::firsts::FirstProofs;
 use cards::OutOfMemory;
@@ -19,7 +20,7 @@ use std::sync::Arc;
 use std::thread;
 use std::thread::Threads;
 
-/// A section is large whose piece has so many bytes: 4 MiB.
+/// A section is large if its piece has 4 MiB or more.
 const LARGE: usize = 4_194_304;
 
 /// What a piece of evidence shows.
@@ -158,10 +159,7 @@ fn judge_each<R: Threads + Sync>(
 fn middle_of(pieces: &[Piece]) -> usize
     ensures { result ≤ length pieces.now }
 {
-    let mut all = 0usize;
-    for piece in pieces {
-        all = all.saturating_add(piece.len());
-    }
+    let all = bytes_of(pieces);
     let mut before = 0usize;
     for place in 0..pieces.len() {
         let own = pieces[place].len();
@@ -207,8 +205,8 @@ fn judge_halves<R: Threads + Sync>(
     Ok(one)
 }
 
-/// Reads pieces and checks their sections, on several processors with two to four threads for each: so where some have
-/// less to do than others, no processor is idle for long.
+/// Reads pieces and checks their sections, with at most two to four threads per processor: so few processors are idle
+/// where some threads have less to do than others.
 pub(crate) fn judge_all<R: Threads + Sync>(
     rt: &R,
     alloc: Global,

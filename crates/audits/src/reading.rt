@@ -7,7 +7,7 @@ ghost use Rattle.audits.specs.Firsts.{HasPlaces};
 ghost use Rattle.audits.specs.Batches.{AreJudged, ReadsBehind, fault_behind};
 ghost use Rattle.audits.specs.Shows.{ReadsFirsts};
 
-use crate::batches::{Batch, read_batch};
+use crate::batches::{Batch, FIRST_FULL, full_after, read_batch};
 use crate::firsts::FirstProofs;
 use crate::judging::{Judged, judge_all};
 use cards::Source;
@@ -36,8 +36,8 @@ fn fault_of(ended: &Option<Result<(), InputFault>>) -> InputFault
     }
 }
 
-/// Judges the pieces of a batch, and reads the next one at the same time. Behind the last batch comes one without
-/// pieces, which ends as the last one did.
+/// Judges the pieces of a batch, and reads the next batch at the same time. After the last batch it returns one without
+/// pieces, which ended as the last one did.
 fn judge_and_read<R: Threads + Sync, E: Source>(
     rt: &R,
     alloc: Global,
@@ -50,27 +50,27 @@ fn judge_and_read<R: Threads + Sync, E: Source>(
     ensures judged { IfOk result.0 (λ judged. AreJudged boards.now firsts.now batch.now.pieces.items judged.items) }
     ensures behind { ReadsBehind batch.now.ended evidence.old evidence.new result.1.pieces.items result.1.ended }
 {
-    let (pieces, before) = (batch.pieces.as_slice(), batch.bytes);
+    let pieces = batch.pieces.as_slice();
     if batch.ended.is_some() {
         let next = Batch {
             pieces: Vec::new(alloc),
-            bytes: 0,
             ended: batch.ended,
         };
         return (judge_all(rt, alloc, boards, firsts, pieces), next);
     }
+    let full = full_after(pieces);
     join_mut(
         rt,
         &mut || -> Result<Vec<Judged>, AllocError>
             requires { IsSync R.row × AreBoards boards.now }
             ensures { IfOk result (λ made. AreJudged boards.entry.now firsts.entry.now pieces.entry.now made.items) }
         { judge_all(rt, alloc, boards, firsts, pieces) },
-        &mut || read_batch(alloc, before, evidence),
+        &mut || read_batch(alloc, full, evidence),
     )
 }
 
-/// Reads evidence to its end, a batch of pieces at a time, checks each section whose deal is on a board, with at least
-/// as many threads as there are processors, and notes the first proof of each entry.
+/// Reads evidence to its end, a batch of pieces at a time, checks each section whose deal is on a board, on several
+/// processors, and notes the first proof of each entry.
 pub(crate) fn read_firsts<R: Threads + Sync, E: Source>(
     rt: &R,
     alloc: Global,
@@ -84,7 +84,7 @@ pub(crate) fn read_firsts<R: Threads + Sync, E: Source>(
     ensures places { HasPlaces boards.now firsts.new }
 {
     let mut damage = Damage::none();
-    let mut batch = read_batch(alloc, 0, evidence);
+    let mut batch = read_batch(alloc, FIRST_FULL, evidence);
     for _turn in 0..u64::MAX {
         let (judged, next) = judge_and_read(rt, alloc, boards, firsts, &batch, evidence);
         let Ok(judged) = judged else {

@@ -1,5 +1,5 @@
--- Whatever was read before the first batch: some parts were noted since, the first proofs are those of their sections, and
--- this batch stands behind them.
+-- Since the first batch began, some parts were noted. The first proofs are those of their sections, and this batch comes
+-- next.
 use Rattle.std.proofs.Common.{List}
 use Rattle.evidence.specs.declared.parts.Part.{Part}
 use Rattle.evidence.specs.Wholes.{Whole}
