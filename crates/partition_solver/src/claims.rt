@@ -8,6 +8,10 @@ use arrayvec::ArrayVec;
 use cards::{Seat, Side, Trump};
 use certificate_graph::{Bundle, Claim};
 
+/// The declarers in the order in which they are searched. Partners mostly take as many tricks, so the second of them
+/// begins with a good guess.
+const SEARCH_ORDER: [Seat; 4] = [Seat::North, Seat::South, Seat::East, Seat::West];
+
 /// Where play starts for the declarers of a denomination, each once. A root's number is its place: a graph begins with
 /// them.
 type Roots = ArrayVec<TrickStart, 4>;
@@ -48,8 +52,13 @@ pub(crate) fn bundle_of(
     Some(Bundle {
         ns: write_graph(search, trump, Side::NorthSouth, found.ours.as_slice())?,
         ew: write_graph(search, trump, Side::EastWest, found.theirs.as_slice())?,
-        claims: found.claims,
+        claims: found.in_order(declarers),
     })
+}
+
+/// Whether the seat is one of these.
+fn is_among(seats: &[Seat], seat: Seat) -> bool {
+    seats.iter().any(|other| other.number() == seat.number())
 }
 
 impl Claims {
@@ -72,12 +81,15 @@ impl Claims {
         budget: u64,
     ) -> u64 {
         let mut left = 0u64;
-        for declarer in declarers {
+        for declarer in SEARCH_ORDER {
             if search.memory_ran_out || self.claims.is_full() {
                 break;
             }
+            if !is_among(declarers, declarer) {
+                continue;
+            }
             search.steps = budget;
-            self.add(search, tricks, *declarer);
+            self.add(search, tricks, declarer);
             left = left.saturating_add(search.steps);
         }
         left
@@ -94,16 +106,37 @@ impl Claims {
 
     /// Whether there is a claim for a declarer.
     fn has(&self, declarer: Seat) -> bool {
-        self.claims
-            .iter()
-            .any(|claim| claim.declarer.number() == declarer.number())
+        self.claim_for(declarer).is_some()
     }
 
-    /// Adds the claim for a declarer, if its value is found and what shows it is remembered.
+    /// The claim for a declarer, if there is one.
+    fn claim_for(&self, declarer: Seat) -> Option<Claim> {
+        for claim in self.claims.as_slice() {
+            if claim.declarer.number() == declarer.number() {
+                return Some(*claim);
+            }
+        }
+        None
+    }
+
+    /// The claims in the order of these declarers.
+    fn in_order(&self, declarers: &[Seat]) -> ArrayVec<Claim, 4> {
+        let mut ordered = ArrayVec::new();
+        for declarer in declarers {
+            if let Some(claim) = self.claim_for(*declarer) {
+                let _ = ordered.try_push(claim);
+            }
+        }
+        ordered
+    }
+
+    /// Adds the claim for a declarer, if its value is found and what shows it is remembered. The first guess of all is
+    /// one trick more than is likely: a wrong guess costs less if it is too high.
     fn add(&mut self, search: &mut Search, tricks: i32, declarer: Seat) -> Option<()> {
         let leader = declarer.next().number();
         let side = leader & 1;
-        let guess = self.last[side].or(self.last[1 - side]);
+        let last = self.last[side].or(self.last[1 - side]);
+        let guess = last.unwrap_or(search.guess(tricks).wrapping_add(1));
         let ours = search.value(leader, guess)?;
         self.last[side] = Some(ours);
         let theirs = tricks.wrapping_sub(ours);

@@ -26,7 +26,7 @@ fn points_of(cards: CardSet) -> i32 {
 impl Search {
     /// A first guess: half the tricks, and more by the difference of high cards and that of trumps, in hundredths of a
     /// trick.
-    fn guess(&self, tricks: i32) -> i32 {
+    pub(crate) fn guess(&self, tricks: i32) -> i32 {
         let trumps = self.deal.trumps;
         let hands = self.deal.hands;
         let ours = hands[0] | hands[2];
@@ -42,9 +42,9 @@ impl Search {
             / 100
     }
 
-    /// How many tricks North and South can win with this seat to lead, as `value_after` finds them.
-    pub(crate) fn value(&mut self, leader: usize, guess: Option<i32>) -> Option<i32> {
-        self.value_after(&Begun::at(leader), guess)
+    /// How many tricks North and South can win with this seat to lead, as `value_after` finds them with this guess.
+    pub(crate) fn value(&mut self, leader: usize, guess: i32) -> Option<i32> {
+        self.value_after(&Begun::at(leader), Some(guess))
     }
 
     /// How many tricks North and South can win after the cards of a trick, the one in progress among them. So many are
