@@ -11,7 +11,7 @@ use crate::batches::{Batch, FIRST_FULL, full_after, read_batch};
 use crate::firsts::FirstProofs;
 use crate::judging::{Judged, judge_all};
 use cards::Source;
-use evidence::{Damage, Sections};
+use evidence::{Damage, Piece, Sections};
 use pbn_deals::Board;
 use std::alloc::{AllocError, Global};
 use std::thread::{Threads, join_mut};
@@ -36,36 +36,59 @@ fn fault_of(ended: &Option<Result<(), InputFault>>) -> InputFault
     }
 }
 
-/// Judges the pieces of a batch, and reads the next batch at the same time. After the last batch it returns one without
-/// pieces, which ended as the last one did.
+/// A batch that is to be judged, and the pieces of the batch before it. These are of no more use.
+#[derive(Drop)]
+struct Course {
+    batch: Batch,
+    spent: Vec<Piece>,
+}
+
+/// Frees pieces, and reads the batch after this one. After the last batch it returns one without pieces, which ended as
+/// that one did.
+fn batch_after<E: Source>(
+    alloc: Global,
+    batch: &Batch,
+    spent: &mut Vec<Piece>,
+    evidence: &mut Sections<E>,
+) -> Batch
+    ensures { ReadsBehind batch.now.ended evidence.old evidence.new result.pieces.items result.ended }
+{
+    spent.clear();
+    if batch.ended.is_some() {
+        return Batch {
+            pieces: Vec::new(alloc),
+            ended: batch.ended,
+        };
+    }
+    read_batch(alloc, full_after(batch.pieces.as_slice()), evidence)
+}
+
+/// Judges the pieces of a batch. At the same time it frees those of the batch before, and reads the batch after, as
+/// `batch_after` does.
 fn judge_and_read<R: Threads + Sync, E: Source>(
     rt: &R,
     alloc: Global,
     boards: &[Board],
     firsts: &FirstProofs,
-    batch: &Batch,
+    course: &mut Course,
     evidence: &mut Sections<E>,
 ) -> (Result<Vec<Judged>, AllocError>, Batch)
     requires { AreBoards boards.now }
-    ensures judged { IfOk result.0 (λ judged. AreJudged boards.now firsts.now batch.now.pieces.items judged.items) }
-    ensures behind { ReadsBehind batch.now.ended evidence.old evidence.new result.1.pieces.items result.1.ended }
+    ensures judged { IfOk result.0
+        (λ judged. AreJudged boards.now firsts.now course.old.batch.pieces.items judged.items) }
+    ensures behind { ReadsBehind course.old.batch.ended evidence.old evidence.new
+        result.1.pieces.items result.1.ended }
+    ensures kept { course.new.batch ≡ course.old.batch }
 {
+    let Course { batch, spent } = course;
     let pieces = batch.pieces.as_slice();
-    if batch.ended.is_some() {
-        let next = Batch {
-            pieces: Vec::new(alloc),
-            ended: batch.ended,
-        };
-        return (judge_all(rt, alloc, boards, firsts, pieces), next);
-    }
-    let full = full_after(pieces);
     join_mut(
         rt,
         &mut || -> Result<Vec<Judged>, AllocError>
             requires { IsSync R.row × AreBoards boards.now }
             ensures { IfOk result (λ made. AreJudged boards.entry.now firsts.entry.now pieces.entry.now made.items) }
         { judge_all(rt, alloc, boards, firsts, pieces) },
-        &mut || read_batch(alloc, full, evidence),
+        &mut || batch_after(alloc, batch, spent, evidence),
     )
 }
 
@@ -84,9 +107,12 @@ pub(crate) fn read_firsts<R: Threads + Sync, E: Source>(
     ensures places { HasPlaces boards.now firsts.new }
 {
     let mut damage = Damage::none();
-    let mut batch = read_batch(alloc, FIRST_FULL, evidence);
+    let mut course = Course {
+        batch: read_batch(alloc, FIRST_FULL, evidence),
+        spent: Vec::new(alloc),
+    };
     for _turn in 0..u64::MAX {
-        let (judged, next) = judge_and_read(rt, alloc, boards, firsts, &batch, evidence);
+        let (judged, next) = judge_and_read(rt, alloc, boards, firsts, &mut course, evidence);
         let Ok(judged) = judged else {
             let ended = Err(fault_of(&next.ended));
             return EvidenceRead { damage, ended };
@@ -97,11 +123,14 @@ pub(crate) fn read_firsts<R: Threads + Sync, E: Source>(
             let ended = Err(fault_of(&next.ended));
             return EvidenceRead { damage, ended };
         }
-        if let Some(ended) = batch.ended {
+        if let Some(ended) = course.batch.ended {
             return EvidenceRead { damage, ended };
         }
-        batch = next;
+        course = Course {
+            batch: next,
+            spent: course.batch.pieces,
+        };
     }
-    let ended = Err(fault_of(&batch.ended));
+    let ended = Err(fault_of(&course.batch.ended));
     EvidenceRead { damage, ended }
 }

@@ -1,9 +1,10 @@
-use Rattle.std.proofs.Common.{List, [], length, inl, sym, ap, subst, Bool, Option, Err}
+use Rattle.std.proofs.Common.{List, [], length, inl, sym, ◌∙◌, ap, subst, Bool, Option, Err}
 use Rattle.std.specs.List.{AllZip}
 use Rattle.checker.specs.declared.entries.Shown.{Shown}
 use Rattle.streams.specs.declared.inputs.InputFault.{InputFault}
 use Rattle.audits.specs.Firsts.{AreFirstShown}
 use Rattle.audits.specs.Shows.{ReadsFirsts}
+use Rattle.audits.specs.declared.batches.Batch.{Batch}
 use Rattle.audits.specs.declared.judging.Judged.{Judged}
 use Rattle.audits.specs.Batches.{Judges, NotesSome}
 use Rattle.audits.proofs.ReadLaws.{begins, stopped}
@@ -27,17 +28,17 @@ loop-turn-init g c =
 pub returns-in_default-clause-reads : goal.returns-in_default-clause-reads
 returns-in_default-clause-reads g c =
     let old = c.args.evidence.now in
-    let far = c.loop-turn.invariant.so_far old c.read_batch-batch.ensures in
+    let far = c.loop-turn.invariant.so_far old c.read_batch.ensures in
     let next = c.judge_and_read-judged.result.1 in
     subst (λ (fault : InputFault). ReadsFirsts c.args.boards.now old c.judge_and_read-judged.new.evidence c.loop-turn.firsts (record { damage = c.loop-turn.damage; ended = Err fault })) (sym c.fault_of.ensures)
     (batch_unread c.args.boards.now old far.0 c.loop-turn.evidence c.judge_and_read-judged.new.evidence c.loop-turn.firsts c.loop-turn.firsts c.loop-turn.damage c.loop-turn.damage
-    c.loop-turn.batch.pieces.items next.pieces.items c.loop-turn.batch.ended next.ended far.1 far.2 far.3 far.4 c.judge_and_read-judged.ensures.behind)
+    c.loop-turn.course.batch.pieces.items next.pieces.items c.loop-turn.course.batch.ended next.ended far.1 far.2 far.3 far.4 c.judge_and_read-judged.ensures.behind)
 
 pub returns-then-not-is_whole-clause-reads : goal.returns-then-not-is_whole-clause-reads
 returns-then-not-is_whole-clause-reads g c =
     let old = c.args.evidence.now in
-    let far = c.loop-turn.invariant.so_far old c.read_batch-batch.ensures in
-    let batch = c.loop-turn.batch in
+    let far = c.loop-turn.invariant.so_far old c.read_batch.ensures in
+    let batch = c.loop-turn.course.batch in
     let next = c.judge_and_read-judged.result.1 in
     let judges = Judges c.args.boards.now c.loop-turn.firsts in
     let shown = rw c.in-Ok.is at c.judge_and_read-judged.ensures.judged in
@@ -49,19 +50,20 @@ returns-then-not-is_whole-clause-reads g c =
 pub returns-in-Some-clause-reads : goal.returns-in-Some-clause-reads
 returns-in-Some-clause-reads g c =
     let old = c.args.evidence.now in
-    let far = c.loop-turn.invariant.so_far old c.read_batch-batch.ensures in
-    let batch = c.loop-turn.batch in
+    let far = c.loop-turn.invariant.so_far old c.read_batch.ensures in
+    let batch = c.loop-turn.course.batch in
     let next = c.judge_and_read-judged.result.1 in
     let judges = Judges c.args.boards.now c.loop-turn.firsts in
     let shown = rw c.in-Ok.is at c.judge_and_read-judged.ensures.judged in
     let notes = c.note_batch-is_whole.ensures.notes batch.pieces.items (subst (λ (judged : List Judged). AllZip judges batch.pieces.items judged) (sym c.as_slice.ensures.value) shown) in
     let whole = subst (λ (all : Bool). NotesSome c.args.boards.now batch.pieces.items c.loop-turn.firsts c.note_batch-is_whole.new.self c.loop-turn.damage c.note_batch-is_whole.result.0 all) c.if-not-is_whole.false notes in
     batch_ends c.args.boards.now old far.0 c.loop-turn.evidence c.judge_and_read-judged.new.evidence c.loop-turn.firsts c.note_batch-is_whole.new.self c.loop-turn.damage c.note_batch-is_whole.result.0
-    batch.pieces.items next.pieces.items batch.ended next.ended far.1 far.2 far.3 far.4 c.judge_and_read-judged.ensures.behind whole c.in-Some.ended c.in-Some.is
+    batch.pieces.items next.pieces.items batch.ended next.ended far.1 far.2 far.3 far.4 c.judge_and_read-judged.ensures.behind whole c.in-Some.ended
+    (sym (ap (λ (b : Batch). b.ended) c.judge_and_read-judged.ensures.kept) ∙ c.in-Some.is)
 
 pub loop-turn-preserved : goal.loop-turn-preserved
 loop-turn-preserved g c =
-    let batch = c.loop-turn.batch in
+    let batch = c.loop-turn.course.batch in
     let next = c.judge_and_read-judged.result.1 in
     let judges = Judges c.args.boards.now c.loop-turn.firsts in
     let shown = rw c.in-Ok.is at c.judge_and_read-judged.ensures.judged in
@@ -71,15 +73,16 @@ loop-turn-preserved g c =
       so_far = λ old first.
           let far = c.loop-turn.invariant.so_far old first in
           batch_goes_on c.args.boards.now old far.0 c.loop-turn.evidence c.judge_and_read-judged.new.evidence c.loop-turn.firsts c.note_batch-is_whole.new.self c.loop-turn.damage c.note_batch-is_whole.result.0
-          batch.pieces.items next.pieces.items batch.ended next.ended far.1 far.2 far.3 far.4 c.judge_and_read-judged.ensures.behind whole c.in_default-ended.is;
+          batch.pieces.items next.pieces.items batch.ended next.ended far.1 far.2 far.3 far.4 c.judge_and_read-judged.ensures.behind whole
+          (sym (ap (λ (b : Batch). b.ended) c.judge_and_read-judged.ensures.kept) ∙ c.in_default-ended.is);
       places = c.note_batch-is_whole.ensures.places;
     }
 
 pub returns-clause-reads : goal.returns-clause-reads
 returns-clause-reads g c =
     let old = c.args.evidence.now in
-    let far = c.loop-turn.invariant.so_far old c.read_batch-batch.ensures in
-    let batch = c.loop-turn.batch in
+    let far = c.loop-turn.invariant.so_far old c.read_batch.ensures in
+    let batch = c.loop-turn.course.batch in
     let lost = batch_lost old far.0 c.loop-turn.evidence far.1 c.loop-turn.damage batch.pieces.items batch.ended far.2 far.4 in
     subst (λ (fault : InputFault). ReadsFirsts c.args.boards.now old c.loop-turn.evidence c.loop-turn.firsts (record { damage = c.loop-turn.damage; ended = Err fault })) (sym c.fault_of-2.ensures)
     (record { parts = far.1; read_is = stopped old far.0 far.1 c.loop-turn.damage far.2 c.loop-turn.evidence _ lost; firsts_are = far.3 })

@@ -13,10 +13,10 @@ abbrev pub invariant-loop-turn : goal.invariant-loop-turn
 invariant-loop-turn g l =
     record {
       so_far :
-          (old : Whole) → ReadsBatch old l.initial.evidence l.initial.batch.pieces.items l.initial.batch.ended
+          (old : Whole) → ReadsBatch old l.initial.evidence l.initial.course.batch.pieces.items l.initial.course.batch.ended
           → (now : Whole) × (parts : List Part)
           × ReadsSome old now parts l.damage
           × AreFirstShown l.boards (sections_of parts) l.firsts
-          × ReadsBatch now l.evidence l.batch.pieces.items l.batch.ended;
+          × ReadsBatch now l.evidence l.course.batch.pieces.items l.course.batch.ended;
       places : HasPlaces l.boards l.firsts;
     }
