@@ -7,6 +7,7 @@ pub mod NumberLemmas
 pub mod OneNode
 pub mod LeafLemmas
 pub mod RowLemmas
+pub mod BareLemmas
 pub mod TreeLemmas
 pub mod PatternLemmas
 pub mod LineLemmas

@@ -10,7 +10,7 @@ use Rattle.certificate_graph.specs.RowNames.{rename_token}
 
 children_renamed : (to : ℕ → ℕ) (children : List Child) → map (rename_token to) (children_row children) ≡ children_row (map (rename_child to) children)
 children_renamed to [] = refl
-children_renamed to (child ∷ rest) = ap (λ l. token.Child (rename_child to child) ∷ l) (children_renamed to rest)
+children_renamed to (child ∷ rest) = ap (λ l. token.Child child.winner (to child.number) ∷ l) (children_renamed to rest)
 
 mutual
   pub tree_renamed : (to : ℕ → ℕ) (tree : TrickTree) → map (rename_token to) (tree_row tree) ≡ tree_row (rename_tree to tree)

@@ -8,30 +8,30 @@ use Rattle.certificate_graph.specs.declared.rows.Token.{Token}
 use Rattle.certificate_graph.specs.declared.rows.Token.TheVariants as token
 use Rattle.certificate_graph.specs.Trees.{TrickTree, Own, Reply, Leaf, Branches, NoBranch, Branch, branches_of}
 use Rattle.certificate_graph.specs.Rows.{tree_row, branches_row, one_branch_row, children_row, IsTreeRow, AreBranchesRow, AreChildrenRow}
-use Rattle.certificate_graph.specs.OneTree.{heads, tails, parted}
+use Rattle.certificate_graph.specs.OneTree.{heads, tails, parted, one_child}
 
 pub own_first : (t : TrickTree) (card : PatCard) (rest : List Token) → token.Own card ∷ rest ≡ tree_row t → (below : TrickTree) × (rest ≡ tree_row below)
 own_first (Own c t) card rest e = (t, tails (token.Own card) (token.Own c) rest (tree_row t) e)
 own_first (Reply bs) card rest e = let apart : token.Own card ≡ token.Reply = heads _ _ rest (branches_row bs) e in cc
 own_first (Leaf []) card rest e = cc
-own_first (Leaf (c ∷ cs)) card rest e = let apart : token.Own card ≡ token.Child c = heads _ _ rest (children_row cs) e in cc
+own_first (Leaf (c ∷ cs)) card rest e = let apart : token.Own card ≡ token.Child c.winner c.number = heads _ _ rest (children_row cs) e in cc
 
 pub reply_first : (t : TrickTree) (rest : List Token) → token.Reply ∷ rest ≡ tree_row t → (branches : Branches) × (rest ≡ branches_row branches)
 reply_first (Own c t) rest e = let apart : token.Reply ≡ token.Own c = heads _ _ rest (tree_row t) e in cc
 reply_first (Reply bs) rest e = (bs, tails token.Reply token.Reply rest (branches_row bs) e)
 reply_first (Leaf []) rest e = cc
-reply_first (Leaf (c ∷ cs)) rest e = let apart : token.Reply ≡ token.Child c = heads _ _ rest (children_row cs) e in cc
+reply_first (Leaf (c ∷ cs)) rest e = let apart : token.Reply ≡ token.Child c.winner c.number = heads _ _ rest (children_row cs) e in cc
 
-pub child_first : (t : TrickTree) (child : Child) (rest : List Token) → token.Child child ∷ rest ≡ tree_row t → (children : List Child) × (token.Child child ∷ rest ≡ children_row children)
-child_first (Own c t) child rest e = let apart : token.Child child ≡ token.Own c = heads _ _ rest (tree_row t) e in cc
-child_first (Reply bs) child rest e = let apart : token.Child child ≡ token.Reply = heads _ _ rest (branches_row bs) e in cc
+pub child_first : (t : TrickTree) (child : Child) (rest : List Token) → token.Child child.winner child.number ∷ rest ≡ tree_row t → (children : List Child) × (token.Child child.winner child.number ∷ rest ≡ children_row children)
+child_first (Own c t) child rest e = let apart : token.Child child.winner child.number ≡ token.Own c = heads _ _ rest (tree_row t) e in cc
+child_first (Reply bs) child rest e = let apart : token.Child child.winner child.number ≡ token.Reply = heads _ _ rest (branches_row bs) e in cc
 child_first (Leaf cs) child rest e = (cs, e)
 
 pub no_branch_first : (t : TrickTree) (card : PatCard) (count : ℕ) (rest : List Token) → token.Branch card count ∷ rest ≡ tree_row t → ⊥
 no_branch_first (Own c t) card count rest e = let apart : token.Branch card count ≡ token.Own c = heads _ _ rest (tree_row t) e in cc
 no_branch_first (Reply bs) card count rest e = let apart : token.Branch card count ≡ token.Reply = heads _ _ rest (branches_row bs) e in cc
 no_branch_first (Leaf []) card count rest e = cc
-no_branch_first (Leaf (c ∷ cs)) card count rest e = let apart : token.Branch card count ≡ token.Child c = heads _ _ rest (children_row cs) e in cc
+no_branch_first (Leaf (c ∷ cs)) card count rest e = let apart : token.Branch card count ≡ token.Child c.winner c.number = heads _ _ rest (children_row cs) e in cc
 
 -- the row that was split begins with this token
 pub begun : (row rest : List Token) (first token : Token) → row ≡ first ∷ rest → first ≡ token → token ∷ rest ≡ row
@@ -64,17 +64,17 @@ cut front back row count long is = (
   ap₂ (λ n l. drop n l) (sym long) (sym is) ∙ drop-append_seam front back,
 )
 
-pub next_child : (cs : List Child) (child : Child) (rest : List Token) → token.Child child ∷ rest ≡ children_row cs →
+pub next_child : (cs : List Child) (child : Child) (rest : List Token) → token.Child child.winner child.number ∷ rest ≡ children_row cs →
     (others : List Child) × (child ∷ others ≡ cs) × (children_row others ≡ rest)
 next_child [] child rest e = cc
 next_child (c ∷ others) child rest e =
-    let first : token.Child child ≡ token.Child c = heads _ _ rest (children_row others) e in
-    let child-is : child ≡ c = cc in
+    let first : token.Child child.winner child.number ≡ token.Child c.winner c.number = heads _ _ rest (children_row others) e in
+    let child-is : child ≡ c = one_child child c first in
     (others, ap (λ k. k ∷ others) child-is, sym (tails _ _ rest (children_row others) e))
 
-pub no_child_first : (cs : List Child) (first : Token) (rest : List Token) → ((child : Child) → first ≡ token.Child child → ⊥) → first ∷ rest ≡ children_row cs → ⊥
+pub no_child_first : (cs : List Child) (first : Token) (rest : List Token) → ((child : Child) → first ≡ token.Child child.winner child.number → ⊥) → first ∷ rest ≡ children_row cs → ⊥
 no_child_first [] first rest apart e = cc
-no_child_first (c ∷ others) first rest apart e = apart c (heads first (token.Child c) rest (children_row others) e)
+no_child_first (c ∷ others) first rest apart e = apart c (heads first (token.Child c.winner c.number) rest (children_row others) e)
 
 -- ---- which rows are trees
 pub own_row : (card : PatCard) (rest : List Token) → IsTreeRow rest ↔ IsTreeRow (token.Own card ∷ rest)
@@ -89,18 +89,18 @@ reply_row rest = (
   λ t. reply_first t.0 rest t.1,
 )
 
-pub leaf_row : (child : Child) (rest : List Token) → AreChildrenRow rest ↔ IsTreeRow (token.Child child ∷ rest)
+pub leaf_row : (child : Child) (rest : List Token) → AreChildrenRow rest ↔ IsTreeRow (token.Child child.winner child.number ∷ rest)
 leaf_row child rest = (
-  λ cs. (Leaf (child ∷ cs.0), ap (λ l. token.Child child ∷ l) cs.1),
+  λ cs. (Leaf (child ∷ cs.0), ap (λ l. token.Child child.winner child.number ∷ l) cs.1),
   λ t.
       let leaf = child_first t.0 child rest t.1 in
       let next = next_child leaf.0 child rest leaf.1 in
       (next.0, sym next.2),
 )
 
-pub children_more : (child : Child) (rest : List Token) → AreChildrenRow rest ↔ AreChildrenRow (token.Child child ∷ rest)
+pub children_more : (child : Child) (rest : List Token) → AreChildrenRow rest ↔ AreChildrenRow (token.Child child.winner child.number ∷ rest)
 children_more child rest = (
-  λ cs. (child ∷ cs.0, ap (λ l. token.Child child ∷ l) cs.1),
+  λ cs. (child ∷ cs.0, ap (λ l. token.Child child.winner child.number ∷ l) cs.1),
   λ cs. let next = next_child cs.0 child rest cs.1 in (next.0, sym next.2),
 )
 

@@ -6,6 +6,7 @@ pub mod Views
 pub mod Graphs
 pub mod Extracts
 pub mod RowNames
+pub mod BareNodes
 pub mod GraphFaults
 pub mod Texts
 pub mod LineForms

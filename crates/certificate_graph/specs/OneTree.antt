@@ -1,5 +1,6 @@
 -- A row is that of one tree, and its parts are those of the tree's parts.
-use Rattle.std.proofs.Common.{◌≡◌, List, [], ◌∷◌, ◌++◌, length, refl, sym, ◌∙◌, ap, ap₂, arith}
+use Rattle.std.proofs.Common.{◌≡◌, ℕ, List, [], ◌∷◌, ◌++◌, length, refl, sym, ◌∙◌, ap, ap₂, arith}
+use Rattle.cards.specs.declared.seats.Seat.{Seat}
 use Rattle.certificate_graph.specs.declared.children.Child.{Child}
 use Rattle.certificate_graph.specs.declared.rows.Token.{Token}
 use Rattle.certificate_graph.specs.declared.rows.Token.TheVariants as token
@@ -25,13 +26,19 @@ parted (x ∷ xs) (y ∷ ys) more others l e =
     let rest = parted xs ys more others (omega (arith, l)) (tails x y (xs ++ more) (ys ++ others) e) in
     (ap₂ (λ z zs. z ∷ zs) (heads x y (xs ++ more) (ys ++ others) e) rest.0, rest.1)
 
+pub one_child : (c d : Child) → token.Child c.winner c.number ≡ token.Child d.winner d.number → c ≡ d
+one_child c d e =
+    let winner : c.winner ≡ d.winner = cc in
+    let number : c.number ≡ d.number = cc in
+    ap₂ (λ (w : Seat) (n : ℕ). record { winner = w; number = n }) winner number
+
 pub same_children : (cs ds : List Child) → children_row cs ≡ children_row ds → cs ≡ ds
 same_children [] [] e = refl
 same_children [] (d ∷ ds) e = cc
 same_children (c ∷ cs) [] e = cc
 same_children (c ∷ cs) (d ∷ ds) e =
-    let first : token.Child c ≡ token.Child d = heads _ _ (children_row cs) (children_row ds) e in
-    let child : c ≡ d = cc in
+    let first : token.Child c.winner c.number ≡ token.Child d.winner d.number = heads _ _ (children_row cs) (children_row ds) e in
+    let child : c ≡ d = one_child c d first in
     ap₂ (λ z zs. z ∷ zs) child (same_children cs ds (tails _ _ (children_row cs) (children_row ds) e))
 
 mutual
@@ -44,20 +51,20 @@ mutual
       let apart : token.Own c ≡ token.Reply = heads _ _ (tree_row t) (branches_row bs) e in cc
   same_tree (Own c t) (Leaf []) e = cc
   same_tree (Own c t) (Leaf (d ∷ ds)) e =
-      let apart : token.Own c ≡ token.Child d = heads _ _ (tree_row t) (children_row ds) e in cc
+      let apart : token.Own c ≡ token.Child d.winner d.number = heads _ _ (tree_row t) (children_row ds) e in cc
   same_tree (Reply bs) (Own d u) e =
       let apart : token.Reply ≡ token.Own d = heads _ _ (branches_row bs) (tree_row u) e in cc
   same_tree (Reply bs) (Reply cs) e =
       ap (λ z. Reply z) (same_branches bs cs (tails token.Reply token.Reply (branches_row bs) (branches_row cs) e))
   same_tree (Reply bs) (Leaf []) e = cc
   same_tree (Reply bs) (Leaf (d ∷ ds)) e =
-      let apart : token.Reply ≡ token.Child d = heads _ _ (branches_row bs) (children_row ds) e in cc
+      let apart : token.Reply ≡ token.Child d.winner d.number = heads _ _ (branches_row bs) (children_row ds) e in cc
   same_tree (Leaf []) (Own d u) e = cc
   same_tree (Leaf (c ∷ cs)) (Own d u) e =
-      let apart : token.Child c ≡ token.Own d = heads _ _ (children_row cs) (tree_row u) e in cc
+      let apart : token.Child c.winner c.number ≡ token.Own d = heads _ _ (children_row cs) (tree_row u) e in cc
   same_tree (Leaf []) (Reply bs) e = cc
   same_tree (Leaf (c ∷ cs)) (Reply bs) e =
-      let apart : token.Child c ≡ token.Reply = heads _ _ (children_row cs) (branches_row bs) e in cc
+      let apart : token.Child c.winner c.number ≡ token.Reply = heads _ _ (children_row cs) (branches_row bs) e in cc
   same_tree (Leaf cs) (Leaf ds) e = ap (λ z. Leaf z) (same_children cs ds e)
 
   pub same_branches : (bs cs : Branches) → branches_row bs ≡ branches_row cs → bs ≡ cs

@@ -7,7 +7,7 @@ use Rattle.certificate_graph.specs.declared.rows.Token.TheVariants as token
 use Rattle.certificate_graph.specs.Trees.{TrickTree, Own, Reply, Leaf, Branches, NoBranch, Branch}
 
 abbrev pub children_row : List Child → List Token
-children_row children = map (λ child. token.Child child) children
+children_row children = map (λ child. token.Child child.winner child.number) children
 
 abbrev mutual
   pub tree_row : TrickTree → List Token

@@ -7,6 +7,7 @@ use Rattle.patterns.specs.Words.{IsSuitWord, suit_in, shape_in}
 use Rattle.certificate_graph.specs.declared.nodes.Node.{Node}
 use Rattle.certificate_graph.specs.declared.line_reading.Line.{Line}
 use Rattle.certificate_graph.specs.declared.pattern_reading.Suits.{Suits}
+use Rattle.certificate_graph.specs.Trees.{TrickTree}
 
 -- a digit stands in this place of a text, and the byte behind it
 pub record HasDigit (text : List ℕ) (place byte : ℕ) : Type 0 where
@@ -30,5 +31,5 @@ words_read suits = suits.spades ∷ suits.hearts ∷ suits.diamonds ∷ suits.cl
 abbrev pub shape_read : Suits → Shape
 shape_read suits = shape_in (words_read suits)
 
-abbrev pub node_read : Line → Node
-node_read line = record { pattern = shape_read line.suits; lead = line.lead; need = line.need; tree = line.tree }
+abbrev pub node_read : Line → TrickTree → Node
+node_read line tree = record { pattern = shape_read line.suits; lead = line.lead; need = line.need; tree = tree }

@@ -5,7 +5,6 @@ ghost use Rattle.certificate_graph.specs.Extracts.{AreExchanged, exchanged, rena
 ghost use Rattle.certificate_graph.specs.Graphs.{AreNodes};
 ghost use Rattle.certificate_graph.specs.RowNames.{rename_token};
 
-use crate::children::Child;
 use crate::graphs::Graph;
 use crate::nodes::Node;
 use crate::rows::Token;
@@ -30,10 +29,7 @@ fn rename_token(token: Token, root: u32) -> Token
     ensures { result ≡ rename_token (exchanged root) token }
 {
     match token {
-        Token::Child(child) => Token::Child(Child {
-            winner: child.winner,
-            number: exchanged(root, child.number),
-        }),
+        Token::Child(winner, number) => Token::Child(winner, exchanged(root, number)),
         token => token,
     }
 }
@@ -47,7 +43,8 @@ fn rename_tree(alloc: Global, tree: &Tree, root: u32) -> Result<Tree, AllocError
     for token in row {
         renamed.push(rename_token(*token, root))?;
     }
-    Ok(Tree::of_row(renamed))
+    let tree = Tree::of_row(alloc, renamed)?;
+    Ok(tree)
 }
 
 /// A copy of a node, whose leaves name the nodes by their new numbers.

@@ -132,13 +132,13 @@ fn names_less(token: &Token, count: u32) -> bool
     ensures { IsTrue result ↔ NamesLess count token.now }
 {
     match token {
-        Token::Child(child) => child.number < count,
+        Token::Child(_, number) => *number < count,
         _ => true,
     }
 }
 
 /// Whether the tokens name nodes below this number alone.
-fn all_name_less(row: &[Token], count: u32) -> bool
+pub(crate) fn all_name_less(row: &[Token], count: u32) -> bool
     ensures { IsTrue result ↔ All (NamesLess count) row.now }
 {
     for token in row {
@@ -147,11 +147,4 @@ fn all_name_less(row: &[Token], count: u32) -> bool
         }
     }
     true
-}
-
-/// Whether the leaves name nodes below this number.
-pub(crate) fn names_below(place: &Place<'_>, count: u32) -> bool
-    ensures { IsTrue result ↔ NamesBelow count place.now }
-{
-    all_name_less(place.row(), count)
 }

@@ -50,7 +50,7 @@ fn read_more(cursor: &mut Cursor<'_>, least: usize, row: &mut Vec<Token>) -> Res
     if seat < least {
         return Err(Stop::Other);
     }
-    let Ok(()) = row.push(Token::Child(child)) else {
+    let Ok(()) = row.push(Token::Child(child.winner, child.number)) else {
         return Err(Stop::NoMemory);
     };
     cursor.rest = rest;
@@ -72,7 +72,7 @@ pub(crate) fn read_children(cursor: &mut Cursor<'_>, row: &mut Vec<Token>) -> Re
     let Some((child, rest)) = read_child(text) else {
         return Err(Stop::Other);
     };
-    let Ok(()) = row.push(Token::Child(child)) else {
+    let Ok(()) = row.push(Token::Child(child.winner, child.number)) else {
         return Err(Stop::NoMemory);
     };
     // most leaves have one child

@@ -8,6 +8,7 @@
 #![tactic(auto)]
 
 mod answers;
+mod bare_nodes;
 mod bundle_answers;
 mod bundles;
 mod card_claims;
@@ -38,6 +39,7 @@ mod versions;
 mod writing;
 
 pub use answers::Answer;
+pub use bare_nodes::BareNode;
 pub use bundles::{Bundle, Claim};
 pub use card_claims::{CardBundle, CardClaim, CardSolver};
 pub use children::Child;

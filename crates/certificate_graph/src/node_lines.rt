@@ -8,6 +8,7 @@ ghost use Rattle.certificate_graph.specs.Texts.{node_text};
 ghost use Rattle.certificate_graph.specs.declared.faults.TextFault.TheVariants as text_fault;
 
 use crate::checks::{GREATEST_COUNT, is_node};
+use crate::cursors::Cursor;
 use crate::faults::TextFault;
 use crate::line_writing::write_node;
 use crate::node_reading::read_node;
@@ -38,8 +39,9 @@ impl Node {
             (λ found. IsNode greatest_count found.0 × (text.now ≡ node_text found.0 found.1.now))) }
     {
         let mut row = Vec::new(alloc);
-        match read_node(alloc, GREATEST_COUNT as u32, 1, text, &mut row) {
-            Ok(found) => Ok(Some(found)),
+        let mut cursor = Cursor { rest: text };
+        match read_node(GREATEST_COUNT as u32, 1, &mut cursor, &mut row) {
+            Ok(said) => Ok(Some((said.with_tree(alloc, row)?, cursor.rest))),
             Err(fault) => {
                 unless_memory(fault)?;
                 Ok(None)

@@ -102,7 +102,7 @@ impl<'a> Place<'a> {
         match first {
             Token::Own(card) => PlaceView::Own(*card, Place::of_row(rest)),
             Token::Reply => PlaceView::Reply(Branches::of_row(rest)),
-            Token::Child(_) => PlaceView::Leaf(Children::of_row(row)),
+            Token::Child(..) => PlaceView::Leaf(Children::of_row(row)),
             Token::Branch(..) => unreachable!(),
         }
     }
@@ -164,9 +164,13 @@ impl<'a> Children<'a> {
         let Some((first, rest)) = row.split_first() else {
             return None;
         };
-        let Token::Child(child) = first else {
+        let Token::Child(winner, number) = first else {
             unreachable!();
         };
-        Some((*child, Children::of_row(rest)))
+        let child = Child {
+            winner: *winner,
+            number: *number,
+        };
+        Some((child, Children::of_row(rest)))
     }
 }

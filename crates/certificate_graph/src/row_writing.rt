@@ -15,7 +15,7 @@ pub(crate) fn push_children(row: &mut Vec<Token>, children: &[Child]) -> Result<
     ensures { OnOk result (row.new.items ≡ row.old.items ++ children_row children.now) }
 {
     for child in children {
-        row.push(Token::Child(*child))?;
+        row.push(Token::Child(child.winner, child.number))?;
     }
     Ok(())
 }

@@ -3,7 +3,7 @@
 ghost use Rattle.std.specs.Prelude.{◌↔◌, IsTrue};
 ghost use Rattle.certificate_graph.specs.Rows.{IsTreeRow, AreBranchesRow, AreChildrenRow};
 
-use crate::children::Child;
+use cards::Seat;
 use pattern_step::PatCard;
 
 /// One thing of a tree. That of a place stands before those of what follows it.
@@ -15,8 +15,8 @@ pub enum Token {
     Reply,
     /// A card of the opponents, and how many tokens after it are of what follows it.
     Branch(PatCard, u32),
-    /// A node that goes on. A leaf is a row of these.
-    Child(Child),
+    /// The seat that may win, and the number of the node that goes on. A leaf is a row of these.
+    Child(Seat, u32),
 }
 
 /// Whether the tokens are those of a tree.
@@ -31,7 +31,7 @@ pub(crate) fn is_tree_row(row: &[Token]) -> bool
         Token::Own(_) => is_tree_row(rest),
         Token::Reply => are_branches_row(rest),
         Token::Branch(..) => false,
-        Token::Child(_) => are_children_row(rest),
+        Token::Child(..) => are_children_row(rest),
     }
 }
 
@@ -60,7 +60,7 @@ fn are_children_row(row: &[Token]) -> bool
         return true;
     };
     match first {
-        Token::Child(_) => are_children_row(rest),
+        Token::Child(..) => are_children_row(rest),
         _ => false,
     }
 }

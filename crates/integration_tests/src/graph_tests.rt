@@ -89,9 +89,9 @@ fn tree_of_ace(alloc: Global, card: PatCard, children: &[Child]) -> Result<Tree,
     tokens.push(Token::Branch(LOW, count + 1))?;
     tokens.push(Token::Own(card))?;
     for child in children {
-        tokens.push(Token::Child(*child))?;
+        tokens.push(Token::Child(child.winner, child.number))?;
     }
-    match Tree::from_tokens(tokens) {
+    match Tree::from_tokens(alloc, tokens)? {
         Some(tree) => Ok(tree),
         None => Err(Fail::new("these tokens are of no tree")),
     }
@@ -150,41 +150,35 @@ fn nodes_of_no_graph(rt: HostRuntime) -> Result<(), Fail> {
     Ok(())
 }
 
+const NORTH_TOKEN: Token = Token::Child(Seat::North, 0);
+
+const EAST_TOKEN: Token = Token::Child(Seat::East, 0);
+
+const ABSENT_TOKEN: Token = Token::Child(Seat::South, 1);
+
 /// Tokens, and whether they are those of a tree.
 const TOKENS: [(&[Token], bool); 12] = [
     (&[], true),
-    (&[Token::Child(OF_EAST), Token::Child(OF_NORTH)], true),
-    (
-        &[Token::Own(TOP), Token::Own(PAST), Token::Child(ABSENT)],
-        true,
-    ),
+    (&[EAST_TOKEN, NORTH_TOKEN], true),
+    (&[Token::Own(TOP), Token::Own(PAST), ABSENT_TOKEN], true),
     (&[Token::Reply], true),
     (
         &[Token::Reply, Token::Branch(LOW, 0), Token::Branch(LOW, 0)],
         true,
     ),
-    (
-        &[Token::Reply, Token::Branch(LOW, 1), Token::Child(OF_EAST)],
-        true,
-    ),
-    (
-        &[Token::Reply, Token::Branch(LOW, 2), Token::Child(OF_EAST)],
-        false,
-    ),
-    (
-        &[Token::Reply, Token::Branch(LOW, 0), Token::Child(OF_EAST)],
-        false,
-    ),
+    (&[Token::Reply, Token::Branch(LOW, 1), EAST_TOKEN], true),
+    (&[Token::Reply, Token::Branch(LOW, 2), EAST_TOKEN], false),
+    (&[Token::Reply, Token::Branch(LOW, 0), EAST_TOKEN], false),
     (&[Token::Reply, Token::Own(LOW)], false),
     (&[Token::Reply, Token::Reply], false),
     (&[Token::Branch(LOW, 0)], false),
-    (&[Token::Child(OF_EAST), Token::Own(LOW)], false),
+    (&[EAST_TOKEN, Token::Own(LOW)], false),
 ];
 
 #[test]
 fn tokens_of_trees(rt: HostRuntime) -> Result<(), Fail> {
     for (tokens, is_tree) in TOKENS {
-        let tree = Tree::from_tokens(Vec::from_slice(rt.alloc(), tokens)?);
+        let tree = Tree::from_tokens(rt.alloc(), Vec::from_slice(rt.alloc(), tokens)?)?;
         expect_eq(&rt, &tree.is_some(), &is_tree);
         if let Some(tree) = tree {
             expect_eq(&rt, &(tree.tokens() == tokens), &true);

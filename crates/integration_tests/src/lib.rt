@@ -4,6 +4,8 @@
 #![tactic(auto)]
 
 #[cfg(test)]
+mod block_tests;
+#[cfg(test)]
 mod bundle_tests;
 #[cfg(test)]
 mod card_tests;

@@ -4,8 +4,8 @@ use crate::pattern_tricks::{PatternStart, word_of};
 use crate::plans::{Plan, PlannedChild, TrickStart};
 use crate::search::Search;
 use crate::words::Lengths;
-use cards::{Seat, Side, Trump};
-use certificate_graph::{Child, Graph, Node, Token, Tree, Version};
+use cards::{OutOfMemory, Seat, Side, Trump};
+use certificate_graph::{BareNode, Graph, Node, Token, Tree, Version};
 use pattern_store::Record;
 use patterns::Pattern;
 use std::alloc::{AllocError, Global};
@@ -14,13 +14,20 @@ use std::sync::Arc;
 /// How many nodes a graph has at most.
 const MOST_NODES: usize = 1_000_000;
 
+/// A block of nodes gets its trees once these have so many tokens.
+const BLOCK: usize = 512;
+
 /// A graph in work.
 #[derive(Drop)]
 pub(crate) struct Writing {
     alloc: Global,
     pub(crate) plan: Plan,
     todo: Vec<TrickStart>,
+    /// The nodes that have their trees.
     nodes: Vec<Node>,
+    /// The nodes after them, and the tokens of their trees.
+    bares: Vec<BareNode>,
+    row: Vec<Token>,
 }
 
 /// The graph of a side that begins with these roots. None where what is remembered does not show them, no steps are
@@ -57,6 +64,8 @@ impl Writing {
             plan,
             todo: Vec::new(alloc),
             nodes: Vec::new(alloc),
+            bares: Vec::new(alloc),
+            row: Vec::new(alloc),
         })
     }
 
@@ -66,6 +75,7 @@ impl Writing {
         if !self.add_all(search) {
             return None;
         }
+        self.end_block(search)?;
         let side = self.plan.side;
         let graph = self.into_graph(trump, side)?;
         let shared = Arc::new(search.alloc, graph);
@@ -122,12 +132,56 @@ impl Writing {
         let held = PatternStart::of(&search.deal, &record, start.left, start.lengths);
         self.plan
             .show(search, held, start.leader, i32::from(record.need))?;
-        let node = self.node_of(search, &record, start.lengths, start.leader)?;
-        if self.nodes.push(node).is_err() {
+        let said = self.bare_node(search, &record, start.lengths, start.leader)?;
+        if self.push(said).is_err() {
             search.run_out();
             return None;
         }
-        Some(())
+        if self.row.len() < BLOCK {
+            return Some(());
+        }
+        self.end_block(search)
+    }
+
+    /// Adds a node, whose tree is the one in work.
+    fn push(&mut self, said: BareNode) -> Result<(), AllocError> {
+        self.bares.push(said)?;
+        self.row.extend_from_slice(self.plan.tokens.as_slice())
+    }
+
+    /// Gives the last nodes their trees. None where memory runs out, or where the tokens are those of no trees.
+    fn end_block(&mut self, search: &mut Search) -> Option<()> {
+        let bares = self.bares.as_slice();
+        let row = self.row.as_slice();
+        let Ok(is_done) = Node::push_all(self.alloc, bares, row, &mut self.nodes) else {
+            search.run_out();
+            return None;
+        };
+        self.bares.clear();
+        self.row.clear();
+        if is_done { Some(()) } else { None }
+    }
+
+    /// The node of a record of these lengths, with this seat to lead and the tree in work, without its tree. The nodes
+    /// that it names are put down. None where memory runs out.
+    fn bare_node(
+        &mut self,
+        search: &mut Search,
+        record: &Record,
+        lengths: Lengths,
+        leader: usize,
+    ) -> Option<BareNode> {
+        let pattern = self.pattern_of(record, lengths)?;
+        if self.name_children().is_err() {
+            search.run_out();
+            return None;
+        }
+        Some(BareNode {
+            pattern,
+            lead: seat_at(leader),
+            need: record.need,
+            count: self.plan.tokens.len(),
+        })
     }
 
     /// The node of a record of these lengths, with this seat to lead and the tree in work. The nodes that it names are
@@ -139,39 +193,40 @@ impl Writing {
         lengths: Lengths,
         leader: usize,
     ) -> Option<Node> {
-        let pattern = self.pattern_of(record, lengths)?;
-        let Ok(tokens) = self.tokens() else {
+        let said = self.bare_node(search, record, lengths, leader)?;
+        let Ok(tree) = self.tree() else {
             search.run_out();
             return None;
         };
         Some(Node {
-            pattern,
-            lead: seat_at(leader),
-            need: record.need,
-            tree: Tree::from_tokens(tokens)?,
+            pattern: said.pattern,
+            lead: said.lead,
+            need: said.need,
+            tree: tree?,
         })
     }
 
-    /// The tokens of the tree in work. The nodes that it names are put down.
-    fn tokens(&mut self) -> Result<Vec<Token>, AllocError> {
+    /// The tree in work.
+    fn tree(&self) -> Result<Option<Tree>, OutOfMemory> {
+        let tokens = Vec::from_slice(self.alloc, self.plan.tokens.as_slice())?;
+        Tree::from_tokens(self.alloc, tokens)
+    }
+
+    /// Puts down the nodes that the tree in work names.
+    fn name_children(&mut self) -> Result<(), AllocError> {
         for number in 0..self.plan.children.len() {
             if let Some(child) = self.plan.children.get(number).copied() {
                 self.name_child(child)?;
             }
         }
-        let mut tokens = Vec::with_capacity(self.alloc, self.plan.tokens.len())?;
-        tokens.extend_from_slice(self.plan.tokens.as_slice())?;
-        Ok(tokens)
+        Ok(())
     }
 
     /// Puts a child down, and its number into its token.
     fn name_child(&mut self, child: PlannedChild) -> Result<(), AllocError> {
         let number = self.put_down(child.start)?.wrapping_sub(1);
         if let Some(token) = self.plan.tokens.get_mut(child.place) {
-            *token = Token::Child(Child {
-                winner: seat_at(child.start.leader),
-                number,
-            });
+            *token = Token::Child(seat_at(child.start.leader), number);
         }
         Ok(())
     }

@@ -5,7 +5,7 @@ use crate::plans::{Plan, PlannedChild, TrickStart};
 use crate::search::Search;
 use crate::words::{CardSet, Lengths};
 use cards::Seat;
-use certificate_graph::{Child, Token};
+use certificate_graph::Token;
 
 /// The records that go on after a trick, by the seat that won it, 0 where none is needed, and what the new nodes cost:
 /// one each, and one for each owner that they name.
@@ -67,11 +67,7 @@ impl Plan {
             search.run_out();
             return None;
         }
-        let child = Child {
-            winner: Seat::ALL[start.leader & 3],
-            number: 0,
-        };
-        self.push(search, Token::Child(child))
+        self.push(search, Token::Child(Seat::ALL[start.leader & 3], 0))
     }
 
     /// The children after a trick. None where what is remembered does not show them for less than the limit.

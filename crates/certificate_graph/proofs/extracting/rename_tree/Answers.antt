@@ -20,5 +20,5 @@ returns c =
     let to = exchanged c.args.root in
     let row = c.tokens-row.result.now in
     let all = take_all c.loop-token.token-index row (omega arith) in
-    same_tree c.of_row.result (rename_tree to c.args.tree.now)
-    (c.of_row.ensures ∙ (c.loop-token.invariant ∙ (ap (λ l. map (rename_token to) l) (all ∙ c.tokens-row.ensures) ∙ tree_renamed to c.args.tree.now)))
+    same_tree c.in_ok-tree.tree (rename_tree to c.args.tree.now)
+    (c.in_ok-tree.ensures ∙ (c.loop-token.invariant ∙ (ap (λ l. map (rename_token to) l) (all ∙ c.tokens-row.ensures) ∙ tree_renamed to c.args.tree.now)))

@@ -27,7 +27,7 @@ returns t c =
     (λ rest begins. (
       child ∷ begins.0,
       more_read c.args.least text _ child after begins.0 _ c.in-Some-after_byte.ensures c.in-Some-read_child.ensures (omega arith) (rw seat at begins.1),
-      begins.2 ∙ (ap (λ list. list ++ children_row begins.0) c.in-Ok.ensures.items ∙ append_assoc before (token.Child child ∷ []) (children_row begins.0)),
+      begins.2 ∙ (ap (λ list. list ++ children_row begins.0) c.in-Ok.ensures.items ∙ append_assoc before (token.Child child.winner child.number ∷ []) (children_row begins.0)),
     ))
     (λ lacks. lacks_by_more c.args.least text _ child after c.in_default.ensures c.in-Some-after_byte.ensures c.in-Some-read_child.ensures (rw seat at lacks))
     c.read_more.ensures

@@ -18,7 +18,7 @@ returns c =
     (λ rest begins. (
       child ∷ begins.0,
       children_read text child after begins.0 _ c.in-Some-read_child.ensures (rw seat at begins.1),
-      begins.2 ∙ (ap (λ list. list ++ children_row begins.0) c.in-Ok.ensures.items ∙ append_assoc before (token.Child child ∷ []) (children_row begins.0)),
+      begins.2 ∙ (ap (λ list. list ++ children_row begins.0) c.in-Ok.ensures.items ∙ append_assoc before (token.Child child.winner child.number ∷ []) (children_row begins.0)),
     ))
     (λ lacks. lacks_children_by_more text child after c.in_default.ensures c.in-Some-read_child.ensures (rw seat at lacks))
     c.read_more.ensures

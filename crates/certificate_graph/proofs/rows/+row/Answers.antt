@@ -21,7 +21,7 @@ is_tree_row-returns-in-Reply t c =
 
 pub is_tree_row-returns-in-Child : goal.is_tree_row-returns-in-Child
 is_tree_row-returns-in-Child t c =
-    told_row IsTreeRow _ c.args.row.now c.are_children_row.ensures (leaf_row c.in-Child.field-0 c.in-Some.rest.now)
+    told_row IsTreeRow _ c.args.row.now c.are_children_row.ensures (leaf_row (record { winner = c.in-Child.field-0; number = c.in-Child.field-1 }) c.in-Some.rest.now)
     (begun c.args.row.now c.in-Some.rest.now c.in-Some.first.now _ c.in-Some.ensures.cases.0 c.in-Child.is)
 
 pub is_tree_row-returns-in-Branch : goal.is_tree_row-returns-in-Branch

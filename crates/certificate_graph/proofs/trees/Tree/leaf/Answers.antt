@@ -10,5 +10,5 @@ of_row-requires c =
 
 pub returns : goal.returns
 returns c =
-    same_tree c.of_row.result (Leaf c.args.children.now)
-    (c.of_row.ensures ∙ (c.in_ok-push_children.ensures ∙ ap (λ l. l ++ children_row c.args.children.now) c.new-row.ensures.items))
+    same_tree c.in_ok-tree.tree (Leaf c.args.children.now)
+    (c.in_ok-tree.ensures ∙ (c.in_ok-push_children.ensures ∙ ap (λ l. l ++ children_row c.args.children.now) c.new-row.ensures.items))

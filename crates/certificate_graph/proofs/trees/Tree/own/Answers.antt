@@ -12,6 +12,6 @@ of_row-requires c = (
 
 pub returns : goal.returns
 returns c =
-    same_tree c.of_row.result (Own c.args.card c.args.below.now)
-    (c.of_row.ensures
+    same_tree c.in_ok-tree.tree (Own c.args.card c.args.below.now)
+    (c.in_ok-tree.ensures
     ∙ begun_with _ _ _ _ _ _ c.new-row.ensures.items c.in_ok-push.ensures.items c.tokens.ensures c.in_ok-extend_from_slice.ensures.items)

@@ -12,5 +12,5 @@ of_row-requires c = (
 
 pub returns : goal.returns
 returns c =
-    same_tree c.of_row.result (Reply (branches_of c.args.branches.now))
-    (c.of_row.ensures ∙ begun_with _ _ _ _ _ _ c.new-row.ensures.items c.in_ok-push.ensures.items refl c.in_ok-push_branches.ensures)
+    same_tree c.in_ok-tree.tree (Reply (branches_of c.args.branches.now))
+    (c.in_ok-tree.ensures ∙ begun_with _ _ _ _ _ _ c.new-row.ensures.items c.in_ok-push.ensures.items refl c.in_ok-push_branches.ensures)
