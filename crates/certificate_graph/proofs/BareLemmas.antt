@@ -1,8 +1,8 @@
 -- Nodes are found again from themselves without their trees, and the rows of those.
 use Rattle.std.proofs.Common.{◌≡◌, ◌↔◌, ℕ, ◌+◌, ◌≤◌, List, [], ◌∷◌, ◌++◌, map, take, drop, length, All, Result, Ok, Err, refl, sym, ◌∙◌, ap, ap₂, subst, arith, append-nil, append_assoc, length-append}
-use Rattle.std.proofs.lemmas.List.{map-append}
+use Rattle.std.proofs.lemmas.List.{map-append, take-take}
 use Rattle.std.proofs.lemmas.List.Elements.{All-push}
-use Rattle.std.proofs.Math.Seq.{drop-append_seam}
+use Rattle.std.proofs.Math.Seq.{drop-append_seam, take-append_seam}
 use Rattle.std.specs.Prelude.{OnOk}
 use Rattle.certificate_graph.specs.declared.nodes.Node.{Node}
 use Rattle.certificate_graph.specs.declared.bare_nodes.BareNode.{BareNode}
@@ -103,6 +103,13 @@ joined bares first others row front back tree rest is parts long of_tree of = re
 pub on_ok : {A E : Type 0} (r : Result A E) (P Q : Type 0) → (P → Q) → OnOk r P → OnOk r Q
 on_ok (Ok done) P Q so fact = so fact
 on_ok (Err fault) P Q so fact = fact
+
+-- what a longer list keeps at its beginning, a shorter one has there
+pub kept_before : (nodes pushed grown : List Node) (node : Node) → pushed ≡ nodes ++ node ∷ [] → take (length pushed) grown ≡ pushed → take (length nodes) grown ≡ nodes
+kept_before nodes pushed grown node is kept =
+    let longer : length pushed ≡ length nodes + 1 = ap length is ∙ length-append nodes (node ∷ []) in
+    sym (take-take (length nodes) (length pushed) grown (omega (arith, longer)))
+    ∙ (ap (λ l. take (length nodes) l) (kept ∙ is) ∙ take-append_seam nodes (node ∷ []))
 
 -- ---- nodes in work
 pub gets_all : (bares : List BareNode) (row : List Token) (nodes grown all : List Node) → Gets bares row nodes grown → Holds nodes bares row all → grown ≡ all

@@ -41,7 +41,7 @@ abbrev pub MayGet : List BareNode → List Token → List Node → List Node →
 MayGet bares row before after true = Gets bares row before after
 MayGet bares row before after false = (SomeAreOf bares row → ⊥) × (after ≡ before)
 
--- ---- nodes in work: some have their trees, and the others stand behind them without
+-- ---- nodes in work: the last of them still wait for their trees
 abbrev pub Holds : List Node → List BareNode → List Token → List Node → Type 0
 Holds nodes bares row all = (last : List Node) × AreOf bares row last × (all ≡ nodes ++ last)
 

@@ -1,6 +1,6 @@
 //! Nodes that are put together block by block, so that the trees of a block share their memory.
 
-ghost use Rattle.std.specs.Prelude.{◌≡◌, ◌↔◌, ◌≤◌, List, [], IsTrue, IfOk, OnOk, drop, length};
+ghost use Rattle.std.specs.Prelude.{◌≡◌, ◌↔◌, ◌≤◌, List, [], IsTrue, IfOk, OnOk, take, drop, length};
 ghost use Rattle.certificate_graph.specs.BareNodes.{IsWithRow, SomeAreOf, Gets, Holds, MayGet};
 ghost use Rattle.certificate_graph.specs.Rows.{IsTreeRow};
 ghost use Rattle.certificate_graph.specs.declared.nodes.Node.{Node};
@@ -12,9 +12,6 @@ use cards::{OutOfMemory, Seat};
 use patterns::Pattern;
 use std::alloc::{AllocError, Global};
 use std::sync::Arc;
-
-/// A block of nodes gets its trees once these have so many tokens.
-const BLOCK: usize = 512;
 
 /// A node without its tree, which stands in a row of tokens behind those of the nodes before it.
 #[derive(Clone, Copy)]
@@ -30,6 +27,9 @@ pub struct BareNode {
 }
 
 impl BareNode {
+    /// A block of nodes is worth its memory once its trees have so many tokens.
+    pub const BLOCK: usize = 512;
+
     /// The node with this tree, whose row is given.
     pub(crate) fn with_tree(self, alloc: Global, row: Vec<Token>) -> Result<Node, AllocError>
         requires { IsTreeRow row.items }
@@ -69,7 +69,8 @@ fn push_from(
 ) -> Result<(), AllocError>
     requires within { begin ≤ length rows.now.value.items }
     requires some { SomeAreOf bares.now (drop begin rows.now.value.items) }
-    ensures { OnOk result (Gets bares.now (drop begin rows.now.value.items) nodes.old.items nodes.new.items) }
+    ensures gets { OnOk result (Gets bares.now (drop begin rows.now.value.items) nodes.old.items nodes.new.items) }
+    ensures kept { take (length nodes.old.items) nodes.new.items ≡ nodes.old.items }
 {
     let Some((first, others)) = bares.split_first() else {
         return Ok(());
@@ -94,7 +95,8 @@ pub(crate) fn push_nodes(
     nodes: &mut Vec<Node>,
 ) -> Result<(), AllocError>
     requires { SomeAreOf bares.now row.now }
-    ensures { OnOk result (Gets bares.now row.now nodes.old.items nodes.new.items) }
+    ensures gets { OnOk result (Gets bares.now row.now nodes.old.items nodes.new.items) }
+    ensures kept { take (length nodes.old.items) nodes.new.items ≡ nodes.old.items }
 {
     let rows = Arc::new(alloc, Vec::from_slice(alloc, row)?)?;
     push_from(bares, &rows, 0, nodes)
@@ -128,7 +130,7 @@ pub(crate) fn end_full_block(
     ensures { OnOk result ((all : List Node) → Holds nodes.old.items bares.old.items row.old.items all
         → Holds nodes.new.items bares.new.items row.new.items all) }
 {
-    if row.len() < BLOCK {
+    if row.len() < BareNode::BLOCK {
         return Ok(());
     }
     end_block(alloc, bares, row, nodes)
@@ -137,14 +139,15 @@ pub(crate) fn end_full_block(
 impl Node {
     /// Puts the nodes that these are without their trees at the end of a list, where the row is that of such trees.
     /// Else it puts none, and answers false. The trees share their memory. Calls lie as deep in one another as there
-    /// are nodes. Fails only where memory runs out.
+    /// are nodes. Fails only where memory runs out: then the list may have got some of them.
     pub fn push_all(
         alloc: Global,
         bares: &[BareNode],
         row: &[Token],
         nodes: &mut Vec<Node>,
     ) -> Result<bool, OutOfMemory>
-        ensures { IfOk result (MayGet bares.now row.now nodes.old.items nodes.new.items) }
+        ensures gets { IfOk result (MayGet bares.now row.now nodes.old.items nodes.new.items) }
+        ensures kept { take (length nodes.old.items) nodes.new.items ≡ nodes.old.items }
     {
         if !are_rows(bares, row) {
             return Ok(false);

@@ -3,8 +3,9 @@
 //! A graph has a version, a side, a trump and nodes. A node claims that from every layout that matches its pattern,
 //! with one seat to lead, the side can win so many tricks; its tree says how the first of them is played, and names the
 //! nodes that go on after it. The crate says which nodes make a graph, writes the one text of a graph, and reads a text
-//! as its graph or tells the first fault. Whether the claims are shown is not asked here. A tree is one row of tokens;
-//! contracts see it by its cards and children, and it is looked at place by place, without memory.
+//! as its graph or tells the first fault. Whether the claims are shown is not asked here. A tree is one row of tokens,
+//! and the rows of a block of nodes share their memory; contracts see a tree by its cards and children, and it is
+//! looked at place by place, without memory.
 #![tactic(auto)]
 
 mod answers;

@@ -2,7 +2,7 @@ use Rattle.std.proofs.Common.{◌≡◌, ◌+◌, ◌-◌, ◌∷◌, [], ◌++�
 use Rattle.std.proofs.lemmas.List.{length-take-le, length-drop, take-append-drop}
 use Rattle.certificate_graph.specs.BareNodes.{Gets}
 use Rattle.certificate_graph.specs.Rows.{tree_row}
-use Rattle.certificate_graph.proofs.BareLemmas.{first_apart, joined, with_tree, on_ok}
+use Rattle.certificate_graph.proofs.BareLemmas.{first_apart, joined, with_tree, on_ok, kept_before}
 use Rattle.certificate_graph.proofs.bare_nodes.+push.Goals as goal
 
 pub overflow_add-end : goal.overflow_add-end
@@ -41,8 +41,8 @@ push_from-requires t c =
       ),
     )
 
-pub returns : goal.returns
-returns t c =
+pub returns-clause-gets : goal.returns-clause-gets
+returns-clause-gets t c =
     let bares = c.args.bares.now in
     let first = c.in-Some.first.now in
     let others = c.in-Some.others.now in
@@ -63,4 +63,7 @@ returns t c =
           (ap (λ l. take count row ++ l) (sym back) ∙ take-append-drop count row) (length-take-le count row found.within) front gets.1,
       gets.2 ∙ (ap (λ l. l ++ gets.0) c.in_ok-push.ensures.items ∙ append_assoc nodes (with_tree first tree ∷ []) gets.0),
     ))
-    c.push_from.ensures
+    c.push_from.ensures.gets
+
+pub returns-clause-kept : goal.returns-clause-kept
+returns-clause-kept t c = kept_before c.args.nodes.now.items c.push.new.self.items c.push_from.new.nodes.items _ c.in_ok-push.ensures.items c.push_from.ensures.kept

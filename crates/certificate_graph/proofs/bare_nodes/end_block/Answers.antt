@@ -8,5 +8,5 @@ returns c =
     let row = c.args.row.now.items in
     let nodes = c.args.nodes.now.items in
     let grown = c.push_nodes.new.nodes.items in
-    let gets : Gets bares row nodes grown = (rw (← c.as_slice.ensures.value, ← c.as_slice-2.ensures.value) c.in_ok-push_nodes.ensures) in
+    let gets : Gets bares row nodes grown = (rw (← c.as_slice.ensures.value, ← c.as_slice-2.ensures.value) c.in_ok-push_nodes.ensures.gets) in
     (c.clear.ensures.items, c.clear-2.ensures.items, λ all holds. gets_all bares row nodes grown all gets holds)
