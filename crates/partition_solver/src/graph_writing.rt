@@ -14,9 +14,6 @@ use std::sync::Arc;
 /// How many nodes a graph has at most.
 const MOST_NODES: usize = 1_000_000;
 
-/// A block of nodes gets its trees once these have so many tokens.
-const BLOCK: usize = 512;
-
 /// A graph in work.
 #[derive(Drop)]
 pub(crate) struct Writing {
@@ -137,7 +134,7 @@ impl Writing {
             search.run_out();
             return None;
         }
-        if self.row.len() < BLOCK {
+        if self.row.len() < BareNode::BLOCK {
             return Some(());
         }
         self.end_block(search)
