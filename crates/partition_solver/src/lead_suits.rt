@@ -2,8 +2,8 @@
 
 use crate::words::{CardSet, start_of};
 
-/// With fewer tricks left nothing is learned or used.
-const FEWEST_TRICKS: u32 = 8;
+/// With fewer tricks left a lead is chosen by its cards alone: nothing is learned or used, and no trick is looked at.
+pub(crate) const FEWEST_TRICKS: u32 = 8;
 
 /// The score of a suit whose leads always succeed. It is as far below 0 if they always fail.
 const MOST: i32 = 1000;

@@ -18,6 +18,7 @@ mod last_hand;
 mod lead_suits;
 mod leads;
 mod leaves;
+mod likely_leads;
 mod memory;
 mod moves;
 mod order;

@@ -139,7 +139,10 @@ impl Search {
         let before = self.held.before(seat);
         let runs = HandRuns::of(before.hand, start.left);
         let mut moves = Moves::of(&runs);
-        let mut first = self.sure_lead(tricks, start, runs);
+        let mut first = match self.sure_lead(tricks, start, runs) {
+            None => self.likely_lead(tricks, start, runs, &mut moves),
+            sure => sure,
+        };
         let mut answer = Found::unless_one_succeeds(other_side(mover));
         for _ in 0..MOST_CARDS {
             let next = match first {

@@ -97,11 +97,17 @@ impl Search {
         runs: HandRuns,
         moves: &mut Moves,
     ) -> Option<Move> {
+        self.sort_leads(tricks, start, runs, moves);
+        moves.next()
+    }
+
+    /// Puts the leads into their order by the weights, unless they are.
+    #[inline(always)]
+    pub(crate) fn sort_leads(&self, tricks: u32, start: &Start, runs: HandRuns, moves: &mut Moves) {
         if moves.are_unsorted() {
             let suits = self.lead_suits.of(tricks, start.leader);
             moves.add_leads(runs, &self.turn(tricks, start, 0), suits);
         }
-        moves.next()
     }
 
     /// The next card of a second hand, by the weights.
