@@ -2,7 +2,7 @@
 
 use crate::words::{CardSet, start_of};
 
-/// With fewer tricks left a lead is chosen by its cards alone: nothing is learned or used, and no trick is looked at.
+/// With fewer tricks left nothing is learned of a suit or used, and no likely trick is looked at.
 pub(crate) const FEWEST_TRICKS: u32 = 8;
 
 /// The score of a suit whose leads always succeed. It is as far below 0 if they always fail.

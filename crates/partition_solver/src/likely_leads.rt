@@ -1,4 +1,4 @@
-//! Leads after whose likely trick the rest is known: they are tried before the weights tell.
+//! Leads after whose likely trick the rest is known. The first of them is tried before all other leads.
 
 use crate::lead_suits::FEWEST_TRICKS;
 use crate::moves::{HandRuns, Move, Moves};
