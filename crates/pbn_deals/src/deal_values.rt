@@ -32,8 +32,9 @@ pub fn read_layout(value: &[u8]) -> Result<Layout, PbnFault>
     }
 }
 
-/// What a value says, where it is a seat letter, a colon and four hands.
-pub(crate) fn read_dealing(value: &[u8]) -> Option<Dealing>
+/// The cards that a value names, if it is a seat letter, a colon and four hands (PBN 2.1, 3.4.11). The hands may be of
+/// any sizes, and a card may be in two of them. Takes no memory.
+pub fn read_dealing(value: &[u8]) -> Option<Dealing>
     ensures { ReadsNaming result (naming_of value.now) }
 {
     let [letter, colon, hands @ ..] = after_blanks(value) else {

@@ -9,15 +9,15 @@ use crate::hands::is_unknown;
 use crate::letters::rank_of_letter;
 use cards::{Card, Seat, Suit};
 
-/// Four hands in words of bits, with what the text has said of them so far.
+/// The cards that the hands of a Deal value name, in words of bits. The hands may be of any sizes.
 #[derive(Clone, Copy)]
-pub(crate) struct Dealing {
+pub struct Dealing {
     /// The hands of North, East, South and West, by the cards' numbers.
-    pub(crate) hands: [u64; 4],
+    pub hands: [u64; 4],
     /// Whether a card was named twice.
-    pub(crate) is_twice: bool,
+    pub is_twice: bool,
     /// Whether a hand is not known.
-    pub(crate) is_partial: bool,
+    pub is_partial: bool,
 }
 
 impl Dealing {

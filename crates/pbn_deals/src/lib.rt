@@ -20,7 +20,8 @@ mod tags;
 
 pub use boards::{Board, BoardName};
 pub use deal_texts::write_layout;
-pub use deal_values::read_layout;
+pub use deal_values::{read_dealing, read_layout};
+pub use dealings::Dealing;
 pub use faults::PbnFault;
 pub use games::MOST_BOARDS;
 pub use laws::{
