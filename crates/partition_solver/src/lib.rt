@@ -12,6 +12,7 @@ mod card_claims;
 mod claims;
 mod deals;
 mod followers;
+mod fresh;
 mod graph_writing;
 mod hints;
 mod last_hand;
@@ -35,4 +36,5 @@ mod values;
 mod weights;
 mod words;
 
+pub use fresh::FreshPartition;
 pub use solving::Partition;
