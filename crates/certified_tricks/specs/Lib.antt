@@ -1,0 +1,2 @@
+pub mod FourValues
+pub mod Searches
