@@ -1,0 +1,102 @@
+/* Random deals and positions for the programs of this folder. The numbers of a seed are the same everywhere. */
+#ifndef BENCH_LIBRARY_DEALS_H
+#define BENCH_LIBRARY_DEALS_H
+
+#include <stdint.h>
+#include <string.h>
+
+#ifdef OWN
+#include "dds.h"
+#else
+#include <dds/dll.h>
+#endif
+
+static uint64_t dice_state = 1;
+
+static void seed_dice(unsigned seed)
+{
+    dice_state = 6364136223846793005u * (2ull * seed + 1) + 1442695040888963407u;
+}
+
+/* A number from 0 to below the limit. */
+static int roll(int limit)
+{
+    dice_state = 6364136223846793005u * dice_state + 1442695040888963407u;
+    return (int)((dice_state >> 33) % (uint64_t)limit);
+}
+
+/* Hands of so many cards each, as DDS has them. */
+static void deal_cards(int cards, unsigned int hands[4][4])
+{
+    int pack[52];
+    for (int i = 0; i < 52; i++)
+        pack[i] = i;
+    memset(hands, 0, 16 * sizeof(unsigned int));
+    for (int i = 0; i < 4 * cards; i++) {
+        int other = i + roll(52 - i), card = pack[other];
+        pack[other] = pack[i];
+        hands[i % 4][card / 13] |= 4u << card % 13;
+    }
+}
+
+/* A card of the hand that may be played after this lead; -1 is no lead. Gives 16 * suit + rank. */
+static int choose_card(const unsigned int hand[4], int led)
+{
+    int cards[13], count = 0;
+    for (int suit = 0; suit < 4; suit++)
+        for (int rank = 2; rank <= 14; rank++)
+            if (hand[suit] >> rank & 1 && (led < 0 || !hand[led] || suit == led))
+                cards[count++] = 16 * suit + rank;
+    return cards[roll(count)];
+}
+
+/* A position with so many cards a hand when the trick began, and some cards of the trick played. */
+static struct deal position(int cards, int played)
+{
+    struct deal deal;
+    memset(&deal, 0, sizeof deal);
+    deal.trump = roll(5);
+    deal.first = roll(4);
+    deal_cards(cards, deal.remainCards);
+    for (int i = 0; i < played; i++) {
+        unsigned int *hand = deal.remainCards[(deal.first + i) % 4];
+        int card = choose_card(hand, i == 0 ? -1 : deal.currentTrickSuit[0]);
+        deal.currentTrickSuit[i] = card / 16;
+        deal.currentTrickRank[i] = card % 16;
+        hand[card / 16] &= ~(1u << card % 16);
+    }
+    return deal;
+}
+
+/* The hands as a PBN Deal value. */
+static void write_hands(const unsigned int hands[4][4], char text[80])
+{
+    static const char RANKS[] = "23456789TJQKA";
+    char *at = text;
+    memset(text, 0, 80);
+    *at++ = 'N';
+    for (int seat = 0; seat < 4; seat++) {
+        *at++ = seat == 0 ? ':' : ' ';
+        for (int suit = 0; suit < 4; suit++) {
+            for (int rank = 14; rank >= 2; rank--)
+                if (hands[seat][suit] >> rank & 1)
+                    *at++ = RANKS[rank - 2];
+            if (suit < 3)
+                *at++ = '.';
+        }
+    }
+}
+
+static struct dealPBN position_text(const struct deal *deal)
+{
+    struct dealPBN text;
+    memset(&text, 0, sizeof text);
+    text.trump = deal->trump;
+    text.first = deal->first;
+    memcpy(text.currentTrickSuit, deal->currentTrickSuit, sizeof text.currentTrickSuit);
+    memcpy(text.currentTrickRank, deal->currentTrickRank, sizeof text.currentTrickRank);
+    write_hands(deal->remainCards, text.remainCards);
+    return text;
+}
+
+#endif
