@@ -9,8 +9,8 @@ copies="$folder/out/copies"
 # Its time is that of the last build's beginning.
 stamp="$folder/out/$crate.built"
 
-# The crate, and all that it stands on, in the order of how many stand above them in a row, the most first. So each comes
-# after those that it stands on. crates.txt has it the same way. A second word before the colon says what kind it is.
+# The crate, and all that it stands on, in the order of how many stand above them in a row, the most first. So each
+# comes after those that it stands on. crates.txt has it the same way. A second word before the colon is the kind.
 crates_below() {
     tac "$root/crates.txt" | awk -F ': *' -v crate="$crate" '
         BEGIN { above[crate] = 0 }

@@ -1,11 +1,11 @@
 /* DDS's functions as ddfarm answers them: the names, shapes and codes of DDS 2.9.0 (Haglund and Hein).
 
-   A program that was written for DDS compiles with this header and links with -ldds. One that was built for DDS runs as
-   it is, once LD_LIBRARY_PATH names the folder of our libdds.so.0.
+   A program that was written for DDS compiles with this header and links with -ldds. A program that was built for DDS
+   runs unchanged if LD_LIBRARY_PATH names the folder of our libdds.so.0.
 
-   Which numbers are proved: each number of tricks in a table, each score of a card, and each score of a par and its
-   contracts comes from a function whose contract says that it is right (crates/dds_calls). What this header calls
-   "proved" means these. The functions around them are C, and tested: threads, texts, and the order of par contracts.
+   Proved numbers: the tricks in a table, the score of a card, and the score and contracts of a par come from functions
+   whose contracts say that they are right (crates/dds_calls). The C around them is tested, not proved: threads, texts,
+   and the order of par contracts.
 
    Every function may be called from any thread at any time, also before SetMaxThreads. The calls share nothing but the
    number of threads. If a pointer is null, a function answers RETURN_UNKNOWN_FAULT or does nothing. After a fault the
@@ -96,8 +96,8 @@
 
 /* ---- Cards of a position */
 
-/* What SolveBoard answers: `cards` groups of equal cards. A group is named by its highest card, and the bits of `equals`
-   are the others. `nodes` is 0. */
+/* What SolveBoard answers: `cards` groups of equal cards. A group is named by its highest card, and the bits of
+   `equals` are the others. `nodes` is 0. */
 struct futureTricks {
     int nodes;
     int cards;
@@ -263,12 +263,12 @@ struct DDSInfo {
 
 /* ---- Settings. None has to be called. */
 
-/* Says how many threads a call may use, the calling one among them: at most as many as there are processors, and all
-   of these if the number is 0 or less, or if nobody says it. */
+/* Sets how many threads a call may use, the calling one among them: at most as many as there are processors. If the
+   number is 0 or less, or never set, it is that of the processors that the process may run on. */
 EXTERN_C DLLEXPORT void STDCALL SetMaxThreads(int userThreads);
 
-/* Answers 1 for the codes that DDS knows on Linux: 0, 2, 4 and 5. It changes nothing, since ddfarm always uses threads
-   of the system: SetMaxThreads(1) keeps a call in its own thread. */
+/* Answers 1 for the codes that DDS takes on Linux: 0, 2, 4 and 5. It changes nothing: ddfarm always uses threads of the
+   system. SetMaxThreads(1) keeps a call in the thread that makes it. */
 EXTERN_C DLLEXPORT int STDCALL SetThreading(int code);
 
 /* Does what SetMaxThreads does. The memory is not limited: a thread takes up to 100 MB while it searches. */
@@ -285,19 +285,23 @@ EXTERN_C DLLEXPORT void STDCALL ErrorMessage(int code, char line[80]);
 
 /* ---- Cards of a position. Scores are proved: tricks of the side to play from this trick on. */
 
-/* Answers which cards reach what. `solutions` 3: all cards. 2: all that are best, or that reach `target`. 1: one of
-   them. `target` -1: the best score; 0: any card, without a score; 1 to 13: this many tricks, and if no card reaches
-   them, `cards` is 0, and score[0] is -1, or 0 for target 1. `mode` 0: if there is one group, its score is -2; 1 and 2:
-   its score. With at most four cards left it answers one card, whatever is asked. Better cards come first; the order
-   among cards of one score is ours. `threadIndex` has to be one of the threads that GetDDSInfo counts, from 0, as in
-   DDS. It has no other meaning here: calls with one index may overlap. */
+/* Answers cards that may be played, with their scores. Better cards come first. The order of cards with one score is
+   ours.
+   - `target` -1 asks for the best score, 0 for cards without scores, and 1 to 13 for cards that take this many tricks.
+     If no card does, `cards` is 0, and score[0] is -1, or 0 if the target is 1.
+   - `solutions` 1 asks for one card, 2 for all that reach the target or the best score, 3 for all cards with scores.
+   - `mode` 0 gives the score -2 if all cards that may be played are one group. Modes 1 and 2 give its score.
+   With at most four cards left there is one card, whatever is asked.
+   `threadIndex` has to be at least 0 and below the number of threads, as in DDS. It has no other meaning: calls with
+   the same index may overlap. */
 EXTERN_C DLLEXPORT int STDCALL SolveBoard(struct deal dl, int target, int solutions, int mode,
                                           struct futureTricks *futp, int threadIndex);
 EXTERN_C DLLEXPORT int STDCALL SolveBoardPBN(struct dealPBN dlpbn, int target, int solutions, int mode,
                                              struct futureTricks *futp, int thrId);
 
-/* Solve up to 200 boards in threads. The code is that of the first board that fails; its entry has zeros, and the
-   other boards have their answers. A chunk size below 1 is refused, and otherwise changes nothing. */
+/* Solve up to 200 boards in threads, each as SolveBoard would. The code is that of the first board that fails. A board
+   that fails has zeros, and the others have their answers. A text that can't be read ends the call, and no board is
+   solved. A chunk size below 1 is refused. Other sizes change nothing. */
 EXTERN_C DLLEXPORT int STDCALL SolveAllBoards(struct boardsPBN *bop, struct solvedBoards *solvedp);
 EXTERN_C DLLEXPORT int STDCALL SolveAllChunks(struct boardsPBN *bop, struct solvedBoards *solvedp, int chunkSize);
 EXTERN_C DLLEXPORT int STDCALL SolveAllChunksBin(struct boards *bop, struct solvedBoards *solvedp, int chunkSize);
@@ -305,24 +309,25 @@ EXTERN_C DLLEXPORT int STDCALL SolveAllChunksPBN(struct boardsPBN *bop, struct s
 
 /* ---- Tables. Numbers are proved. */
 
-/* Answer the twenty numbers of a deal. If each hand has n cards, each number is declarer's tricks and 13 - n more, as in
-   DDS. */
+/* Answer the twenty numbers of a deal. If each hand has n cards, the function adds 13 - n to declarer's tricks, as DDS
+   does. */
 EXTERN_C DLLEXPORT int STDCALL CalcDDtable(struct ddTableDeal tableDeal, struct ddTableResults *tablep);
 EXTERN_C DLLEXPORT int STDCALL CalcDDtablePBN(struct ddTableDealPBN tableDealPBN, struct ddTableResults *tablep);
 
-/* Answer the tables of several deals in threads. A denomination is left out, and its numbers stay as they were, if its
-   `trumpFilter` is not 0. At most 200 pairs of a deal and a denomination may be asked. `noOfBoards` comes to four times
-   their number, or to 0 if a deal fails: then the code is the first one, the failed numbers are zeros, and the others
-   are there. With a `mode` of 0 to 3 and all five denominations `presp` has the pars that Par answers for this
-   vulnerability; otherwise it is not touched. */
+/* Answer the tables of several deals in threads. If the `trumpFilter` of a denomination is not 0, it is left out, and
+   its numbers stay as they were. A call takes at most 200 pairs of a deal and a denomination. `noOfBoards` becomes
+   four times the number of pairs. If a deal fails, it is 0, the code is the first one, the failed numbers are zeros,
+   and the other numbers are there. A text that can't be read ends the call, and no deal is solved.
+   If `mode` is 0 to 3 and no denomination is left out, `presp` gets what Par answers for this vulnerability. Otherwise
+   it is not touched. */
 EXTERN_C DLLEXPORT int STDCALL CalcAllTables(struct ddTableDeals *dealsp, int mode, int trumpFilter[DDS_STRAINS],
                                              struct ddTablesRes *resp, struct allParResults *presp);
 EXTERN_C DLLEXPORT int STDCALL CalcAllTablesPBN(struct ddTableDealsPBN *dealsp, int mode,
                                                 int trumpFilter[DDS_STRAINS], struct ddTablesRes *resp,
                                                 struct allParResults *presp);
 
-/* ---- Pars. Scores and contracts are proved; their texts and order are DDS's. If a number of the table, the dealer or
-   the vulnerability is out of range, all answer RETURN_UNKNOWN_FAULT. */
+/* ---- Pars. Scores and contracts are proved. Their texts and order are DDS's. If a number of the table, the dealer or
+   the vulnerability is out of range, a function answers RETURN_UNKNOWN_FAULT. */
 
 /* Writes the par of either side, if it calls first, and the contracts, with all levels that reach par:
    "NS 110", "EW -110" and "NS:NS 12S,NS 123D". */
@@ -348,8 +353,8 @@ EXTERN_C DLLEXPORT int STDCALL SidesPar(struct ddTableResults *tablep, struct pa
 EXTERN_C DLLEXPORT int STDCALL SidesParBin(struct ddTableResults *tablep, struct parResultsMaster sidesRes[2],
                                            int vulnerable);
 
-/* Write the answer of DealerParBin as "Par 140: NS 2S+1 NS 3D", and those of SidesParBin as two such texts, each in 128
-   bytes. A level, a number of tricks, a denomination, a seat or a number of contracts out of range is refused. */
+/* Write the answer of DealerParBin as "Par 140: NS 2S+1", and the two of SidesParBin as such texts. A text with its end
+   takes at most 128 bytes. Numbers that no par has are refused. */
 EXTERN_C DLLEXPORT int STDCALL ConvertToDealerTextFormat(struct parResultsMaster *pres, char *resp);
 EXTERN_C DLLEXPORT int STDCALL ConvertToSidesTextFormat(struct parResultsMaster *pres, struct parTextResults *resp);
 

@@ -1,5 +1,6 @@
 /* The number of threads, what the library says of itself, and the texts of codes. */
 #define _GNU_SOURCE
+#include <sched.h>
 #include <stdatomic.h>
 #include <stdio.h>
 #include <string.h>
@@ -7,8 +8,8 @@
 
 #include "inside.h"
 
-/* What SetMaxThreads was given last. 0 is one thread per processor. */
-static atomic_int wanted_threads;
+/* How many threads a call may use. 0 until it is asked for or set. */
+static atomic_int threads;
 
 static int processor_count(void)
 {
@@ -16,16 +17,28 @@ static int processor_count(void)
     return count < 1 ? 1 : (int)count;
 }
 
-/* DDS has the same limit, so its range of thread indices is ours. */
-int thread_count(void)
+/* The processors that this process may run on. */
+static int usable_processor_count(void)
 {
-    int wanted = atomic_load(&wanted_threads), most = processor_count();
-    return wanted < 1 || wanted > most ? most : wanted;
+    cpu_set_t set;
+    return sched_getaffinity(0, sizeof set, &set) == 0 ? CPU_COUNT(&set) : processor_count();
 }
 
+/* Counting processors takes longer than an easy position, so it is done once. */
+int thread_count(void)
+{
+    int count = atomic_load(&threads), unset = 0;
+    if (count > 0)
+        return count;
+    count = usable_processor_count();
+    return atomic_compare_exchange_strong(&threads, &unset, count) ? count : unset;
+}
+
+/* DDS has the same limit, so its range of thread indices is ours. */
 void SetMaxThreads(int userThreads)
 {
-    atomic_store(&wanted_threads, userThreads);
+    int most = processor_count();
+    atomic_store(&threads, userThreads < 1 ? usable_processor_count() : userThreads < most ? userThreads : most);
 }
 
 void SetResources(int maxMemoryMB, int maxThreads)

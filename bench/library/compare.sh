@@ -1,7 +1,7 @@
 #!/usr/bin/env bash
-# Compares the library with DDS's own: one program, compiled with DDS's header and linked with DDS's library, prints what
-# all functions answer, first with DDS's library and then with ours. Then hostile calls, each beside DDS in a process of
-# its own. Usage: compare.sh DIR [SEED [DEALS [POSITIONS [CALLS]]]], DIR being a folder that ddfarm-library made.
+# Compares the library with DDS's own. A program that was compiled with DDS's header and linked with DDS's library
+# prints what all functions answer, first with DDS's library and then with ours. A second one makes hostile calls.
+# Usage: compare.sh DIR [SEED [DEALS [POSITIONS [CALLS]]]], DIR being a folder that ddfarm-library made.
 set -euo pipefail
 library="$(cd "$1" && pwd)"
 seed="${2:-1}" deals="${3:-20}" positions="${4:-200}" calls="${5:-1000}"

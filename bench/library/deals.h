@@ -13,20 +13,20 @@
 
 static uint64_t dice_state = 1;
 
-static void seed_dice(unsigned seed)
+static inline void seed_dice(unsigned seed)
 {
     dice_state = 6364136223846793005u * (2ull * seed + 1) + 1442695040888963407u;
 }
 
 /* A number from 0 to below the limit. */
-static int roll(int limit)
+static inline int roll(int limit)
 {
     dice_state = 6364136223846793005u * dice_state + 1442695040888963407u;
     return (int)((dice_state >> 33) % (uint64_t)limit);
 }
 
 /* Hands of so many cards each, as DDS has them. */
-static void deal_cards(int cards, unsigned int hands[4][4])
+static inline void deal_cards(int cards, unsigned int hands[4][4])
 {
     int pack[52];
     for (int i = 0; i < 52; i++)
@@ -40,7 +40,7 @@ static void deal_cards(int cards, unsigned int hands[4][4])
 }
 
 /* A card of the hand that may be played after this lead; -1 is no lead. Gives 16 * suit + rank. */
-static int choose_card(const unsigned int hand[4], int led)
+static inline int choose_card(const unsigned int hand[4], int led)
 {
     int cards[13], count = 0;
     for (int suit = 0; suit < 4; suit++)
@@ -51,7 +51,7 @@ static int choose_card(const unsigned int hand[4], int led)
 }
 
 /* A position with so many cards a hand when the trick began, and some cards of the trick played. */
-static struct deal position(int cards, int played)
+static inline struct deal position(int cards, int played)
 {
     struct deal deal;
     memset(&deal, 0, sizeof deal);
@@ -69,7 +69,7 @@ static struct deal position(int cards, int played)
 }
 
 /* The hands as a PBN Deal value. */
-static void write_hands(const unsigned int hands[4][4], char text[80])
+static inline void write_hands(const unsigned int hands[4][4], char text[80])
 {
     static const char RANKS[] = "23456789TJQKA";
     char *at = text;
@@ -87,7 +87,7 @@ static void write_hands(const unsigned int hands[4][4], char text[80])
     }
 }
 
-static struct dealPBN position_text(const struct deal *deal)
+static inline struct dealPBN position_text(const struct deal *deal)
 {
     struct dealPBN text;
     memset(&text, 0, sizeof text);

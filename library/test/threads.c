@@ -42,7 +42,8 @@ static void *call_often(void *number)
             SetMaxThreads(turn % 5);
         memset(&own_tables, 0, sizeof own_tables);
         memset(&own_cards, 0, sizeof own_cards);
-        if (CalcAllTables(&deals, -1, all, &own_tables, NULL) != 1 || memcmp(&own_tables, &tables, sizeof tables) != 0 ||
+        if (CalcAllTables(&deals, -1, all, &own_tables, NULL) != 1 ||
+            memcmp(&own_tables, &tables, sizeof tables) != 0 ||
             SolveAllChunksBin(&boards, &own_cards, 1) != 1 || memcmp(&own_cards, &cards, sizeof cards) != 0 ||
             SolveBoard(boards.deals[turn % DEALS], -1, 3, 1, &future, 0) != 1 ||
             memcmp(&future, &cards.solvedBoard[turn % DEALS], sizeof future) != 0)
