@@ -228,6 +228,8 @@ static void solve_boards(int kind)
         boards.solutions[i] = texts.solutions[i] = i == bad ? number(1, 3) : 3;
         boards.mode[i] = texts.mode[i] = i == bad ? number(0, 2) : 1;
     }
+    if (boards.deals[bad].trump < 0 || boards.deals[bad].trump > 4)
+        mark = " lax"; /* DDS may lose the board */
     int code = kind == 0   ? SolveAllBoards(&texts, &solved)
                : kind == 1 ? SolveAllChunks(&texts, &solved, chunk)
                : kind == 2 ? SolveAllChunksBin(&boards, &solved, chunk)
