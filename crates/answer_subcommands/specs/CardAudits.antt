@@ -20,7 +20,7 @@ use Rattle.answer_subcommands.specs.declared.statuses.Status.TheVariants.{Done, 
 use Rattle.answer_subcommands.specs.NamedFiles.{Opens}
 use Rattle.answer_subcommands.specs.Playing.{IsReadFrom, ReadsFile}
 use Rattle.answer_subcommands.specs.Played.{BeginsTrick, IsTrickOf}
-use Rattle.answer_subcommands.specs.Valuing.{ShowsValues, LacksValues}
+use Rattle.certified_cards.specs.Bundles.{ShowsValues, LacksValues}
 use Rattle.answer_subcommands.specs.CardRefusals.{card_refusal_line}
 
 -- the text is that of a section of this trick with this bundle

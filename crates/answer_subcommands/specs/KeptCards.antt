@@ -5,13 +5,22 @@ use Rattle.certificate_graph.specs.declared.card_claims.CardBundle.{CardBundle}
 use Rattle.certificate_graph.specs.Solvers.{MayFindCards}
 use Rattle.play_rules.specs.Position.{Position}
 use Rattle.card_values.specs.declared.faults.CardFault.{CardFault}
+use Rattle.certified_cards.specs.Bundles.{LacksValues, ShowsValues}
+use Rattle.certified_cards.specs.Searches.{MayAnswer}
 use Rattle.card_evidence.specs.Sections.{IsCardSection, shape_of}
 use Rattle.answer_subcommands.specs.declared.faults.AnswerFault.{AnswerFault}
 use Rattle.answer_subcommands.specs.declared.faults.AnswerFault.TheVariants.{NoAnswer, OutOfMemory}
 use Rattle.answer_subcommands.specs.declared.kept_cards.KeptCards.{KeptCards}
 use Rattle.answer_subcommands.specs.CardAudits.{HasBundle}
 use Rattle.answer_subcommands.specs.Played.{BeginsTrick, IsTrickOf}
-use Rattle.answer_subcommands.specs.Valuing.{LacksValues, MayAnswer, ShowsValues}
+
+-- the solver's answer, or why there is none
+abbrev pub AsksSolver : MayFindCards → Position → ℕ → Result CardBundle AnswerFault → Type 0
+AsksSolver may_find position budget (Ok bundle) = MayAnswer may_find position budget (Some bundle)
+AsksSolver may_find position budget (Err NoAnswer) = MayAnswer may_find position budget None
+AsksSolver may_find position budget (Err OutOfMemory) =
+    (answer : Option CardBundle) × MayAnswer may_find position budget answer
+AsksSolver may_find position budget (Err _) = ⊥
 
 -- the solver's answer shows these values, and the text is that of its section
 pub record AreKept (may_find : MayFindCards) (position : Position) (budget : ℕ) (kept : KeptCards) : Type 0 where

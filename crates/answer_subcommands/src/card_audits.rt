@@ -9,11 +9,11 @@ use crate::named_files::NamedFiles;
 use crate::played::trick_of;
 use crate::playing::read_file;
 use crate::statuses::Status;
-use crate::valuing::judge_bundle;
 use asked::CardsOptions;
 use card_evidence::read_card_section;
 use card_values::{CardFault, CardValues, TrickInProgress, write_values};
 use cards::{OutOfMemory, Sink, equals_are_one};
+use certified_cards::judge_bundle;
 use std::alloc::Global;
 
 /// Why evidence shows no values of the cards that may be played.

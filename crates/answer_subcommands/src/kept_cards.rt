@@ -1,17 +1,17 @@
 //! The tricks of each card that may be played, with the text of their evidence.
 
 ghost use Rattle.std.specs.Prelude.{IfOk};
-ghost use Rattle.answer_subcommands.specs.KeptCards.{FindsKept, KeepsValues};
+ghost use Rattle.answer_subcommands.specs.KeptCards.{AsksSolver, FindsKept, KeepsValues};
 ghost use Rattle.card_evidence.specs.SectionTexts.{IsTextOf};
 
 use crate::faults::AnswerFault;
 use crate::played::trick_of;
-use crate::valuing::{ask_solver, judge_bundle};
 use asked::CardsOptions;
 use card_evidence::{CardSection, write_card_section};
 use card_values::{CardValues, TrickInProgress};
 use cards::OutOfMemory;
-use certificate_graph::CardSolver;
+use certificate_graph::{CardBundle, CardSolver};
+use certified_cards::judge_bundle;
 use evidence::VecSink;
 use std::alloc::Global;
 
@@ -31,6 +31,30 @@ fn text_of(alloc: Global, section: &CardSection) -> Result<Vec<u8>, OutOfMemory>
     match write_card_section(&mut sink, section) {
         Ok(()) => Ok(sink.into_bytes()),
         Err(_) => Err(OutOfMemory),
+    }
+}
+
+/// Has the solver look for the tricks of each card that may be played to this trick.
+fn ask_solver<P: CardSolver>(
+    alloc: Global,
+    trick: &TrickInProgress,
+    budget: u64,
+    solver: &P,
+) -> Result<CardBundle, AnswerFault>
+    ensures { AsksSolver (P.may_find_cards solver.now) trick.now budget result }
+{
+    let found = solver.solve_cards(
+        alloc,
+        trick.layout(),
+        &[trick.leader()],
+        trick.trump(),
+        trick.played(),
+        budget,
+    );
+    match found {
+        Ok(Some(bundle)) => Ok(bundle),
+        Ok(None) => Err(AnswerFault::NoAnswer),
+        Err(_) => Err(AnswerFault::OutOfMemory),
     }
 }
 

@@ -32,4 +32,4 @@ pub use played::WordPlace;
 pub use playing::play_answer;
 pub use solves::{answers_are_read_back, solve_layout};
 pub use statuses::Status;
-pub use valuing::{CardsFound, find_cards, value_cards};
+pub use valuing::{find_cards, value_cards};

@@ -1,65 +1,15 @@
 //! The tricks of each card that may be played.
 
-ghost use Rattle.answer_subcommands.specs.Valuing.{AreJudged, AsksSolver, FindsCards, FindsValues, ValuesCards};
+ghost use Rattle.answer_subcommands.specs.Valuing.{FindsCards, FindsOrRefuses, ValuesCards};
 
 use crate::faults::{AnswerFault, write_failed};
 use crate::played::trick_of;
 use asked::CardsOptions;
-use card_values::{CardFault, CardGraphs, CardValues, TrickInProgress, judge_cards, write_values};
+use card_values::{TrickInProgress, write_values};
 use cards::{OutOfMemory, Sink};
-use certificate_graph::{CardBundle, CardSolver};
-use checker::CheckedGraph;
+use certificate_graph::CardSolver;
+use certified_cards::{CardsFound, certified_cards};
 use std::alloc::Global;
-
-/// The values of cards, and the claims and graphs that show them.
-#[derive(Drop)]
-pub struct CardsFound {
-    pub values: CardValues,
-    pub bundle: CardBundle,
-}
-
-/// Returns the values that a bundle shows, or why it doesn't show them all. Fails only if memory runs out.
-pub(crate) fn judge_bundle(
-    trick: TrickInProgress,
-    bundle: &CardBundle,
-) -> Result<Result<CardValues, CardFault>, OutOfMemory>
-    ensures { AreJudged trick bundle.now result }
-{
-    let ns = CheckedGraph::of(bundle.ns.clone()?);
-    let ew = CheckedGraph::of(bundle.ew.clone()?);
-    let graphs = CardGraphs { ns: &ns, ew: &ew };
-    match judge_cards(trick, &graphs, bundle.claims.as_slice()) {
-        Ok(values) => {
-            values.invariant();
-            Ok(Ok(values))
-        }
-        Err(fault) => Ok(Err(fault)),
-    }
-}
-
-/// Has the solver look for the tricks of each card that may be played to this trick.
-pub(crate) fn ask_solver<P: CardSolver>(
-    alloc: Global,
-    trick: &TrickInProgress,
-    budget: u64,
-    solver: &P,
-) -> Result<CardBundle, AnswerFault>
-    ensures { AsksSolver (P.may_find_cards solver.now) trick.now budget result }
-{
-    let found = solver.solve_cards(
-        alloc,
-        trick.layout(),
-        &[trick.leader()],
-        trick.trump(),
-        trick.played(),
-        budget,
-    );
-    match found {
-        Ok(Some(bundle)) => Ok(bundle),
-        Ok(None) => Err(AnswerFault::NoAnswer),
-        Err(_) => Err(AnswerFault::OutOfMemory),
-    }
-}
 
 /// Has the solver look for the tricks of each card that may be played to this trick, and judges its answer.
 fn find_values<P: CardSolver>(
@@ -68,15 +18,11 @@ fn find_values<P: CardSolver>(
     budget: u64,
     solver: &P,
 ) -> Result<CardsFound, AnswerFault>
-    ensures { FindsValues (P.may_find_cards solver.now) trick budget result }
+    ensures { FindsOrRefuses (P.may_find_cards solver.now) trick budget result }
 {
-    let bundle = match ask_solver(alloc, &trick, budget, solver) {
-        Ok(bundle) => bundle,
-        Err(fault) => return Err(fault),
-    };
-    match judge_bundle(trick, &bundle) {
-        Ok(Ok(values)) => Ok(CardsFound { values, bundle }),
-        Ok(Err(_)) => Err(AnswerFault::NoAnswer),
+    match certified_cards(alloc, trick, budget, solver) {
+        Ok(Some(found)) => Ok(found),
+        Ok(None) => Err(AnswerFault::NoAnswer),
         Err(OutOfMemory) => Err(AnswerFault::OutOfMemory),
     }
 }

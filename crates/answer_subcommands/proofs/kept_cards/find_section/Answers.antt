@@ -1,7 +1,7 @@
 use Rattle.std.proofs.Common.{◌∙◌, ap, subst}
 use Rattle.card_evidence.specs.Sections.{CardSectionShape}
 use Rattle.card_evidence.specs.SectionTexts.{IsTextOf}
-use Rattle.answer_subcommands.proofs.ValuingLemmas.{shown_by_same}
+use Rattle.certified_cards.proofs.BundleLemmas.{shown_by_same}
 use Rattle.answer_subcommands.proofs.kept_cards.find_section.Goals as goal
 
 pub returns-in-Ok-Ok : goal.returns-in-Ok-Ok

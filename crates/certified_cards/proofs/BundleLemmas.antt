@@ -7,7 +7,7 @@ use Rattle.card_values.specs.declared.claims.CardGraphs.{CardGraphs}
 use Rattle.card_values.specs.CardValues.{ShownValues, AreCardValues}
 use Rattle.card_values.specs.declared.faults.CardFault.{CardFault}
 use Rattle.card_values.specs.Judging.{IsClaimed, IsCardFault}
-use Rattle.answer_subcommands.specs.Valuing.{AreGraphsOf, ShowsValues, LacksValues}
+use Rattle.certified_cards.specs.Bundles.{AreGraphsOf, ShowsValues, LacksValues}
 
 pub shows_values : (bundle : CardBundle) (position : Position) (shown : ShownValues) (graphs : CardGraphs)
     (claims : List CardClaim) → claims ≡ bundle.claims.items → AreGraphsOf bundle graphs

@@ -1,6 +1,6 @@
 use Rattle.std.proofs.Common.{◌∙◌}
-use Rattle.answer_subcommands.proofs.ValuingLemmas.{shows_values, lacks_values}
-use Rattle.answer_subcommands.proofs.valuing.judge_bundle.Goals as goal
+use Rattle.certified_cards.proofs.BundleLemmas.{shows_values, lacks_values}
+use Rattle.certified_cards.proofs.judging.judge_bundle.Goals as goal
 
 pub returns-in-Ok : goal.returns-in-Ok
 returns-in-Ok c =
