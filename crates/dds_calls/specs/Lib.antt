@@ -1,0 +1,13 @@
+pub mod BoardAnswers
+pub mod BoardPositions
+pub mod Boards
+pub mod Denominations
+pub mod Hands
+pub mod Lines
+pub mod Pars
+pub mod Readings
+pub mod Rules
+pub mod Sections
+pub mod Tables
+pub mod Telling
+pub mod Texts
