@@ -2,6 +2,9 @@
 #ifndef DDFARM_INSIDE_H
 #define DDFARM_INSIDE_H
 
+#include <stddef.h>
+#include <stdint.h>
+
 #include "dds.h"
 
 /* The proved functions (crates/dds_calls). No pointer may be null. They never wait, keep nothing, and may be called by
@@ -28,6 +31,10 @@ int ddfarm_solve_board(const struct deal *dl, int target, int solutions, int mod
 /* Par if this dealer's side calls first, as North and South see it. For each side and denomination that reaches par
    there is the lowest contract. If par is 0, there is one contract of zeros. */
 int ddfarm_par(const struct ddTableResults *table, int dealer, int vulnerable, struct parResultsMaster *par);
+
+/* Writes the evidence of one denomination, if the buffer has room for all of it, and answers its length. A code below 0
+   says that there is none. The buffer may not be null, even if its size is 0. */
+int64_t ddfarm_evidence_section(const struct ddTableDeal *deal, int strain, char *buffer, size_t size);
 
 /* settings.c */
 

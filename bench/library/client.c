@@ -275,7 +275,10 @@ static void ask_faults(int count)
         default: deal.remainCards[roll(4)][roll(4)] ^= 4u << roll(13); break;
         }
         int code = SolveBoard(deal, target, solutions, mode, &answer, 0);
-        printf("fault %d: %d\n", i, code);
+        if (code != 1 && code != -12)
+            printf("fault %d: %d\n", i, code);
+        else
+            printf("fault %d: %s\n", i, !is_position(&deal) ? "no position" : code == 1 ? "1" : "-12");
     }
 }
 

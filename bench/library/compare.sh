@@ -32,8 +32,12 @@ LD_LIBRARY_PATH="$library" ./client "$seed" "$deals" "$positions" >ours
 compare "answers"
 ./hostile "$seed" "$calls" beside >theirs 2>/dev/null
 LD_LIBRARY_PATH="$library" ./hostile "$seed" "$calls" alone >ours
-# Where DDS crashed or took too long, or a par depends on who calls first, there is nothing to compare.
-paste -d '\n' theirs ours | awk 'NR % 2 { theirs = $0; next } theirs ~ / (died|hot)/ { left++; next }
-    { print theirs >"theirs"; print >"ours" } END { print "compare: DDS has no answer to " left + 0 " hostile calls" }'
+# Where DDS crashed or took too long, takes what ours refuses, or a par depends on who calls first, there is nothing to
+# compare.
+paste -d '\n' theirs ours | awk 'NR % 2 { theirs = $0; next } theirs ~ / (died|hot|lax)/ { left++; next }
+    { print theirs >"theirs.kept"; print >"ours.kept" } END { print "compare: " left + 0 " hostile calls are not compared" }'
+touch theirs.kept ours.kept
+mv theirs.kept theirs
+mv ours.kept ours
 compare "hostile calls"
 exit "$failed"

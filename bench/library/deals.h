@@ -68,6 +68,23 @@ static inline struct deal position(int cards, int played)
     return deal;
 }
 
+/* Whether the cards of the trick in progress could be played in turn. DDS goes on if they could not. */
+static inline int is_position(const struct deal *deal)
+{
+    int cards = 0;
+    for (int i = 0; i < 16; i++)
+        cards += __builtin_popcount(deal->remainCards[i / 4][i % 4] >> 2 & 0x1fff);
+    for (int i = 0; i < (52 - cards) % 4; i++) {
+        int led = deal->currentTrickSuit[0], suit = deal->currentTrickSuit[i], rank = deal->currentTrickRank[i];
+        if (rank < 2 || led < 0 || led > 3 || (suit != led && deal->remainCards[(deal->first + i) & 3][led]))
+            return 0;
+        for (int j = 0; j < i; j++)
+            if (deal->currentTrickSuit[j] == suit && deal->currentTrickRank[j] == rank)
+                return 0;
+    }
+    return 1;
+}
+
 /* The hands as a PBN Deal value. */
 static inline void write_hands(const unsigned int hands[4][4], char text[80])
 {

@@ -2,7 +2,7 @@
    of its own, since DDS crashes on some; `alone` makes all in one, and tells where a fault leaves other results than
    zeros.
    Usage: hostile SEED CALLS beside|alone. A line has a word if the two libraries need not agree:
-   `lax` for texts and words of cards that DDS reads and ours refuses, or numbers that DDS does not look at;
+   `lax` for texts and tricks that DDS takes and ours refuses, or numbers that DDS does not look at;
    `hot` for tables in which both sides take more than 13 tricks together, where pars depend on who calls first. */
 #define _GNU_SOURCE
 #include <limits.h>
@@ -59,9 +59,6 @@ static void spoil_hands(unsigned int hands[4][4])
         default: *word ^= 4u << roll(13); break;
         }
     }
-    for (int i = 0; i < 16; i++)
-        if (hands[i / 4][i % 4] >= 4 && hands[i / 4][i % 4] & 3)
-            mark = " lax";
 }
 
 static struct deal hostile_position(void)
@@ -76,6 +73,8 @@ static struct deal hostile_position(void)
         deal.currentTrickRank[roll(3)] = number(0, 14);
     if (roll(6) == 0)
         deal.currentTrickSuit[roll(3)] = number(0, 3);
+    if (!is_position(&deal))
+        mark = " lax";
     return deal;
 }
 
