@@ -30,6 +30,8 @@ look() {
     ! grep -q "^LD_LIBRARY_PATH" <<<"${2:-}" || grep -qF "$library/libdds" "/proc/$program/maps"
     choose 88
     choose 38
+    xdotool mousemove 260 340
+    sleep 1
     import -window root -crop 514x424+0+0 +repage "$picture"
     kill "$program"
     wait "$program" || true
