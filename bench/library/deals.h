@@ -76,7 +76,8 @@ static inline int is_position(const struct deal *deal)
         cards += __builtin_popcount(deal->remainCards[i / 4][i % 4] >> 2 & 0x1fff);
     for (int i = 0; i < (52 - cards) % 4; i++) {
         int led = deal->currentTrickSuit[0], suit = deal->currentTrickSuit[i], rank = deal->currentTrickRank[i];
-        if (rank < 2 || led < 0 || led > 3 || (suit != led && deal->remainCards[((unsigned)deal->first + (unsigned)i) & 3][led]))
+        unsigned seat = ((unsigned)deal->first + (unsigned)i) & 3;
+        if (rank < 2 || led < 0 || led > 3 || (suit != led && deal->remainCards[seat][led]))
             return 0;
         for (int j = 0; j < i; j++)
             if (deal->currentTrickSuit[j] == suit && deal->currentTrickRank[j] == rank)
