@@ -3,8 +3,8 @@
    Each number of tricks that is answered is proved: a function whose contract says that it is right has checked
    certificates for it (crates/dds_calls). A number that isn't known is DDFARM_NOT_KNOWN. No function guesses.
 
-   Every function may be called from any thread at any time. None keeps memory, prints, or writes a file. If a pointer is
-   null, the answer is false, 0 or DDFARM_NOT_KNOWN.
+   Every function may be called from any thread at any time. None keeps memory, prints, or writes a file. If a pointer
+   is null, the answer is false, 0 or DDFARM_NOT_KNOWN.
 
    Numbers: suits are 0 spades, 1 hearts, 2 diamonds, 3 clubs, and a denomination may be 4, no-trump. Seats are 0 North,
    1 East, 2 South, 3 West. Ranks are 2 to 14, the ace. */
