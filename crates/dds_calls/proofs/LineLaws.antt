@@ -134,7 +134,7 @@ counts least (value ∷ values) =
     ] in
     omega (arith, a, b, d, rest, one)
 
--- while a value of so many tricks is left, the lines are fewer than the values
+-- while a value with this many tricks is left, there are fewer lines than values
 pub room_left : (values : List CardValue) (tricks i n : ℕ) (value : CardValue) → n ≤ count_by (is_worth (tricks + 1)) values + count_by (is_one_less (tricks + 1)) (take i values) → slice_get values i ≡ Some value → value.tricks ≡ tricks → n < length values
 room_left values tricks i n value room at e =
     let within = slice_get_within values i value at in
@@ -218,7 +218,7 @@ module _ (deal : Deal) (player : Seat) (values : List CardValue) (least i : ℕ)
       } in
       subst (λ (xs : List Line). HasLines deal player values least (i + 1) xs) (sym e) has'
 
--- all values of so many tricks were gone through
+-- the loop has passed all values with this many tricks
 pub has_all : (deal : Deal) (player : Seat) (values : List CardValue) (tricks i : ℕ) (lines : List Line) → length values ≤ i → HasLines deal player values (tricks + 1) i lines → HasLines deal player values tricks 0 lines
 has_all deal player values tricks i lines all has = record {
   each = All-weaker (IsLineFrom deal player values (tricks + 1) i) (IsLineFrom deal player values tricks 0)

@@ -42,6 +42,7 @@ pub record IsToldOf (board : BoardDeal) (ask : Ask) (told : FutureTricks) : Type
   pub is_position : IsPositionOf board position
   pub values : List CardValue
   pub are_values : AreCardValues position values
+  pub some : 1 ≤ length values
   pub are_told :
       AreTold ask (cards_left board) position.opening.deal (seat_to_play position.opening position.history) values told
   pub last : cards_left board ≤ 4 → HasOneLine told

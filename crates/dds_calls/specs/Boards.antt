@@ -2,23 +2,20 @@
 use Rattle.std.specs.Prelude.{◌≡◌, ◌≢◌, ◌⊎◌, ℕ, ◌+◌, ◌/◌, ◌<◌, ℤ, pos, negsuc, ◌<ℤ◌}
 use Rattle.cards.specs.declared.seats.Seat.{Seat}
 use Rattle.cards.specs.declared.seats.Seat.TheVariants.{North}
-use Rattle.cards.specs.Seats.{seat_number}
 use Rattle.play_rules.specs.Position.{Position}
 use Rattle.dds_calls.specs.declared.board_shapes.BoardDeal.{BoardDeal}
 use Rattle.dds_calls.specs.declared.board_shapes.Ask.{Ask}
 use Rattle.dds_calls.specs.declared.board_faults.BoardFault.{BoardFault}
 use Rattle.dds_calls.specs.declared.board_faults.BoardFault.TheVariants.{TargetTooLow, TargetTooHigh}
 use Rattle.dds_calls.specs.declared.board_faults.BoardFault.TheVariants.{SolutionsTooFew, SolutionsTooMany, ModeTooLow}
-use Rattle.dds_calls.specs.declared.board_faults.BoardFault.TheVariants.{ModeTooHigh, NoDenomination, NoSeat, StrayNumber}
+use Rattle.dds_calls.specs.declared.board_faults.BoardFault.TheVariants.{ModeTooHigh, NoDenomination, NoSeat}
+use Rattle.dds_calls.specs.declared.board_faults.BoardFault.TheVariants.{StrayNumber}
 use Rattle.dds_calls.specs.declared.board_faults.BoardFault.TheVariants.{NoCards, TooManyCards, TargetTooFar, Unequal}
 use Rattle.dds_calls.specs.declared.board_faults.BoardFault.TheVariants.{PlayedAndHeld, CardTwice, NoPosition, Unknown}
 use Rattle.dds_calls.specs.Denominations.{IsNoDenomination}
+use Rattle.dds_calls.specs.Seats.{IsNoSeat}
 use Rattle.dds_calls.specs.Hands.{HaveCardTwice, HaveStrayBit, cards_in, words_of}
 use Rattle.dds_calls.specs.BoardPositions.{AreTrickCardsHeld, HasStrayTrick, IsPositionOf, size_with, trick_size}
-
--- the number stands for no seat
-abbrev pub IsNoSeat : ℤ → Type 0
-IsNoSeat number = (seat : Seat) → pos (seat_number seat) ≢ number
 
 -- how many cards are in the hands
 abbrev pub cards_left : BoardDeal → ℕ

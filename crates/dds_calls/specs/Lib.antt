@@ -7,6 +7,7 @@ pub mod Lines
 pub mod Pars
 pub mod Readings
 pub mod Rules
+pub mod Seats
 pub mod Sections
 pub mod Tables
 pub mod Telling

@@ -36,10 +36,12 @@ IsTop deal player values value = (other : CardValue) → Contains values other �
 abbrev pub AreEquals : Deal → Seat → List CardValue → CardValue → ℕ → Type 0
 AreEquals deal player values value equals =
     (i : ℕ) → (bit_at equals i ≡ 1)
-    ↔ ((other : CardValue) × Contains values other × Joins deal player value other × (rank_number other.card.rank + 2 ≡ i))
+    ↔ ((other : CardValue) × Contains values other × Joins deal player value other
+    × (rank_number other.card.rank + 2 ≡ i))
 
 -- the line is the group below a card
-pub record IsLineOf (deal : Deal) (player : Seat) (values : List CardValue) (value : CardValue) (line : Line) : Type 0 where
+pub record IsLineOf (deal : Deal) (player : Seat) (values : List CardValue) (value : CardValue) (line : Line)
+    : Type 0 where
   pub card : line.card ≡ value.card
   pub tricks : line.tricks ≡ value.tricks
   pub equals : AreEquals deal player values value line.equals
@@ -75,7 +77,8 @@ abbrev pub AreApart : Line → Line → Type 0
 AreApart one other = (card : Card) → IsOfLine one card → IsOfLine other card → ⊥
 
 -- The lines are groups that lead to at least this many tricks. Each value with that many tricks is in exactly one line.
-pub record AreLines (deal : Deal) (player : Seat) (values : List CardValue) (least : ℕ) (lines : List Line) : Type 0 where
+pub record AreLines (deal : Deal) (player : Seat) (values : List CardValue) (least : ℕ) (lines : List Line)
+    : Type 0 where
   pub each : All (IsLine deal player values least) lines
   pub whole : (value : CardValue) → Contains values value → least ≤ value.tricks → HasItsLine lines value
   pub apart : AllPairs AreApart lines

@@ -4,9 +4,7 @@ use Rattle.std.specs.Prelude.{length, map, replicate, slice_index_or}
 use Rattle.cards.specs.declared.seats.Seat.{Seat}
 use Rattle.cards.specs.declared.seats.Side.TheVariants.{NorthSouth, EastWest}
 use Rattle.cards.specs.declared.suits.Trump.{Trump}
-use Rattle.cards.specs.declared.suits.Trump.TheVariants as trump
 use Rattle.cards.specs.Seats.{seat_number}
-use Rattle.cards.specs.Pack.{suit_number}
 use Rattle.cards.specs.Orders.{trump_number}
 use Rattle.scoring.specs.declared.vulnerable_sides.VulnerableSides.{VulnerableSides}
 use Rattle.scoring.specs.declared.vulnerable_sides.VulnerableSides.TheVariants as sides
@@ -18,16 +16,13 @@ use Rattle.par.specs.declared.contracts.Declarers.TheVariants.{Either, Only}
 use Rattle.par.specs.declared.contracts.ParContract.{ParContract}
 use Rattle.par.specs.Par.{IsPar}
 use Rattle.par.specs.ParContracts.{AreParContracts}
+use Rattle.dds_calls.specs.Denominations.{strain_number}
+use Rattle.dds_calls.specs.Seats.{IsNoSeat}
 use Rattle.dds_calls.specs.declared.pars.TableResults.{TableResults}
 use Rattle.dds_calls.specs.declared.pars.ContractType.{ContractType}
 use Rattle.dds_calls.specs.declared.pars.ParResults.{ParResults}
 
 -- ---- the question
--- the row of a denomination: spades, hearts, diamonds, clubs, no-trump
-abbrev pub strain_number : Trump → ℕ
-strain_number (trump.Suit suit) = suit_number suit
-strain_number trump.Nt = 4
-
 -- the number of a declarer in a row
 abbrev pub entry_in : List ℤ → Seat → ℤ
 entry_in hands declarer = slice_index_or hands (seat_number declarer) (pos 0)
@@ -61,17 +56,13 @@ vulnerable_number sides.Both = 1
 vulnerable_number sides.NorthSouth = 2
 vulnerable_number sides.EastWest = 3
 
--- no dealer has this number
-abbrev pub IsNoDealer : ℤ → Type 0
-IsNoDealer number = (seat : Seat) → number ≢ pos (seat_number seat)
-
 -- no vulnerable sides have this number
 abbrev pub IsNoVulnerability : ℤ → Type 0
 IsNoVulnerability number = (vulnerable : VulnerableSides) → number ≢ pos (vulnerable_number vulnerable)
 
 -- some number is out of range
-abbrev pub HasFault : TableResults → ℤ → ℤ → Type 0
-HasFault table dealer vulnerable = HasStrayNumber table ⊎ (IsNoDealer dealer ⊎ IsNoVulnerability vulnerable)
+abbrev pub HasParFault : TableResults → ℤ → ℤ → Type 0
+HasParFault table dealer vulnerable = HasStrayNumber table ⊎ (IsNoSeat dealer ⊎ IsNoVulnerability vulnerable)
 
 -- ---- the contracts
 -- the number of undertricks, 0 if the contract is made
@@ -121,10 +112,10 @@ pub record IsParOf
   pub passed_out : results.score ≡ pos 0 → (list ≡ []) × (results.number ≡ pos 1)
 
 -- The numbers are in range, and the results have par of the table.
-pub record IsAnswer (table : TableResults) (dealer vulnerable : ℤ) (results : ParResults) : Type 0 where
+pub record IsParAnswer (table : TableResults) (dealer vulnerable : ℤ) (results : ParResults) : Type 0 where
   pub tricks : AreTricks table
   pub seat : Seat
-  pub dealer_is : dealer ≡ pos (seat_number seat)
+  pub dealer_is : pos (seat_number seat) ≡ dealer
   pub sides : VulnerableSides
   pub vulnerable_is : vulnerable ≡ pos (vulnerable_number sides)
   pub par : IsParOf (tricks_of table) seat sides results

@@ -66,7 +66,9 @@ pub record IsReading (board : BoardDeal) (ask : Ask) (reading : Reading) : Type 
 -- each seat's word has its cards, and the card that it has played
 pub record ArePutBack (words : List ℕ) (leader : Seat) (cards : List Card) (back : List ℕ) : Type 0 where
   pub four : length back ≡ 4
-  pub bits : (card : Card) (seat : Seat) → HasBit back seat card ↔ (HasBit words seat card ⊎ IsPlayedBy leader cards seat card)
+  pub bits :
+      (card : Card) (seat : Seat)
+      → HasBit back seat card ↔ (HasBit words seat card ⊎ IsPlayedBy leader cards seat card)
   pub sizes :
       (seat : Seat) → word_size back seat
       ≡ word_size words seat + (if nat_lt (place_of leader seat) (length cards) then 1 else 0)

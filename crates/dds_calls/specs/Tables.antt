@@ -41,7 +41,7 @@ pub record IsFoundFor (deal : TableDeal) (strain : ℤ) (row : RowFound) : Type 
   pub strain_is : denomination_number row.trump ≡ strain
   pub known : AreKnownBy row.layout row.trump row.found.bundle row.found.tricks
 
--- when a call has no row: for want of steps or memory only if it was asked for a layout and a denomination
+-- The call has this fault. It lacks steps or memory only if it was asked for a layout and a denomination.
 abbrev pub IsRowFault : TableDeal → ℤ → RowFault → Type 0
 IsRowFault deal strain NoDenomination = IsNoDenomination strain
 IsRowFault deal strain (Hands fault) = (IsNoDenomination strain → ⊥) × MeetsHands deal.cards (Err fault)
@@ -71,13 +71,13 @@ AnswersRow deal strain row code =
     ⊎ ((fault : RowFault) × (code ≡ row_code fault) × IsRowFault deal strain fault × (row ≡ no_row))
 
 -- ---- in between
--- the number of a declarer, of so many cards a hand
-abbrev pub TellsOne : Option ℕ → ℕ → ℤ → Type 0
-TellsOne known size number = (tricks : ℕ) × (known ≡ Some tricks) × (number ≡ pos (13 - size + tricks))
+-- the number of a declarer whose tricks are known, if each hand has `size` cards
+abbrev pub IsNumberOf : Option ℕ → ℕ → ℤ → Type 0
+IsNumberOf known size number = (tricks : ℕ) × (known ≡ Some tricks) × (number ≡ pos (13 - size + tricks))
 
--- the row tells the four numbers
-pub record Tells (four : FourTricks) (size : ℕ) (row : TableRow) : Type 0 where
-  pub north : TellsOne four.north size (slice_index_or row.tricks 0 (pos 0))
-  pub east : TellsOne four.east size (slice_index_or row.tricks 1 (pos 0))
-  pub south : TellsOne four.south size (slice_index_or row.tricks 2 (pos 0))
-  pub west : TellsOne four.west size (slice_index_or row.tricks 3 (pos 0))
+-- the row has the four numbers
+pub record HasNumbers (four : FourTricks) (size : ℕ) (row : TableRow) : Type 0 where
+  pub north : IsNumberOf four.north size (slice_index_or row.tricks 0 (pos 0))
+  pub east : IsNumberOf four.east size (slice_index_or row.tricks 1 (pos 0))
+  pub south : IsNumberOf four.south size (slice_index_or row.tricks 2 (pos 0))
+  pub west : IsNumberOf four.west size (slice_index_or row.tricks 3 (pos 0))

@@ -9,12 +9,11 @@ ghost use Rattle.dds_calls.specs.Readings.{IsRead};
 use crate::board_faults::BoardFault;
 use crate::board_shapes::{Ask, BoardDeal, FutureTricks};
 use crate::codes::{NO_FAULT, STEPS};
+use crate::hands::{count_of, words_of};
 use crate::lines::lines_of;
 use crate::rules::rule_of;
 use crate::telling::{blank, written};
-use crate::trick_counts::count_of;
 use crate::trick_layouts::position_of;
-use crate::trick_reading::words_of;
 use card_values::{CardValue, CardValues};
 use cards::{Layout, Seat};
 use certified_cards::certified_cards;
@@ -62,10 +61,10 @@ fn told_of(alloc: Global, board: &BoardDeal, ask: Ask) -> Result<FutureTricks, B
 }
 
 /// Solves a board in the middle of play, as DDS's `SolveBoard` does. Each line has a card that may be played next, the
-/// lower cards of its group, and the tricks that the player's side takes from now on, the current trick among them. Each
-/// number is the double-dummy value after the card, and was shown by the checker. `target`, `solutions` and `mode` decide
-/// which lines come and what their scores are. Returns DDS's code: 1, or the code of the first fault. After a fault the
-/// struct has zeros.
+/// lower cards of its group, and the tricks that the player's side takes from now on, the current trick among them.
+/// Each number is the double-dummy value after the card, and was shown by the checker. `target`, `solutions` and `mode`
+/// decide which lines come and what their scores are. Returns DDS's code: 1, or the code of the first fault. After a
+/// fault the struct has zeros.
 #[unsafe(no_mangle)]
 pub extern "C" fn ddfarm_solve_board(
     alloc: Global,

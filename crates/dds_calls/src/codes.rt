@@ -37,5 +37,5 @@ pub(crate) const FIRST_WRONG: i32 = -19;
 /// The text has another form.
 pub(crate) const PBN_FAULT: i32 = -99;
 
-/// The most steps of a search. DDS has no such bound.
+/// The most steps of a search. A search of DDS has no bound.
 pub(crate) const STEPS: u64 = 1_000_000_000;

@@ -3,7 +3,7 @@
 ghost use Rattle.std.specs.Prelude.{◌≡◌, MatchBool, MatchOption};
 ghost use Rattle.cards.specs.declared.suits.Suit.{Suit};
 ghost use Rattle.dds_calls.specs.Hands.{AreOfCards, HaveStrayBit, IsOfCards, MeetsHands};
-ghost use Rattle.dds_calls.specs.Hands.{HaveSizes, IsSizesFault, hand_word, word_in};
+ghost use Rattle.dds_calls.specs.Hands.{HaveSizes, IsSizesFault, cards_in, hand_word, word_in, words_of};
 ghost use Rattle.dds_calls.specs.Tables.{hands_code};
 
 use crate::codes::{CARD_COUNT, DUPLICATE_CARDS, SUIT_OR_RANK, TOO_MANY_CARDS, ZERO_CARDS};
@@ -44,7 +44,7 @@ impl HandsFault {
 }
 
 /// The most cards of four hands (Law 1).
-const PACK: u32 = 52;
+pub(crate) const PACK: u32 = 52;
 
 /// How many bits a suit has in a hand's word, as a factor.
 const SUIT: u64 = 1 << 13;
@@ -75,13 +75,29 @@ pub(crate) fn are_of_cards(hands: &Hands) -> bool
 }
 
 /// Returns a hand as one word.
-pub(crate) fn word_of(suits: &[u32; 4]) -> u64
+fn word_of(suits: &[u32; 4]) -> u64
     requires { (suit : Suit) → IsOfCards (word_in suits.now suit) }
     ensures { result ≡ hand_word suits.now }
 {
     let [spades, hearts, diamonds, clubs] = *suits;
     let minors = u64::from(diamonds / 4) + SUIT * u64::from(clubs / 4);
     u64::from(spades / 4) + SUIT * (u64::from(hearts / 4) + SUIT * minors)
+}
+
+/// Returns each hand as one word.
+pub(crate) fn words_of(hands: &Hands) -> [u64; 4]
+    requires { AreOfCards hands.now }
+    ensures { result ≡ words_of hands.now }
+{
+    let [north, east, south, west] = hands;
+    [word_of(north), word_of(east), word_of(south), word_of(west)]
+}
+
+/// Returns how many cards are in the hands.
+pub(crate) fn count_of(words: &[u64; 4]) -> u32
+    ensures { result ≡ cards_in words.now }
+{
+    words[0].count_ones() + words[1].count_ones() + words[2].count_ones() + words[3].count_ones()
 }
 
 /// Returns the first fault that the sizes of four hands have.
@@ -92,7 +108,7 @@ fn fault_of_sizes(words: &[u64; 4]) -> Option<HandsFault>
     let east = words[1].count_ones();
     let south = words[2].count_ones();
     let west = words[3].count_ones();
-    let cards = north + east + south + west;
+    let cards = count_of(words);
     if cards == 0 {
         Some(HandsFault::NoCards)
     } else if cards > PACK {
@@ -111,8 +127,7 @@ pub(crate) fn layout_of(hands: &Hands) -> Result<Layout, HandsFault>
     if !are_of_cards(hands) {
         return Err(HandsFault::StrayBit);
     }
-    let [north, east, south, west] = hands;
-    let words = [word_of(north), word_of(east), word_of(south), word_of(west)];
+    let words = words_of(hands);
     if let Some(fault) = fault_of_sizes(&words) {
         return Err(fault);
     }

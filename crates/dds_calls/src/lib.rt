@@ -1,5 +1,5 @@
-//! DDS's functions for a caller in C: double-dummy tables, the tricks of cards, pars, and evidence. The structs have the
-//! shapes of DDS 2.9, and each contract speaks of their fields. A number of tricks that is answered with code 1 was
+//! DDS's functions for a caller in C: double-dummy tables, the tricks of cards, pars, and evidence. The structs have
+//! the shapes of DDS 2.9, and each contract speaks of their fields. A number of tricks that is answered with code 1 was
 //! shown by the checker.
 //!
 //! The exports take any bytes and any numbers. They share nothing, so threads may call them at once. What only C can do
@@ -16,6 +16,7 @@ mod hands;
 mod lines;
 mod pars;
 mod rules;
+mod seats;
 mod sections;
 mod tables;
 mod telling;

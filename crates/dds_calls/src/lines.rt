@@ -4,7 +4,8 @@ ghost use Rattle.std.specs.Prelude.{◌≡◌, ◌≢◌, ◌+◌, ◌≤◌, �
 ghost use Rattle.cards.specs.declared.seats.Seat.{Seat};
 ghost use Rattle.cards.specs.declared.pack.Rank.{Rank};
 ghost use Rattle.card_values.specs.declared.values.CardValue.{CardValue};
-ghost use Rattle.dds_calls.specs.Lines.{AreChoices, AreEquals, AreLines, HasLines, IsClearBetween, IsLineOf, IsTop, Joins};
+ghost use Rattle.dds_calls.specs.Lines.{AreChoices, AreEquals, AreLines, HasLines, IsClearBetween, IsLineOf};
+ghost use Rattle.dds_calls.specs.Lines.{IsTop, Joins};
 
 use arrayvec::ArrayVec;
 use card_values::CardValue;

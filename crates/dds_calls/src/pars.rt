@@ -2,16 +2,17 @@
 
 ghost use Rattle.std.specs.Prelude.{◌≡◌, ◌≢◌, ◌<◌, ◌≤◌, ◌⊎◌, pos, negsuc, length, MatchBool, MatchOption, slice_index};
 ghost use Rattle.cards.specs.Orders.{trump_number};
-ghost use Rattle.cards.specs.Seats.{seat_number};
 ghost use Rattle.cards.specs.declared.seats.Seat.{Seat};
 ghost use Rattle.cards.specs.declared.suits.Trump.{Trump};
 ghost use Rattle.par.specs.Boards.{tricks_in};
-ghost use Rattle.dds_calls.specs.Pars.{AreTricks, HasStrayNumber, IsNoDealer, IsNoVulnerability, IsTrickCount};
-ghost use Rattle.dds_calls.specs.Pars.{HasFault, IsAnswer, IsBlank, IsParOf, contract_of, entry_in, in_places};
-ghost use Rattle.dds_calls.specs.Pars.{over_tricks_of, seats_number, strain_number, tricks_of, under_tricks_of};
+ghost use Rattle.dds_calls.specs.Denominations.{strain_number};
+ghost use Rattle.dds_calls.specs.Pars.{AreTricks, HasStrayNumber, IsNoVulnerability, IsTrickCount};
+ghost use Rattle.dds_calls.specs.Pars.{HasParFault, IsParAnswer, IsBlank, IsParOf, contract_of, entry_in, in_places};
+ghost use Rattle.dds_calls.specs.Pars.{over_tricks_of, seats_number, tricks_of, under_tricks_of};
 ghost use Rattle.dds_calls.specs.Pars.{vulnerable_number};
 
 use crate::codes::{NO_FAULT, UNKNOWN_FAULT};
+use crate::seats::seat_of;
 use cards::{Seat, Side, Suit, Trump};
 use par::{Declarers, ParContract, Tricks, par_contracts, par_of};
 use scoring::{ContractResult, VulnerableSides};
@@ -142,19 +143,6 @@ fn tricks_of(table: &TableResults) -> Tricks
     }
 }
 
-/// Returns the dealer with this number.
-fn dealer_of(number: i32) -> Option<Seat>
-    ensures { MatchOption result (IsNoDealer number) (λ seat. number ≡ pos (seat_number seat)) }
-{
-    match number {
-        0 => Some(Seat::North),
-        1 => Some(Seat::East),
-        2 => Some(Seat::South),
-        3 => Some(Seat::West),
-        _ => None,
-    }
-}
-
 /// Returns the vulnerable sides with this number.
 fn vulnerable_of(number: i32) -> Option<VulnerableSides>
     ensures { MatchOption result (IsNoVulnerability number) (λ sides. number ≡ pos (vulnerable_number sides)) }
@@ -269,13 +257,13 @@ fn results_of(tricks: &Tricks, dealer: Seat, vulnerable: VulnerableSides) -> Par
 /// Returns par and the par contracts of a table, or nothing if a number is out of range.
 fn answer_of(table: &TableResults, dealer: i32, vulnerable: i32) -> Option<ParResults>
     ensures { MatchOption result
-        (HasFault table.now dealer vulnerable)
-        (IsAnswer table.now dealer vulnerable) }
+        (HasParFault table.now dealer vulnerable)
+        (IsParAnswer table.now dealer vulnerable) }
 {
     if !are_tricks(table) {
         return None;
     }
-    let seat = dealer_of(dealer)?;
+    let seat = seat_of(dealer)?;
     let sides = vulnerable_of(vulnerable)?;
     Some(results_of(&tricks_of(table), seat, sides))
 }
@@ -291,8 +279,8 @@ pub extern "C" fn ddfarm_par(
     par: &mut ParResults,
 ) -> i32
     ensures code { (result ≡ pos 1) ⊎ (result ≡ negsuc 0) }
-    ensures answer { result ≡ pos 1 → IsAnswer table.now dealer vulnerable par.new }
-    ensures refusal { result ≡ negsuc 0 → HasFault table.now dealer vulnerable × IsBlank par.new }
+    ensures answer { result ≡ pos 1 → IsParAnswer table.now dealer vulnerable par.new }
+    ensures refusal { result ≡ negsuc 0 → HasParFault table.now dealer vulnerable × IsBlank par.new }
 {
     match answer_of(table, dealer, vulnerable) {
         Some(results) => {

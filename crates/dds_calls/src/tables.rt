@@ -1,7 +1,7 @@
 //! A row of a table: the tricks of the four declarers of a denomination.
 
 ghost use Rattle.std.specs.Prelude.{◌≤◌, IfSome, MatchResult};
-ghost use Rattle.dds_calls.specs.Tables.{AnswersRow, IsRowFault, IsRowOf, Tells};
+ghost use Rattle.dds_calls.specs.Tables.{AnswersRow, IsRowFault, IsRowOf, HasNumbers};
 
 use crate::codes::NO_FAULT;
 use crate::finding::{RowFault, found_for};
@@ -30,7 +30,7 @@ const NO_ROW: TableRow = TableRow { tricks: [0; 4] };
 /// Returns the row of four numbers, if all are known. Each is greater by the number of cards that a hand lacks to 13.
 fn row_with(four: &FourTricks, size: usize) -> Option<TableRow>
     requires { size ≤ 13 }
-    ensures { IfSome result (Tells four.now size) }
+    ensures { IfSome result (HasNumbers four.now size) }
 {
     let missing = 13 - size as i32;
     Some(TableRow {

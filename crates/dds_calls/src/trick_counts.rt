@@ -6,24 +6,15 @@ ghost use Rattle.cards.specs.declared.seats.Seat.{Seat};
 ghost use Rattle.cards.specs.declared.seats.Seat.TheVariants.{North};
 ghost use Rattle.cards.specs.Seats.{seat_number};
 ghost use Rattle.cards.specs.Hands.{HasBit, HaveCardTwice, HaveCardsAlone};
-ghost use Rattle.dds_calls.specs.Hands.{cards_in, words_of};
+ghost use Rattle.dds_calls.specs.Hands.{words_of};
 ghost use Rattle.dds_calls.specs.BoardPositions.{size_with};
 ghost use Rattle.dds_calls.specs.Boards.{IsClearTo, IsFirstFault};
 ghost use Rattle.dds_calls.specs.Readings.{AreApart, IsTrickSize};
 
 use crate::board_faults::BoardFault;
 use crate::board_shapes::{Ask, BoardDeal};
+use crate::hands::{PACK, count_of};
 use cards::{Card, Seat, holder_by_words};
-
-/// The most cards of four hands (Law 1).
-const PACK: u32 = 52;
-
-/// Returns how many cards are in the hands.
-pub(crate) fn count_of(words: &[u64; 4]) -> u32
-    ensures { result ≡ cards_in words.now }
-{
-    words[0].count_ones() + words[1].count_ones() + words[2].count_ones() + words[3].count_ones()
-}
 
 /// Returns how many cards a seat had when the trick began, to which this many cards were played.
 fn size_before(words: &[u64; 4], leader: Seat, played: u32, seat: Seat) -> u32

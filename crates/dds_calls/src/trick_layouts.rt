@@ -10,9 +10,9 @@ ghost use Rattle.dds_calls.specs.Readings.{ArePutBack, IsBegun, IsRead, IsReadin
 
 use crate::board_faults::BoardFault;
 use crate::board_shapes::{Ask, BoardDeal};
-use crate::hands::are_of_cards;
+use crate::hands::{are_of_cards, words_of};
 use crate::trick_counts::{are_held, have_card_twice, trick_size_of};
-use crate::trick_reading::{Start, cards_given, start_of, words_of};
+use crate::trick_reading::{Start, cards_given, start_of};
 use arrayvec::ArrayVec;
 use card_values::TrickInProgress;
 use cards::{Card, Layout, Seat};

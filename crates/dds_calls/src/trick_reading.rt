@@ -5,16 +5,14 @@ ghost use Rattle.cards.specs.declared.pack.Card.{Card};
 ghost use Rattle.cards.specs.declared.pack.Rank.{Rank};
 ghost use Rattle.cards.specs.declared.suits.Suit.{Suit};
 ghost use Rattle.cards.specs.Pack.{rank_number, suit_number};
-ghost use Rattle.cards.specs.Seats.{seat_number};
-ghost use Rattle.dds_calls.specs.Hands.{AreOfCards, words_of};
 ghost use Rattle.dds_calls.specs.BoardPositions.{HasStrayTrick, IsNumbered};
-ghost use Rattle.dds_calls.specs.Boards.{IsFirstFault, IsNoSeat};
+ghost use Rattle.dds_calls.specs.Boards.{IsFirstFault};
 ghost use Rattle.dds_calls.specs.Readings.{AreGivenTo, IsStart};
 
 use crate::board_faults::BoardFault;
 use crate::board_shapes::{Ask, BoardDeal};
 use crate::denominations::denomination_of;
-use crate::hands::{Hands, are_of_cards, word_of};
+use crate::seats::seat_of;
 use arrayvec::ArrayVec;
 use cards::{Card, Rank, Seat, Suit, Trump};
 
@@ -25,19 +23,6 @@ pub struct Start {
     pub leader: Seat,
     /// The denomination.
     pub trump: Trump,
-}
-
-/// Returns the seat with this number, clockwise from North.
-fn seat_of(number: i32) -> Option<Seat>
-    ensures { MatchOption result (IsNoSeat number) (λ seat. pos (seat_number seat) ≡ number) }
-{
-    match number {
-        0 => Some(Seat::North),
-        1 => Some(Seat::East),
-        2 => Some(Seat::South),
-        3 => Some(Seat::West),
-        _ => None,
-    }
 }
 
 /// Returns the leader and the denomination, or the first fault of the numbers that are asked.
@@ -73,7 +58,9 @@ pub(crate) fn start_of(board: &BoardDeal, ask: Ask) -> Result<Start, BoardFault>
 
 /// Returns the suit with this number.
 fn suit_of(number: i32) -> Option<Suit>
-    ensures { MatchOption result ((suit : Suit) → pos (suit_number suit) ≡ number → ⊥) (λ suit. pos (suit_number suit) ≡ number) }
+    ensures { MatchOption result
+        ((suit : Suit) → pos (suit_number suit) ≡ number → ⊥)
+        (λ suit. pos (suit_number suit) ≡ number) }
 {
     match number {
         0 => Some(Suit::Spades),
@@ -143,13 +130,4 @@ pub(crate) fn cards_given(board: &BoardDeal) -> Option<ArrayVec<Card, 3>>
         }
     }
     Some(cards)
-}
-
-/// Returns each hand as one word.
-pub(crate) fn words_of(hands: &Hands) -> [u64; 4]
-    requires { AreOfCards hands.now }
-    ensures { result ≡ words_of hands.now }
-{
-    let [north, east, south, west] = hands;
-    [word_of(north), word_of(east), word_of(south), word_of(west)]
 }

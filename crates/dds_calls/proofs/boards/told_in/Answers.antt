@@ -65,6 +65,7 @@ returns c =
       is_position = c.requires.is_position;
       values = values;
       are_values = are;
+      some = omega (arith, some_value position values progress are);
       are_told = told_is;
       last = λ few. one_line ask (cards_left c.args.board.now) position.opening.deal (seat_to_play position.opening position.history) values told told_is few (one_value c.args.board.now ask position c.requires.clear c.requires.is_position few values are (some_value position values progress are));
     }

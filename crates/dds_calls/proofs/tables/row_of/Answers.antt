@@ -1,4 +1,4 @@
--- Each number that is told is the value that was shown.
+-- Each number of the row comes from a value.
 use Rattle.std.proofs.Common.{◌≡◌, ℕ, ◌-◌, ◌+◌, ℤ, pos, Option, Some, subst, ap, ◌∙◌, arith}
 use Rattle.std.proofs.lemmas.Int.{ints}
 use Rattle.cards.specs.declared.suits.Trump.{Trump}
@@ -9,11 +9,11 @@ use Rattle.certificate_graph.specs.declared.bundles.Bundle.{Bundle}
 use Rattle.certified_tricks.specs.Searches.{AreKnownBy, IsKnown}
 use Rattle.certified_tricks.specs.declared.answers.FourTricks.{FourTricks}
 use Rattle.dds_calls.specs.declared.tables.TableRow.{TableRow}
-use Rattle.dds_calls.specs.Tables.{IsEntry, TellsOne, Tells, entry_of}
+use Rattle.dds_calls.specs.Tables.{IsEntry, IsNumberOf, HasNumbers, entry_of}
 use Rattle.dds_calls.proofs.tables.row_of.Goals as goal
 
 entry : (deal : Deal) (seat : Seat) (trump : Trump) (bundle : Bundle) (known : Option ℕ) (size : ℕ) (number : ℤ)
-    → size ≡ size_of deal → IsKnown deal trump bundle seat known → TellsOne known size number
+    → size ≡ size_of deal → IsKnown deal trump bundle seat known → IsNumberOf known size number
     → IsEntry deal seat trump number
 entry deal seat trump bundle known size number is shown tells =
     let Q : Option ℕ → Type 0 = λ o. IsKnown deal trump bundle seat o in
@@ -21,7 +21,7 @@ entry deal seat trump bundle known size number is shown tells =
     (tells.0, value.3, tells.2 ∙ ap (λ n. pos (13 - n + tells.0)) is)
 
 entries : (deal : Deal) (trump : Trump) (bundle : Bundle) (four : FourTricks) (size : ℕ) (row : TableRow)
-    → size ≡ size_of deal → AreKnownBy deal trump bundle four → Tells four size row → (seat : Seat)
+    → size ≡ size_of deal → AreKnownBy deal trump bundle four → HasNumbers four size row → (seat : Seat)
     → IsEntry deal seat trump (entry_of row seat)
 entries deal trump bundle four size row is known tells North =
     entry deal North trump bundle four.north size _ is known.north tells.north

@@ -1,5 +1,6 @@
+-- Each hand has the form that its word needs.
 use Rattle.cards.specs.declared.seats.Seat.TheVariants.{North, East, South, West}
-use Rattle.dds_calls.proofs.trick_reading.words_of.Goals as goal
+use Rattle.dds_calls.proofs.hands.words_of.Goals as goal
 
 pub word_of-requires : goal.word_of-requires
 word_of-requires c = c.requires North
