@@ -1,7 +1,7 @@
 /* Prints what the library answers in the form of the program's subcommands, so that both can be compared.
-   own tables: reads Deal values, a line each, and prints the rows of their tables.
-   own leads: reads the same, and prints the rows of `ddfarm leads`.
-   own cards LAYOUT LEADER TRUMP CARD..: prints what `ddfarm cards` does. */
+   dds_answers tables: reads Deal values, a line each, and prints the rows of their tables.
+   dds_answers leads: reads the same, and prints the rows of `ddfarm leads`.
+   dds_answers cards LAYOUT LEADER TRUMP CARD..: prints what `ddfarm cards` does. */
 #include <stdio.h>
 #include <string.h>
 
@@ -51,7 +51,7 @@ static int print_table(const char text[80])
     deals.deals[0] = deal;
     int code = CalcDDtablePBN(deal, &table), other = CalcAllTablesPBN(&deals, 0, all, &results, &pars);
     if (code != 1 || other != 1 || memcmp(&results.results[0], &table, sizeof table) != 0)
-        return printf("own: %d and %d for %.80s\n", code, other, text), 1;
+        return printf("dds_answers: %d and %d for %.80s\n", code, other, text), 1;
     for_rows(print_number, text);
     return 0;
 }
@@ -116,7 +116,7 @@ static int print_position(int count, char **words)
     }
     int code = SolveBoardPBN(deal, -1, 3, 1, &cards, 0);
     if (code != 1)
-        return printf("own: %d\n", code), 1;
+        return printf("dds_answers: %d\n", code), 1;
     printf("%c to play\n", SEATS[(deal.first + count - 3) % 4]);
     print_cards(&cards, "", "\n");
     return 0;

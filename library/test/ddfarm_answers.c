@@ -1,8 +1,8 @@
 /* Prints what the functions of ddfarm.h answer in the form of the program's subcommands, so that both can be compared.
-   anew tables: reads Deal values, a line each, and prints the rows of their tables.
-   anew evidence: reads the same, and writes their evidence.
-   anew cards LAYOUT LEADER TRUMP CARD..: prints what `ddfarm cards` does.
-   anew faults: asks what is refused, and prints nothing if each answer is as it should be. */
+   ddfarm_answers tables: reads Deal values, a line each, and prints the rows of their tables.
+   ddfarm_answers evidence: reads the same, and writes their evidence.
+   ddfarm_answers cards LAYOUT LEADER TRUMP CARD..: prints what `ddfarm cards` does.
+   ddfarm_answers faults: asks what is refused, and prints nothing if each answer is as it should be. */
 #include <stdio.h>
 #include <stdlib.h>
 #include <string.h>
@@ -12,7 +12,7 @@
 static const char SEATS[] = "NESW", RANKS[] = "23456789TJQKA", SUITS[] = "SHDC";
 static const char *const DENOMINATIONS[5] = {"S", "H", "D", "C", "NT"};
 
-static int fail(const char *what) { return printf("anew: %s\n", what), 1; }
+static int fail(const char *what) { return printf("ddfarm_answers: %s\n", what), 1; }
 
 /* In the order of the rows: declarers N, S, E and W, each with no-trump first. */
 static int print_table(const struct ddfarm_hands *hands)
