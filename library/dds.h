@@ -271,7 +271,7 @@ EXTERN_C DLLEXPORT void STDCALL SetMaxThreads(int userThreads);
    system. SetMaxThreads(1) keeps a call in the thread that makes it. */
 EXTERN_C DLLEXPORT int STDCALL SetThreading(int code);
 
-/* Does what SetMaxThreads does. The memory is not limited: a thread takes up to 100 MB while it searches. */
+/* Does what SetMaxThreads does. The memory is not limited: a search remembers up to 123 MB. */
 EXTERN_C DLLEXPORT void STDCALL SetResources(int maxMemoryMB, int maxThreads);
 
 /* Does nothing: no memory is kept between calls. */
