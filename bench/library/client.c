@@ -32,11 +32,21 @@ static void print_cards(const char *name, int code, const struct futureTricks *a
     puts("");
 }
 
+/* Whether the one card is among those that were asked for with all that reach the target, with the same lower cards. */
+static int is_among(const struct futureTricks *one, const struct futureTricks *all)
+{
+    for (int i = 0; i < all->cards; i++)
+        if (all->suit[i] == one->suit[0] && all->rank[i] == one->rank[0] && all->equals[i] == one->equals[0])
+            return all->score[i] == one->score[0];
+    return one->cards == 0 && all->cards == 0;
+}
+
 /* All that may be asked of a position. */
 static void ask_board(const struct deal *deal, int tricks)
 {
     const int targets[] = {-1, 0, 1, 1 + roll(tricks), tricks};
     struct dealPBN text = position_text(deal);
+    struct futureTricks ones[5][3];
     for (int solutions = 1; solutions <= 3; solutions++)
         for (int i = 0; i < 5; i++)
             for (int mode = 0; mode <= 2; mode++) {
@@ -45,6 +55,10 @@ static void ask_board(const struct deal *deal, int tricks)
                 int code = SolveBoard(*deal, targets[i], solutions, mode, &answer, 0);
                 printf("target %d solutions %d mode %d ", targets[i], solutions, mode);
                 print_cards("SolveBoard", code, &answer, solutions);
+                if (solutions == 1)
+                    ones[i][mode] = answer;
+                if (solutions == 2 && code == 1 && !is_among(&ones[i][mode], &answer))
+                    puts("one card that isn't among all");
                 if (mode != 1)
                     continue;
                 memset(&answer, 0, sizeof answer);

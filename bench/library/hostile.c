@@ -1,6 +1,5 @@
-/* Calls of each function with hostile numbers, hands and texts, a line per call. `beside` makes each call in a process
-   of its own, since DDS crashes on some; `alone` makes all in one, and tells where a fault leaves other results than
-   zeros.
+/* Calls of each function with hostile numbers, hands and texts, a line per call. `beside` makes them in child processes,
+   since DDS crashes on some; `alone` makes all in this one, and tells where a fault leaves other results than zeros.
    Usage: hostile SEED CALLS beside|alone. A line has a word if the two libraries need not agree:
    `lax` for texts and tricks that DDS takes and ours refuses, or numbers that DDS does not look at;
    `hot` for tables in which both sides take more than 13 tricks together, where pars depend on who calls first. */
@@ -439,48 +438,70 @@ static const struct {
 };
 enum { CALL_COUNT = sizeof CALLS / sizeof CALLS[0] };
 
-/* The child's line comes through a pipe. An alarm ends a call that takes too long. */
-static void call_beside(void (*call)(void))
+/* Makes a call, which has this number, and leaves its line. */
+static void make_call(unsigned seed, int number)
+{
+    seed_dice(seed * 7919u + (unsigned)number);
+    length = 0, line[0] = '\0', mark = "", stained = 0;
+    CALLS[number % CALL_COUNT].call();
+    say("%s", mark);
+}
+
+/* Makes calls from this number on, and writes their lines. An alarm ends a call that takes too long. A call that has a
+   word is the last, since DDS may have gone astray in it. */
+static void make_calls(unsigned seed, int number, int calls, int out)
+{
+    for (int is_last = 0; number < calls && !is_last; number++) {
+        alarm(5);
+        make_call(seed, number);
+        is_last = *mark != '\0';
+        say("\n");
+        if (write(out, line, length) != (ssize_t)length)
+            _exit(1);
+    }
+    _exit(0);
+}
+
+/* Has a child make calls from this number on, and prints their lines. Answers the number of the next call. */
+static int calls_beside(unsigned seed, int number, int calls)
 {
     int ends[2], status = 0;
+    fflush(stdout);
     if (pipe(ends) != 0)
         exit(1);
     pid_t child = fork();
     if (child == 0) {
-        alarm(5);
-        call();
-        say("%s", mark);
-        _exit(write(ends[1], line, length) != (ssize_t)length);
+        close(ends[0]);
+        make_calls(seed, number, calls, ends[1]);
     }
     close(ends[1]);
-    ssize_t got;
-    while ((got = read(ends[0], line + length, sizeof line - 1 - length)) > 0)
-        length += (size_t)got;
-    close(ends[0]);
+    FILE *lines = fdopen(ends[0], "r");
+    while (fgets(line, sizeof line, lines) && strchr(line, '\n'))
+        printf("%s %s", CALLS[number++ % CALL_COUNT].name, line);
+    fclose(lines);
     waitpid(child, &status, 0);
-    line[length] = '\0';
-    if (status != 0) {
-        length = 0;
-        say("died");
-    }
+    if (status != 0)
+        printf("%s died\n", CALLS[number++ % CALL_COUNT].name);
+    return number;
 }
 
 int main(int count, char **words)
 {
     if (count != 4)
         return fputs("usage: hostile SEED CALLS beside|alone\n", stderr), 2;
-    int beside = strcmp(words[3], "beside") == 0, calls = atoi(words[2]), stains = 0;
+    unsigned seed = (unsigned)atoi(words[1]);
+    int calls = atoi(words[2]) * CALL_COUNT, stains = 0;
     SetMaxThreads(1);
-    for (int i = 0; i < calls; i++)
-        for (int k = 0; k < CALL_COUNT; k++) {
-            seed_dice((unsigned)atoi(words[1]) * 7919u + (unsigned)(i * CALL_COUNT + k));
-            length = 0, line[0] = '\0', mark = "", stained = 0;
-            beside ? call_beside(CALLS[k].call) : CALLS[k].call();
-            if (!beside)
-                say("%s", mark);
-            printf("%s %s\n", CALLS[k].name, line);
-            if (!beside && stained)
-                printf("%s: a fault left other results than zeros\n", CALLS[k].name), stains++;
-        }
+    if (strcmp(words[3], "beside") == 0) {
+        for (int number = 0; number < calls;)
+            number = calls_beside(seed, number, calls);
+        return 0;
+    }
+    for (int number = 0; number < calls; number++) {
+        make_call(seed, number);
+        printf("%s %s\n", CALLS[number % CALL_COUNT].name, line);
+        if (stained)
+            printf("%s: a fault left other results than zeros\n", CALLS[number % CALL_COUNT].name), stains++;
+    }
     return stains != 0;
 }
