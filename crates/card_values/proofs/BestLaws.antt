@@ -19,7 +19,7 @@ one_card_value opening history card one other layout legal a b =
     )
 
 -- no side is the other one
-apart : (side : Side) → side ≡ other_side side → ⊥
+pub apart : (side : Side) → side ≡ other_side side → ⊥
 apart NorthSouth same = cc
 apart EastWest same = cc
 

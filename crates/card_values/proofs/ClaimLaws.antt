@@ -31,7 +31,7 @@ find_passes p (y ∷ ys) x h = found_passes p y x (find p ys) (p y) refl h (find
 names_it : (claims : List CardClaim) (card : Card) (claim : CardClaim) → claim_for claims card ≡ Some claim → claim.card ≡ card
 names_it claims card claim first = same_from_numbers claim.card card (eqb-true (card_number claim.card) (card_number card) (find_passes (is_for card) claims claim first))
 
-graph_is : (graphs : CardGraphs) (side : Side) → IsGraph graphs.ns.now → IsGraph graphs.ew.now → IsGraph (graph_in graphs side)
+pub graph_is : (graphs : CardGraphs) (side : Side) → IsGraph graphs.ns.now → IsGraph graphs.ew.now → IsGraph (graph_in graphs side)
 graph_is graphs NorthSouth ns ew = ns
 graph_is graphs EastWest ns ew = ew
 

@@ -1,6 +1,6 @@
-mod BestLaws
-mod ClaimLaws
+pub mod BestLaws
+pub mod ClaimLaws
 mod ListLaws
 mod PathLaws
 mod PlayLaws
-mod ShowLaws
+pub mod ShowLaws

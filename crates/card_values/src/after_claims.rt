@@ -17,13 +17,19 @@ use play_rules::holders;
 
 /// The claim that a side wins `need` tricks of a layout after these cards, the first cards of its first trick.
 #[derive(Drop)]
-pub(crate) struct BegunClaim<'a> {
-    pub(crate) layout: &'a Layout,
-    pub(crate) leader: Seat,
-    pub(crate) trump: Trump,
-    pub(crate) cards: &'a [Card],
-    pub(crate) side: Side,
-    pub(crate) need: u8,
+pub struct BegunClaim<'a> {
+    /// The layout when the trick began.
+    pub layout: &'a Layout,
+    /// The seat that leads.
+    pub leader: Seat,
+    /// The trump suit, or none.
+    pub trump: Trump,
+    /// The cards played so far, at most four.
+    pub cards: &'a [Card],
+    /// The side that wins the tricks.
+    pub side: Side,
+    /// How many tricks it wins, the trick in progress among them.
+    pub need: u8,
 }
 
 /// The pattern cards that stand for these cards of a layout.
@@ -65,8 +71,9 @@ fn check_root(claim: &BegunClaim<'_>, graph: &Graph, node: &Node) -> Result<(), 
     }
 }
 
-/// Checks that the graph and the begun node show the claim, otherwise returns a fault that they have.
-pub(crate) fn check_after(
+/// Checks that the graph and the begun node show the claim, otherwise returns a fault that they have. If no tricks are
+/// claimed, there must be no begun node. Takes no memory.
+pub fn check_after(
     claim: &BegunClaim<'_>,
     checked: &CheckedGraph,
     root: Option<&Node>,

@@ -16,7 +16,7 @@ pub struct CardGraphs<'a> {
 }
 
 /// Returns the graph of a side.
-pub(crate) fn graph_in<'a>(graphs: &CardGraphs<'a>, side: Side) -> &'a CheckedGraph
+pub fn graph_in<'a>(graphs: &CardGraphs<'a>, side: Side) -> &'a CheckedGraph
     ensures { result.now ≡ graph_in graphs.now side }
 {
     match side {

@@ -15,8 +15,8 @@ use arrayvec::ArrayVec;
 use cards::Card;
 use certificate_graph::CardClaim;
 
-/// Returns the first claim for a card.
-fn claim_for(claims: &[CardClaim], card: Card) -> Option<&CardClaim>
+/// Returns the first claim for a card, if there is one.
+pub fn claim_for(claims: &[CardClaim], card: Card) -> Option<&CardClaim>
     ensures { option_copied result ≡ claim_for claims.now card }
 {
     claims
@@ -24,8 +24,8 @@ fn claim_for(claims: &[CardClaim], card: Card) -> Option<&CardClaim>
         .find(|claim| claim.card.number() == card.number())
 }
 
-/// Returns the cards, and one more.
-fn with_card(played: &[Card], card: Card) -> ArrayVec<Card, 4>
+/// Returns the cards played, and one more after them.
+pub fn with_card(played: &[Card], card: Card) -> ArrayVec<Card, 4>
     requires { length played.now ≤ 3 }
     ensures { result.items ≡ played.now ++ card ∷ [] }
 {

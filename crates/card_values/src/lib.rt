@@ -14,9 +14,10 @@ mod texts;
 mod tricks;
 mod values;
 
-pub use claims::CardGraphs;
+pub use after_claims::{BegunClaim, check_after};
+pub use claims::{CardGraphs, graph_in};
 pub use faults::{AfterFault, CardFault, TrickFault};
-pub use judging::judge_cards;
+pub use judging::{claim_for, judge_cards, with_card};
 pub use laws::{best_card_is_value, card_value_is_unique, card_value_is_value_after};
 pub use texts::{write_groups, write_values};
 pub use tricks::TrickInProgress;
