@@ -14,24 +14,24 @@ use std::sync::Arc;
 
 /// A card that may be played.
 #[derive(Drop)]
-struct Candidate {
-    card: Card,
+pub(crate) struct Candidate {
+    pub(crate) card: Card,
     /// The side that plays it.
-    player: Side,
+    pub(crate) player: Side,
     /// The trick after it.
-    begun: Begun,
+    pub(crate) begun: Begun,
     /// The lowest card of its run. All cards of a run lead to as many tricks.
-    run: CardSet,
+    pub(crate) run: CardSet,
     /// How many tricks there are.
     most: i32,
     /// How many of them North and South take after it, if that is found.
-    ours: Option<i32>,
+    pub(crate) ours: Option<i32>,
 }
 
 /// The graph of a side, and for each candidate the begun node beside it, if there is one.
 #[derive(Drop)]
-struct SideNodes {
-    graph: Arc<Graph>,
+pub(crate) struct SideNodes {
+    pub(crate) graph: Arc<Graph>,
     nodes: Vec<Option<Node>>,
 }
 
@@ -71,7 +71,7 @@ fn candidates_of(search: &Search, tricks: &Vec<Begun>) -> Result<Vec<Candidate>,
 
 /// Adds the cards that may be played next to a trick, by suit, the highest of a suit first: those of a run follow one
 /// another.
-fn add_candidates(
+pub(crate) fn add_candidates(
     search: &Search,
     begun: &Begun,
     candidates: &mut Vec<Candidate>,
@@ -159,7 +159,7 @@ fn write_claims(
 }
 
 /// Writes the graph of a side, and for each card the begun node that shows the tricks that the side takes after it.
-fn write_side(
+pub(crate) fn write_side(
     search: &mut Search,
     trump: Trump,
     side: Side,
@@ -185,14 +185,14 @@ fn write_side(
 
 impl SideNodes {
     /// Takes out the node of the candidate in this place.
-    fn take(&mut self, place: usize) -> Option<Node> {
+    pub(crate) fn take(&mut self, place: usize) -> Option<Node> {
         self.nodes.get_mut(place)?.take()
     }
 }
 
 impl Candidate {
     /// How many tricks a side takes after the card, if that is found.
-    fn tricks_of(&self, side: Side) -> Option<i32> {
+    pub(crate) fn tricks_of(&self, side: Side) -> Option<i32> {
         let ours = self.ours?;
         match side {
             Side::NorthSouth => Some(ours),

@@ -1,6 +1,7 @@
 //! The partition search as a solver that keeps nothing.
 
 use crate::begun::{Begun, may_be_played};
+use crate::best_claims::best_bundle_of;
 use crate::card_claims::card_bundle_of;
 use crate::claims::bundle_of;
 use crate::search::Search;
@@ -12,6 +13,12 @@ use std::alloc::{AllocError, Global};
 /// so a static library may call it, and calls in several threads share nothing.
 #[derive(Clone, Copy, Debug)]
 pub struct FreshPartition;
+
+/// The same search for cards that lead to the most tricks, and for no others: a call finds one number, and claims it
+/// for the cards of one run. The first claim's `others` stands after the cards played, so it says that no card leads to
+/// more. If there are several leaders, it looks at the first.
+#[derive(Clone, Copy, Debug)]
+pub struct FreshBest;
 
 impl Solver for FreshPartition {
     fn solve(
@@ -50,6 +57,32 @@ impl CardSolver for FreshPartition {
             tricks.push(Begun::of(&search.deal, *leader, played))?;
         }
         let bundle = card_bundle_of(&mut search, trump, &tricks, budget);
+        if search.memory_ran_out {
+            return Err(AllocError);
+        }
+        Ok(bundle)
+    }
+}
+
+impl CardSolver for FreshBest {
+    fn solve_cards(
+        &self,
+        alloc: Global,
+        layout: &Layout,
+        leaders: &[Seat],
+        trump: Trump,
+        played: &[Card],
+        budget: u64,
+    ) -> Result<Option<CardBundle>, AllocError> {
+        let Some(leader) = leaders.first() else {
+            return Ok(None);
+        };
+        if !may_be_played(layout, *leader, played) {
+            return Ok(None);
+        }
+        let mut search = Search::new(alloc, layout, trump)?;
+        let begun = Begun::of(&search.deal, *leader, played);
+        let bundle = best_bundle_of(&mut search, trump, &begun, budget);
         if search.memory_ran_out {
             return Err(AllocError);
         }

@@ -8,6 +8,7 @@
 
 mod begun;
 mod begun_nodes;
+mod best_claims;
 mod card_claims;
 mod claims;
 mod deals;
@@ -36,5 +37,5 @@ mod values;
 mod weights;
 mod words;
 
-pub use fresh::FreshPartition;
+pub use fresh::{FreshBest, FreshPartition};
 pub use solving::Partition;

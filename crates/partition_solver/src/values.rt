@@ -80,7 +80,7 @@ impl Search {
     }
 
     /// What a search finds after the cards of a trick, where North and South want so many tricks.
-    fn found_after(&mut self, begun: &Begun, tricks: u32, want: u32) -> Found {
+    pub(crate) fn found_after(&mut self, begun: &Begun, tricks: u32, want: u32) -> Found {
         self.held = Holdings::of(self.deal.hands);
         let start = self.start(begun.leader, want);
         match self.play_begun(begun) {
