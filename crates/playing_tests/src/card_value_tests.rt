@@ -18,16 +18,16 @@ const BUDGET: u64 = 10_000_000;
 
 /// An ending with a trick in progress.
 #[derive(Drop)]
-struct Case {
+pub(crate) struct Case {
     layout: Layout,
     leader: Seat,
     trump: Trump,
-    trick: TrickInProgress,
-    table: Table,
+    pub(crate) trick: TrickInProgress,
+    pub(crate) table: Table,
 }
 
 /// An ending of so many cards with so many cards played, all at random.
-fn draw_case(words: &mut Pcg32, size: usize, played: usize) -> Result<Case, Fail> {
+pub(crate) fn draw_case(words: &mut Pcg32, size: usize, played: usize) -> Result<Case, Fail> {
     let layout = draw_layout(words, 52, size)?;
     let leader = draw_seat(words);
     let trump = draw_trump(words);
@@ -83,6 +83,15 @@ fn slow_value(table: &Table) -> u8 {
     value
 }
 
+/// How many of so many tricks a side takes at this table.
+pub(crate) fn slow_tricks(table: &Table, size: u8, side: Side) -> u8 {
+    let ours = slow_value(table);
+    match side {
+        Side::NorthSouth => ours,
+        Side::EastWest => size.saturating_sub(ours),
+    }
+}
+
 /// What the solver finds for a case.
 fn solved(alloc: Global, solver: &Partition, case: &Case) -> Result<CardBundle, Fail> {
     let found = solver.solve_cards(
@@ -120,12 +129,7 @@ fn expect_values(
     for value in shown.values() {
         let mut next = table.clone().unwrap();
         next.play(value.card).map_err(|_| "refused")?;
-        let ours = slow_value(&next);
-        let wanted = match player {
-            Side::NorthSouth => ours,
-            Side::EastWest => size.saturating_sub(ours),
-        };
-        expect_eq(rt, &value.tricks, &wanted);
+        expect_eq(rt, &value.tricks, &slow_tricks(&next, size, player));
     }
     Ok(())
 }

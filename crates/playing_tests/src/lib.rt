@@ -2,6 +2,8 @@
 #![tactic(auto)]
 
 #[cfg(test)]
+mod best_card_tests;
+#[cfg(test)]
 mod card_value_tests;
 #[cfg(test)]
 mod contracts;

@@ -1,0 +1,4 @@
+mod BestLaws
+mod BundleLemmas
+mod FaultLaws
+mod ReachLaws

@@ -1,0 +1,3 @@
+pub mod BestCards
+pub mod Judging
+pub mod Searches
