@@ -1,7 +1,8 @@
 /* Prints what the library answers in the form of the program's subcommands, so that both can be compared.
    dds_answers tables: reads Deal values, a line each, and prints the rows of their tables.
    dds_answers leads: reads the same, and prints the rows of `ddfarm leads`.
-   dds_answers cards LAYOUT LEADER TRUMP CARD..: prints what `ddfarm cards` does. */
+   dds_answers cards LAYOUT LEADER TRUMP CARD..: prints what `ddfarm cards` does.
+   The last two say where the answer to "one card" is none of the best of all. */
 #include <stdio.h>
 #include <string.h>
 
@@ -75,12 +76,31 @@ static void print_cards(const struct futureTricks *cards, const char *before, co
     }
 }
 
+/* One card asked: a group that has the most tricks of all groups, with the same lower cards. */
+static int is_one_of(const struct futureTricks *one, const struct futureTricks *all)
+{
+    for (int i = 0; one->cards == 1 && i < all->cards; i++)
+        if (all->suit[i] == one->suit[0] && all->rank[i] == one->rank[0] && all->equals[i] == one->equals[0])
+            return all->score[i] == all->score[0] && one->score[0] == all->score[0];
+    return 0;
+}
+
+/* The values of all cards that may be played. */
+static int solve(struct dealPBN deal, struct futureTricks *cards)
+{
+    struct futureTricks one;
+    int code = SolveBoardPBN(deal, -1, 3, 1, cards, 0), other = SolveBoardPBN(deal, -1, 1, 1, &one, 0);
+    if (code == 1 && (other != 1 || !is_one_of(&one, cards)))
+        printf(" one card asked: %d", other);
+    return code;
+}
+
 static void print_leads(const char text[80], int declarer, int strain)
 {
     struct dealPBN deal = {.trump = strain, .first = (declarer + 1) % 4};
     struct futureTricks cards;
     memcpy(deal.remainCards, text, 80);
-    int code = SolveBoardPBN(deal, -1, 3, 1, &cards, 0);
+    int code = solve(deal, &cards);
     printf("%c %2s", SEATS[declarer], DENOMINATIONS[strain]);
     if (code != 1)
         printf(" code %d", code);
@@ -114,7 +134,7 @@ static int print_position(int count, char **words)
         deal.currentTrickRank[i] = (int)(strchr(RANKS, words[3 + i][1]) - RANKS) + 2;
         remove_card(deal.remainCards, (deal.first + i) % 4, suit, words[3 + i][1]);
     }
-    int code = SolveBoardPBN(deal, -1, 3, 1, &cards, 0);
+    int code = solve(deal, &cards);
     if (code != 1)
         return printf("dds_answers: %d\n", code), 1;
     printf("%c to play\n", SEATS[(deal.first + count - 3) % 4]);
