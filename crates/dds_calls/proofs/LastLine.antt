@@ -62,9 +62,9 @@ single_card deal player values least line single is =
       | inr clear ↦ omega (arith, clear, bit_at-lt line.equals i, bit_at-zero i)
     ])
 
-pub one_line : (ask : Ask) (left : ℕ) (deal : Deal) (player : Seat) (values : List CardValue) (told : FutureTricks) → AreTold ask left deal player values told → left ≤ 4 → length values ≡ 1 → HasOneLine told
-one_line ask left deal player values told are few single =
-    let last : are.rule ≡ LastTrick = is_last ask left (length are.groups) values are.rule few are.is_rule in
+pub one_line : (ask : Ask) (left groups : ℕ) (deal : Deal) (player : Seat) (values : List CardValue) (told : FutureTricks) → AreTold ask left groups deal player values told → left ≤ 4 → length values ≡ 1 → HasOneLine told
+one_line ask left groups deal player values told are few single =
+    let last : are.rule ≡ LastTrick = is_last ask left groups values are.rule few are.is_rule in
     let none : least_of are.rule ≡ 0 = ap least_of last in
     let lines = single_line deal player values (least_of are.rule) are.lines single none are.are_lines in
     let all : are.is_written.shown ≡ are.lines =

@@ -13,6 +13,7 @@ pub mod PutBack
 pub mod ReadingLaws
 pub mod TellLaws
 pub mod TextHands
+pub mod ToldLaws
 pub mod TrickCards
 pub mod TrickCounts
 pub mod WholeLines

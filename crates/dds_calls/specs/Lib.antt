@@ -12,3 +12,4 @@ pub mod Sections
 pub mod Tables
 pub mod Telling
 pub mod Texts
+pub mod Touching

@@ -21,6 +21,7 @@ mod sections;
 mod tables;
 mod telling;
 mod texts;
+mod touching;
 mod trick_counts;
 mod trick_layouts;
 mod trick_reading;

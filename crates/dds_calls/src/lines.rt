@@ -35,7 +35,7 @@ fn is_other(owner: Option<Seat>, player: Seat) -> bool
 }
 
 /// Returns whether no card between these ranks was another seat's when the trick began.
-fn is_clear(layout: &Layout, player: Seat, suit: Suit, low: Rank, high: Rank) -> bool
+pub(crate) fn is_clear(layout: &Layout, player: Seat, suit: Suit, low: Rank, high: Rank) -> bool
     ensures { MatchBool result
         (IsClearBetween layout.now player suit low high)
         (IsClearBetween layout.now player suit low high → ⊥) }

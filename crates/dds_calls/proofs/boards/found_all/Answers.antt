@@ -2,12 +2,12 @@
 use Rattle.std.proofs.Common.{sym, subst}
 use Rattle.play_rules.specs.Position.{Position}
 use Rattle.dds_calls.specs.Readings.{IsRead}
-use Rattle.dds_calls.proofs.boards.told_of.Goals as goal
+use Rattle.dds_calls.proofs.boards.found_all.Goals as goal
 
 pub returns-in_default : goal.returns-in_default
-returns-in_default c = ((c.in-Ok.trick, c.in-Ok.ensures.is_position), c.in-Ok.ensures.clear)
+returns-in_default c = ((c.args.trick, c.requires.is_position), c.requires.clear)
 
 pub told_in-requires : goal.told_in-requires
 told_in-requires c =
     let found = rw c.in-Ok-Some.field-0-is at c.in-Ok-Some.ensures in
-    subst (λ (p : Position). IsRead c.args.board.now c.args.ask p) (sym found.shown.position_is) c.in-Ok.ensures
+    subst (λ (p : Position). IsRead c.args.board.now c.args.ask p) (sym found.shown.position_is) c.requires

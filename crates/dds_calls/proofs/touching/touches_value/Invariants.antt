@@ -1,0 +1,9 @@
+-- The card touches none that has one of the values so far.
+use Rattle.std.proofs.Common.{◌<◌, ℕ, get_or}
+use Rattle.card_values.specs.declared.values.CardValue.{CardValue}
+use Rattle.dds_calls.specs.Touching.{Touch}
+use Rattle.dds_calls.proofs.touching.touches_value.Given as goal
+
+abbrev pub invariant-loop-value : goal.invariant-loop-value
+invariant-loop-value l =
+    (k : ℕ) → k < l.value-index → (d : CardValue) → Touch l.fn.layout l.fn.player (get_or l.fn.values k d).card l.fn.card → ⊥
