@@ -1,5 +1,6 @@
-/* Calls of each function with hostile numbers, hands and texts, a line per call. `beside` makes them in child processes,
-   since DDS crashes on some; `alone` makes all in this one, and tells where a fault leaves other results than zeros.
+/* Calls of each function with hostile numbers, hands and texts, a line per call. `beside` makes them in child
+   processes, since DDS crashes on some; `alone` makes all in this one, and tells where a fault leaves other results
+   than zeros.
    Usage: hostile SEED CALLS beside|alone. A line has a word if the two libraries need not agree:
    `lax` for texts and tricks that DDS takes and ours refuses, or numbers that DDS does not look at;
    `hot` for tables in which both sides take more than 13 tricks together, where pars depend on who calls first. */

@@ -1,5 +1,5 @@
-//! What a call claims of cards that lead to the most tricks: one number, the begun nodes that show it after each card of
-//! a run, and the one which shows that no card leads to more.
+//! What a call claims of cards that lead to the most tricks: one number, the begun nodes that show it after each card
+//! of a run, and the one which shows that no card leads to more.
 
 use crate::begun::Begun;
 use crate::card_claims::{Candidate, SideNodes, add_candidates, write_side};
@@ -19,9 +19,9 @@ struct Hold {
     node: Option<Node>,
 }
 
-/// The claims for the cards of a run that lead to the most tricks after those of the trick, with their graphs. The first
-/// claim has the node which shows that no card leads to more. None where a graph can't be finished, the steps are not
-/// enough or memory ran out.
+/// The claims for the cards of a run that lead to the most tricks after those of the trick, with their graphs. The
+/// first claim has the node which shows that no card leads to more. None where a graph can't be finished, the steps are
+/// not enough or memory ran out.
 pub(crate) fn best_bundle_of(
     search: &mut Search,
     trump: Trump,
@@ -56,8 +56,8 @@ fn candidates_of(search: &Search, begun: &Begun, ours: i32) -> Result<Vec<Candid
     Ok(candidates)
 }
 
-/// The run whose cards lead to the tricks of the candidates: one that is known from what is remembered, else one that is
-/// found. None where no steps are left or memory ran out.
+/// The run whose cards lead to the tricks of the candidates: one that is known from what is remembered, else one that
+/// is found. None where no steps are left or memory ran out.
 fn best_run(search: &mut Search, candidates: &Vec<Candidate>) -> Option<CardSet> {
     let steps = search.steps;
     search.steps = 0;
