@@ -1,7 +1,10 @@
-# Cuts from evidence the sections that claim numbers: `awk -v room=.. [-v each=1] -f cut.awk NUMBERS EVIDENCE`, NUMBERS
+# Cuts from evidence the sections that claim numbers: `into=.. awk [-v each=1] -f cut.awk NUMBERS - <EVIDENCE`, NUMBERS
 # as boards.awk prints them. A section that claims a number which none before it claims goes to `room/N.dde`, N being
-# the first board of its deal. With `each`, each section that claims a number goes to its own file, `room/N.M.dde`.
-BEGIN { FS = "\t" }
+# the first board of its deal. With `each`, each section that claims a number goes to its own file, `room/1` and so on.
+BEGIN {
+    FS = "\t"
+    room = ENVIRON["into"] # since -v would read escapes in it
+}
 FNR == NR {
     if (!($2 in board)) board[$2] = $1
     tricks[$2, $3, $4] = $5
@@ -38,6 +41,6 @@ function claim(    word, key) {
 }
 
 function open_file() {
-    file = room "/" board[deal] (each ? "." ++sections : "") ".dde"
+    file = room "/" (each ? ++sections : board[deal] ".dde")
     printf "%s", head >>file
 }

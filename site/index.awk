@@ -1,5 +1,6 @@
 # Writes the page of a site: a sheet, with a line more for each board whose place is in `places`, a script, and a policy
-# that allows it. `style` is a file with the style of those lines, `hash` its SHA-256 in base64.
+# that allows it. The variable `style` of the environment names a file with the style of those lines, `hash` is its
+# SHA-256 in base64.
 BEGIN {
     RS = "<"
     ORS = ""
@@ -14,7 +15,7 @@ NR == 1 { print; next }
 }
 /^\/head>/ {
     print "<meta name=\"generator\" content=\"ddfarm-site\">\n<style>"
-    getline text <style
+    getline text <ENVIRON["style"]
     sub(/\n$/, "", text)
     print text "</style>\n<script type=\"module\" src=\"check.js\"></script>\n"
 }
