@@ -4,6 +4,7 @@ import { Checking, EvidenceFault } from "./checking.js";
 import { Diagram } from "./diagram.js";
 import { clearMarks, markOther, markShown, readDeal, readNumbers } from "./sheet.js";
 
+const HINT = "Press a ✓ to see the play. Par is not checked here.";
 const checking = new Checking();
 const diagram = new Diagram();
 /** The boards that wait for their check, the one under way first. */
@@ -36,31 +37,29 @@ class Offer {
 
     async check(signal) {
         clearMarks(this.article);
-        this.say("loading", true);
-        checking.loaded = null;
-        await checking.load(this.file, signal);
         const deal = readDeal(this.article);
         const numbers = readNumbers(this.article).map(plain);
         if (deal === null || numbers.length === 0) {
-            throw new EvidenceFault("the page has no deal or no table here");
+            throw new EvidenceFault(`the ${deal === null ? "deal" : "table"} on the page has another form`);
         }
-        let shown = 0, nodes = 0;
+        this.say("loading", true);
+        checking.loaded = null;
+        let shown = 0;
         const hears = message => {
             if (message.kind === "progress") {
-                nodes = message.nodes;
-                this.status.textContent = `${Math.round(100 * message.share)} %, ${nodes} nodes`;
+                this.status.textContent = `${Math.round(100 * message.share)} %, ${message.nodes} nodes`;
                 return;
             }
             shown += this.mark(message, deal) ? 1 : 0;
         };
-        const { others } = await checking.ask({ kind: "check", deal, numbers }, hears);
+        const { others } = await checking.ask(this.file, { kind: "check", deal, numbers }, signal, hears);
         for (const other of others) {
             const number = this.find(other, deal);
             if (number !== undefined) {
                 markOther(this.article, number, other.why);
             }
         }
-        this.say(`${shown} of ${numbers.length} numbers are shown`, false);
+        this.say(`${shown} of ${numbers.length} numbers proved here, on your device. ${HINT}`, false);
     }
 
     /** Marks a number that was shown. */
@@ -76,10 +75,9 @@ class Offer {
     async showHow(number, deal) {
         stop([...queue]);
         const name = this.article.querySelector("h2").textContent;
-        await diagram.open(name, number, deal, async () => {
-            await checking.load(this.file);
-            await checking.ask({ kind: "open", deal, of: number });
-            return question => checking.ask(question);
+        await diagram.open(name, number, deal, async signal => {
+            await checking.ask(this.file, { kind: "open", deal, of: number }, signal);
+            return question => checking.ask(this.file, question, signal);
         });
     }
 }
@@ -108,7 +106,6 @@ function stop(offers) {
     });
     if (isUnderWay) {
         abort.abort();
-        checking.end();
     }
 }
 

@@ -2,6 +2,7 @@
 
 /** The most bytes of a file of evidence. */
 const MOST_BYTES = 64 << 20;
+const NEEDED = "Chromium 102, Firefox 114 or Safari 16.4";
 
 /** A file is missing or too large, or the worker says that something is wrong with it. */
 export class EvidenceFault extends Error {}
@@ -36,27 +37,44 @@ export class Checking {
         this.number = 0;
     }
 
-    /** Starts the worker, if there is none. */
     start() {
         this.worker = new Worker("worker.js", { type: "module" });
         this.worker.addEventListener("message", ({ data }) => this.hear(data));
-        this.worker.addEventListener("error", () => this.end(new EvidenceFault("the checker cannot be loaded")));
+        this.worker.addEventListener("error", () => this.end(new EvidenceFault(
+            `the checker cannot be loaded. It needs ${NEEDED}`)));
     }
 
-    /** Asks the worker. `hears` is called with each message before the answer. */
-    ask(question, hears, transfer = []) {
+    /**
+     * Asks the worker about a file, which is loaded first if the worker has another. `hears` is called with each
+     * message before the answer. A signal ends the worker if the question is under way.
+     */
+    async ask(file, question, signal, hears) {
+        await this.load(file, signal);
+        return this.send({ file, ...question }, signal, hears);
+    }
+
+    async send(question, signal, hears, transfer = []) {
+        signal.throwIfAborted();
         if (this.worker === null) {
             this.start();
         }
         const number = ++this.number;
-        this.worker.postMessage({ number, ...question }, transfer);
-        return new Promise((answer, refuse) => this.asked.set(number, { hears, answer, refuse }));
+        const stop = () => this.end();
+        signal.addEventListener("abort", stop);
+        try {
+            return await new Promise((answer, refuse) => {
+                this.asked.set(number, { hears, answer, refuse });
+                this.worker.postMessage({ number, ...question }, transfer);
+            });
+        } finally {
+            signal.removeEventListener("abort", stop);
+        }
     }
 
     hear(message) {
         const { hears, answer, refuse } = this.asked.get(message.number);
         if (message.kind === "shown" || message.kind === "progress") {
-            hears(message);
+            hears?.(message);
             return;
         }
         this.asked.delete(message.number);
@@ -69,6 +87,9 @@ export class Checking {
 
     /** Has the worker load a file, if that isn't the one it has. */
     async load(file, signal) {
+        if (typeof Worker === "undefined" || typeof DecompressionStream === "undefined") {
+            throw new EvidenceFault(`this browser is too old: a check needs ${NEEDED}`);
+        }
         if (this.loaded === file) {
             return;
         }
@@ -77,10 +98,10 @@ export class Checking {
         try {
             bytes = await bytesOf(file, signal);
         } catch (fault) {
-            throw fault instanceof EvidenceFault || signal?.aborted ? fault :
+            throw fault instanceof EvidenceFault || signal.aborted ? fault :
                 new EvidenceFault(`the file ${file} cannot be loaded`);
         }
-        await this.ask({ kind: "load", bytes }, undefined, [bytes]);
+        await this.send({ kind: "load", file, bytes }, signal, undefined, [bytes]);
         this.loaded = file;
     }
 

@@ -2,12 +2,11 @@
 // one of them.
 import { readLayout, sideOf, sizeOf } from "./patterns.js";
 import { rankOf, suitOf } from "./play.js";
-import { SEAT_NAMES, SUIT_NAMES, SUIT_SIGNS, button, element, nameOf } from "./sheet.js";
+import { SEAT_NAMES, SUIT_NAMES, SUIT_SIGNS, button, element, isRed, nameOf } from "./sheet.js";
 
 const RANK_TEXTS = ["2", "3", "4", "5", "6", "7", "8", "9", "10", "J", "Q", "K", "A"];
 const SIDE_NAMES = ["North and South", "East and West"];
 const PLACES = ["north", "east", "south", "west"];
-const isRed = suit => suit === 1 || suit === 2;
 
 const cardName = card => `${RANK_TEXTS[rankOf(card)]} of ${SUIT_NAMES[suitOf(card)]}`;
 
@@ -22,31 +21,36 @@ export class Diagram {
     constructor() {
         this.dialog = element("dialog", "diagram");
         this.dialog.setAttribute("aria-labelledby", "diagram-title");
+        /** Ends the questions of the number that is open. */
+        this.ends = new AbortController();
+        this.dialog.addEventListener("close", () => this.dialog.open || this.ends.abort());
         document.body.append(this.dialog);
     }
 
     /** Opens with a number. `prepare` loads and checks its evidence, and gives what asks the worker. */
     async open(board, number, deal, prepare) {
+        this.ends.abort();
+        this.ends = new AbortController();
+        const { signal } = this.ends;
         this.number = number;
         this.layout = readLayout(deal);
-        this.ask = null;
-        this.build(`Board ${board}. ${nameOf(number)}`);
+        this.build(board);
         this.show(this.layoutCards(new Set()), [], 0);
         this.status.textContent = "loading";
         this.dialog.showModal();
         await this.guarded(async () => {
-            const ask = await prepare();
-            if (this.number === number && this.dialog.open) {
-                this.ask = ask;
-                this.choices.hidden = false;
-                await this.how();
-            }
+            const ask = await prepare(signal);
+            signal.throwIfAborted();
+            this.ask = ask;
+            this.choices.hidden = false;
+            await this.how();
         });
     }
 
     /** Makes the parts of the dialog anew. What the reader may choose is hidden until the evidence is checked. */
-    build(text) {
-        const title = element("h2", "", text);
+    build(board) {
+        // The name has an element of its own: whatever it is, the number after it is read as it stands.
+        const title = element("h2", "", "Board ", element("bdi", "", board), `. ${nameOf(this.number)}`);
         title.id = "diagram-title";
         this.table = element("div", "table");
         this.status = element("p", "say");
@@ -56,16 +60,18 @@ export class Diagram {
             button("Try as defenders", () => this.try("declarer")),
             button("Try as declarer", () => this.try("defenders")));
         this.choices.hidden = true;
-        const close = element("p", "choices", button("Close", () => this.dialog.close()));
-        this.dialog.replaceChildren(title, this.table, this.status, this.moves, this.choices, close);
+        const close = button("×", () => this.dialog.close(), "close");
+        close.setAttribute("aria-label", "Close");
+        this.dialog.replaceChildren(close, title, this.table, this.status, this.moves, this.choices);
     }
 
     /** Says what goes wrong in the dialog itself. */
     async guarded(step) {
+        const { status } = this;
         try {
             await step();
         } catch (fault) {
-            this.status.textContent = fault.message;
+            status.textContent = fault.message;
         }
     }
 

@@ -6,25 +6,43 @@ import { FormFault } from "./form.js";
 import { readLayout } from "./patterns.js";
 import { Play } from "./play.js";
 
-/** The evidence of the board that was loaded last. */
-let evidence = new Uint8Array(0);
+/** Progress is reported once in so many milliseconds, however many pieces or nodes are passed. */
+const PAUSE = 100;
+
+/** The file that was loaded last, and its evidence. */
+let loaded = { file: null, evidence: null };
 /** The number that is played, and what shows it. */
 let opened = null;
 
+/** The evidence of a file that a question names. */
+function evidenceOf(file) {
+    if (loaded.file !== file) {
+        throw new FormFault("the evidence of another board was loaded meanwhile");
+    }
+    return loaded.evidence;
+}
+
 const answers = {
     /** Takes the file of a board. */
-    async load({ bytes }) {
+    async load({ file, bytes }) {
         opened = null;
-        evidence = new Uint8Array(0);
-        evidence = await unpack(new Uint8Array(bytes));
+        loaded = { file: null, evidence: null };
+        loaded = { file, evidence: await unpack(new Uint8Array(bytes)) };
         return { kind: "loaded" };
     },
 
     /** Checks the numbers of a deal: `shown` for each that is, as soon as it is, and at last the others. */
-    check({ deal, numbers }, say) {
+    check({ file, deal, numbers }, say) {
+        const evidence = evidenceOf(file);
         const board = new Board(deal, numbers);
-        let nodes = 0, passed = 0;
-        const sayHowFar = () => say({ kind: "progress", nodes, share: passed / evidence.length });
+        let nodes = 0, passed = 0, last = performance.now();
+        const sayHowFar = () => {
+            const now = performance.now();
+            if (now - last >= PAUSE) {
+                last = now;
+                say({ kind: "progress", nodes, share: passed / evidence.length });
+            }
+        };
         board.check(evidence, {
             shown: (of, parts) => say({ kind: "shown", of: plain(of), nodes: nodesOf(parts) }),
             progress: count => { nodes += count; sayHowFar(); },
@@ -34,10 +52,12 @@ const answers = {
     },
 
     /** Checks one number, and keeps what shows it for `line` and `turn`. */
-    open({ deal, of }) {
+    open({ file, deal, of }) {
         const board = new Board(deal, [of]);
         opened = null;
-        board.check(evidence, { shown: (_, parts) => { opened = { ...of, layout: readLayout(deal), parts }; } });
+        board.check(evidenceOf(file), {
+            shown: (_, parts) => { opened = { ...of, layout: readLayout(deal), parts }; },
+        });
         return opened === null ? { kind: "failed", why: board.others()[0].why } : { kind: "opened" };
     },
 

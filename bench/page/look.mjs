@@ -161,7 +161,8 @@ async function lookAtStop() {
 }
 
 const press = name =>
-    `[...document.querySelectorAll('dialog button')].find(part => part.textContent === "${name}").click()`;
+    "[...document.querySelectorAll('dialog button')].find(part => part.textContent === " +
+    `"${name}" || part.ariaLabel === "${name}").click()`;
 
 /** Opens the numbers of the first board: the line of play, and plays with random cards against both sides. */
 async function lookAtPlay() {

@@ -3,8 +3,9 @@
 
 Usage: bench/page/sections.py PROGRAM BOARD EVIDENCE STEP SEED >CASES. BOARD is a PBN file with one deal, whose numbers
 EVIDENCE shows. One byte in STEP is changed, in turn over the sections of the deal, each alone in its file; and sections
-are joined, cut off and said twice. A case is as in cases.py, its words the deal and its numbers, and its line how many
-results are shown, how many pieces are damaged, and where the first begins.
+are joined, cut off and said twice. Then each number alone is another than the evidence shows. A case is as in cases.py,
+its words the deal and its numbers, and its line how many of them are shown, how many pieces are damaged, and where the
+first begins.
 """
 import random
 import re
@@ -34,6 +35,22 @@ def line_of(said):
         f", at byte {damage[2]}" if damage else "")
 
 
+def with_repeats(section):
+    """The section with the last claim's declarer as the one before, or the claim itself twice."""
+    lines = section.splitlines(True)
+    last = 3 + int(lines[3].split()[1])
+    yield b"".join([*lines[:last], lines[last - 1][:1] + lines[last][1:], *lines[last + 1:]])
+    yield b"".join([*lines[:last - 1], lines[last], *lines[last:]])
+
+
+def other_tables(numbers):
+    """The numbers with one of them changed, which leaves 19 that the evidence shows."""
+    for place, number in enumerate(numbers):
+        declarer, trump, tricks = number.split(" ")
+        for other in {(int(tricks) + 1) % 14, (int(tricks) + 13) % 14}:
+            yield [*numbers[:place], f"{declarer} {trump} {other}", *numbers[place + 1:]]
+
+
 def texts(sections, step, seed):
     source = random.Random(seed)
     whole = b"".join(sections)
@@ -42,6 +59,7 @@ def texts(sections, step, seed):
                 b"".join(reversed(sections))]
     for section in sections:
         yield from (section.replace(old, new) for old, new in EDITS)
+        yield from with_repeats(section)
         yield from (changed(source, section, place) for place in range(0, len(section), step))
         for _ in range(len(section) // step // 10):
             lines = section.splitlines(True)
@@ -59,8 +77,14 @@ def main():
     numbers = [f"{row[0]} {row[1]} {row[2]}" for row in re.findall(r"(?m)^([NESW]) +(NT|[SHDC]) +(\d+)$", page)]
     sections = [piece for piece in pieces if piece.split(b"\n")[1] == b"deal " + deal.encode()]
     for text in texts(sections, int(step), seed):
-        line = line_of(audit(program, board, text))
-        sys.stdout.buffer.write(f"{len(text)}\t0\t{deal}|{','.join(numbers)}\t{line}\n".encode() + text)
+        write_case(deal, numbers, line_of(audit(program, board, text)), text)
+    whole = b"".join(sections)
+    for table in other_tables(numbers):
+        write_case(deal, table, "19 shown, 0 damaged", whole)
+
+
+def write_case(deal, numbers, line, text):
+    sys.stdout.buffer.write(f"{len(text)}\t0\t{deal}|{','.join(numbers)}\t{line}\n".encode() + text)
 
 
 main()
