@@ -22,7 +22,7 @@ use Rattle.card_values.proofs.BestLaws.{apart}
 use Rattle.card_values.proofs.ClaimLaws.{graph_is}
 use Rattle.card_values.proofs.ShowLaws.{shown_wins}
 use Rattle.best_cards.specs.BestCards.{IsBestCard, AreBestCards}
-use Rattle.best_cards.specs.Judging.{hold_claim, IsHeldTo, IsReached, AreReached}
+use Rattle.best_cards.specs.Judging.{hold_claim, IsHeldTo, IsShownCard, AreShownCards}
 
 module _ (position : Position) (graphs : CardGraphs) (claims : List CardClaim) (first : CardClaim) (ns : IsGraph graphs.ns.now) (ew : IsGraph graphs.ew.now) (progress : IsInProgress position) (held : IsHeldTo position graphs first) where
   -- the other side wins the others of the tricks
@@ -35,7 +35,7 @@ module _ (position : Position) (graphs : CardGraphs) (claims : List CardClaim) (
   unfinished = omega (arith, progress.few, progress.reached.layout.some_cards)
 
   -- the side to play wins the tricks after a card that has a claim
-  player_reaches : (value : CardValue) → IsReached position graphs claims first.tricks value → CanWin position.opening (side_to_play position.opening position.history) first.tricks (position.history ++ value.card ∷ [])
+  player_reaches : (value : CardValue) → IsShownCard position graphs claims first.tricks value → CanWin position.opening (side_to_play position.opening position.history) first.tricks (position.history ++ value.card ∷ [])
   player_reaches value reached =
       let player = player_claim position value.card first.tricks in
       let legal = IsLegalHistory-push position.opening position.history value.card progress.reached.legal reached.can in
@@ -45,7 +45,7 @@ module _ (position : Position) (graphs : CardGraphs) (claims : List CardClaim) (
   player_wins_before : (card : Card) (tricks : ℕ) → CanPlay position.opening position.history card → CanWin position.opening (side_to_play position.opening position.history) tricks (position.history ++ card ∷ []) → CanWin position.opening (side_to_play position.opening position.history) tricks position.history
   player_wins_before card tricks can win = (by_own_card position.opening (side_to_play position.opening position.history) tricks position.history progress.reached.layout progress.reached.legal unfinished refl).1 (card, can, win)
 
-  is_best : (value : CardValue) → IsReached position graphs claims first.tricks value → IsBestCard position first.tricks value
+  is_best : (value : CardValue) → IsShownCard position graphs claims first.tricks value → IsBestCard position first.tricks value
   is_best value reached =
       let side = side_to_play position.opening position.history in
       record {
@@ -58,14 +58,14 @@ module _ (position : Position) (graphs : CardGraphs) (claims : List CardClaim) (
         });
       }
 
-  pub are_best : (values : List CardValue) → AreReached position graphs claims first.tricks values → 1 ≤ length values → AreBestCards position values
+  pub are_best : (values : List CardValue) → AreShownCards position graphs claims first.tricks values → 1 ≤ length values → AreBestCards position values
   are_best [] reached some = absurd (omega (arith, some))
   are_best (value ∷ rest) reached some =
-      let here = All-head (IsReached position graphs claims first.tricks) value rest reached.each in
+      let here = All-head (IsShownCard position graphs claims first.tricks) value rest reached.each in
       record {
         best = first.tricks;
         some = some;
-        each = All-weaker (IsReached position graphs claims first.tricks) (IsBestCard position first.tricks) is_best (value ∷ rest) reached.each;
+        each = All-weaker (IsShownCard position graphs claims first.tricks) (IsBestCard position first.tricks) is_best (value ∷ rest) reached.each;
         in_order = reached.in_order;
         value_is = record {
           within = held.within;

@@ -10,7 +10,7 @@ use Rattle.card_values.specs.declared.claims.CardGraphs.{CardGraphs}
 use Rattle.card_values.specs.declared.values.CardValue.{CardValue}
 use Rattle.card_values.specs.CardValues.{cards_of}
 use Rattle.card_values.specs.Judging.{claim_for}
-use Rattle.best_cards.specs.Judging.{IsReached, AreReached}
+use Rattle.best_cards.specs.Judging.{IsShownCard, AreShownCards}
 
 -- a card comes after those before it in the list
 pub come_earlier : (cards : List Card) (place : ℕ) (default : Card) → AreInOrder cards → place < length cards → (card : Card) → Contains (take place cards) card → listed_place card < listed_place (get_or cards place default)
@@ -24,7 +24,7 @@ come_earlier (first ∷ rest) (suc place) default order less card (suc k, within
 
 -- the values are those of the cards with claims among these cards
 pub record SoFar (position : Position) (graphs : CardGraphs) (claims : List CardClaim) (tricks : ℕ) (cards : List Card) (values : List CardValue) : Type 0 where
-  pub each : All (IsReached position graphs claims tricks) values
+  pub each : All (IsShownCard position graphs claims tricks) values
   pub all : (card : Card) → Contains cards card → claim_for claims card ≢ None → Contains (cards_of values) card
   pub listed : (card : Card) → Contains (cards_of values) card → Contains cards card
   pub in_order : AreInOrder (cards_of values)
@@ -32,7 +32,7 @@ pub record SoFar (position : Position) (graphs : CardGraphs) (claims : List Card
 
 pub nothing_yet : (position : Position) (graphs : CardGraphs) (claims : List CardClaim) (tricks : ℕ) → SoFar position graphs claims tricks [] []
 nothing_yet position graphs claims tricks = record {
-  each = All-nil (IsReached position graphs claims tricks);
+  each = All-nil (IsShownCard position graphs claims tricks);
   all = λ card h some. absurd (omega (arith, h.1));
   listed = λ card h. h;
   in_order = tt;
@@ -44,9 +44,9 @@ cards_pushed values value = map-append (λ (v : CardValue). v.card) values (valu
 
 -- one more card, which has a claim
 pub one_more : (position : Position) (graphs : CardGraphs) (claims : List CardClaim) (tricks : ℕ) (cards : List Card) (values : List CardValue) (value : CardValue) → SoFar position graphs claims tricks cards values →
-    IsReached position graphs claims tricks value → ((card : Card) → Contains cards card → listed_place card < listed_place value.card) → SoFar position graphs claims tricks (cards ++ value.card ∷ []) (values ++ value ∷ [])
+    IsShownCard position graphs claims tricks value → ((card : Card) → Contains cards card → listed_place card < listed_place value.card) → SoFar position graphs claims tricks (cards ++ value.card ∷ []) (values ++ value ∷ [])
 one_more position graphs claims tricks cards values value so reached later = record {
-  each = All-push (IsReached position graphs claims tricks) values value so.each reached;
+  each = All-push (IsShownCard position graphs claims tricks) values value so.each reached;
   all = λ card h some. subst (λ (l : List Card). Contains l card) (sym (cards_pushed values value)) (of_all card some (Contains-push_cases cards value.card card h));
   listed = λ card h. of_listed card (Contains-push_cases (cards_of values) value.card card (subst (λ (l : List Card). Contains l card) (cards_pushed values value) h));
   in_order = subst (λ (l : List Card). AreInOrder l) (sym (cards_pushed values value)) (AreInOrder-push (cards_of values) value.card so.in_order (λ other h. later other (so.listed other h)));
@@ -78,7 +78,7 @@ one_without position graphs claims tricks cards values card so none = record {
 
 -- the next of the cards that may be played has a claim
 pub next_claimed : (position : Position) (graphs : CardGraphs) (claims : List CardClaim) (tricks : ℕ) (cards : List Card) (place : ℕ) (default : Card) (values more : List CardValue) → AreInOrder cards → place < length cards → SoFar position graphs claims tricks (take place cards) values →
-    IsReached position graphs claims tricks (record { card = get_or cards place default; tricks = tricks }) → more ≡ values ++ (record { card = get_or cards place default; tricks = tricks }) ∷ [] → SoFar position graphs claims tricks (take (place + 1) cards) more
+    IsShownCard position graphs claims tricks (record { card = get_or cards place default; tricks = tricks }) → more ≡ values ++ (record { card = get_or cards place default; tricks = tricks }) ∷ [] → SoFar position graphs claims tricks (take (place + 1) cards) more
 next_claimed position graphs claims tricks cards place default values more order less so reached is =
     let value : CardValue = record { card = get_or cards place default; tricks = tricks } in
     subst (λ (l : List CardValue). SoFar position graphs claims tricks (take (place + 1) cards) l) (sym is)
@@ -93,7 +93,7 @@ next_unclaimed position graphs claims tricks cards place default values less so 
     (one_without position graphs claims tricks (take place cards) values (get_or cards place default) so none)
 
 -- after the last card
-pub all_reached : (position : Position) (graphs : CardGraphs) (claims : List CardClaim) (tricks : ℕ) (cards : List Card) (values : List CardValue) → AreLegalCards position cards → SoFar position graphs claims tricks cards values → AreReached position graphs claims tricks values
+pub all_reached : (position : Position) (graphs : CardGraphs) (claims : List CardClaim) (tricks : ℕ) (cards : List Card) (values : List CardValue) → AreLegalCards position cards → SoFar position graphs claims tricks cards values → AreShownCards position graphs claims tricks values
 all_reached position graphs claims tricks cards values legal so = record {
   each = so.each;
   all = λ card can some. so.all card (legal.all card can) some;

@@ -43,7 +43,7 @@ IsHoldFault position graphs claim (Others fault) =
 
 -- ---- the side to play
 -- the card may be played, and the first claim for it shows that the side to play wins this many tricks after it
-pub record IsReached (position : Position) (graphs : CardGraphs) (claims : List CardClaim) (tricks : ℕ)
+pub record IsShownCard (position : Position) (graphs : CardGraphs) (claims : List CardClaim) (tricks : ℕ)
     (value : CardValue) : Type 0 where
   pub can : CanPlay position.opening position.history value.card
   pub claim : CardClaim
@@ -53,9 +53,9 @@ pub record IsReached (position : Position) (graphs : CardGraphs) (claims : List 
       (player_claim position value.card tricks) claim.player
 
 -- this many tricks are reached with each card that has a claim and may be played, by suit and with ranks falling
-pub record AreReached (position : Position) (graphs : CardGraphs) (claims : List CardClaim) (tricks : ℕ)
+pub record AreShownCards (position : Position) (graphs : CardGraphs) (claims : List CardClaim) (tricks : ℕ)
     (values : List CardValue) : Type 0 where
-  pub each : All (IsReached position graphs claims tricks) values
+  pub each : All (IsShownCard position graphs claims tricks) values
   pub all : (card : Card) → CanPlay position.opening position.history card → claim_for claims card ≢ None
       → Contains (cards_of values) card
   pub in_order : AreInOrder (cards_of values)
@@ -79,7 +79,7 @@ pub record AreShownBest (position : Position) (graphs : CardGraphs) (claims : Li
   pub rest : List CardClaim
   pub claims_are : claims ≡ first ∷ rest
   pub held : IsHeldTo position graphs first
-  pub reached : AreReached position graphs claims first.tricks values
+  pub reached : AreShownCards position graphs claims first.tricks values
 
 -- the first claim of a list has this property
 abbrev pub OfFirst : List CardClaim → (CardClaim → Type 0) → Type 0

@@ -3,7 +3,8 @@
 ghost use Rattle.std.specs.Prelude.{◌≡◌, MatchResult};
 ghost use Rattle.card_values.specs.AfterClaims.{ShowsAfter, IsAfterFault};
 ghost use Rattle.card_values.specs.Judging.{graph_for, player_claim};
-ghost use Rattle.best_cards.specs.Judging.{AreReached, AreShownBest, IsBestFault, IsHeldTo, IsHoldFault, IsReachFault};
+ghost use Rattle.best_cards.specs.Judging.{AreShownCards, AreShownBest, IsBestFault, IsHeldTo};
+ghost use Rattle.best_cards.specs.Judging.{IsHoldFault, IsReachFault};
 
 use crate::cards_found::BestCards;
 use crate::faults::BestFault;
@@ -82,7 +83,7 @@ fn values_of(
     tricks: u8,
 ) -> Result<ArrayVec<CardValue, 13>, BestFault>
     ensures { MatchResult result
-        (λ values. AreReached trick.now graphs.now claims.now tricks values.items)
+        (λ values. AreShownCards trick.now graphs.now claims.now tricks values.items)
         (IsReachFault trick.now graphs.now claims.now tricks) }
 {
     let cards = trick.legal();
