@@ -46,7 +46,7 @@ pub(crate) fn best_bundle_of(
     bundle_of_run(search, player, &best, nodes, hold)
 }
 
-/// The cards that may be played next, as if each led to so many tricks for North and South.
+/// The cards that may be played next, each with this number of tricks for North and South.
 fn candidates_of(search: &Search, begun: &Begun, ours: i32) -> Result<Vec<Candidate>, AllocError> {
     let mut candidates = Vec::new(search.alloc);
     add_candidates(search, begun, &mut candidates)?;
@@ -113,7 +113,7 @@ fn those_of(
     Ok(those)
 }
 
-/// Writes the graph of a side with the begun node which shows that it wins so many tricks, whatever is played next.
+/// Writes the graph of a side with the begun node which shows that it wins this many tricks, whatever is played next.
 fn write_hold(
     search: &mut Search,
     trump: Trump,

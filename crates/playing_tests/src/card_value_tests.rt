@@ -83,7 +83,7 @@ fn slow_value(table: &Table) -> u8 {
     value
 }
 
-/// How many of so many tricks a side takes at this table.
+/// How many tricks a side takes at this table, if the layout has `size` of them.
 pub(crate) fn slow_tricks(table: &Table, size: u8, side: Side) -> u8 {
     let ours = slow_value(table);
     match side {
