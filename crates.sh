@@ -9,16 +9,19 @@ copies="$folder/out/copies"
 # Its time is that of the last build's beginning.
 stamp="$folder/out/$crate.built"
 
-# The crate, and all that it stands on, in the order of how many stand above them in a row, the most first. So each
-# comes after those that it stands on. crates.txt has it the same way. A second word before the colon is the kind.
+# The crate, and all that it stands on, in the order in which they are proved: first those above which the most lines of
+# source stand in a row, its own too. So each comes after those that it stands on. crates.txt has it the same way. A
+# second word before the colon is the kind.
 crates_below() {
-    tac "$root/crates.txt" | awk -F ': *' -v crate="$crate" '
-        BEGIN { above[crate] = 0 }
+    (cd "$root" && find crates/*/src -name '*.rt' -exec wc -l {} + && tac crates.txt) | awk -F ': *' -v crate="$crate" '
+        BEGIN { above[crate] = 1 }
+        split($0, file, "crates/") == 2 { lines[substr(file[2], 1, index(file[2], "/") - 1)] += file[1]; next }
         { sub(/ .*/, "", $1) }
         $1 in above {
-            print above[$1], $1
+            row = above[$1] + lines[$1] + 1
+            print row, $1
             count = split($2, below, " ")
-            for (i = 1; i <= count; i++) if (above[below[i]] <= above[$1]) above[below[i]] = above[$1] + 1
+            for (i = 1; i <= count; i++) if (above[below[i]] < row) above[below[i]] = row
         }' | sort -s -rn -k 1,1 | cut -d ' ' -f 2
 }
 
@@ -83,23 +86,28 @@ share() {
     done
 }
 
-# Proves the libraries, each in a copy. Most wait for one another, in a long row: so of those that can be proved the
-# first has as many jobs as there are, and the others, half as many at a time, have one each.
+# Proves the libraries, each in a copy, as many at a time as there are jobs. Most wait for one another, in a long row.
+# So the first in the order of all that are being proved has half of the jobs, and each other has one.
 prove_libraries() {
-    local waiting ready library jobs all pid count number=0 main="" idle
-    local -A library_of=() copy_of=()
+    local waiting ready library jobs all pid count number=0 idle first
+    local -A library_of=() copy_of=() place_of=()
     waiting=" $(crates_below | grep -vx "$crate" | tr '\n' ' ')"
-    count="$(wc -w <<<"$waiting")"
+    for library in $waiting; do place_of[$library]=${#place_of[@]}; done
+    count=${#place_of[@]}
     all="$(all_jobs)"
-    idle=($(seq 0 $((all / 2))))
+    idle=($(seq 0 $((all - 1))))
     make_copies "${#idle[@]}"
     while ((number < count)); do
         ready=($(ready_among "$waiting" "${library_of[*]}"))
         while ((${#ready[@]} > 0 && ${#idle[@]} > 0)); do
             library="${ready[0]}"
-            jobs=$((${#main} == 0 ? all : 1))
+            first="$library"
+            for pid in "${!library_of[@]}"; do
+                ((place_of[${library_of[$pid]}] > place_of[$first])) || first="${library_of[$pid]}"
+            done
+            jobs=1
+            [[ "$first" != "$library" ]] || jobs=$(((all + 1) / 2))
             (cd "$copies/${idle[0]}/crates/$library" && exec rt lib --jobs "$jobs" </dev/null >>"$log" 2>&1) &
-            main="${main:-$!}"
             library_of[$!]="$library"
             copy_of[$!]="${idle[0]}"
             idle=("${idle[@]:1}")
@@ -111,7 +119,6 @@ prove_libraries() {
         share "${library_of[$pid]}" "${copy_of[$pid]}"
         echo "$name: proved ${library_of[$pid]}, $number of $count libraries" >&2
         idle+=("${copy_of[$pid]}")
-        [[ "$pid" != "$main" ]] || main=""
         unset "library_of[$pid]" "copy_of[$pid]"
     done
 }
