@@ -26,6 +26,7 @@ CRATES = (
     "certificate_graph",
     "checker",
     "pattern_store",
+    "partition_search",
     "partition_solver",
 )
 TRUMPS = ("NT", "S", "H", "D", "C")

@@ -4,9 +4,9 @@ of a seed.
 
 Usage: bench/solver/weights.py [BOARDS [SEED [FILE]]], by default 20 boards of seed 1 and the weights of the crate. FILE
 has 1,408 whole numbers: those of `ONE`, `MODEST`, `EAGER` and `ALL`, in the order in which `weights.rt` of
-`partition_solver` has them. Whatever the weights, the numbers of tricks are the same; what changes is how many cards
+`partition_search` has them. Whatever the weights, the numbers of tricks are the same; what changes is how many cards
 are tried. The four declarers of a denomination share what is remembered, and the writing of graphs is not counted. It
-copies the crates into a folder of its own, and proves and builds `partition_solver` there as a program, with
+copies the crates into a folder of its own, and proves and builds `partition_search` there as a program, with
 weights.rt.txt for its main file. Boards that measure should not be boards that a set was tuned on.
 """
 
@@ -20,8 +20,8 @@ from pathlib import Path
 
 ROOT = Path(__file__).resolve().parent.parent.parent
 HERE = Path(__file__).resolve().parent
-WEIGHTS = Path("crates") / "partition_solver" / "src" / "weights.rt"
-CRATES = ("cards", "patterns", "pattern_step", "certificate_graph", "pattern_store", "partition_solver")
+WEIGHTS = Path("crates") / "partition_search" / "src" / "weights.rt"
+CRATES = ("cards", "patterns", "pattern_store", "partition_search")
 COUNT = 1408
 # What a copy of a crate can do without.
 LEFT_OUT = shutil.ignore_patterns("must-fail", "out")
@@ -56,7 +56,7 @@ def hands_of(boards, seed):
 
 def build(folder, deals, numbers):
     """The program of these deals and weights, those of the crate if there are none."""
-    crate = folder / "crates" / "partition_solver"
+    crate = folder / "crates" / "partition_search"
     for name in CRATES:
         shutil.copytree(ROOT / "crates" / name, folder / "crates" / name, ignore=LEFT_OUT)
     library = crate / "src" / "lib.rt"
@@ -74,7 +74,7 @@ def build(folder, deals, numbers):
     (folder / "crates.txt").write_text("\n".join(kept) + "\n")
     subprocess.run(["git", "init", "-q", "."], cwd=folder, check=True)
     subprocess.run(["rt", "run"], cwd=crate, stdout=subprocess.DEVNULL)
-    return crate / "out" / "partition_solver"
+    return crate / "out" / "partition_search"
 
 
 def read_numbers(name):

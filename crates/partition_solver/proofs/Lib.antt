@@ -1,4 +1,0 @@
-pub mod CardLaws
-pub mod LengthLaws
-pub mod SetLaws
-pub mod TrickLaws

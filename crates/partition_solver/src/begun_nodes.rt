@@ -1,14 +1,11 @@
 //! The begun nodes: each shows what a side wins after some cards of the first trick, which are the path in its tree.
 //! Its pattern names the owners of all cards.
 
-use crate::begun::Begun;
 use crate::graph_writing::Writing;
 use crate::pattern_tricks::{PatternStart, PatternTrick, depths_in};
 use crate::plans::Plan;
-use crate::positions::Holdings;
-use crate::search::Search;
-use crate::words::CardSet;
 use certificate_graph::{Node, Token};
+use partition_search::{Begun, CardSet, Holdings, Search};
 use pattern_store::{NO_CARD, Record};
 
 impl Plan {

@@ -1,14 +1,11 @@
 //! What a call claims of cards that lead to the most tricks: one number, the begun nodes that show it after each card
 //! of a run, and the one which shows that no card leads to more.
 
-use crate::begun::Begun;
 use crate::card_claims::{Candidate, SideNodes, add_candidates, write_side};
 use crate::graph_writing::Writing;
-use crate::search::Search;
-use crate::starts::{OURS, side_at, side_of};
-use crate::words::CardSet;
 use cards::{Side, Trump};
 use certificate_graph::{CardBundle, CardClaim, Graph, Node};
+use partition_search::{Begun, CardSet, OURS, Search, side_at, side_of};
 use std::alloc::AllocError;
 use std::sync::Arc;
 

@@ -1,14 +1,12 @@
 //! What a call claims of the cards that may be played: the tricks after each, and the begun nodes that are to show
 //! them.
 
-use crate::begun::Begun;
 use crate::graph_writing::Writing;
-use crate::moves::HandRuns;
-use crate::search::Search;
-use crate::starts::{side_at, side_of};
-use crate::words::{CardSet, below, highest};
-use cards::{Card, Rank, Side, Suit, Trump};
+use cards::{Card, Layout, Rank, Seat, Side, Suit, Trump};
 use certificate_graph::{CardBundle, CardClaim, Graph, Node};
+use partition_search::{
+    Begun, CardSet, HandRuns, Search, below, highest, may_be_played, side_at, side_of,
+};
 use std::alloc::AllocError;
 use std::sync::Arc;
 
@@ -58,6 +56,38 @@ pub(crate) fn card_bundle_of(
         return None;
     }
     write_claims(search, trump, &candidates)
+}
+
+/// Whether these cards may be played in turn to the first trick, whichever of these seats leads.
+pub(crate) fn may_all_be_played(layout: &Layout, leaders: &[Seat], played: &[Card]) -> bool {
+    for leader in leaders {
+        if !may_be_played(layout, *leader, played) {
+            return false;
+        }
+    }
+    true
+}
+
+/// The tricks to which these cards were played, one for each leader.
+pub(crate) fn tricks_begun(
+    search: &Search,
+    leaders: &[Seat],
+    played: &[Card],
+) -> Result<Vec<Begun>, AllocError> {
+    let mut tricks = Vec::new(search.alloc);
+    for leader in leaders {
+        tricks.push(Begun::of(&search.deal, *leader, played))?;
+    }
+    Ok(tricks)
+}
+
+/// How many cards may be played next, those of each of these tricks counted.
+pub(crate) fn count_cards(search: &Search, tricks: &Vec<Begun>) -> usize {
+    let mut cards = 0u32;
+    for begun in tricks.iter() {
+        cards = cards.wrapping_add(begun.legal(&search.deal).count_ones());
+    }
+    cards as usize
 }
 
 /// The cards that may be played next to any of these tricks.

@@ -2,11 +2,10 @@
 
 use crate::graph_writing::write_graph;
 use crate::plans::TrickStart;
-use crate::positions::Holdings;
-use crate::search::Search;
 use arrayvec::ArrayVec;
 use cards::{Seat, Side, Trump};
 use certificate_graph::{Bundle, Claim};
+use partition_search::{Holdings, Search};
 
 /// The declarers in the order in which they are searched. Partners mostly take as many tricks, so the second of them
 /// begins with a good guess.

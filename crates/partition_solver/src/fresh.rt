@@ -1,12 +1,11 @@
 //! The partition search as a solver that keeps nothing.
 
-use crate::begun::{Begun, may_be_played};
 use crate::best_claims::best_bundle_of;
-use crate::card_claims::card_bundle_of;
+use crate::card_claims::{card_bundle_of, may_all_be_played, tricks_begun};
 use crate::claims::bundle_of;
-use crate::search::Search;
 use cards::{Card, Layout, Seat, Trump};
 use certificate_graph::{Bundle, CardBundle, CardSolver, Solver};
+use partition_search::{Begun, Search, may_be_played};
 use std::alloc::{AllocError, Global};
 
 /// The search of a [`Partition`](crate::Partition) that remembers nothing from one call to the next. It takes no lock,
@@ -48,14 +47,11 @@ impl CardSolver for FreshPartition {
         played: &[Card],
         budget: u64,
     ) -> Result<Option<CardBundle>, AllocError> {
-        let mut search = Search::new(alloc, layout, trump)?;
-        let mut tricks = Vec::new(alloc);
-        for leader in leaders {
-            if !may_be_played(layout, *leader, played) {
-                return Ok(None);
-            }
-            tricks.push(Begun::of(&search.deal, *leader, played))?;
+        if !may_all_be_played(layout, leaders, played) {
+            return Ok(None);
         }
+        let mut search = Search::new(alloc, layout, trump)?;
+        let tricks = tricks_begun(&search, leaders, played)?;
         let bundle = card_bundle_of(&mut search, trump, &tricks, budget);
         if search.memory_ran_out {
             return Err(AllocError);

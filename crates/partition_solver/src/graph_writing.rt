@@ -2,10 +2,9 @@
 
 use crate::pattern_tricks::{PatternStart, word_of};
 use crate::plans::{Plan, PlannedChild, TrickStart};
-use crate::search::Search;
-use crate::words::Lengths;
 use cards::{OutOfMemory, Seat, Side, Trump};
 use certificate_graph::{BareNode, Graph, Node, Token, Tree, Version};
+use partition_search::{Lengths, Search};
 use pattern_store::Record;
 use patterns::Pattern;
 use std::alloc::{AllocError, Global};

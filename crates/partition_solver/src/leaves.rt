@@ -2,10 +2,9 @@
 
 use crate::pattern_tricks::PatternTrick;
 use crate::plans::{Plan, PlannedChild, TrickStart};
-use crate::search::Search;
-use crate::words::{CardSet, Lengths};
 use cards::Seat;
 use certificate_graph::Token;
+use partition_search::{CardSet, Lengths, Search};
 
 /// The records that go on after a trick, by the seat that won it, 0 where none is needed, and what the new nodes cost:
 /// one each, and one for each owner that they name.

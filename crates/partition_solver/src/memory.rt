@@ -1,8 +1,8 @@
 //! What is remembered from one call to the next: the searches of calls that have ended, each of one deal in one
 //! denomination.
 
-use crate::search::Search;
 use cards::{Layout, Trump};
+use partition_search::Search;
 use pattern_store::MOST_BLOCKS;
 use std::alloc::{AllocError, Global};
 use std::sync::atomic::AtomicU32;

@@ -1,12 +1,9 @@
 //! A trick played on a remembered pattern, with the cards of a position that it stands for. In each suit those down to
 //! the lowest whose owner is named are tops; the others are low cards, of which none beats another.
 
-use crate::deals::{CardsLeft, DealTables};
-use crate::positions::seat_to_left;
-use crate::relevant_cards::LOW;
-use crate::words::{
-    CardSet, Lengths, PACK, SUIT, below, below_lowest, highest, lowest, lowest_of_each, start_of,
-    suit_of,
+use partition_search::{
+    CardSet, CardsLeft, DealTables, LOW, Lengths, PACK, SUIT, below, below_lowest, highest, lowest,
+    lowest_of_each, seat_to_left, start_of, suit_of,
 };
 use pattern_store::{Owners, Record};
 

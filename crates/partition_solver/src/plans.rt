@@ -1,12 +1,11 @@
 //! The tree of a node: one trick on a remembered pattern, worked out anew from what the search remembers.
 
-use crate::deals::lane_of;
 use crate::pattern_tricks::{PatternStart, PatternTrick};
-use crate::search::Search;
-use crate::starts::{side_at, side_of};
-use crate::words::{CardSet, Lengths, SUIT, TRICK_CARDS, highest};
 use cards::{Side, Suit};
 use certificate_graph::Token;
+use partition_search::{
+    CardSet, Lengths, SUIT, Search, TRICK_CARDS, highest, lane_of, side_at, side_of,
+};
 use pattern_step::PatCard;
 use std::alloc::{AllocError, Global};
 

@@ -1,7 +1,6 @@
 //! The partition search as a solver.
 
-use crate::begun::{Begun, may_be_played};
-use crate::card_claims::card_bundle_of;
+use crate::card_claims::{card_bundle_of, count_cards, may_all_be_played, tricks_begun};
 use crate::claims::bundle_of;
 use crate::memory::Memory;
 use cards::{Card, Layout, Seat, Trump};
@@ -64,20 +63,15 @@ impl Partition {
         budget: u64,
     ) -> Result<Option<CardBundle>, AllocError> {
         let mut search = self.memory.search_of(alloc, layout, trump)?;
-        let mut tricks = Vec::new(alloc);
-        let mut cards = 0u32;
-        for leader in leaders {
-            let begun = Begun::of(&search.deal, *leader, played);
-            cards = cards.wrapping_add(begun.legal(&search.deal).count_ones());
-            tricks.push(begun)?;
-        }
+        let tricks = tricks_begun(&search, leaders, played)?;
+        let cards = count_cards(&search, &tricks);
         let bundle = card_bundle_of(&mut search, trump, &tricks, budget);
         if search.memory_ran_out {
             return Err(AllocError);
         }
         if !bundle
             .as_ref()
-            .is_some_and(|bundle| bundle.claims.len() == cards as usize)
+            .is_some_and(|bundle| bundle.claims.len() == cards)
         {
             self.memory.keep(search);
         }
@@ -120,10 +114,8 @@ impl CardSolver for Partition {
         played: &[Card],
         budget: u64,
     ) -> Result<Option<CardBundle>, AllocError> {
-        for leader in leaders {
-            if !may_be_played(layout, *leader, played) {
-                return Ok(None);
-            }
+        if !may_all_be_played(layout, leaders, played) {
+            return Ok(None);
         }
         self.memory.enter();
         let found = self.found_cards(alloc, layout, leaders, trump, played, budget);

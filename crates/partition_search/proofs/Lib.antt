@@ -1,0 +1,4 @@
+pub mod CardLaws
+pub mod LengthLaws
+pub mod SetLaws
+pub mod TrickLaws
