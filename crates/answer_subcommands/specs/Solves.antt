@@ -14,7 +14,6 @@ use Rattle.certificate_graph.specs.Solvers.{MayFind}
 use Rattle.certificate_graph.specs.Bundles.{MayAnswer}
 use Rattle.answer_subcommands.specs.declared.faults.AnswerFault.{AnswerFault}
 use Rattle.answer_subcommands.specs.declared.faults.AnswerFault.TheVariants.{OutOfMemory, Write, Layout, NoAnswer}
-use Rattle.answer_subcommands.specs.Answers.{IsAnswer}
 
 -- the first line: `result `, the number, LF
 abbrev pub result_line : ℕ → List ℕ
@@ -72,9 +71,3 @@ SolvesLayout may_find value declarer trump budget sink sink' (Err NoAnswer) =
 SolvesLayout may_find value declarer trump budget sink sink' (Err OutOfMemory) =
     LacksAnswer may_find value declarer trump budget OutOfMemory × (sink' ≡ sink)
 SolvesLayout may_find value declarer trump budget sink sink' (Err _) = ⊥
-
--- such a text is cut into the number and the two texts that it was made of
-abbrev pub AnswersAreReadBack : Type 0
-AnswersAreReadBack =
-    (tricks : ℕ) (declarers defenders : GraphShape) → tricks ≤ 13 → IsGraph declarers → IsGraph defenders →
-    IsAnswer (answer_text tricks declarers defenders) tricks (graph_text declarers) (graph_text defenders)

@@ -2,7 +2,7 @@
 
 ghost use Rattle.std.specs.Prelude.{◌≢◌, ◌++◌, ◌≡◌, ◌<◌, ◌≤◌, ◌⊎◌, ◌↔◌, ℕ, List, length, IsTrue, MatchOption};
 ghost use Rattle.answer_subcommands.specs.Answers.{IsEmptyLine, HasNoEmptyLine, IsCut, IsUncut, IsAnswer, LacksResult};
-ghost use Rattle.answer_subcommands.specs.Answers.{HasOneAnswer, result_text, number_line};
+ghost use Rattle.answer_subcommands.specs.Answers.{result_text, number_line};
 
 use certificate_graph::after_prefix;
 
@@ -78,8 +78,3 @@ fn is_empty_line(text: &[u8], place: usize) -> bool
 {
     text[place] == b'\n' && (place == 0 || text[place - 1] == b'\n')
 }
-
-/// The law of answers: a text is one at most, and none where `read_answer` has none. It does nothing.
-pub fn text_is_one_answer()
-    ensures { HasOneAnswer }
-{}

@@ -20,7 +20,7 @@ mod statuses;
 mod valuing;
 mod verdict_lines;
 
-pub use answers::{read_answer, text_is_one_answer};
+pub use answers::read_answer;
 pub use card_audits::{EvidenceRefusal, audit_cards};
 pub use checks::check_answer;
 pub use faults::AnswerFault;
@@ -30,6 +30,6 @@ pub use named_files::{FileFault, NamedFiles};
 pub use plain::plain_line;
 pub use played::WordPlace;
 pub use playing::play_answer;
-pub use solves::{answers_are_read_back, solve_layout};
+pub use solves::solve_layout;
 pub use statuses::Status;
 pub use valuing::{find_cards, value_cards};

@@ -4,7 +4,7 @@ ghost use Rattle.std.specs.Prelude.{◌∷◌, ◌++◌, codes};
 ghost use Rattle.std.specs.Fmt.{decimal};
 ghost use Rattle.cards.specs.Devices.{Writes};
 ghost use Rattle.certificate_graph.specs.Texts.{graph_text};
-ghost use Rattle.answer_subcommands.specs.Solves.{AnswersAreReadBack, FindsAnswer, SolvesLayout, answer_text};
+ghost use Rattle.answer_subcommands.specs.Solves.{FindsAnswer, SolvesLayout, answer_text};
 ghost use Rattle.answer_subcommands.specs.Solves.{result_line};
 
 use crate::faults::{AnswerFault, write_failed};
@@ -99,9 +99,3 @@ fn write_graphs<O: Sink>(
     write_all(output, b"\n")?;
     defenders.write(output)
 }
-
-/// The law of what is written: [`read_answer`](crate::read_answer) cuts it into the same number and the same texts. It
-/// does nothing.
-pub fn answers_are_read_back()
-    ensures { AnswersAreReadBack }
-{}

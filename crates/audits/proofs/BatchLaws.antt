@@ -1,11 +1,10 @@
 -- A batch of pieces more.
 use Rattle.std.proofs.Common.{◌≡◌, ℕ, zero, suc, ◌+◌, ◌<◌, ◌≤◌, Bool, true, false, List, [], ◌∷◌, ◌++◌, length, get_or, take, drop, Option, None, Some, is_some, Result, Ok, Err, inl, refl, sym, ◌∙◌, ap, subst, arith, add-one}
-use Rattle.std.specs.List.{AllZip, find}
+use Rattle.std.specs.List.{AllZip}
 use Rattle.std.proofs.lemmas.List.Elements.{All-weaker}
 use Rattle.cards.specs.declared.suits.Trump.{Trump}
 use Rattle.certificate_graph.specs.declared.bundles.Claim.{Claim}
 use Rattle.lease_book.specs.Entries.{place_of}
-use Rattle.std.specs.Option.{option_or}
 use Rattle.std.proofs.lemmas.List.{take-append-drop, drop_all}
 use Rattle.std.proofs.lemmas.Option.{none-some}
 use Rattle.checker.specs.declared.entries.Shown.{Shown}
@@ -22,7 +21,7 @@ use Rattle.evidence.specs.Parts.{IsPartOf}
 use Rattle.evidence.specs.Pieces.{Reading, reading_of, IsFound, IsDamaged, Passes, IsNext, StopsSections}
 use Rattle.evidence.specs.Wholes.{Whole, IsNextOf}
 use Rattle.audits.specs.Reads.{sections_of, as_source, ReadsUntil}
-use Rattle.audits.specs.Firsts.{AreFirstShown, AddsProofs, AllKnown, is_at}
+use Rattle.audits.specs.Firsts.{AreFirstShown, AllKnown}
 use Rattle.audits.specs.Batches.{Cuts, EndsBatch, ReadsBatch, ReadsBehind, Grows, IsPieceOf, AddsPart, NotesPiece, NotesPieces, NotesSome, fault_behind}
 use Rattle.audits.specs.Shows.{ReadsFirsts}
 use Rattle.audits.proofs.ReadLaws.{ReadsSome, PassesBytes, bytes_passed, bytes_more, bytes_ended, stops_bytes, bytes_lost, next_found, next_damaged, next_end, sections_found, sections_damaged, stopped, takes_none}
@@ -179,15 +178,8 @@ module _ (boards : List Board) (old now new last : Whole) (firsts after : List (
       )
 
 -- ---- values that stay
-pub grows_none : (firsts : List (Option Shown)) → Grows firsts firsts
-grows_none firsts place is = is
-
 pub grows_more : (one two three : List (Option Shown)) → Grows one two → Grows two three → Grows one three
 grows_more one two three first second place is = second place (first place is)
-
-still_some : (o more : Option Shown) → is_some o ≡ true → is_some (option_or o more) ≡ true
-still_some None more h = cc
-still_some (Some k) more h = refl
 
 -- ---- pieces with what they show
 pub notes_push : (boards : List Board) (old middle new : List (Option Shown)) (damage between damage' : Damage) (noted : List Piece) (piece : Piece) → NotesPieces boards noted old middle damage between
@@ -214,10 +206,6 @@ known_later firsts later board trump claims grows known =
     All-weaker (λ (claim : Claim). is_some (get_or firsts (place_of (record { board = board; declarer = claim.declarer; trump = trump })) None) ≡ true)
     (λ (claim : Claim). is_some (get_or later (place_of (record { board = board; declarer = claim.declarer; trump = trump })) None) ≡ true)
     (λ claim. grows (place_of (record { board = board; declarer = claim.declarer; trump = trump }))) claims known
-
--- what is noted of a section leaves the values that are there
-pub grows_by : (board : ℕ) (old new : List (Option Shown)) (all : List Shown) → AddsProofs board old new all → Grows old new
-grows_by board old new all adds place is = ap (λ (o : Option Shown). is_some o) (adds place) ∙ still_some (get_or old place None) (find (is_at board place) all) is
 
 -- memory that runs out between two pieces
 pub batch_stops : (old now : Whole) (pieces : List Piece) → Cuts old pieces now → ReadsBatch old now pieces (Some (Err OutOfMemory))

@@ -23,7 +23,7 @@ use Rattle.lease_book.proofs.HistoryLaws.{option_or_none}
 use Rattle.lease_book.proofs.TwinLaws.{first_is, first_itself}
 use Rattle.evidence.specs.Sections.{SectionShape}
 use Rattle.audits.specs.Shown.{ShowsTricks, ShowsFor, ShowsNothing, FirstShows, NoneShow}
-use Rattle.audits.specs.Firsts.{AreShownBy, IsFor, AreForEntries, AreFirstShown, AllKnown, AddsSection, AddsProofs, entry_on, is_at}
+use Rattle.audits.specs.Firsts.{AreShownBy, IsFor, AreFirstShown, AllKnown, AddsSection, AddsProofs, entry_on, is_at}
 use Rattle.audits.proofs.ShownLaws.{first_now, first_still, none_more}
 
 -- ---- lists
@@ -55,9 +55,6 @@ found_none test (first ∷ rest) shown h (n, within, is) passes = go (test first
     go false e h (suc n) within is later = later h (n, omega (arith, within), is)
 
 -- ---- proofs that are noted
-pub adds_none : (board : ℕ) (firsts : List (Option Shown)) → AddsProofs board firsts firsts []
-adds_none board firsts place = sym (option_or_none (get_or firsts place None))
-
 pub adds_one : (board : ℕ) (old middle new : List (Option Shown)) (all : List Shown) (shown : Shown) → AddsProofs board old middle all → place_of (entry_on board shown) < length middle
     → new ≡ set middle (place_of (entry_on board shown)) (option_or (get_or middle (place_of (entry_on board shown)) None) (Some shown)) → AddsProofs board old new (all ++ shown ∷ [])
 adds_one board old middle new all shown adds there is place = go (nat_eq own place) refl
@@ -88,12 +85,6 @@ adds_one board old middle new all shown adds there is place = go (nat_eq own pla
         ∙ ap (option_or (get_or old place None)) (sym (last ∙ ap (λ (b : Bool). option_or (find (is_at board place) all) (cond b (Some shown) None)) e ∙ option_or_none (find (is_at board place) all)))
 
 -- ---- a section more
-pub first_for : (boards : List Board) (sections : List SectionShape) (firsts : List (Option Shown)) → AreFirstShown boards sections firsts → AreForEntries boards firsts
-first_for boards sections firsts are entry shown first is =
-    let here : MatchOption (Some shown) (NoneShow (deal_of boards entry.board) entry sections) (λ s. IsFor boards entry s × FirstShows (deal_of boards entry.board) entry s.k sections) =
-    subst (λ (o : Option Shown). MatchOption o (NoneShow (deal_of boards entry.board) entry sections) (λ s. IsFor boards entry s × FirstShows (deal_of boards entry.board) entry s.k sections)) is (are entry first) in
-    here.0
-
 -- before the first section nothing is there
 pub first_of_none : (boards : List Board) → AreFirstShown boards [] []
 first_of_none boards entry first = tt

@@ -48,11 +48,6 @@ pub record Frees (old new : Ledger) (now : ℕ) (rest : List Grant) : Type 0 whe
   pub given_is : given_in new.events ≡ given_in old.events
   pub published : (entry : Entry) → published_in new.terms.boards new.events entry ≡ published_in old.terms.boards old.events entry
 
-pub all_held : (book : Ledger) (now : ℕ) (kept : List Grant) → held_after book.events ≡ kept → (high : ℕ) → AreWithin 1 high kept
-    → ((weight : ℕ → ℕ) → settled_in weight book.events + weight_of weight kept ≡ weight_given_in weight book.events) → AreTimed (λ moment. moment ≡ now) book.events → Frees book book now kept
-all_held book now kept held high rising settled timed =
-    record { terms_are = refl; held = held; rising = (1, high, rising); settled = settled; timed = timed; given_is = refl; published = λ entry. refl }
-
 module _ (old middle new : Ledger) (now : ℕ) (grant : Grant) (rest : List Grant) (frees : Frees old middle now (grant ∷ rest)) (reply : Reply)
     (answered : IsAnswered middle new (GiveUp grant.lease) reply) where
   abbrev event : Event
@@ -111,18 +106,6 @@ module _ (old middle new : Ledger) (now : ℕ) (grant : Grant) (rest : List Gran
         given_is = ap given_in new_events ∙ given_then ∙ frees.given_is;
         published = λ entry. published_then entry ∙ frees.published entry;
       }
-
--- all were
-pub all_free : (old new : Ledger) (now : ℕ) → Frees old new now [] → GivesUpAll old new now
-all_free old new now frees =
-    record {
-      terms_are = frees.terms_are;
-      none_held = frees.held;
-      settled = λ weight. let same = frees.settled weight in omega (arith, same);
-      timed = frees.timed;
-      given_is = frees.given_is;
-      published = frees.published;
-    }
 
 -- ---- what is published of an entry is that of its least twin
 meant_for_none : (reply : Reply) → number_for false reply ≡ None

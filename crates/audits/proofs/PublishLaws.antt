@@ -7,7 +7,7 @@ use Rattle.std.proofs.lemmas.Bool.{both_ways, eqb-true, eq-eqb, and_parts, and_f
 use Rattle.std.proofs.lemmas.Option.{none-some, same_Some}
 use Rattle.std.proofs.lemmas.List.{append-nil, length_push}
 use Rattle.std.proofs.lemmas.List.Sums.{sum_by_push}
-use Rattle.std.proofs.lemmas.List.Elements.{All-push, All-nil, All-weaker, filter-append}
+use Rattle.std.proofs.lemmas.List.Elements.{All-push, All-weaker, filter-append}
 use Rattle.std.proofs.lemmas.List.Folds.{find-append}
 use Rattle.cards.specs.Deal.{Deal, is_same_deal}
 use Rattle.cards.specs.declared.seats.Seat.{Seat}
@@ -64,19 +64,6 @@ pub record Works (terms : Terms) (now : ℕ) (firsts : List (Option Shown)) (eve
   pub unshown : (grant : Grant) → Among grant kept → (get_or firsts (place_of grant.entry) None ≡ None) × (1 ≤ times_leased events (place_of grant.entry))
   pub published : (entry : Entry) (k : ℕ) → is_first terms.boards entry.board ≡ true → published_in terms.boards events entry ≡ Some k
       → (shown : Shown) × (get_or firsts (place_of entry) None ≡ Some shown) × (shown.k ≡ k) × (1 ≤ times_leased events (place_of entry))
-
-pub begins : (terms : Terms) (now : ℕ) (firsts : List (Option Shown)) → Works terms now firsts [] []
-begins terms now firsts =
-    record {
-      held = refl;
-      within = omega arith;
-      weighed = λ weight. refl;
-      timed = All-nil (λ (event : Event). IsTimed (λ moment. moment ≡ now) event.asked);
-      each = λ grant none. absurd none;
-      once = λ place. omega arith;
-      unshown = λ grant none. absurd none;
-      published = λ entry k first none. absurd (none-some k none);
-    }
 
 none_is : (o : Option ℕ) → is_none o ≡ true → o ≡ None
 none_is None h = refl

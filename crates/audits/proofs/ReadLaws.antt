@@ -1,5 +1,5 @@
 -- A part more of a text, its end, and a reading that stops.
-use Rattle.std.proofs.Common.{◌≡◌, ℕ, ◌+◌, ◌-◌, ◌^◌, ◌≤◌, min, List, [], ◌∷◌, ◌++◌, length, All, true, Option, None, Some, Result, Ok, Err, inl, inr, refl, sym, ◌∙◌, ap, subst, arith, append_assoc, append-nil}
+use Rattle.std.proofs.Common.{◌≡◌, ℕ, ◌+◌, ◌-◌, ◌^◌, ◌≤◌, min, List, [], ◌∷◌, ◌++◌, length, All, Option, None, Some, Result, Ok, Err, inl, inr, refl, sym, ◌∙◌, ap, subst, arith, append_assoc, append-nil}
 use Rattle.std.proofs.lemmas.List.{length-append}
 use Rattle.std.proofs.lemmas.Option.{same_Some}
 use Rattle.std.proofs.lemmas.List.Elements.{All-nil, All-push}
@@ -18,7 +18,6 @@ use Rattle.evidence.proofs.DamageLemmas.{damaged_found, damaged_damaged, counts_
 use Rattle.audits.specs.Reads.{sections_of, as_source, IsAnyPart, AreFirstParts, AreSomeParts, AreAllParts, ReadsAll, ReadsBeginning, ReadsUntil}
 use Rattle.audits.specs.Shows.{LosesEvidence}
 use Rattle.std.specs.Prelude.{OnOk, OnErr}
-use Rattle.std.specs.Result.{is_ok, is_err}
 
 -- ---- lists of parts
 pub sections_found : (parts : List Part) (section : SectionShape) → sections_of (parts ++ Found section ∷ []) ≡ sections_of parts ++ section ∷ []
@@ -292,14 +291,6 @@ loses old new parts damage (Ok done) all = (OutOfMemory, lost_all old new parts 
 loses old new parts damage (Err fault) some = (fault, some.stops)
 
 -- ---- answers
-pub when_ok : {X E : Type 0} (r : Result X E) (A : Type 0) → is_ok r ≡ true → OnOk r A → A
-when_ok (Ok x) A is holds = holds
-when_ok (Err e) A is holds = cc
-
-pub when_err : {X E : Type 0} (r : Result X E) (A : Type 0) → true ≡ is_err r → OnErr r A → A
-when_err (Ok x) A is holds = cc
-when_err (Err e) A is holds = holds
-
 pub ok_then : {X E : Type 0} (r : Result X E) (A B : Type 0) → (A → B) → OnOk r A → OnOk r B
 ok_then (Ok x) A B next holds = next holds
 ok_then (Err e) A B next holds = tt

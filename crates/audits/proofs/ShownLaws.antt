@@ -54,10 +54,6 @@ foreign_shows_nothing boards section none entry k shows = go (deal_of boards ent
     go None is shows = shows
     go (Some deal) is shows = none entry.board (is ∙ ap (λ (d : Deal). Some d) (sym shows.deal_is))
 
-pub no_claims_show_nothing : (o : Option Deal) (section : SectionShape) (entry : Entry) → ShowsNothing o entry (with_claims section [])
-no_claims_show_nothing None section entry k shows = shows
-no_claims_show_nothing (Some deal) section entry k shows = let none = shows.claimed in absurd (omega (arith, none.1))
-
 module _ (section : SectionShape) (claims : List Claim) (claim : Claim) where
   abbrev fewer : SectionShape
   fewer = with_claims section claims
@@ -159,12 +155,6 @@ same_shown one other layout declarer trump k =
 -- an entry of this declarer and denomination, on whatever board
 abbrev any_entry : Shown → Entry
 any_entry shown = record { board = 0; declarer = shown.declarer; trump = shown.trump }
-
-pub judged_none : (section : SectionShape) → AreShownBy (with_claims section []) []
-judged_none section shown = (
-  λ none. absurd (omega (arith, none.1)),
-  λ shows. absurd (no_claims_show_nothing (Some shown.layout) section (any_entry shown) shown.k shows),
-)
 
 module _ (section : SectionShape) (claims : List Claim) (claim : Claim) (all : List Shown) (are : AreShownBy (with_claims section claims) all) where
   pub judged_more : (value : Shown) → value ≡ record { layout = section.deal; declarer = claim.declarer; trump = section.trump; k = claim.k } → IsClaimShown section claim

@@ -1,7 +1,7 @@
 -- The cards with claims among the first cards that may be played.
 use Rattle.std.proofs.Common.{◌≡◌, ◌≢◌, ℕ, zero, suc, ◌+◌, ◌<◌, ◌≤◌, List, [], ◌∷◌, ◌++◌, length, take, get_or, All, Contains, None, ◌⊎◌, inl, inr, sym, subst, arith, length-append}
 use Rattle.std.proofs.lemmas.List.{map-append, take_more}
-use Rattle.std.proofs.lemmas.List.Elements.{All-nil, All-push, Contains-get_or, Contains-append_left, Contains-push, Contains-push_cases}
+use Rattle.std.proofs.lemmas.List.Elements.{All-push, Contains-get_or, Contains-append_left, Contains-push, Contains-push_cases}
 use Rattle.cards.specs.declared.pack.Card.{Card}
 use Rattle.play_rules.specs.Position.{Position, AreInOrder, AreLegalCards, listed_place}
 use Rattle.play_rules.proofs.HoldingLaws.{AreInOrder-push}
@@ -29,15 +29,6 @@ pub record SoFar (position : Position) (graphs : CardGraphs) (claims : List Card
   pub listed : (card : Card) → Contains (cards_of values) card → Contains cards card
   pub in_order : AreInOrder (cards_of values)
   pub few : length values ≤ length cards
-
-pub nothing_yet : (position : Position) (graphs : CardGraphs) (claims : List CardClaim) (tricks : ℕ) → SoFar position graphs claims tricks [] []
-nothing_yet position graphs claims tricks = record {
-  each = All-nil (IsShownCard position graphs claims tricks);
-  all = λ card h some. absurd (omega (arith, h.1));
-  listed = λ card h. h;
-  in_order = tt;
-  few = omega arith;
-}
 
 cards_pushed : (values : List CardValue) (value : CardValue) → cards_of (values ++ value ∷ []) ≡ cards_of values ++ value.card ∷ []
 cards_pushed values value = map-append (λ (v : CardValue). v.card) values (value ∷ [])

@@ -16,15 +16,6 @@ pub record AllSoFar (lines : List Line) (last : Bool) (game : GameText) : Type 0
   pub are : AreValues (game_pieces own) game.is_open game
   pub has : AreLines game.is_open (rows_of game.rest.now) others last
 
-pub none_read : (text : Bor (List ℕ)) (lines : List Line) (last : Bool) (game : GameText) → AreValues [] false game → game.rest.now ≡ text.now → AreLines false (rows_of text.now) lines last → AllSoFar lines last game
-none_read text lines last game h rest read = record {
-  own = [];
-  others = lines;
-  all = refl;
-  are = subst (λ o. AreValues [] o game) (sym h.opened) h;
-  has = subst (λ (r : List ℕ). AreLines game.is_open (rows_of r) lines last) (sym rest) (subst (λ o. AreLines o (rows_of text.now) lines last) (sym h.opened) read);
-}
-
 -- a line of blanks stands in no comment
 gap_in_text : {is_open last : Bool} {bytes : List ℕ} {kind : Kind} → LineIs is_open bytes kind last → is_gap_kind kind ≡ true → is_open ≡ false
 gap_in_text (is_escaped_line e) g = refl

@@ -3,5 +3,4 @@ pub mod TitlesNamed
 pub mod Named
 pub mod LinesTaken
 pub mod GamesTaken
-pub mod BoardGames
 pub mod AllLines

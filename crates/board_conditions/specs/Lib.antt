@@ -3,4 +3,3 @@ pub mod Words
 pub mod Games
 pub mod Titles
 pub mod Values
-pub mod Laws

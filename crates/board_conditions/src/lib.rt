@@ -4,15 +4,11 @@
 
 mod conditions;
 mod game_texts;
-mod laws;
 mod numbers;
 mod readers;
 mod titles;
 mod words;
 
 pub use conditions::Conditions;
-pub use laws::{
-    boards_have_conditions, boards_have_titles, conditions_are_unique, titles_are_unique,
-};
 pub use readers::{first_conditions, first_titles, read_conditions, read_titles};
 pub use titles::Titles;

@@ -3,5 +3,5 @@ mod NumberLemmas
 mod CardLemmas
 mod WriteParts
 mod TrickLemmas
-mod ClaimLemmas
-mod SectionLemmas
+pub mod ClaimLemmas
+pub mod SectionLemmas

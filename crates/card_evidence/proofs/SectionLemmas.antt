@@ -1,5 +1,5 @@
 -- A text is that of one section at most.
-use Rattle.std.proofs.Common.{◌≡◌, ℕ, ◌≤◌, List, length, Option, None, Some, codes, refl, sym, ◌∙◌, ap}
+use Rattle.std.proofs.Common.{◌≡◌, ℕ, ◌≤◌, List, length, codes, refl, sym, ◌∙◌, ap}
 use Rattle.cards.specs.declared.seats.Seat.{Seat}
 use Rattle.cards.specs.declared.suits.Trump.{Trump}
 use Rattle.cards.specs.declared.pack.Card.{Card}
@@ -13,15 +13,11 @@ use Rattle.certificate_graph.specs.declared.card_claims.CardClaim.{CardClaim}
 use Rattle.certificate_graph.specs.Graphs.{GraphShape}
 use Rattle.certificate_graph.specs.Texts.{trump_text}
 use Rattle.evidence.specs.SectionTexts.{graphs_text}
-use Rattle.evidence.proofs.GraphLines.{one_graphs}
 use Rattle.evidence.proofs.HeadLemmas.{one_deal}
 use Rattle.card_evidence.specs.Sections.{CardSectionShape}
-use Rattle.card_evidence.specs.SectionTexts.{line_text, leader_line, played_line, trick_text, counted_text, card_section_text}
-use Rattle.card_evidence.specs.Readings.{SaysCardSection}
-use Rattle.card_evidence.specs.Laws.{NoTextHasTwoSections, SectionsAreReadBack}
+use Rattle.card_evidence.specs.SectionTexts.{line_text, leader_line, played_line, trick_text, counted_text}
 use Rattle.card_evidence.proofs.LineLemmas.{one_line, one_trump_line, one_leader_line}
 use Rattle.card_evidence.proofs.CardLemmas.{one_played_line}
-use Rattle.card_evidence.proofs.ClaimLemmas.{one_counted}
 
 -- ---- a trick in progress
 -- what follows each part of its text
@@ -91,17 +87,3 @@ same_section a b p q r s =
     ∙ (ap (λ x. section_of b.position x a.ns a.ew) q
     ∙ (ap (λ x. section_of b.position b.claims x a.ew) r
     ∙ ap (λ x. section_of b.position b.claims b.ns x) s))
-
-pub one_section : NoTextHasTwoSections
-one_section text a b (p, is) (q, is') =
-    let trick = one_trick a.position b.position (from_claims a) (from_claims b) p.progress q.progress (sym is ∙ is') in
-    let claims = one_counted a.claims b.claims (graphs_text a.ns a.ew) (graphs_text b.ns b.ew) p.claims_are q.claims_are trick.1 in
-    let graphs = one_graphs a.ns a.ew b.ns b.ew p.ns_is.graph p.ew_is.graph q.ns_is.graph q.ew_is.graph claims.1 in
-    same_section a b trick.0 claims.0 graphs.0 graphs.1
-
-pub read_back : SectionsAreReadBack
-read_back section is = ((is, refl), λ said says. one_answer said says)
-  where
-    one_answer : (said : Option CardSectionShape) → SaysCardSection (card_section_text section) said → said ≡ Some section
-    one_answer None none = absurd (none section (is, refl))
-    one_answer (Some other) of = ap Some (one_section (card_section_text section) other section of (is, refl))

@@ -1,4 +1,3 @@
 pub mod Sections
 pub mod SectionTexts
 pub mod Readings
-pub mod Laws

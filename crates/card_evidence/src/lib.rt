@@ -7,7 +7,6 @@
 
 mod card_reading;
 mod claim_reading;
-mod laws;
 mod lines;
 mod numbers;
 mod section_reading;
@@ -15,7 +14,6 @@ mod section_writing;
 mod sections;
 mod trick_reading;
 
-pub use laws::{one_section, one_text, sections_are_read_back};
 pub use section_reading::read_card_section;
 pub use section_writing::write_card_section;
 pub use sections::CardSection;

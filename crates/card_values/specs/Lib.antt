@@ -3,5 +3,4 @@ pub mod Tricks
 pub mod AfterClaims
 pub mod BegunClaims
 pub mod Judging
-pub mod Laws
 pub mod Texts

@@ -1,6 +1,6 @@
 -- The children of a leaf, at the beginning of a text.
-use Rattle.std.proofs.Common.{◌≡◌, ℕ, ◌+◌, ◌<◌, ◌≤◌, List, [], ◌∷◌, Option, None, Some, Bool, true, false, Result, Ok, Err, sym, ◌∙◌, ap, arith}
-use Rattle.std.specs.Prelude.{MatchOption, MatchBool}
+use Rattle.std.proofs.Common.{◌≡◌, ℕ, ◌+◌, ◌<◌, ◌≤◌, List, [], ◌∷◌, Bool, true, false, Result, Ok, Err, sym, ◌∙◌, ap, arith}
+use Rattle.std.specs.Prelude.{MatchBool}
 use Rattle.cards.specs.Seats.{seat_number}
 use Rattle.certificate_graph.specs.declared.children.Child.{Child}
 use Rattle.certificate_graph.specs.declared.cursors.Stop.{Stop}
@@ -10,11 +10,6 @@ use Rattle.certificate_graph.specs.Texts.{child_text, more_children_text}
 use Rattle.certificate_graph.specs.Readings.{IsShort, BeginsChild, LacksChild, BeginsMore, LacksMore, BeginsChildren, LacksChildren}
 use Rattle.certificate_graph.proofs.OneSpelling.{tails}
 use Rattle.certificate_graph.proofs.OneNode.{one_child, more-stops}
-
--- an answer, read otherwise
-pub match_map : {A : Type 0} {P P' : Type 0} {Q Q' : A → Type 0} (r : Option A) → (P → P') → ((a : A) → Q a → Q' a) → MatchOption r P Q → MatchOption r P' Q'
-match_map None f g h = f h
-match_map (Some a) f g h = g a h
 
 -- an outcome, told otherwise
 pub ends_map : {X : Type 0} {Found Found' : X → Type 0} {Lacking Lacking' : Type 0} (outcome : Result X Stop) → ((rest : X) → Found rest → Found' rest) → (Lacking → Lacking') → Ends outcome Found Lacking → Ends outcome Found' Lacking'

@@ -14,9 +14,6 @@ pub mod LineLemmas
 pub mod HeadLemmas
 pub mod ReadLemmas
 pub mod OneAnswer
-pub mod SomeForm
-pub mod SomeTree
-pub mod SomeAnswer
 pub mod RenameLemmas
 pub mod NameLemmas
 pub mod ExtractLemmas

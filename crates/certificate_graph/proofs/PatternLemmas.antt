@@ -8,12 +8,12 @@ use Rattle.cards.specs.declared.seats.Seat.{Seat}
 use Rattle.cards.specs.declared.seats.Seat.TheVariants.{North, East, South, West}
 use Rattle.cards.specs.declared.suits.Suit.TheVariants.{Spades, Hearts, Diamonds, Clubs}
 use Rattle.cards.specs.Seats.{seat_number}
-use Rattle.patterns.specs.Shapes.{SuitShape, Shape}
+use Rattle.patterns.specs.Shapes.{SuitShape}
 use Rattle.patterns.specs.Words.{IsSuitWord, owner_count, suit_in}
 use Rattle.patterns.proofs.MoreOwners.{lengthened}
 use Rattle.patterns.proofs.SuitWords.{suit_with, length-owners_in_of}
-use Rattle.certificate_graph.specs.Texts.{owners_text, suit_text}
-use Rattle.certificate_graph.specs.Readings.{Always, seat_text, len_text, Lacks, IsLen, Begins, LacksOwners, BeginsTwo, LacksTwo, BeginsLens, LacksLens, BeginsSuit, LacksSuit, BeginsTwoSuits, LacksTwoSuits, BeginsPattern, LacksPattern}
+use Rattle.certificate_graph.specs.Texts.{owners_text}
+use Rattle.certificate_graph.specs.Readings.{Always, seat_text, len_text, Lacks, IsLen, Begins, LacksOwners, BeginsTwo, LacksTwo, BeginsLens, LacksLens, BeginsSuit, LacksSuit, BeginsTwoSuits, LacksTwoSuits, LacksPattern}
 use Rattle.certificate_graph.specs.Suits.{IsWordOf, HasOwners, HasDigit}
 use Rattle.certificate_graph.proofs.OneSpelling.{one_seat}
 use Rattle.certificate_graph.proofs.OneNode.{one_len, one_suit_form}
@@ -24,10 +24,6 @@ use Rattle.certificate_graph.proofs.NumberLemmas.{digit_text}
 pub owners_by_seat : (room : ℕ) (text : List ℕ) → LacksByte 32 text → Lacks Always seat_text text → LacksOwners room text
 owners_by_seat room text blank lacks [] rest few e = blank rest e
 owners_by_seat room text blank lacks (owner ∷ more) rest few e = lacks owner (owners_text more (32 ∷ rest)) tt e
-
-pub owners_by_room : (room : ℕ) (text : List ℕ) → LacksByte 32 text → room ≡ 0 → LacksOwners room text
-owners_by_room room text blank none [] rest few e = blank rest e
-owners_by_room room text blank none (owner ∷ more) rest few e = omega arith
 
 pub owners_by_more : (room : ℕ) (text : List ℕ) (owner : Seat) (after : List ℕ) → LacksByte 32 text → text ≡ seat_text owner after → LacksOwners (room - 1) after → LacksOwners room text
 owners_by_more room text owner after blank first lacks [] rest few e = blank rest e
@@ -72,13 +68,6 @@ two_by_second first second text one after stops begins lacks x y rest two =
     let same = one_len one x first after _ begins.good two.low stops (sym begins.is ∙ two.is) in
     lacks y rest two.also same.1
 
-pub two_read : (first second : ℕ) (text : List ℕ) (one other : ℕ) (after rest : List ℕ) → Begins IsLen (len_text first) text one after → Begins IsLen (len_text second) after other rest → BeginsTwo first second text one other rest
-two_read first second text one other after rest a b = record {
-  low = a.good;
-  also = b.good;
-  is = a.is ∙ ap (len_text first one) b.is;
-}
-
 pub lens_by_first : (text : List ℕ) → LacksTwo 46 46 text → LacksLens text
 lens_by_first text lacks lens rest begins = lacks _ _ _ (record { low = begins.low North; also = begins.low East; is = begins.is })
 
@@ -88,18 +77,11 @@ lens_by_second text one other after two lacks lens rest begins =
     let second = one_len other (slice_index lens 1) 46 _ _ two.also (begins.low East) (lit≤ tt) first.1 in
     lacks _ _ rest (record { low = begins.low South; also = begins.low West; is = second.1 })
 
-lens_low : (a b c d : ℕ) → a ≤ 13 → b ≤ 13 → c ≤ 13 → d ≤ 13 → (seat : Seat) → slice_index (a ∷ b ∷ c ∷ d ∷ []) (seat_number seat) ≤ 13
+pub lens_low : (a b c d : ℕ) → a ≤ 13 → b ≤ 13 → c ≤ 13 → d ≤ 13 → (seat : Seat) → slice_index (a ∷ b ∷ c ∷ d ∷ []) (seat_number seat) ≤ 13
 lens_low a b c d p q r s North = p
 lens_low a b c d p q r s East = q
 lens_low a b c d p q r s South = r
 lens_low a b c d p q r s West = s
-
-pub lens_read : (text : List ℕ) (a b c d : ℕ) (after rest : List ℕ) → BeginsTwo 46 46 text a b after → BeginsTwo 46 47 after c d rest → BeginsLens text (a ∷ b ∷ c ∷ d ∷ []) rest
-lens_read text a b c d after rest x y = record {
-  four = refl;
-  low = lens_low a b c d x.low x.also y.low y.also;
-  is = x.is ∙ ap (λ t. len_text 46 a (len_text 46 b t)) y.is;
-}
 
 -- four lengths of one digit each
 short_lens : (a b c d e f g h : ℕ) (rest more : List ℕ) → rest ≡ more → IsInRange 48 57 a → b ≡ 46 → IsInRange 48 57 c → d ≡ 46 → IsInRange 48 57 e → f ≡ 46 → IsInRange 48 57 g → h ≡ 47 →
@@ -124,10 +106,6 @@ lens_by_digits (a ∷ b ∷ c ∷ d ∷ e ∷ f ∷ g ∷ h ∷ rest) long north
     short_lens a b c d e f g h rest _ (sym (take_all _ rest (omega arith)))
     north.digit north.before east.digit east.before south.digit south.before west.digit west.before
 
--- ---- suits
-pub suit_by_lens : (text : List ℕ) → LacksLens text → LacksSuit text
-suit_by_lens text lacks suit rest begins = lacks suit.lens _ (record { four = begins.form.four; low = begins.form.lens; is = begins.is })
-
 pub suit_by_owners : (text lens after : List ℕ) → BeginsLens text lens after → LacksOwners 13 after → LacksSuit text
 suit_by_owners text lens after first lacks suit rest begins =
     let north = one_len _ _ 46 _ _ (first.low North) (begins.form.lens North) (lit≤ tt) (sym first.is ∙ begins.is) in
@@ -150,20 +128,10 @@ suit_begun text lens after word final owners rest first of_lens few e has =
     ap₂ suit_with (has.lens_are ∙ of_lens.lens_are) (has.owners_are ∙ ap (λ l. l ++ owners) of_lens.owners_are) in
     (has.is_word, subst (λ suit. BeginsSuit text suit rest) (sym same) (suit_read text lens after owners rest first few e))
 
-pub two_suits_by_first : (text : List ℕ) → LacksSuit text → LacksTwoSuits text
-two_suits_by_first text lacks first second rest begins = lacks first _ (record { form = begins.form; is = begins.is })
-
 pub two_suits_by_second : (text : List ℕ) (suit : SuitShape) (after : List ℕ) → BeginsSuit text suit after → LacksSuit after → LacksTwoSuits text
 two_suits_by_second text suit after one lacks first second rest begins =
     let same = one_suit_form suit first after _ one.form begins.form (sym one.is ∙ begins.is) in
     lacks second rest (record { form = begins.also; is = same.1 })
-
-pub two_suits_read : (text : List ℕ) (first second : SuitShape) (after rest : List ℕ) → BeginsSuit text first after → BeginsSuit after second rest → BeginsTwoSuits text first second rest
-two_suits_read text first second after rest a b = record {
-  form = a.form;
-  also = b.form;
-  is = a.is ∙ ap (λ t. suit_text first (32 ∷ t)) b.is;
-}
 
 -- ---- patterns
 pub pattern_by_first : (text : List ℕ) → LacksTwoSuits text → LacksPattern text
@@ -175,9 +143,3 @@ pattern_by_second text spades hearts after two lacks pattern rest begins =
     let first = one_suit_form spades pattern.spades _ _ two.form (begins.form Spades) (sym two.is ∙ begins.is) in
     let second = one_suit_form hearts pattern.hearts after _ two.also (begins.form Hearts) first.1 in
     lacks pattern.diamonds pattern.clubs rest (record { form = begins.form Diamonds; also = begins.form Clubs; is = second.1 })
-
-pub pattern_read : (text : List ℕ) (pattern : Shape) (after rest : List ℕ) → BeginsTwoSuits text pattern.spades pattern.hearts after → BeginsTwoSuits after pattern.diamonds pattern.clubs rest → BeginsPattern text pattern rest
-pattern_read text pattern after rest a b = record {
-  form = elim [ Spades ↦ a.form | Hearts ↦ a.also | Diamonds ↦ b.form | Clubs ↦ b.also ];
-  is = a.is ∙ ap (λ t. suit_text pattern.spades (32 ∷ suit_text pattern.hearts (32 ∷ t))) b.is;
-}

@@ -17,10 +17,6 @@ use Rattle.certificate_graph.specs.declared.versions.Version.{Version}
 use Rattle.certificate_graph.specs.Graphs.{GraphShape}
 use Rattle.certificate_graph.specs.Texts.{card_text, child_text, more_children_text, children_text, tree_text, branches_text, owners_text, suit_text, pattern_text, claim_text, node_text, nodes_text, title_text, trump_text, side_text, count_text, graph_text}
 
--- texts of one byte
-pub one_letter : (a b : ℕ) → a ∷ [] ≡ b ∷ [] → a ≡ b
-one_letter a b e = cc
-
 -- a piece before a text that is cut in two
 pub before : (piece text front rest : List ℕ) → text ≡ front ++ rest → piece ++ text ≡ (piece ++ front) ++ rest
 before piece text front rest e = ap (λ t. piece ++ t) e ∙ sym (append_assoc piece front rest)
@@ -97,10 +93,6 @@ node-cut node front rest =
     ap (λ t. claim_text node.lead node.need (pattern_text node.pattern (32 ∷ t))) (tree-cut node.tree (10 ∷ front) rest)
     ∙ (ap (claim_text node.lead node.need) (pattern-cut node.pattern (32 ∷ tree) rest)
     ∙ claim-cut node.lead node.need (pattern_text node.pattern (32 ∷ tree)) rest)
-
-pub nodes-cut : (nodes : List Node) (front rest : List ℕ) → nodes_text nodes (front ++ rest) ≡ nodes_text nodes front ++ rest
-nodes-cut [] front rest = refl
-nodes-cut (node ∷ more) front rest = ap (node_text node) (nodes-cut more front rest) ∙ node-cut node (nodes_text more front) rest
 
 -- the pieces of three lines
 pub heading-parts : (version : Version) (trump : Trump) (side : Side) (rest : List ℕ) → title_text version [] ++ (trump_text trump [] ++ (side_text side [] ++ rest)) ≡ title_text version (trump_text trump (side_text side rest))

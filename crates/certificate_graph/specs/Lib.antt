@@ -12,7 +12,6 @@ pub mod Texts
 pub mod LineForms
 pub mod TextFaults
 pub mod FaultWords
-pub mod Laws
 pub mod Readings
 pub mod Outcomes
 pub mod Suits

@@ -47,7 +47,7 @@ pub use children::Child;
 pub use faults::{GraphFault, TextFault};
 pub use graphs::Graph;
 pub use head_reading::after_prefix;
-pub use laws::{equal_versions_are_one, graphs_are_read_back, one_answer, one_graph, one_text};
+pub use laws::equal_versions_are_one;
 pub use nodes::Node;
 pub use places::{Branches, Children, Place, PlaceView};
 pub use rows::Token;

@@ -9,7 +9,7 @@ use Rattle.pattern_step.specs.declared.pat_cards.PatCard.TheVariants.{Top}
 use Rattle.pattern_step.specs.PatCards.{HasCard}
 use Rattle.pattern_step.specs.Runs.{IsLowerInRun}
 use Rattle.certificate_graph.specs.Trees.{TrickTree, Leaf, Branches, NoBranch, Branch}
-use Rattle.checker.specs.Places.{HasBranch, HasBranchOf}
+use Rattle.checker.specs.Places.{HasBranchOf}
 use Rattle.checker.specs.Steps.{HasHigher}
 use Rattle.checker.proofs.HigherCards.{HasHere, higher_cases}
 use Rattle.certificate_play.specs.Branches.{GoesAsHigher}
@@ -32,20 +32,9 @@ run_longer shape seat suit place above higher is has has' alike =
       | inr none ↦ absurd none
     ]
 
-pub goes_next : (shape : Shape) (seat : Seat) (branches : Branches) (suit : Suit) (place above : ℕ) (below : TrickTree) → place ≡ suc above → HasCard shape seat (Top suit place) → HasCard shape seat (Top suit above) →
-    HasBranch branches (Top suit above) below → GoesAsHigher shape seat branches (Top suit place) (Top suit above) below
-goes_next shape seat branches suit place above below is has has' branch = record { run = run_longer shape seat suit place above (Top suit above) is has has' (inl refl); branch = branch }
-
 pub goes_further : (shape : Shape) (seat : Seat) (branches : Branches) (suit : Suit) (place above : ℕ) (higher : PatCard) (below : TrickTree) → place ≡ suc above → HasCard shape seat (Top suit place) → HasCard shape seat (Top suit above) →
     GoesAsHigher shape seat branches (Top suit above) higher below → GoesAsHigher shape seat branches (Top suit place) higher below
 goes_further shape seat branches suit place above higher below is has has' goes = record { run = run_longer shape seat suit place above higher is has has' (inr goes.run); branch = goes.branch }
-
--- no branch is of a higher card where the seat lacks one of the two, or none is of the next higher one or above
-pub lacks_card : (shape : Shape) (seat : Seat) (branches : Branches) (suit : Suit) (place above : ℕ) → place ≡ suc above → (HasCard shape seat (Top suit place) → ⊥) → HasHigher shape seat branches (Top suit place) → ⊥
-lacks_card shape seat branches suit place above is lacks has = lacks ((higher_cases shape seat branches suit place above is).1 has).0
-
-pub lacks_next : (shape : Shape) (seat : Seat) (branches : Branches) (suit : Suit) (place above : ℕ) → place ≡ suc above → (HasCard shape seat (Top suit above) → ⊥) → HasHigher shape seat branches (Top suit place) → ⊥
-lacks_next shape seat branches suit place above is lacks has = lacks ((higher_cases shape seat branches suit place above is).1 has).1.0
 
 pub lacks_branches : (shape : Shape) (seat : Seat) (branches : Branches) (suit : Suit) (place above : ℕ) → place ≡ suc above → (HasBranchOf branches (Top suit above) → ⊥) → (HasHigher shape seat branches (Top suit above) → ⊥) →
     HasHigher shape seat branches (Top suit place) → ⊥

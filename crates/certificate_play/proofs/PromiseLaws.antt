@@ -132,10 +132,6 @@ some_listed position cards reached more legal =
     let listed = legal.all some.0 some.1 in
     omega (arith, listed.1)
 
--- a history that goes on has room
-pub has_room : (position : Position) (history : List Card) → IsReached position → IsUnfinished position.opening position.history → history ≡ position.history → length history < 52
-has_room position history reached more is = omega (arith, reached.layout.at_most_13, more, ap length is)
-
 -- a state after a card more
 pub on_course_after : (promise : Promise) (layout : Deal) (history more : List Card) (card : Card) (step next : Option Step) → IsOnCourse promise layout history step → GoesOn promise → CanPlay promise.position.opening promise.position.history card → more ≡ history ++ card ∷ [] →
     IsKeptIn (after_card promise card) next → IsOnCourse (after_card promise card) layout more next

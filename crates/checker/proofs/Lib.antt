@@ -4,11 +4,8 @@ pub mod SeatTests
 pub mod ChildLaws
 pub mod WinnerLaws
 pub mod WalkLaws
-pub mod Decisions
 pub mod HigherCards
-pub mod StepDecisions
 pub mod FaultLaws
-pub mod NoFaultLaws
 pub mod LineLaws
 pub mod PartLaws
 pub mod EntryLaws
@@ -23,8 +20,6 @@ pub mod WayLaws
 pub mod OnTheWay
 pub mod StepIsSound
 pub mod ClaimsAreSound
-pub mod ExtractLaws
-pub mod VersionLaws
 pub mod BranchLaws
 pub mod TrickWordLaws
 mod CardSetLaws
@@ -33,5 +28,3 @@ pub mod PathLaws
 pub mod BegunIsSound
 pub mod ValueLaws
 pub mod BegunLaws
-pub mod BegunFaultLaws
-pub mod RestLaws

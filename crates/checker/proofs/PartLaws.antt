@@ -1,5 +1,5 @@
 -- What is told of a graph that is to show something.
-use Rattle.std.proofs.Common.{◌≡◌, ◌≢◌, ℕ, zero, suc, ◌<◌, true, List, Option, None, Some, Result, Ok, Err, inl, inr, refl, sym, ◌∙◌, arith}
+use Rattle.std.proofs.Common.{◌≡◌, ◌≢◌, ℕ, ◌<◌, true, List, Option, None, Some, Result, Ok, Err, inl, inr, refl, sym, ◌∙◌, arith}
 use Rattle.std.specs.Prelude.{MatchResult, IsErrAnd, ◌⊎◌}
 use Rattle.std.specs.Option.{is_some}
 use Rattle.std.proofs.lemmas.Option.{none-some}
@@ -8,13 +8,10 @@ use Rattle.cards.specs.declared.seats.Seat.{Seat}
 use Rattle.cards.specs.declared.seats.Side.{Side}
 use Rattle.cards.specs.Deal.{Deal}
 use Rattle.certificate_graph.specs.declared.nodes.Node as nodes
-use Rattle.checker.specs.declared.faults.NodeFault.{NodeFault}
 use Rattle.checker.specs.declared.entry_faults.PartFault.{PartFault}
 use Rattle.checker.specs.declared.entry_faults.PartFault.TheVariants.{Node}
-use Rattle.checker.specs.Steps.{StepsHold}
-use Rattle.checker.specs.Faults.{IsGraphFault}
 use Rattle.checker.specs.Roots.{RootedShape, node_at, root_of}
-use Rattle.checker.specs.Claims.{IsRootOf, HasRoot, Shows}
+use Rattle.checker.specs.Claims.{HasRoot}
 use Rattle.checker.specs.EntryFaults.{IsRootFault, HasRootFault, IsNodesFault, IsPartFault}
 
 -- what is right of a graph whose root is looked at
@@ -51,22 +48,6 @@ from_root rooted deal leader trump side need root fault title told =
 pub root_told : (rooted : RootedShape) (deal : Deal) (leader : Seat) (trump : Trump) (side : Side) (need : ℕ) (root : nodes.Node) (fault : PartFault) → HasTitle rooted trump side need root →
     IsRootFault root deal leader need fault → IsPartFault rooted deal leader trump side need fault
 root_told rooted deal leader trump side need root fault title told = from_root rooted deal leader trump side need root fault title (inl (root, title.there, told))
-
-has_root : (rooted : RootedShape) (deal : Deal) (leader : Seat) (need : ℕ) (root : nodes.Node) → root_of rooted ≡ Some root → 0 < need → IsRootOf root deal leader need → HasRoot rooted deal leader need
-has_root rooted deal leader zero root there needed is = absurd (omega arith)
-has_root rooted deal leader (suc need) root there needed is = (root, there, is)
-
--- what the steps tell, where all else is right
-pub steps_told : (rooted : RootedShape) (deal : Deal) (leader : Seat) (trump : Trump) (side : Side) (need : ℕ) (root : nodes.Node) (told : Result (Unit {0}) NodeFault) (answer : Result (Unit {0}) PartFault) →
-    HasTitle rooted trump side need root → IsRootOf root deal leader need → MatchResult told (λ _. StepsHold rooted.graph) (IsGraphFault rooted.graph) →
-    MatchResult told (λ done. answer ≡ Ok done) (λ fault. IsErrAnd answer (λ other. other ≡ Node fault)) →
-    MatchResult answer (λ _. Shows rooted deal leader trump side need) (IsPartFault rooted deal leader trump side need)
-steps_told rooted deal leader trump side need root (Ok done) answer title is steps same =
-    rw same (record { trump_is = title.trump_is; side_is = title.side_is; root = has_root rooted deal leader need root title.there title.needed is; steps = λ _. steps })
-steps_told rooted deal leader trump side need root (Err fault) (Ok done) title is steps same = absurd same
-steps_told rooted deal leader trump side need root (Err fault) (Err other) title is steps same =
-    rw same (from_root rooted deal leader trump side need root (Node fault) title
-    (inr (has_root rooted deal leader need root title.there title.needed is, (numbered rooted.graph.nodes rooted.root root title.there, fault, refl, steps))))
 
 -- the exit of a `?`
 pub err_out : {A E : Type 0} (P : A → Type 0) (F : E → Type 0) (answer : Result A E) (Q : E → Type 0) → IsErrAnd answer Q → ((fault : E) → Q fault → F fault) → MatchResult answer P F

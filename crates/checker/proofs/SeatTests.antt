@@ -18,9 +18,6 @@ seats_agree one other test is fails = sym (same_from_is_same other one (sym (sam
     both true h = refl
     both false h = absurd (false≢true (sym h))
 
-pub seats_same : (one other : Seat) (test : Bool) → test ≡ sameb the_type one other → test ≡ true → one ≡ other
-seats_same one other test is holds = sym (same_from_is_same other one (sym (same_seat_test one other) ∙ (sym is ∙ holds)))
-
 pub seats_apart : (one other : Seat) (test : Bool) → test ≡ sameb the_type one other → test ≡ false → one ≢ other
 seats_apart one other test is fails same =
     false≢true (sym fails ∙ (is ∙ (same_seat_test one other ∙ (ap (λ (seat : Seat). is_same_seat seat one) (sym same) ∙ is_same_seat_self one))))

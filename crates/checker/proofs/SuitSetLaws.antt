@@ -1,5 +1,5 @@
 -- The cards of a suit in sixteen bits, and the four suits in a word.
-use Rattle.std.proofs.Common.{◌≡◌, ◌≢◌, ℕ, zero, suc, ◌+◌, ◌-◌, ◌*◌, ◌/◌, ◌%◌, ◌^◌, ◌<◌, ◌≤◌, min, Bool, true, false, cond, List, [], ◌∷◌, length, Option, None, Some, ◌↔◌, inl, inr, refl, sym, ◌∙◌, ap, subst, arith}
+use Rattle.std.proofs.Common.{◌≡◌, ◌≢◌, ℕ, zero, suc, ◌+◌, ◌-◌, ◌*◌, ◌/◌, ◌%◌, ◌^◌, ◌<◌, ◌≤◌, min, Bool, true, false, cond, List, [], ◌∷◌, length, Option, Some, ◌↔◌, inl, inr, refl, sym, ◌∙◌, ap, subst, arith}
 use Rattle.std.specs.Prelude.{◌⊎◌, bit_and, bit_or, slice_get}
 use Rattle.std.specs.Int.{bit_at, trailing_zeros, w64}
 use Rattle.std.proofs.lemmas.Bool.{cases_lt, cases_eq, eq-eqb, false≢true}
@@ -15,7 +15,7 @@ use Rattle.patterns.proofs.SeatLaws.{is_same_seat_self, same_from_is_same}
 use Rattle.patterns.proofs.Removals.{bit_more, lowest_cleared}
 use Rattle.pattern_step.specs.declared.pat_cards.PatCard.{PatCard}
 use Rattle.pattern_step.specs.declared.pat_cards.PatCard.TheVariants.{Top, Low}
-use Rattle.pattern_step.specs.PatCards.{suit_of_card, HasCard, FollowsSuit, IsLegal}
+use Rattle.pattern_step.specs.PatCards.{suit_of_card, HasCard, IsLegal}
 use Rattle.pattern_step.proofs.TrickLaws.{held_suit}
 use Rattle.pattern_step.proofs.PatCardLaws.{slice_get-within, owners-le-13}
 use Rattle.checker.specs.CardSets.{place_in_set, SuitSetOf}
@@ -341,15 +341,3 @@ led_told shape pattern seat led suit held n set word was some is at small word_i
       (λ one. let has = here.0 one in record { has = has.0; follows = λ _. has.1 }),
       λ legal. here.1 (legal.has, legal.follows some),
     )
-
--- a seat that leads, or has none of the suit led
-pub all_told : (shape : Shape) (seat : Seat) (led : Option Suit) (word : ℕ) → ((suit : Suit) → led ≡ Some suit → len_of (suit_of shape suit) seat ≡ 0) →
-    ((card : PatCard) → (bit_at word (place_in_set card) ≡ 1) ↔ HasCard shape seat card) → (card : PatCard) → (bit_at word (place_in_set card) ≡ 1) ↔ IsLegal shape seat led card
-all_told shape seat led word free told card = (
-  (λ one. record { has = (told card).0 one; follows = follows led free }),
-  λ legal. (told card).1 legal.has,
-)
-  where
-    follows : (l : Option Suit) → ((suit : Suit) → l ≡ Some suit → len_of (suit_of shape suit) seat ≡ 0) → FollowsSuit shape seat l card
-    follows None none = tt
-    follows (Some suit) none = λ some. absurd (omega (arith, some, none suit refl))

@@ -1,32 +1,8 @@
 -- The cards of a trick in one word.
-use Rattle.std.proofs.Common.{◌≡◌, ℕ, zero, suc, ◌+◌, ◌*◌, ◌/◌, ◌%◌, ◌^◌, ◌<◌, ◌≤◌, List, [], ◌∷◌, ◌++◌, length, refl, sym, ◌∙◌, ap, arith}
-use Rattle.std.proofs.lemmas.Nat.{pow-add, pow_pos}
-use Rattle.cards.specs.declared.suits.Suit.{Suit}
-use Rattle.cards.specs.declared.suits.Suit.TheVariants.{Spades, Hearts, Diamonds, Clubs}
-use Rattle.cards.specs.Pack.{suit_number, suit_at}
+use Rattle.std.proofs.Common.{◌≡◌, ℕ, zero, suc, ◌+◌, ◌*◌, ◌/◌, ◌%◌, ◌^◌, ◌<◌, [], ◌∷◌, ◌++◌, length, refl, ◌∙◌, ap, arith}
+use Rattle.std.proofs.lemmas.Nat.{pow-add}
 use Rattle.pattern_step.specs.declared.pat_cards.PatCard.{PatCard}
-use Rattle.pattern_step.specs.declared.pat_cards.PatCard.TheVariants.{Top, Low}
-use Rattle.checker.specs.TrickWords.{card_code, card_at, cards_in}
-
-pub suit_back : (suit : Suit) → suit_at (suit_number suit) ≡ suit
-suit_back Spades = refl
-suit_back Hearts = refl
-suit_back Diamonds = refl
-suit_back Clubs = refl
-
--- ---- a card and its bits
-pub top_back : (word number place : ℕ) (suit : Suit) → number ≡ suit_number suit → number < 4 → place < 256 → word ≡ place + 256 * number → card_at word ≡ Top suit place
-top_back word number place suit is four few e =
-    let kind : word / 2 ^ 10 % 2 ≡ 0 = omega arith in
-    let at : word / 2 ^ 8 % 4 ≡ number = omega arith in
-    let low : word % 2 ^ 8 ≡ place = omega arith in
-    rw (kind, at, low, is, suit_back suit) refl
-
-pub low_back : (word number : ℕ) (suit : Suit) → number ≡ suit_number suit → number < 4 → word ≡ 1024 + 256 * number → card_at word ≡ Low suit
-low_back word number suit is four e =
-    let kind : word / 2 ^ 10 % 2 ≡ 1 = omega arith in
-    let at : word / 2 ^ 8 % 4 ≡ number = omega arith in
-    rw (kind, at, is, suit_back suit) refl
+use Rattle.checker.specs.TrickWords.{card_at, cards_in}
 
 -- what is above sixteen bits does not matter
 card_below : (word high : ℕ) → card_at (word + 65536 * high) ≡ card_at word

@@ -1,73 +1,17 @@
 -- Values after some cards: no two, and the value of a contract.
-use Rattle.std.proofs.Common.{◌≡◌, ℕ, ◌-◌, ◌≤◌, List, [], refl, sym, ◌∙◌, ap, subst, arith}
-use Rattle.cards.specs.declared.suits.Trump.{Trump}
-use Rattle.cards.specs.declared.seats.Seat.{Seat}
-use Rattle.cards.specs.declared.seats.Seat.TheVariants.{North, East, South, West}
+use Rattle.std.proofs.Common.{ℕ, ◌-◌, ◌≤◌, List, arith}
 use Rattle.cards.specs.declared.seats.Side.{Side}
 use Rattle.cards.specs.declared.seats.Side.TheVariants.{NorthSouth, EastWest}
 use Rattle.cards.specs.declared.pack.Card.{Card}
-use Rattle.cards.specs.Seats.{next_of, side_of, other_side}
-use Rattle.cards.specs.Deal.{Deal, size_of, IsLayout}
+use Rattle.cards.specs.Seats.{other_side}
+use Rattle.cards.specs.Deal.{size_of, IsLayout}
 use Rattle.play_rules.specs.History.{Opening}
 use Rattle.play_rules.specs.Legal.{IsLegalHistory}
-use Rattle.play_rules.proofs.HistoryLaws.{seat_to_play-short}
 use Rattle.strategies.specs.Strategies.{CanWin}
-use Rattle.strategies.specs.Values.{opening_of}
 use Rattle.strategies.proofs.UniqueProofs.{no_more_than_all}
-use Rattle.checker.specs.ValuesAfter.{side_to_play, HasOneValueAfter, ValueIsValueAfter}
 
 -- what a side can win at most, where the other can win the others
 pub most : (opening : Opening) (history : List Card) (side : Side) (one other : ℕ) → IsLayout opening.deal → IsLegalHistory opening history → other ≤ size_of opening.deal → CanWin opening side one history →
     CanWin opening (other_side side) (size_of opening.deal - other) history → one ≤ other
 most opening history NorthSouth one other layout legal within own others = omega (arith, within, no_more_than_all opening one (size_of opening.deal - other) history layout legal own others)
 most opening history EastWest one other layout legal within own others = omega (arith, within, no_more_than_all opening (size_of opening.deal - other) one history layout legal others own)
-
-pub one_value_after : HasOneValueAfter
-one_value_after opening history one other layout legal a b =
-    let side = side_to_play opening history in
-    omega (
-      arith,
-      most opening history side one other layout legal b.within a.player_wins b.others_win,
-      most opening history side other one layout legal a.within b.player_wins a.others_win,
-    )
-
--- the defenders lead
-defenders_lead : (deal : Deal) (declarer : Seat) (trump : Trump) → side_to_play (opening_of deal declarer trump) [] ≡ other_side (side_of declarer)
-defenders_lead deal declarer trump = ap side_of (seat_to_play-short (opening_of deal declarer trump) [] (omega arith)) ∙ go declarer
-  where
-    go : (seat : Seat) → side_of (next_of seat) ≡ other_side (side_of seat)
-    go North = refl
-    go East = refl
-    go South = refl
-    go West = refl
-
-other_again : (side : Side) → other_side (other_side side) ≡ side
-other_again NorthSouth = refl
-other_again EastWest = refl
-
-pub value_is_value_after : ValueIsValueAfter
-value_is_value_after deal declarer trump tricks within = (
-  (λ value. record {
-    within = omega arith;
-    player_wins = subst (λ (s : Side). CanWin opening s (size_of deal - tricks) []) (sym lead) value.defenders_win;
-    others_win = subst (λ (s : Side). CanWin opening (other_side s) (size_of deal - (size_of deal - tricks)) []) (sym lead)
-        (subst (λ (s : Side). CanWin opening s (size_of deal - (size_of deal - tricks)) []) (sym (other_again (side_of declarer)))
-        (subst (λ (n : ℕ). CanWin opening (side_of declarer) n []) (sym back) value.declarer_wins));
-  }),
-  λ value. record {
-    within = within;
-    declarer_wins = subst (λ (n : ℕ). CanWin opening (side_of declarer) n []) back
-        (subst (λ (s : Side). CanWin opening s (size_of deal - (size_of deal - tricks)) []) (other_again (side_of declarer))
-        (subst (λ (s : Side). CanWin opening (other_side s) (size_of deal - (size_of deal - tricks)) []) lead value.others_win));
-    defenders_win = subst (λ (s : Side). CanWin opening s (size_of deal - tricks) []) lead value.player_wins;
-  },
-)
-  where
-    opening : Opening
-    opening = opening_of deal declarer trump
-
-    lead : side_to_play opening [] ≡ other_side (side_of declarer)
-    lead = defenders_lead deal declarer trump
-
-    back : size_of deal - (size_of deal - tricks) ≡ tricks
-    back = omega (arith, within)

@@ -1,6 +1,6 @@
 -- A begun node: some cards of its trick have been played already. They are the path in its tree that was walked. The
 -- step is owed only in the places to which the path leads, and below them.
-use Rattle.std.specs.Prelude.{◌≡◌, ◌↔◌, List, [], ◌∷◌, ◌++◌, length, ⊤}
+use Rattle.std.specs.Prelude.{List, [], ◌∷◌, ◌++◌, ⊤}
 use Rattle.cards.specs.declared.pack.Card.{Card}
 use Rattle.cards.specs.Deal.{Deal, IsLayout}
 use Rattle.patterns.specs.Shapes.{Shape, IsPattern}
@@ -11,7 +11,7 @@ use Rattle.play_rules.specs.Legal.{IsLegalHistory}
 use Rattle.strategies.specs.Strategies.{CanWin}
 use Rattle.certificate_graph.specs.declared.nodes.Node.{Node}
 use Rattle.certificate_graph.specs.Trees.{TrickTree}
-use Rattle.certificate_graph.specs.Graphs.{GraphShape, IsGraph, IsNode, IsTree}
+use Rattle.certificate_graph.specs.Graphs.{GraphShape, IsGraph}
 use Rattle.checker.specs.declared.faults.StepFault.{StepFault}
 use Rattle.checker.specs.declared.faults.StepFault.TheVariants.{CardNotLegal, TreeShape}
 use Rattle.checker.specs.Places.{LeadsTo}
@@ -71,17 +71,3 @@ BegunStepsShow =
     (graph : GraphShape) (node : Node) (cards : List PatCard)
     → IsGraph graph → StepsHold graph → IsPattern node.pattern → IsRightBegun graph node cards
     → KeepsItsClaimAfter graph node cards
-
--- ---- laws of the first fault
--- a begun node is right exactly if it has no fault
-abbrev pub HasNoFaultWhereRight : Type 0
-HasNoFaultWhereRight =
-    (graph : GraphShape) (node : Node) (cards : List PatCard) → IsNode (length graph.nodes) node
-    → IsRightBegun graph node cards ↔ ((fault : StepFault) → IsBegunFault graph node cards fault → ⊥)
-
--- a begun node has at most one first fault
-abbrev pub HasOneBegunFault : Type 0
-HasOneBegunFault =
-    (graph : GraphShape) (node : Node) (cards : List PatCard) (one other : StepFault)
-    → IsTree node.tree → IsBegunFault graph node cards one → IsBegunFault graph node cards other
-    → one ≡ other

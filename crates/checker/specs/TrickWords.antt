@@ -1,14 +1,9 @@
 -- The cards of a trick in one word: sixteen bits each, the first card in the lowest. Eight are the place of a top, the
 -- next two the suit, and the next says whether it is a low card.
-use Rattle.std.specs.Prelude.{ℕ, zero, suc, ◌+◌, ◌*◌, ◌/◌, ◌%◌, ◌^◌, ◌==◌, List, [], ◌∷◌, if◌then◌else◌}
-use Rattle.cards.specs.Pack.{suit_number, suit_at}
+use Rattle.std.specs.Prelude.{ℕ, zero, suc, ◌/◌, ◌%◌, ◌^◌, ◌==◌, List, [], ◌∷◌, if◌then◌else◌}
+use Rattle.cards.specs.Pack.{suit_at}
 use Rattle.pattern_step.specs.declared.pat_cards.PatCard.{PatCard}
 use Rattle.pattern_step.specs.declared.pat_cards.PatCard.TheVariants.{Top, Low}
-
--- the bits of a card
-abbrev pub card_code : PatCard → ℕ
-card_code (Top suit place) = place + 2 ^ 8 * suit_number suit
-card_code (Low suit) = 2 ^ 10 + 2 ^ 8 * suit_number suit
 
 -- the card in the lowest bits of a word
 abbrev pub card_at : ℕ → PatCard

@@ -1,15 +1,12 @@
--- Double-dummy values after some cards, also in the middle of a trick.
-use Rattle.std.specs.Prelude.{◌≡◌, ℕ, ◌+◌, ◌-◌, ◌≤◌, ◌↔◌, [], ◌++◌, List}
-use Rattle.cards.specs.declared.suits.Trump.{Trump}
-use Rattle.cards.specs.declared.seats.Seat.{Seat}
+-- Whose turn it is after some cards.
+use Rattle.std.specs.Prelude.{ℕ, ◌-◌, ◌≤◌, List}
 use Rattle.cards.specs.declared.seats.Side.{Side}
 use Rattle.cards.specs.declared.pack.Card.{Card}
 use Rattle.cards.specs.Seats.{side_of, other_side}
-use Rattle.cards.specs.Deal.{Deal, IsLayout, size_of}
-use Rattle.play_rules.specs.History.{Opening, trick_of, tricks_of}
-use Rattle.play_rules.specs.Legal.{IsLegalHistory, seat_to_play}
+use Rattle.cards.specs.Deal.{size_of}
+use Rattle.play_rules.specs.History.{Opening}
+use Rattle.play_rules.specs.Legal.{seat_to_play}
 use Rattle.strategies.specs.Strategies.{CanWin}
-use Rattle.strategies.specs.Values.{IsValue, opening_of, opening_after}
 
 -- the side of the seat whose turn it is after the history
 abbrev pub side_to_play : Opening → List Card → Side
@@ -21,43 +18,3 @@ pub record IsValueAfter (opening : Opening) (history : List Card) (tricks : ℕ)
   pub within : tricks ≤ size_of opening.deal
   pub player_wins : CanWin opening (side_to_play opening history) tricks history
   pub others_win : CanWin opening (other_side (side_to_play opening history)) (size_of opening.deal - tricks) history
-
--- after a legal history there is at most one value
-abbrev pub HasOneValueAfter : Type 0
-HasOneValueAfter =
-    (opening : Opening) (history : List Card) (one other : ℕ)
-    → IsLayout opening.deal → IsLegalHistory opening history
-    → IsValueAfter opening history one → IsValueAfter opening history other
-    → one ≡ other
-
--- Before the first card the defenders are to play, so the value after no cards is the number of the tricks that
--- declarer does not take.
-abbrev pub ValueIsValueAfter : Type 0
-ValueIsValueAfter =
-    (deal : Deal) (declarer : Seat) (trump : Trump) (tricks : ℕ) → tricks ≤ size_of deal
-    → IsValue deal declarer trump tricks
-    ↔ IsValueAfter (opening_of deal declarer trump) [] (size_of deal - tricks)
-
--- ---- earlier tricks
--- how many tricks of the history a side has won
-abbrev pub tricks_won : Opening → Side → List Card → ℕ
-tricks_won opening side history = tricks_of side opening.trump opening.leader history
-
--- After whole tricks and some more cards, a side can win exactly the tricks that it had not won before these cards, in
--- play of the layout that was left then.
-abbrev pub WinsTheRestAfter : Type 0
-WinsTheRestAfter =
-    (opening : Opening) (side : Side) (tricks : ℕ) (history more : List Card)
-    → IsLayout opening.deal → IsLegalHistory opening (history ++ more) → trick_of history ≡ []
-    → CanWin opening side tricks (history ++ more)
-    ↔ CanWin (opening_after opening history) side (tricks - tricks_won opening side history) more
-
--- After whole tricks and some more cards, the value is the value after these cards in play of the layout that was left,
--- and the tricks that the side to play had won before.
-abbrev pub ValueCountsTricksWon : Type 0
-ValueCountsTricksWon =
-    (opening : Opening) (history more : List Card) (tricks : ℕ)
-    → IsLayout opening.deal → IsLegalHistory opening (history ++ more) → trick_of history ≡ []
-    → IsValueAfter (opening_after opening history) more tricks
-    → IsValueAfter opening (history ++ more)
-    (tricks_won opening (side_to_play opening (history ++ more)) history + tricks)

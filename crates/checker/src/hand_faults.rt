@@ -47,8 +47,8 @@ impl fmt::Display for TextWords<'_> {
     fn fmt<W: fmt::Write>(&self, f: &mut fmt::Formatter<W>) -> fmt::Result {
         let fault = self.0;
         match fault.line() {
-            Some(line) => write!(f, "{} {} line {}", fault.number(), fault.name(), line),
-            None => write!(f, "{} {}", fault.number(), fault.name()),
+            Some(line) => write!(f, "{fault} line {line}"),
+            None => write!(f, "{fault}"),
         }
     }
 }

@@ -24,7 +24,6 @@ mod parts;
 mod played;
 mod soundness;
 mod turns;
-mod values_after;
 mod walks;
 mod wide;
 mod witnesses;
@@ -38,15 +37,7 @@ pub use faults::{NodeFault, StepFault};
 pub use graphs::check_graph;
 pub use hand_faults::HandFault;
 pub use judging::{Accepted, Texts, Verdict, judge, judge_graphs};
-pub use laws::{
-    begun_node_has_one_first_fault, extracts_hold, graph_has_one_first_fault,
-    graphs_have_one_answer, lines_lead_to_places, no_fault_where_begun_is_right,
-    no_fault_where_steps_hold, place_has_one_first_fault, places_are_on_lines,
-    steps_hold_as_version_two, texts_have_one_verdict,
-};
+pub use laws::graphs_have_one_answer;
 pub use pairs::CheckedPair;
 pub use soundness::{begun_steps_show, entries_are_sound, graphs_are_sound, one_step_is_sound};
-pub use values_after::{
-    value_after_is_unique, value_counts_tricks_won, value_is_value_after, wins_the_rest_after,
-};
 pub use wide::check_graph_wide;

@@ -3,7 +3,7 @@
 ghost use Rattle.std.specs.Prelude.{◌≡◌, ◌≢◌, ◌<◌, ◌/◌, ◌%◌, ◌^◌, ◌∷◌, ◌++◌, [], length, MatchOption};
 ghost use Rattle.cards.specs.Pack.{suit_at};
 ghost use Rattle.pattern_step.specs.Tricks.{suit_led_by};
-ghost use Rattle.checker.specs.TrickWords.{card_code, card_at};
+ghost use Rattle.checker.specs.TrickWords.{card_at};
 
 use cards::Suit;
 use pattern_step::PatCard;

@@ -41,14 +41,6 @@ contains_from_slice_get xs x k e = (k, slice_get_within xs k x e, get_or_from_sl
 pub slice_get_from_contains : {A : Type 0} (xs : List A) (x : A) → Contains xs x → (k : ℕ) × (slice_get xs k ≡ Some x)
 slice_get_from_contains xs x h = (h.0, slice_get-get_or xs h.0 x h.1 ∙ ap Some h.2)
 
--- ---- the cards that are given
-pub given_none : (board : BoardDeal) → AreGivenTo board 0 []
-given_none board = record {
-  few = omega arith;
-  each = λ place card e. absurd (none-some card e);
-  no_more = λ place h k. absurd (omega (arith, k));
-}
-
 pub given_skip : (board : BoardDeal) (place : ℕ) (cards : List Card) → AreGivenTo board place cards → rank_given board place ≡ pos 0 → AreGivenTo board (place + 1) cards
 given_skip board place cards given none = record {
   few = omega (arith, given.few);

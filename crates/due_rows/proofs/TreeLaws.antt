@@ -27,11 +27,6 @@ pub even_level : (end above : ℕ) → end ≡ 2 ^ (above + 1) → end ≡ 2 * (
 even_level end above e =
     omega (arith, twice_power above)
 
-pub level_above : (end above : ℕ) → end ≡ 2 ^ (above + 1) → above ≢ 0 → end / 2 ≡ 2 ^ ((above - 1) + 1)
-level_above end above e h =
-    let same : (above - 1) + 1 ≡ above = omega arith in
-    rw same (omega (arith, twice_power above))
-
 module _ (now : ℕ) (nodes : List (Option ℕ)) (joined : AreJoined nodes) where
   -- a node whose parent's moment has not come
   child_is_not : (node : ℕ) → 1 ≤ node / 2 → 2 * (node / 2) + 1 < length nodes → is_due now (moment_at nodes (node / 2)) ≡ false → is_due now (moment_at nodes node) ≡ false

@@ -1,30 +1,26 @@
 -- What stands before the graphs of a section, word by word.
-use Rattle.std.proofs.Common.{◌≡◌, ◌≢◌, ℕ, ◌+◌, ◌^◌, ◌<◌, ◌≤◌, List, [], ◌∷◌, ◌++◌, length, Option, None, Some, Ok, Err, Result, Bor, codes, refl, sym, ◌∙◌, ap, subst, arith, append_assoc}
+use Rattle.std.proofs.Common.{◌≡◌, ◌≢◌, ℕ, ◌+◌, ◌^◌, ◌<◌, ◌≤◌, List, [], ◌∷◌, ◌++◌, length, Option, None, Some, Ok, Err, Result, Bor, codes, sym, ◌∙◌, ap, subst, arith, append_assoc}
 use Rattle.std.specs.Prelude.{MatchOption}
 use Rattle.std.specs.Fmt.{decimal}
-use Rattle.std.proofs.lemmas.Fmt.{decimal_injective}
 use Rattle.std.proofs.lemmas.List.{length_push, append-nil, append_cancel_left}
-use Rattle.std.proofs.lemmas.List.Elements.{All-from_recursion, All-head, All-append}
+use Rattle.std.proofs.lemmas.List.Elements.{All-from_recursion, All-append}
 use Rattle.cards.specs.declared.seats.Seat.{Seat}
 use Rattle.cards.specs.declared.seats.Seat.TheVariants.{North, East, South, West}
 use Rattle.cards.specs.Seats.{seat_letter, seat_number}
 use Rattle.cards.specs.Deal.{Deal, IsLayout}
 use Rattle.pbn_deals.specs.Reading.{Lacks}
-use Rattle.pbn_deals.specs.DealValue.{full}
 use Rattle.pbn_deals.specs.LayoutValue.{SaysLayout}
 use Rattle.pbn_deals.specs.declared.faults.PbnFault.{PbnFault}
 use Rattle.pbn_deals.proofs.OneLayout.{one_layout}
 use Rattle.pbn_deals.specs.DealText.{deal_text}
-use Rattle.pbn_deals.proofs.Dealt.{held_of, IsDealOf-held_of}
-use Rattle.pbn_deals.proofs.DealWords.{deal-named, deal-one_line}
-use Rattle.pbn_deals.proofs.DealsBack.{same_held}
-use Rattle.certificate_graph.proofs.OneSpelling.{tails, one_seat}
+use Rattle.pbn_deals.proofs.Dealt.{IsDealOf-held_of}
+use Rattle.pbn_deals.proofs.DealWords.{held_of, deal-named, deal-one_line}
 use Rattle.certificate_graph.specs.declared.bundles.Claim.{Claim}
-use Rattle.evidence.specs.Sections.{IsRoot, IsClaim, AreClaims}
+use Rattle.evidence.specs.Sections.{IsClaim, AreClaims}
 use Rattle.evidence.specs.SectionTexts.{title, root_text, claim_line, claim_lines, deal_line, count_line}
 use Rattle.evidence.specs.Readings.{LacksClaim, FindsClaim, NamesNoSeat, AllClaims}
 use Rattle.evidence.proofs.CutLemmas.{one_front, some_byte}
-use Rattle.evidence.proofs.WordLemmas.{decimal-lacks, few_fits, root_fits, root-lacks, seat-lacks}
+use Rattle.evidence.proofs.WordLemmas.{decimal-lacks, root-lacks, seat-lacks}
 
 -- ---- the line of a claim
 -- from each of its words on
@@ -64,44 +60,6 @@ claim-cut claim front rest = simp append_assoc
 pub no_byte : (byte : ℕ) (text front rest : List ℕ) → Lacks byte text → text ≡ front ++ (byte ∷ rest) → ⊥
 no_byte byte text front rest lacks e = some_byte byte front rest (subst (Lacks byte) e lacks)
 
--- ---- one claim
-minus_is_no_number : (n : ℕ) → n < 1000000 → codes "-" ≡ decimal n → ⊥
-minus_is_no_number n few e =
-    let lacks : Lacks 45 (decimal n) = decimal-lacks 45 n (omega arith) (few_fits n (root_fits n few)) in
-    All-head (λ x. x ≢ 45) 45 [] (subst (Lacks 45) (sym e) lacks) refl
-
-one_root : (one other : Option ℕ) → IsRoot one → IsRoot other → root_text one ≡ root_text other → one ≡ other
-one_root None None p q e = refl
-one_root None (Some n) p q e = absurd (minus_is_no_number n q e)
-one_root (Some m) None p q e = absurd (minus_is_no_number m p (sym e))
-one_root (Some m) (Some n) p q e =
-    ap Some (decimal_injective m n (few_fits m (root_fits m p)) (few_fits n (root_fits n q)) e)
-
-abbrev claim_of : Seat → ℕ → Option ℕ → Option ℕ → Claim
-claim_of declarer k one other = record { declarer = declarer; k = k; declarer_root = one; defenders_root = other }
-
-pub same_claim : (c d : Claim) → c.declarer ≡ d.declarer → c.k ≡ d.k → c.declarer_root ≡ d.declarer_root → c.defenders_root ≡ d.defenders_root → c ≡ d
-same_claim c d p q r s =
-    ap (λ x. claim_of x c.k c.declarer_root c.defenders_root) p
-    ∙ (ap (λ x. claim_of d.declarer x c.declarer_root c.defenders_root) q
-    ∙ (ap (λ x. claim_of d.declarer d.k x c.defenders_root) r
-    ∙ ap (λ x. claim_of d.declarer d.k d.declarer_root x) s))
-
-pub one_claim : (c d : Claim) (a b : List ℕ) → IsClaim c → IsClaim d → claim_line c a ≡ claim_line d b → (c ≡ d) × (a ≡ b)
-one_claim c d a b p q e =
-    let seat = one_seat c.declarer d.declarer (32 ∷ from_tricks c a) (32 ∷ from_tricks d b) e in
-    let tricks = second_word d b q (from_tricks c a) (decimal c.k) (from_first_root c a) refl
-    (decimal-lacks 32 c.k (omega arith) (tricks_fit c p)) (tails 32 32 (from_tricks c a) (from_tricks d b) seat.1) in
-    let first = third_word d b q (from_first_root c a) (root_text c.declarer_root) (from_second_root c a) refl
-    (root-lacks 32 c.declarer_root (omega arith) p.declarer_root) tricks.1 in
-    let second = fourth_word d b q (from_second_root c a) (root_text c.defenders_root) a refl
-    (root-lacks 10 c.defenders_root (omega arith) p.defenders_root) first.1 in (
-      same_claim c d seat.0 (decimal_injective c.k d.k (tricks_fit c p) (tricks_fit d q) tricks.0)
-          (one_root c.declarer_root d.declarer_root p.declarer_root q.declarer_root first.0)
-          (one_root c.defenders_root d.defenders_root p.defenders_root q.defenders_root second.0),
-      second.1,
-    )
-
 -- ---- claims
 pub AllClaims-from : (least : ℕ) (claims : List Claim) → AreClaims least claims → AllClaims claims
 AllClaims-from least [] are = tt
@@ -121,23 +79,10 @@ length-claims least (claim ∷ more) low are =
     seat_below South = omega arith
     seat_below West = omega arith
 
-pub one_claims : (cs ds : List Claim) (a b : List ℕ) → AllClaims cs → AllClaims ds → length cs ≡ length ds → claim_lines cs a ≡ claim_lines ds b → (cs ≡ ds) × (a ≡ b)
-one_claims [] [] a b p q n e = (refl, e)
-one_claims [] (d ∷ ds) a b p q n e = absurd (omega arith)
-one_claims (c ∷ cs) [] a b p q n e = absurd (omega arith)
-one_claims (c ∷ cs) (d ∷ ds) a b p q n e =
-    let first = one_claim c d (claim_lines cs a) (claim_lines ds b) p.0 q.0 e in
-    let next = one_claims cs ds a b p.1 q.1 (omega arith) first.1 in
-    (ap (λ x. x ∷ cs) first.0 ∙ ap (λ xs. d ∷ xs) next.0, next.1)
-
 -- what is read of the lines of claims
 pub none_read : (text : List ℕ) (old more : List Claim) (rest : List ℕ) → LacksClaim text → AllClaims more → text ≡ claim_lines more rest → old ≡ old ++ more
 none_read text old [] rest lacks all e = sym (append-nil old)
 none_read text old (c ∷ cs) rest lacks all e = absurd (lacks c (claim_lines cs rest) all.0 e)
-
-pub no_room : (old more : List Claim) → 4 ≤ length old → length old + length more ≤ 4 → old ≡ old ++ more
-no_room old [] full few = sym (append-nil old)
-no_room old (c ∷ cs) full few = absurd (omega arith)
 
 pub claims_read : (text : List ℕ) (claim : Claim) (after : List ℕ) (old pushed new : List Claim) → FindsClaim text claim after → pushed ≡ old ++ (claim ∷ [])
     → ((more : List Claim) (rest : List ℕ) → AllClaims more → NamesNoSeat rest → length pushed + length more ≤ 4 → after ≡ claim_lines more rest → new ≡ pushed ++ more)
@@ -151,7 +96,7 @@ claims_read text claim after old pushed new finds push go (c ∷ cs) rest all no
 
 -- ---- the deal
 pub says_deal : (deal : Deal) → IsLayout deal → SaysLayout (deal_text deal) (Ok deal)
-says_deal deal layout = (held_of deal, deal-named deal ∙ ap full (same_held deal), IsDealOf-held_of deal layout)
+says_deal deal layout = (held_of deal, deal-named deal, IsDealOf-held_of deal layout)
 
 pub one_deal : (one other : Deal) → IsLayout one → IsLayout other → deal_text one ≡ deal_text other → one ≡ other
 one_deal one other p q e = ok_same (one_layout (deal_text other) (Ok one) (Ok other) (subst (λ value. SaysLayout value (Ok one)) e (says_deal one p)) (says_deal other q))
@@ -184,10 +129,6 @@ unfolding count_front
 count-lacks n fits = All-append (λ x. x ≢ 10) (codes "claims ") (decimal n)
     (All-from_recursion (λ x. x ≢ 10) (codes "claims ") (omega arith, (omega arith, (omega arith, (omega arith, (omega arith, (omega arith, (omega arith, tt))))))))
     (decimal-lacks 10 n (omega arith) fits)
-
-pub one_count : (m n : ℕ) → m < 2 ^ 64 → n < 2 ^ 64 → count_front m ≡ count_front n → m ≡ n
-unfolding count_front
-one_count m n p q e = decimal_injective m n p q (append_cancel_left (codes "claims ") (decimal m) (decimal n) e)
 
 -- ---- the line of the deal
 pub deal_cut : (text rest : List ℕ) (r : Option (Bor (List ℕ) × Bor (List ℕ))) → text ≡ (title ++ codes "deal ") ++ rest

@@ -6,6 +6,5 @@ pub mod SectionLemmas
 pub mod WriteParts
 pub mod PieceLemmas
 pub mod PartLemmas
-pub mod RowLemmas
 pub mod TitleLemmas
 pub mod DamageLemmas

@@ -1,5 +1,5 @@
 -- A text is that of one section at most.
-use Rattle.std.proofs.Common.{◌≡◌, ℕ, ◌≤◌, List, [], ◌∷◌, ◌++◌, length, Option, None, Some, codes, refl, sym, ◌∙◌, ap, arith, append_assoc}
+use Rattle.std.proofs.Common.{◌≡◌, ℕ, ◌≤◌, List, [], ◌∷◌, ◌++◌, length, refl, sym, ◌∙◌, ap, arith, append_assoc}
 use Rattle.std.proofs.lemmas.List.{append_cancel_left}
 use Rattle.cards.specs.declared.seats.Seat.TheVariants.{North, East, South, West}
 use Rattle.cards.specs.declared.suits.Suit.TheVariants.{Spades, Hearts, Diamonds, Clubs}
@@ -16,13 +16,12 @@ use Rattle.certificate_graph.proofs.OneSpelling.{heads, one_suit}
 use Rattle.certificate_graph.specs.declared.bundles.Claim.{Claim}
 use Rattle.evidence.specs.Sections.{SectionShape, IsSection}
 use Rattle.evidence.specs.SectionTexts.{title, head_text, deal_line, count_line, claim_line, claim_lines, graphs_text, section_text}
-use Rattle.evidence.specs.Laws.{NoTextHasTwoSections, SectionsAreReadBack}
 use Rattle.evidence.specs.declared.head_reading.Head.{Head}
-use Rattle.evidence.specs.Readings.{SaysSection, NamesNoSeat, IsHeadOf}
+use Rattle.evidence.specs.Readings.{NamesNoSeat, IsHeadOf}
 use Rattle.evidence.proofs.CutLemmas.{one_front}
 use Rattle.evidence.proofs.WordLemmas.{trump-lacks}
 use Rattle.evidence.proofs.GraphLines.{one_graphs}
-use Rattle.evidence.proofs.HeadLemmas.{claim-cut, count_front, count-cut, count-lacks, one_count, one_claims, one_deal, AllClaims-from, length-claims}
+use Rattle.evidence.proofs.HeadLemmas.{claim-cut, count_front, count-cut, count-lacks, length-claims}
 
 -- ---- the parts of a section's text
 abbrev pub from_claims : SectionShape → List ℕ
@@ -66,33 +65,13 @@ one_trump (trump.Suit Clubs) trump.Nt e = let h = heads 67 78 [] (84 ∷ []) e i
 abbrev pub section_of : Deal → Trump → List Claim → GraphShape → GraphShape → SectionShape
 section_of deal t claims ns ew = record { deal = deal; trump = t; claims = claims; ns = ns; ew = ew }
 
-same_section : (a b : SectionShape) → a.deal ≡ b.deal → a.trump ≡ b.trump → a.claims ≡ b.claims → a.ns ≡ b.ns → a.ew ≡ b.ew → a ≡ b
+pub same_section : (a b : SectionShape) → a.deal ≡ b.deal → a.trump ≡ b.trump → a.claims ≡ b.claims → a.ns ≡ b.ns → a.ew ≡ b.ew → a ≡ b
 same_section a b p q r s t =
     ap (λ x. section_of x a.trump a.claims a.ns a.ew) p
     ∙ (ap (λ x. section_of b.deal x a.claims a.ns a.ew) q
     ∙ (ap (λ x. section_of b.deal b.trump x a.ns a.ew) r
     ∙ (ap (λ x. section_of b.deal b.trump b.claims x a.ew) s
     ∙ ap (λ x. section_of b.deal b.trump b.claims b.ns x) t)))
-
-pub one_section : NoTextHasTwoSections
-one_section text a b (p, is) (q, is') =
-    let e : section_text a ≡ section_text b = sym is ∙ is' in
-    let deal = deal_word b q (deal_text a.deal) (from_trump a) (deal-one_line a.deal) (append_cancel_left (title ++ codes "deal ") _ _ e) in
-    let name = trump_word b q (trump_letters a.trump) (from_count a) (trump-lacks a.trump) (append_cancel_left (codes "trump ") _ _ deal.1) in
-    let few = few_claims a p in
-    let few' = few_claims b q in
-    let count = count_word b q (count_front (length a.claims)) (from_claims a) (count-lacks (length a.claims) (omega arith)) (sym (count-cut (length a.claims) (from_claims a)) ∙ name.1) in
-    let many : length a.claims ≡ length b.claims = one_count (length a.claims) (length b.claims) (omega arith) (omega arith) count.0 in
-    let claims = one_claims a.claims b.claims (graphs_text a.ns a.ew) (graphs_text b.ns b.ew) (AllClaims-from 0 a.claims p.claims_are) (AllClaims-from 0 b.claims q.claims_are) many count.1 in
-    let graphs = one_graphs a.ns a.ew b.ns b.ew p.ns_is.graph p.ew_is.graph q.ns_is.graph q.ew_is.graph claims.1 in
-    same_section a b (one_deal a.deal b.deal p.layout q.layout deal.0) (one_trump a.trump b.trump name.0) claims.0 graphs.0 graphs.1
-
-pub read_back : SectionsAreReadBack
-read_back section is = ((is, refl), λ said says. one_answer said says)
-  where
-    one_answer : (said : Option SectionShape) → SaysSection (section_text section) said → said ≡ Some section
-    one_answer None none = absurd (none section (is, refl))
-    one_answer (Some other) of = ap Some (one_section (section_text section) other section of (is, refl))
 
 -- ---- the head before a text
 pub claims-cut : (claims : List Claim) (rest : List ℕ) → claim_lines claims rest ≡ claim_lines claims [] ++ rest

@@ -10,7 +10,6 @@ mod claims;
 mod damages;
 mod graphs_reading;
 mod head_reading;
-mod laws;
 mod parts;
 mod section_reading;
 mod section_writing;
@@ -22,9 +21,6 @@ mod words;
 pub use claims::claims_in_order;
 pub use damages::Damage;
 pub use graphs_reading::read_graphs;
-pub use laws::{
-    one_row, one_section, one_text, parts_are_joined, sections_are_parts, sections_are_read_back,
-};
 pub use parts::{Part, Piece};
 pub use section_reading::read_section;
 pub use section_writing::{

@@ -1,7 +1,6 @@
 -- What the calls of a writer add, and sections that are added to others.
 use Rattle.std.proofs.Common.{◌≡◌, ℕ, ◌≤◌, List, [], ◌∷◌, ◌++◌, length, take, drop, Option, None, Some, Result, Ok, Err, Bool, true, false, not, nat_eq, nat_lt, refl, sym, ◌∙◌, ap, subst, arith, append_assoc, Vec, Global}
 use Rattle.std.proofs.Math.Dec.{T, eqb→eq}
-use Rattle.std.specs.Prelude.{IfOk}
 use Rattle.std.proofs.lemmas.List.{take-append-drop, take_all, append-nil}
 use Rattle.std.specs.Io.KnownBytes.{Appends, Keeps}
 use Rattle.cards.specs.Devices.{AddsWhereTold, StaysWhereTold}
@@ -10,7 +9,7 @@ use Rattle.evidence.specs.Sections.{SectionShape}
 use Rattle.evidence.specs.SectionTexts.{section_text}
 use Rattle.evidence.specs.Pieces.{greatest_length}
 use Rattle.evidence_solvers.specs.declared.tails.Tail.{Tail}
-use Rattle.evidence_solvers.specs.Kept.{IsKeptText, IsShort, AreShort, texts_of}
+use Rattle.evidence_solvers.specs.Kept.{IsShort, AreShort, texts_of}
 use Rattle.evidence_solvers.specs.Tails.{WritesOnce, AddsText}
 use Rattle.evidence_solvers.specs.Added.{AddsSections, AddsBeginning, IsAdded, AreTextsToKeep}
 
@@ -133,8 +132,3 @@ module _ {F : Type 0} (contents : F → Option (List ℕ)) (told : Option (List 
       (after_write old.file new.file section old.has_failed missed short added (subst (λ (t : List ℕ). WritesOnce contents old.file new.file t old.has_failed missed) is.1 writes))
   after_add old new (Ok None) keeps added same = subst (λ (t : Tail F). IsAdded told (contents t.file) t.has_failed) (sym same) added
   after_add old new (Err fault) keeps added same = subst (λ (t : Tail F). IsAdded told (contents t.file) t.has_failed) (sym same) added
-
--- a text that is kept
-pub to_keep : (section : SectionShape) (text : Result (Option (Vec ℕ Global)) NoMemory) → IfOk text (IsKeptText section) → AreTextsToKeep text
-to_keep section (Ok found) is = (section, is)
-to_keep section (Err fault) is = tt

@@ -1,2 +1,1 @@
 pub mod AddLaws
-pub mod PartLaws

@@ -2,4 +2,3 @@ pub mod Opening
 pub mod Kept
 pub mod Tails
 pub mod Added
-pub mod Laws

@@ -8,7 +8,7 @@ use Rattle.lease_book.specs.declared.events.Reply.TheVariants.{Given}
 use Rattle.lease_book.specs.Histories.{Terms}
 use Rattle.lease_desk.specs.declared.receipts.Receipt.{Receipt}
 use Rattle.lease_desk.specs.Desks.{receipts_in}
-use Rattle.farm_relay.specs.Relays.{put_by, taken_by}
+use Rattle.farm_relay.specs.Relays.{put_by}
 use Rattle.certificate_graph.specs.declared.bundles.Bundle.{Bundle}
 use Rattle.certificate_graph.specs.Solvers.{MayFind}
 use Rattle.checker.specs.declared.pairs.CheckedPair.{CheckedPair}
@@ -17,12 +17,9 @@ use Rattle.farm.specs.declared.tasks.Task.{Task}
 use Rattle.farm.specs.declared.tasks.Group.{Group}
 use Rattle.farm.specs.declared.tasks.FoundBundle.{FoundBundle}
 use Rattle.farm.specs.declared.tasks.CheckedClaim.{CheckedClaim}
-use Rattle.farm.specs.declared.crews.Crew.{Crew}
 use Rattle.farm.specs.declared.posts.LenderPost.{LenderPost}
-use Rattle.farm.specs.declared.posts.SolverPost.{SolverPost}
-use Rattle.farm.specs.declared.posts.CheckerPost.{CheckerPost}
 use Rattle.farm.specs.Groups.{group_of, others_of, is_with}
-use Rattle.farm.specs.Posts.{PutsGroup, LendsOwn, FindsTaken, ClaimsTaken}
+use Rattle.farm.specs.Posts.{PutsGroup, LendsOwn}
 use Rattle.farm.specs.Requests.{IsNextTask, FreesLeases, WasGiven, AreGiven, Continues, HandsIn, AreHandedIn}
 use Rattle.farm.specs.Findings.{IsLentUnder, PutsFound, IsFoundUnder, IsClaimFor, PutsClaim, AreClaimsFor, PutsClaims, IsClaimUnder}
 
@@ -94,12 +91,6 @@ lent_still before after on group is = record {
   are = is.are;
 }
 
--- who has put nothing
-pub lends_none : (post : LenderPost) → put_by post.groups ≡ [] → LendsOwn post
-lends_none post none =
-    let Of : Group → Type 0 = IsLentUnder (receipts_in post.chair) in
-    record { each = subst (λ (l : List Group). All Of l) (sym none) (All-nil Of) }
-
 -- the receipts go on
 pub lends_on : (old new : LenderPost) → Continues (receipts_in old.chair) (receipts_in new.chair) → put_by new.groups ≡ put_by old.groups → LendsOwn old → LendsOwn new
 lends_on old new on same lends =
@@ -150,12 +141,6 @@ module _ (may_find : MayFind) (deals : List (Option Deal)) (budget : ℕ) where
       subst (λ (l : List FoundBundle). All Of l) (sym one.2) (All-push Of before one.0 still last))
       puts)
 
--- who has put nothing
-pub finds_none : {S G C : Type 0} (may_find : S → MayFind) (crew : Crew S G C) (post : SolverPost) → put_by post.found ≡ [] → FindsTaken may_find crew post
-finds_none may_find crew post none =
-    let Of : FoundBundle → Type 0 = IsFoundUnder (may_find crew.means.solver.now) crew.deals.now crew.settings.budget (taken_by post.groups) in
-    record { each = subst (λ (l : List FoundBundle). All Of l) (sym none) (All-nil Of) }
-
 -- ---- claims to clerks
 module _ (bundle : Bundle) (pair : CheckedPair) where
   no_claims : (tasks : List Task) (claims : List CheckedClaim) → claims ≡ [] → AreClaimsFor bundle pair tasks claims
@@ -183,9 +168,6 @@ module _ (bundle : Bundle) (pair : CheckedPair) where
   -- claims for these leases were put since
   abbrev pub HasPut : List Task → List CheckedClaim → List CheckedClaim → Type 0
   HasPut tasks before after = (claims : List CheckedClaim) × AreClaimsFor bundle pair tasks claims × (after ≡ before ++ claims)
-
-  pub none_put : (before : List CheckedClaim) → HasPut [] before before
-  none_put before = ([], refl, sym (append-nil before))
 
   pub put_more : (tasks : List Task) (task : Task) (before now after : List CheckedClaim) → HasPut tasks before now → PutsClaim bundle pair task now after → HasPut (tasks ++ task ∷ []) before after
   put_more tasks task before now after put puts =
@@ -253,12 +235,6 @@ claims_taken_more taken now message before after took puts all =
     (λ one. subst (λ (l : List CheckedClaim). All Of l) (sym one.4)
     (All-append Of before one.1 still (claims_under (taken ++ message ∷ []) message one.0 (Contains-push taken message) one.2 message.tasks.items (λ task has. has) one.1 one.3)))
     puts)
-
--- who has put nothing
-pub claims_none : (post : CheckerPost) → put_by post.claims ≡ [] → ClaimsTaken post
-claims_none post none = record {
-  each = subst (λ (l : List CheckedClaim). All (IsClaimUnder (taken_by post.found)) l) (sym none) (All-nil (IsClaimUnder (taken_by post.found)));
-}
 
 -- ---- hand-ins
 pub handed_in_more : (terms : Terms) (claims : List CheckedClaim) (claim : CheckedClaim) (before now after : List Receipt) → AreHandedIn terms claims before now → HandsIn terms claim now after → AreHandedIn terms (claims ++ claim ∷ []) before after

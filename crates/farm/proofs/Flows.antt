@@ -3,22 +3,15 @@ use Rattle.std.proofs.Common.{◌≡◌, ℕ, ◌+◌, ◌<◌, ◌≤◌, List,
 use Rattle.std.proofs.lemmas.List.{take_more}
 use Rattle.std.proofs.lemmas.List.Sums.{sum_by-cons, sum_by_push}
 use Rattle.lease_book.specs.declared.events.Asked.{Asked}
-use Rattle.lease_book.specs.declared.events.Reply.{Reply}
 use Rattle.lease_book.specs.Histories.{Terms}
 use Rattle.lease_desk.specs.declared.receipts.Receipt.{Receipt}
-use Rattle.lease_desk.specs.Desks.{IsTold}
 use Rattle.farm_relay.specs.declared.putters.Putter.{Putter}
 use Rattle.farm_relay.specs.Relays.{PutsAtSame}
 use Rattle.farm.specs.declared.tasks.Task.{Task}
 use Rattle.farm.specs.declared.tasks.CheckedClaim.{CheckedClaim}
 use Rattle.lease_book.specs.Settling.{given_by, settled_by}
-use Rattle.farm.specs.Requests.{Hears, IsNextTask, FreesLeases, GivesUp, HandsIn}
+use Rattle.farm.specs.Requests.{IsNextTask, FreesLeases, HandsIn}
 use Rattle.farm.specs.Flows.{given, settled, of_task, of_tasks, Moves}
-
--- what a call at the desk tells
-pub heard : (terms : Terms) (before after : List Receipt) (asked : Asked) (reply : Reply) (told : Receipt) → IsTold terms before after asked told → told.event.reply ≡ reply → Hears asked reply before after
-heard terms before after asked reply told is said =
-    (told.place, is.receipts ∙ (λ i. before ++ record { place = told.place; event = record { asked = is.asked_is i; reply = said i } } ∷ []))
 
 -- an end that went through two calls
 pub puts_then : {T : Type 0} (first now last : Putter T) → PutsAtSame first now → PutsAtSame now last → PutsAtSame first last
@@ -48,12 +41,6 @@ module _ (weight : ℕ → ℕ) where
   freeing_moves before after freed frees =
       let a = given_more before after _ frees.3.1 in
       let b = settled_more before after _ frees.3.1 in
-      omega arith
-
-  pub giving_up_moves : (lease : ℕ) (before after : List Receipt) → GivesUp lease before after → Moves weight before after (weight lease) 0
-  giving_up_moves lease before after gives_up =
-      let a = given_more before after _ gives_up.1.1 in
-      let b = settled_more before after _ gives_up.1.1 in
       omega arith
 
   pub handing_in_moves : (terms : Terms) (claim : CheckedClaim) (before after : List Receipt) → HandsIn terms claim before after → Moves weight before after (weight claim.task.lease) 0

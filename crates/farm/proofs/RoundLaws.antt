@@ -26,15 +26,6 @@ both_once one other first second weight =
     omega arith
 
 -- ---- leases that are taken back
-pub none_back : (book : Ledger) → TakesBack book book
-none_back book = record {
-  terms_are = refl;
-  later = [];
-  events_are = sym (append-nil book.events);
-  given_up = All-nil IsGiveUp;
-  settled = λ once. once;
-}
-
 pub back_then : (first between last : Ledger) → TakesBack first between → TakesBack between last → TakesBack first last
 back_then first between last one other = record {
   terms_are = other.terms_are ∙ one.terms_are;

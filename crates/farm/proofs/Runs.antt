@@ -12,7 +12,7 @@ use Rattle.lease_book.specs.Books.{Ledger}
 use Rattle.lease_desk.specs.declared.receipts.Receipt.{Receipt}
 use Rattle.lease_desk.specs.declared.chairs.Chair.{Chair}
 use Rattle.lease_desk.specs.Receipts.{Stands, is_for}
-use Rattle.lease_desk.specs.Desks.{IsChairOf, AreChairsOf, IsClosed, AreAll, chairs_of, receipts_in}
+use Rattle.lease_desk.specs.Desks.{IsClosed, receipts_in}
 use Rattle.farm.specs.declared.crews.Crew.{Crew}
 use Rattle.lease_book.specs.Moments.{MayTell, IsTimed, AreTimed}
 use Rattle.lease_book.specs.TrueHistories.{IsGivenOut}
@@ -32,13 +32,6 @@ saw_nothing receipts idle =
     (idle.asked, idle.nothing.0, subst (λ (l : List Receipt). Contains l told) (sym idle.none_freed.1) (Contains-append_left idle.between _ told between))
 
 module _ {S G C : Type 0} (may_tell : C → MayTell) (crew : Crew S G C) where
-  -- the chairs that come back from the threads are those of the desk
-  pub same_chairs : (chairs worked : List Chair) → AreChairsOf crew.desk.now chairs → HaveWorked may_tell crew chairs worked → AreChairsOf crew.desk.now worked
-  same_chairs chairs worked are have = record {
-    each = All-weaker (IsOnDuty may_tell crew) (IsChairOf crew.desk.now) (λ chair has. has.chair_is) worked have.duty;
-    all = subst (λ (l : List ℕ). AreAll (chairs_of crew.desk.now) l) (sym have.numbers) are.all;
-  }
-
   module _ (terms : Terms) (start : List Event) (first chairs closed : List Chair) (book : Ledger)
       (have : HaveWorked may_tell crew first chairs) (is : IsClosed terms start chairs book closed) where
     long : length book.events ≡ length start + length is.later

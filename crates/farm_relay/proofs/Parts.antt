@@ -16,9 +16,6 @@ module _ {T : Type 0} where
   pub messages-mark : (items : List (Item T)) → messages_in (items ++ EndMark ∷ []) ≡ messages_in items
   messages-mark items = filter_map-append message_of items (EndMark ∷ []) ∙ append-nil (messages_in items)
 
-  pub marks-message : (items : List (Item T)) (message : T) → marks_in (items ++ Message message ∷ []) ≡ marks_in items
-  marks-message items message = omega (arith, sum_by_push mark_of items (Message message))
-
   pub marks-mark : (items : List (Item T)) → marks_in (items ++ EndMark ∷ []) ≡ marks_in items + 1
   marks-mark items = omega (arith, sum_by_push mark_of items EndMark)
 

@@ -1,16 +1,12 @@
 -- A plain value stands in a page as it is.
-use Rattle.std.proofs.Common.{◌≡◌, ◌≢◌, ℕ, None, zero, suc, ◌<◌, ◌≤◌, true, false, cond, not, eqb, List, [], ◌∷◌, ◌++◌, refl, sym, ◌∙◌, ap, arith, IsAscii, nat_le, nat_lt}
+use Rattle.std.proofs.Common.{◌≡◌, ℕ, zero, suc, ◌<◌, ◌≤◌, true, false, cond, not, eqb, List, [], ◌∷◌, ◌++◌, refl, sym, ◌∙◌, ap, arith, IsAscii, nat_le, nat_lt}
 use Rattle.std.specs.Prelude.{◌&&◌, codes}
 use Rattle.std.specs.List.{flat_map}
 use Rattle.std.specs.Char.{encode_utf8, is_control}
-use Rattle.std.proofs.lemmas.Bool.{and_parts, and_left, and_right, or_from, not-true, leb-true, ltb-true, lt-leb, eqb-false}
-use Rattle.std.proofs.lemmas.List.{append-nil}
+use Rattle.std.proofs.lemmas.Bool.{and_parts, and_left, and_right, or_from, not-true, leb-true, ltb-true, lt-leb}
 use Rattle.std.proofs.lemmas.Str.{encode_ascii, chars-IsAscii, IsUtf8-from_ascii}
 use Rattle.html.specs.Values.{char_text, chars_text, value_text}
 use Rattle.html.specs.Plain.{is_plain_byte, is_plain}
-use Rattle.html.specs.Pages.{resolved_from}
-use Rattle.html.proofs.Each.{Each}
-use Rattle.html.proofs.ValueTexts.{plain-read}
 use Rattle.html.proofs.CharTexts.{shown_text, chars_text-flat, chars_text-utf8}
 
 pub record IsPlainByte (byte : ℕ) : Type 0 where
@@ -20,7 +16,7 @@ pub record IsPlainByte (byte : ℕ) : Type 0 where
   pub lt : eqb byte 60 ≡ false
   pub gt : eqb byte 62 ≡ false
 
-plain-byte : (byte : ℕ) → is_plain_byte byte ≡ true → IsPlainByte byte
+pub plain-byte : (byte : ℕ) → is_plain_byte byte ≡ true → IsPlainByte byte
 plain-byte byte h =
     let a = and_parts (nat_le 32 byte) (nat_lt byte 127 && (not (eqb byte 38) && (not (eqb byte 60) && not (eqb byte 62)))) h in
     let b = and_parts (nat_lt byte 127) (not (eqb byte 38) && (not (eqb byte 60) && not (eqb byte 62))) a.1 in
@@ -66,17 +62,3 @@ plain-stays value h =
     sym (chars_text-utf8 value value refl (IsUtf8-from_ascii value (ascii value h)))
     ∙ (ap chars_text (chars-IsAscii value (ascii value h))
     ∙ (chars_text-flat value ∙ text-bytes value h))
-
--- it is read as it stands
-no-amp : (bytes : List ℕ) → is_plain bytes ≡ true → Each (λ byte. byte ≢ 38) bytes
-no-amp [] h = tt
-no-amp (byte ∷ bytes) h =
-    let parts = and_parts (is_plain_byte byte) (is_plain bytes) h in
-    (eqb-false byte 38 (plain-byte byte parts.0).amp, no-amp bytes parts.1)
-
-pub amp-free-resolved : (text : List ℕ) → Each (λ byte. byte ≢ 38) text → resolved_from None text ≡ text
-amp-free-resolved text h =
-    ap (resolved_from None) (sym (append-nil text)) ∙ (plain-read text [] h ∙ append-nil text)
-
-pub plain-resolved : (text : List ℕ) → is_plain text ≡ true → resolved_from None text ≡ text
-plain-resolved text h = amp-free-resolved text (no-amp text h)

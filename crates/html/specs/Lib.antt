@@ -1,5 +1,5 @@
 pub mod Values
-pub mod Pages
+pub mod Places
 pub mod Templates
+pub mod PlainTemplates
 pub mod Plain
-pub mod Laws

@@ -11,10 +11,6 @@ value_chars bytes = if is_utf8 bytes then chars bytes else bytes
 abbrev pub shown_char : ℕ → ℕ
 shown_char c = if is_control c then 0xFFFD else c
 
--- the characters that a page shows of a value
-unfoldable pub shown : List ℕ → List ℕ
-shown bytes = map shown_char (value_chars bytes)
-
 -- the bytes of a character in a page: a reference for each that could begin or end markup, or else its UTF-8
 abbrev pub char_text : ℕ → List ℕ
 char_text c =

@@ -50,12 +50,6 @@ same_holders (holder ∷ one) (another ∷ other) =
     ap (λ b. b && are_same_holders (holders_of one) (holders_of other)) (same_number holder another)
     ∙ ap (λ b. is_same_holder holder another && b) (same_holders one other)
 
--- nothing is noted at first
-pub none_noted : (boards : List Board) (noted : List ℕ → Option ℕ) → ((others : List ℕ) → noted others ≡ None) → AreNoted boards 0 noted
-none_noted boards noted none deal =
-    let first = position_or_len (is_dealt deal) boards in
-    none (holders_of deal) ∙ sym (ap (λ b. cond b (Some first) None) (le-ltb first 0 (omega arith)))
-
 module _ (boards : List Board) (number : ℕ) where
   -- a place that is not the first of a deal
   pub no_first : (deal : Deal) → position_or_len (is_dealt deal) boards ≢ number → first_before boards (number + 1) deal ≡ first_before boards number deal

@@ -1,7 +1,7 @@
 -- Twins: entries of one declarer and denomination whose boards have the same deal. The names of the boards don't
 -- matter.
-use Rattle.std.specs.Prelude.{◌≡◌, ℕ, zero, suc, ◌+◌, ◌≤◌, Bool, true, false, ◌&&◌, List, length}
-use Rattle.std.specs.Prelude.{Option, None, Some, is_some, if◌then◌else◌, nat_eq, slice_get}
+use Rattle.std.specs.Prelude.{◌≡◌, ℕ, ◌≤◌, Bool, true, false, ◌&&◌, List}
+use Rattle.std.specs.Prelude.{Option, None, Some, is_some, nat_eq, slice_get}
 use Rattle.std.specs.List.{position_or_len}
 use Rattle.cards.specs.Deal.{Deal, is_same_deal}
 use Rattle.pbn_deals.specs.declared.boards.Board.{Board}
@@ -60,14 +60,6 @@ first_board boards number = first_with boards (deal_of boards number) number
 -- whether a board has a deal, and no board before it has the same
 abbrev pub is_first : List Board → ℕ → Bool
 is_first boards number = is_some (deal_of boards number) && nat_eq (first_board boards number) number
-
--- how many different deals the boards before a number have, and all boards
-abbrev pub deals_before : List Board → ℕ → ℕ
-deals_before boards zero = 0
-deals_before boards (suc number) = deals_before boards number + (if is_first boards number then 1 else 0)
-
-abbrev pub deal_count : List Board → ℕ
-deal_count boards = deals_before boards (length boards)
 
 -- an entry's least twin, which is on the first board with its deal (a law says so); the entry itself, where it has none
 abbrev pub twin_of : List Board → Entry → Entry

@@ -13,7 +13,6 @@ mod events;
 mod faults;
 mod gates;
 mod holders;
-mod laws;
 mod replays;
 mod replies;
 mod requests;
@@ -28,10 +27,6 @@ pub use entries::{ENTRIES, Entry};
 pub use events::{Asked, Event, Grant, HandedIn, Reply};
 pub use faults::BookFault;
 pub use gates::Gate;
-pub use laws::{
-    finds_least_twin, gives_few_leases, leases_least_twins, may_give_up_unsettled, names_one_reply,
-    nothing_is_left, publishes_first_good, publishes_once,
-};
 pub use replays::replay;
 pub use requests::{GraphText, Request};
 pub use sheets::write_tables;

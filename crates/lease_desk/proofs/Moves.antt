@@ -12,7 +12,7 @@ use Rattle.lease_desk.specs.declared.views.Hand.TheVariants.{Before, Empty, Hold
 use Rattle.lease_desk.specs.declared.views.View.{View}
 use Rattle.lease_desk.specs.Views.{page_of, page_with, receipts_on, unopened, usher, blank, holding}
 use Rattle.lease_desk.specs.Rule.{Where, within, out, AreBelow, Lies, hand_at, IsAmong, IsFinal, IsOf, Fits, IsOpen, IsKept}
-use Rattle.lease_desk.specs.Seats.{Opens, Learned, Took, MayGive, HasChairs, receipts_told, gave, Gave, ushering, seated, spared, told_of, page_in, heard, Compared, Silent}
+use Rattle.lease_desk.specs.Seats.{Opens, Learned, Took, MayGive, HasChairs, receipts_told, gave, Gave, ushering, seated, spared, told_of, page_in, heard, Silent}
 use Rattle.lease_desk.proofs.Lists.{set_else, below, each_set, each_added}
 use Rattle.lease_desk.proofs.Hands.{not_before, holder_has, others_have, new_has, IsHolder, holds}
 use Rattle.lease_desk.proofs.ReceiptLaws.{below_more, below_wide, below_push, none_from, from_other}
@@ -28,9 +28,6 @@ is_open items views pass v knows at (inl before) =
     let only = only_view pass v (subst (λ (l : List View). get_elem? l pass ≡ some v) before.1 at) in
     absurd (knows (ap (λ (u : View). u.hand) (sym only.1)))
 is_open items views pass v knows at (inr open') = open'
-
-pub begins : IsKept [] (unopened ∷ [])
-begins = inl (refl, refl)
 
 -- the rule asks nothing of who is silent
 pub silent : (pass : ℕ) (v : View) → Learns IsKept pass v (Silent v)
@@ -384,12 +381,6 @@ hears pass v other w knows empty items views kept there apart told_there =
             told = λ last e. cc;
           });
     })
-
-pub compares : (pass : ℕ) (v : View) → (v.hand ≡ Before → ⊥) → Learns IsKept pass v (Compared v)
-compares pass v knows items views kept there k last is_number told =
-    let open' = is_open items views pass v knows there kept in
-    let mine = open'.fits pass v there in
-    (mine.chair k is_number).2 ∙ ap (λ (p : SeenMessage). receipts_on p k) (sym (mine.told last told).0)
 
 pub opens_as : (n pass : ℕ) (v : View) (message first : Message) → v ≡ unopened → message ≡ first → first.makers.items ≡ [] → Pushes IsKept n pass v message (Opens v message)
 opens_as n pass v message first is same nobody =

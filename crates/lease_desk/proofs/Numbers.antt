@@ -1,5 +1,5 @@
 -- The numbers of chairs that are made in turn.
-use Rattle.std.proofs.Common.{◌≡◌, ℕ, ◌+◌, cond, eqb, ltb, List, [], ◌∷◌, ◌++◌, length, count_by, refl, arith}
+use Rattle.std.proofs.Common.{◌≡◌, ℕ, ◌+◌, cond, eqb, ltb, List, [], ◌∷◌, ◌++◌, length, count_by, arith}
 use Rattle.std.proofs.lemmas.Bool.Decides.{nat_tests}
 use Rattle.std.proofs.lemmas.List.{length_push}
 use Rattle.std.proofs.lemmas.List.Sums.{sum_by_push}
@@ -9,9 +9,6 @@ use Rattle.lease_desk.specs.Desks.{AreAll}
 pub record AreUpTo (count : ℕ) (numbers : List ℕ) : Type 0 where
   pub count_is : length numbers ≡ count
   pub once : (number : ℕ) → count_by (eqb number) numbers ≡ cond (ltb number count) 1 0
-
-pub none_up : AreUpTo 0 []
-none_up = record { count_is = refl; once = λ number. grind (arith, nat_tests) }
 
 pub one_more : (count : ℕ) (numbers : List ℕ) → AreUpTo count numbers → AreUpTo (count + 1) (numbers ++ count ∷ [])
 one_more count numbers up = record {

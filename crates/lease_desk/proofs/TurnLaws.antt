@@ -41,10 +41,6 @@ module _ (v w : View) (message : Message) (number : ℕ) (took : Took false v me
       back ∙ ap (λ (x : View). gave x page) took.holds
       ∙ ap (λ (y : List Receipt × Hand). record { number = v.number; receipts = y.0; made = v.made; opening = v.opening; hand = y.1; told = v.told }) (λ i. (told_is i, sym empty i))
 
-  pub given_same : (page : SeenMessage) (u : View) → v.hand ≡ Empty → u ≡ gave w page → page ≡ page_of message → u ≡ v
-  given_same page u empty back same =
-      given page u v.receipts empty back (ap (λ (p : SeenMessage). receipts_on p number) same ∙ sym (took.learned.chair number number_is))
-
   pub attended : (page : SeenMessage) (u : View) (asked : Asked) (told : Receipt) → v.hand ≡ Empty → u ≡ gave w page → IsEntered (page_of message) page number asked told → IsAttended v u asked told
   attended page u asked told empty back entered =
       let old : SeenMessage = page_of message in

@@ -1,8 +1,6 @@
 -- What the words of a subcommand say, from what its matches hold.
-use Rattle.std.proofs.Common.{◌≡◌, ◌∙◌, ℕ, List, Option, Some, None, Result, Ok, Err, sym, refl, ap, subst, inl, inr, Bool, false, true, option_map}
+use Rattle.std.proofs.Common.{◌≡◌, ◌∙◌, ℕ, List, Option, Some, None, Result, Ok, Err, sym, refl, ap, subst, inl, inr, option_map}
 use Rattle.std.specs.Result.{result_ok}
-use Rattle.std.specs.Str.{bytes_eq}
-use Rattle.std.proofs.lemmas.Slice.Eq.{bytes_eq-Decides}
 use Rattle.clap.specs.Words.{Row, Text, first_of}
 use Rattle.asked.specs.declared.settings.Settings.{Settings}
 use Rattle.asked.specs.declared.subcommands.Subcommand.{Subcommand}
@@ -13,14 +11,6 @@ use Rattle.matched_words.specs.Matches.{IsRead, Says, SaysMatched, SaysNumber, S
 
 pub nothing_read : {T : Type 0} (Said : T → Type 0) (read : Option T) → read ≡ None → ((x : T) → Said x → ⊥) → IsRead Said read
 nothing_read Said read none nothing = rw none nothing
-
--- ---- a text that is no subcommand's name
-differ : (a b : Text) → (a ≡ b → ⊥) → bytes_eq a b ≡ false
-differ a b apart = go (bytes_eq a b) refl
-  where
-    go : (e : Bool) → bytes_eq a b ≡ e → e ≡ false
-    go true same = absurd (apart ((bytes_eq-Decides a b).0 same))
-    go false same = refl
 
 -- ---- the words of the subcommand
 

@@ -7,11 +7,6 @@ use Rattle.std.specs.Int.{int_min, int_max}
 pub cases_int_lt : (x y : ℤ) → (x <ℤ y) ⊎ (y ≤ℤ x)
 cases_int_lt x y = by_lt_z x y inl inr
 
-pub cases_int_eq : (x y : ℤ) → (x ≡ y) ⊎ (x ≡ y → ⊥)
-cases_int_eq x y =
-    by_lt_z x y (λ less. inr (λ e. absurd (omega (arith, ints))))
-    (λ no_less. by_lt_z y x (λ less. inr (λ e. absurd (omega (arith, ints)))) (λ no_more. inl (omega (arith, ints))))
-
 pub min-left : (x y : ℤ) → int_min x y ≤ℤ x
 min-left x y = omega (arith, ints, clamps)
 
@@ -40,9 +35,6 @@ le-refl x y e = omega (arith, ints)
 pub neg-le : (x y : ℤ) → x ≤ℤ y → neg_ℤ y ≤ℤ neg_ℤ x
 neg-le x y h = omega (arith, ints)
 
-pub neg-swap : (x y : ℤ) → x ≤ℤ neg_ℤ y → y ≤ℤ neg_ℤ x
-neg-swap x y h = omega (arith, ints)
-
 -- a side that may accept what the others gain, x, or bid for y, gains the greater of the two for itself
 pub neg-min-accept : (x y : ℤ) → y ≤ℤ neg_ℤ x → neg_ℤ (int_min x (neg_ℤ y)) ≤ℤ neg_ℤ x
 neg-min-accept x y h = omega (arith, ints, clamps)
@@ -62,13 +54,3 @@ hold-bid x y h = omega (arith, ints, clamps)
 
 pub neg-neg : (x : ℤ) → neg_ℤ (neg_ℤ x) ≡ x
 neg-neg x = omega (arith, ints)
-
-pub le-both : (x y : ℤ) → x ≤ℤ y → y ≤ℤ x → x ≡ y
-le-both x y h k = omega (arith, ints)
-
-pub max-first : (x y : ℤ) → y ≤ℤ x → int_max x y ≡ x
-max-first x y h = omega (arith, ints, clamps)
-
-pub min-one : (x y : ℤ) → (int_min x y ≡ x) ⊎ (int_min x y ≡ y)
-min-one x y =
-    ⊎_elim (λ less. inl (omega (arith, ints, clamps))) (λ no_less. inr (omega (arith, ints, clamps))) (cases_int_lt x y)

@@ -2,8 +2,6 @@ pub mod IntLaws
 pub mod Ladder
 pub mod Plans
 pub mod Reaching
-pub mod PlayedOut
-pub mod Standing
 pub mod Lowest
 pub mod StepLaws
 pub mod ListLaws

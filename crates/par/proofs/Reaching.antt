@@ -18,10 +18,6 @@ use Rattle.par.proofs.Ladder.{above_of, above_of-rung, rung-above_of, above_of-b
 use Rattle.par.proofs.Ladder.{other_side-twice, worth, best, after, after-worth, after-best, after-others}
 use Rattle.par.proofs.Plans.{contract_of, gain-own, gain-other, plan, plan-lawful, reply-none, reply-some, plan-over, first-none, first-some}
 
-side-apart : (side : Side) → other_side side ≡ side → ⊥
-side-apart NorthSouth e = cc
-side-apart EastWest e = cc
-
 -- the final score of a contract by the number of higher bids
 pub worth-is : (final : Contract → ℤ) (side : Side) (bid : Bid) → worth final side (above_of bid) ≡ final (contract_of side bid)
 worth-is final side bid = ap (λ b. final (contract_of side b)) (rung-above_of bid)

@@ -1,5 +1,5 @@
 -- The bytes of the texts of par: a blank, `+` to `9`, or a letter.
-use Rattle.std.proofs.Common.{◌≡◌, ℕ, zero, suc, ◌<◌, ◌≤◌, ◌^◌, Bool, true, ◌||◌, ◌⊎◌, List, [], ◌∷◌, ◌++◌, All, eqb, refl, ◌∙◌, inl, inr, arith, nat_le}
+use Rattle.std.proofs.Common.{◌≡◌, ℕ, zero, suc, ◌<◌, ◌≤◌, ◌^◌, Bool, true, ◌||◌, List, [], ◌∷◌, ◌++◌, All, eqb, refl, ◌∙◌, arith, nat_le}
 use Rattle.std.specs.Prelude.{codes, ℤ, unsigned_abs, ◌&&◌}
 use Rattle.std.specs.Fmt.{decimal}
 use Rattle.std.specs.List.{flat_map, list_all}

@@ -8,14 +8,12 @@
 
 mod boards;
 mod contracts;
-mod laws;
 mod listing;
 mod texts;
 mod values;
 
 pub use boards::Tricks;
 pub use contracts::{Contract, Declarers, ParContract};
-pub use laws::{par_has_contracts, par_is_unique};
 pub use listing::par_contracts;
 pub use texts::{write_contracts, write_score};
 pub use values::par_of;

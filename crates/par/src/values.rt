@@ -1,9 +1,11 @@
 //! Par.
 
-ghost use Rattle.std.specs.Prelude.{◌≡◌, ◌<◌, ◌^◌, unsigned_abs};
+ghost use Rattle.std.specs.Prelude.{◌≡◌, ◌<◌, ◌^◌, unsigned_abs, neg_ℤ};
+ghost use Rattle.std.specs.Int.{int_min, int_max};
+ghost use Rattle.cards.specs.declared.seats.Side.TheVariants.{NorthSouth};
 ghost use Rattle.par.specs.Boards.{tricks_in};
 ghost use Rattle.par.specs.FinalScores.{first_hand, second_hand, most_tricks, final_doubling, final_outcome};
-ghost use Rattle.par.specs.FinalScores.{final_score};
+ghost use Rattle.par.specs.FinalScores.{final_score, gain_by};
 ghost use Rattle.par.specs.Par.{IsPar};
 
 use crate::boards::Tricks;
@@ -65,10 +67,34 @@ pub(crate) fn final_score(tricks: &Tricks, vulnerable: VulnerableSides, contract
     )
 }
 
+/// What a side gains at best if it may also make a bid with this final score. The other side accepts the bid, or makes
+/// its own best higher bid, by which it gains `theirs`.
+fn with_bid(best: i32, score: i32, theirs: i32) -> i32
+    requires best { unsigned_abs best < 2 ^ 16 }
+    requires score { unsigned_abs score < 2 ^ 16 }
+    requires theirs { unsigned_abs theirs < 2 ^ 16 }
+    ensures value { result ≡ int_max best (int_min score (neg_ℤ theirs)) }
+    ensures small { unsigned_abs result < 2 ^ 16 }
+{
+    best.max(score.min(-theirs))
+}
+
+/// What North and South gain if the side gains this.
+fn of_north_south(side: Side, gain: i32) -> i32
+    requires { unsigned_abs gain < 2 ^ 16 }
+    ensures value { result ≡ gain_by NorthSouth side gain }
+    ensures small { unsigned_abs result < 2 ^ 16 }
+{
+    match side {
+        Side::NorthSouth => gain,
+        Side::EastWest => -gain,
+    }
+}
+
 /// Par, as a score of North and South: what they reach if both sides bid with all cards seen.
 ///
 /// The loop goes from 7 no-trump down. It keeps what each side gains at best if it has to bid, and has the bids seen so
-/// far to choose from. After a bid the other side accepts its final score, or makes its own best higher bid.
+/// far to choose from. At last the dealer's side may bid or pass. A pass leaves it 0, or what the others' bid leaves.
 pub fn par_of(tricks: &Tricks, dealer: Seat, vulnerable: VulnerableSides) -> i32
     ensures par { IsPar (tricks_in tricks.now) dealer vulnerable result }
     ensures small { unsigned_abs result < 2 ^ 16 }
@@ -87,14 +113,11 @@ pub fn par_of(tricks: &Tricks, dealer: Seat, vulnerable: VulnerableSides) -> i32
     );
     for above in 1..Bid::COUNT {
         let bid = Bid::at(Bid::COUNT - 1 - above);
-        let own_bid = final_score(tricks, vulnerable, Contract { side, bid }).min(-others);
-        let others_bid = final_score(tricks, vulnerable, Contract { side: other, bid }).min(-own);
-        own = own.max(own_bid);
-        others = others.max(others_bid);
+        let score = final_score(tricks, vulnerable, Contract { side, bid });
+        let score_others = final_score(tricks, vulnerable, Contract { side: other, bid });
+        let own_before = own;
+        own = with_bid(own, score, others);
+        others = with_bid(others, score_others, own_before);
     }
-    let gain = own.max((-others).min(0));
-    match side {
-        Side::NorthSouth => gain,
-        Side::EastWest => -gain,
-    }
+    of_north_south(side, with_bid(own, 0, others))
 }

@@ -1,5 +1,5 @@
 -- What is left of a pattern after a trick is a rest.
-use Rattle.std.proofs.Common.{◌≡◌, ℕ, zero, suc, ◌+◌, ◌-◌, ◌<◌, ◌≤◌, Bool, true, false, cond, not, ◌&&◌, eqb, List, [], ◌∷◌, ◌++◌, length, get_or, map, filter, Some, refl, sym, ◌∙◌, ap, subst, arith, count_by, zero-add}
+use Rattle.std.proofs.Common.{◌≡◌, ℕ, zero, suc, ◌+◌, ◌-◌, ◌<◌, ◌≤◌, Bool, true, false, cond, not, ◌&&◌, eqb, List, [], ◌∷◌, length, get_or, map, filter, Some, refl, sym, ◌∙◌, ap, subst, arith, count_by, zero-add}
 use Rattle.std.specs.Prelude.{slice_get, slice_index}
 use Rattle.std.specs.List.{list_any, enumerate_from}
 use Rattle.std.proofs.lemmas.Bool.{eqb-true, eq-eqb}
@@ -37,28 +37,6 @@ left_from-is keep a (x ∷ xs) = go (keep a) (left_from-is keep (a + 1) xs)
     go true e = ap (λ ys. x ∷ ys) e
     go false e = e
 
--- one item more
-left_from-push : {X : Type 0} (keep : ℕ → Bool) (a : ℕ) (xs : List X) (y : X) → left_from keep a (xs ++ y ∷ []) ≡ left_from keep a xs ++ cond (keep (a + length xs)) (y ∷ []) []
-unfolding left_from
-left_from-push keep a [] y = let e : a + 0 ≡ a = omega arith in rw e refl
-left_from-push keep a (x ∷ xs) y =
-    let e : a + 1 + length xs ≡ a + suc (length xs) = omega arith in
-    go (keep a) (left_from-push keep (a + 1) xs y ∙ ap (λ k. left_from keep (a + 1) xs ++ cond (keep k) (y ∷ []) []) e)
-  where
-    go : (b : Bool) → left_from keep (a + 1) (xs ++ y ∷ []) ≡ left_from keep (a + 1) xs ++ cond (keep (a + suc (length xs))) (y ∷ []) [] →
-        cond b (x ∷ left_from keep (a + 1) (xs ++ y ∷ [])) (left_from keep (a + 1) (xs ++ y ∷ [])) ≡ cond b (x ∷ left_from keep (a + 1) xs) (left_from keep (a + 1) xs) ++ cond (keep (a + suc (length xs))) (y ∷ []) []
-    go true e = ap (λ ys. x ∷ ys) e
-    go false e = e
-
-length-left_from : {X : Type 0} (keep : ℕ → Bool) (a : ℕ) (xs : List X) → length (left_from keep a xs) ≤ length xs
-unfolding left_from
-length-left_from keep a [] = omega arith
-length-left_from keep a (x ∷ xs) = go (keep a) (length-left_from keep (a + 1) xs)
-  where
-    go : (b : Bool) → length (left_from keep (a + 1) xs) ≤ length xs → length (cond b (x ∷ left_from keep (a + 1) xs) (left_from keep (a + 1) xs)) ≤ suc (length xs)
-    go true e = omega (arith, e)
-    go false e = omega (arith, e)
-
 -- no more of the kept items pass a test than of all
 count_left-le : {X : Type 0} (keep : ℕ → Bool) (p : X → Bool) (a : ℕ) (xs : List X) → count_by p (left_from keep a xs) ≤ count_by p xs
 unfolding left_from
@@ -93,9 +71,6 @@ kept cards suit place = not (list_any (is_top suit place) cards)
 
 pub owners_left-is : (cards : List PatCard) (suit : Suit) (owners : List Seat) → owners_left cards suit owners ≡ left_from (kept cards suit) 0 owners
 owners_left-is cards suit owners = left_from-is (kept cards suit) 0 owners
-
-pub length-owners_left : (cards : List PatCard) (suit : Suit) (owners : List Seat) → length (owners_left cards suit owners) ≤ length owners
-length-owners_left cards suit owners = rw (owners_left-is cards suit owners) (length-left_from (kept cards suit) 0 owners)
 
 -- each seat has the card that it played
 pub played_is_held : (shape : Shape) (leader : Seat) (cards : List PatCard) → AreLegalInTurn shape leader cards → (seat : Seat) → HasCard shape seat (played_by leader cards seat)

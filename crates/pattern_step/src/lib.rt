@@ -13,11 +13,7 @@ mod seat_sets;
 mod trick_rests;
 mod trick_winners;
 
-pub use laws::{
-    covered_hands_are_as_large, each_card_is_one, each_hand_has_one_less, each_pat_card_is_some,
-    equal_pat_cards_are_one, equal_seat_sets_are_one, hands_are_as_large, lengths_are_held,
-    lines_are_alike, one_is_left, stands_for_its_suit, tops_rank_above, what_is_left_matches,
-};
+pub use laws::{equal_pat_cards_are_one, equal_seat_sets_are_one, lines_are_alike};
 pub use legal_cards::legal;
 pub use legality::{are_legal, is_legal};
 pub use pat_cards::PatCard;

@@ -9,7 +9,7 @@ use Rattle.pattern_store.specs.declared.blocks.List as lists
 use Rattle.pattern_store.specs.declared.blocks.Block.{Block}
 use Rattle.pattern_store.specs.Blocks.{record_at, Has, IsBlockOf, Passes}
 use Rattle.pattern_store.specs.Shapes.{Shapes}
-use Rattle.pattern_store.specs.Records.{Kept, IsBlockIn, Finds, record_of, nothing, Holds, HoldNothing, HoldsToo, Keeps, Puts, Goes}
+use Rattle.pattern_store.specs.Records.{Kept, IsBlockIn, Finds, record_of, nothing, Holds, HoldNothing, HoldsToo, Keeps, Goes}
 use Rattle.pattern_store.proofs.ShapeLaws.{some_is, set_else, set_here, slice_get_set}
 
 -- what is there where one more is added was, or is the one added
@@ -61,43 +61,12 @@ holds_pushed blocks new list told is_new other r holds = elim (pushed_was blocks
   | inr e ↦ inr (sym holds.of_list ∙ (ap (λ (b : Block). b.list) e ∙ is_new.of_list), is_new.only r (subst (λ (b : Block). Has b r) e holds.has))
 ]
 
--- where a block is copied, lists have what they had
-pub holds_copied : (blocks : List Block) (from to : ℕ) (block : Block) → slice_get blocks from ≡ Some block → (list : lists.List) (r : Record) → Holds (set blocks to block) list r → Holds blocks list r
-holds_copied blocks from to block at list r holds = elim (set_was blocks to block holds.number holds.block holds.is) [
-  | inl was ↦ record { number = holds.number; block = holds.block; is = was; of_list = holds.of_list; has = holds.has }
-  | inr e ↦ record { number = from; block = holds.block; is = at ∙ ap (λ (b : Block). Some b) (sym e); of_list = holds.of_list; has = holds.has }
-]
-
--- what is kept in the end
-pub keeps_then : (first second third : List Block) (room : ℕ) → Keeps first second room → Keeps second third room → Keeps first third room
-keeps_then first second third room one two = record {
-  stays = λ list r holds. one.stays list r (two.stays list r holds);
-  within = elim two.within [
-    | inl less ↦ elim one.within [
-      | inl few ↦ inl (omega (arith, less, few))
-      | inr few ↦ inr (omega (arith, less, few))
-    ]
-    | inr few ↦ inr few
-  ];
-}
-
-pub keeps_same : (blocks : List Block) (room : ℕ) → Keeps blocks blocks room
-keeps_same blocks room = record { stays = λ list r holds. holds; within = inl (omega arith) }
-
--- a record that is told of no need keeps all
-pub keeps_put : (old new : List Block) (number : ℕ) (list : lists.List) (told : Record) (room : ℕ) → Puts old new number list told → told.need ≡ 0 → Keeps old new room
-keeps_put old new number list told room puts none = record { stays = keeps_of old new list told puts.stays none; within = inl (omega (arith, puts.count)) }
-
 -- a block that is added with no record keeps all
 pub keeps_pushed : (blocks : List Block) (new : Block) (list : lists.List) (told : Record) (room : ℕ) → IsBlockOf new list told → told.need ≡ 0 → length blocks < room → Keeps blocks (blocks ++ (new ∷ [])) room
 keeps_pushed blocks new list told room is_new none few = record {
   stays = keeps_of blocks (blocks ++ (new ∷ [])) list told (holds_pushed blocks new list told is_new) none;
   within = inr (omega (arith, few, length-append blocks (new ∷ [])));
 }
-
--- a block that is copied keeps all
-pub keeps_copied : (blocks : List Block) (from to : ℕ) (block : Block) (room : ℕ) → slice_get blocks from ≡ Some block → Keeps blocks (set blocks to block) room
-keeps_copied blocks from to block room at = record { stays = holds_copied blocks from to block at; within = inl (omega (arith, length-set blocks to block)) }
 
 -- the record in a place of a block of a list is found there
 pub finds_at : (kept : Kept) (list : lists.List) (need : ℕ) (Agrees : Record → Type 0) (number place found : ℕ) (block : Block) → IsBlockIn kept.blocks list number block → place < 4 → found ≡ number * 4 + place →
@@ -110,34 +79,6 @@ finds_at kept list need Agrees number place found block at is_place is enough kn
   where
     same : record_of kept.blocks found ≡ record_at block place
     same = ap (λ (n : ℕ). option_map_or (λ b. record_at b (found % 4)) (slice_get kept.blocks n) nothing) (omega (arith, is, is_place)) ∙ (ap (λ o. option_map_or (λ b. record_at b (found % 4)) o nothing) at.is ∙ ap (record_at block) (omega (arith, is, is_place)))
-
-pub goes_same : (kept : Kept) (list : lists.List) (r : Record) → Goes kept kept list r r
-goes_same kept list r = record { shapes = refl; stays = λ other r holds. inl holds; moved = inr refl; count = refl; room = refl }
-
--- a record goes along a list, and then along it further
-pub goes_then : (first second third : Kept) (list : lists.List) (came goes then : Record) → Goes first second list came goes → Goes second third list goes then → Goes first third list came then
-goes_then first second third list came goes then one two = record {
-  shapes = two.shapes ∙ one.shapes;
-  stays = λ other r holds. elim (two.stays other r holds) [
-    | inl was ↦ one.stays other r was
-    | inr e ↦ elim one.moved [
-      | inl had ↦ inl (subst (λ (l : lists.List). Holds first.blocks l r) (sym e.0) (subst (Holds first.blocks list) (sym e.1) had))
-      | inr f ↦ inr (e.0, e.1 ∙ f)
-    ]
-  ];
-  moved = elim two.moved [
-    | inl had ↦ elim (one.stays list then had) [
-      | inl was ↦ inl was
-      | inr e ↦ inr e.1
-    ]
-    | inr e ↦ elim one.moved [
-      | inl had ↦ inl (subst (Holds first.blocks list) (sym e) had)
-      | inr f ↦ inr (e ∙ f)
-    ]
-  ];
-  count = two.count ∙ one.count;
-  room = two.room ∙ one.room;
-}
 
 -- a record goes past a block of a list
 pub goes_past : (shapes : Shapes) (blocks : List Block) (room number : ℕ) (old new : Block) (came goes : Record) → slice_get blocks number ≡ Some old → Passes old new came goes → (list : lists.List) → old.list ≡ list →

@@ -6,13 +6,6 @@ use Rattle.pattern_store.specs.declared.blocks.Block.{Block}
 use Rattle.pattern_store.specs.Blocks.{record_at, Has, SetsPlace, Passes, LosesServed}
 use Rattle.pattern_store.specs.Record.{IsServed}
 
--- nothing happens
-pub passes_same : (block : Block) (came : Record) → Passes block block came came
-passes_same block came = record { stays = λ r has. inl has; moved = inr refl; list = refl }
-
-pub loses_none : (told : Record) (block : Block) (came : Record) → LosesServed told block block came came
-loses_none told block came = λ r known was. inl was
-
 module _ (old new : Block) (place : ℕ) (put : Record) (sets : SetsPlace old new place put) where
   -- what there is after a record is put into a place
   after_set : (r : Record) → Has new r → Has old r ⊎ (r ≡ put)

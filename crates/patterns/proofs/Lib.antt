@@ -7,7 +7,6 @@ pub mod SuitWords
 pub mod LesserLengths
 pub mod CoverBits
 pub mod PartLaws
-pub mod ShapeWordLaws
 pub mod Removals
 pub mod OwnedPlaces
 pub mod CompletionLaws

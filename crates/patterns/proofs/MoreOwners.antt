@@ -33,14 +33,6 @@ owner_bits-replicate (suc count) seat =
     let more : (1 + 4 * each_place count) * seat_number seat ≡ seat_number seat + 4 * (each_place count * seat_number seat) = grind arith in
     omega (arith, rest, more)
 
--- the suit that a word tells has a word
-HasWord-suit_in : (word : ℕ) → IsSuitWord word → HasWord (suit_in word)
-HasWord-suit_in word is = record {
-  four = refl;
-  lens = for_each_seat (λ seat. len_of (suit_in word) seat < 16) (omega arith) (omega arith) (omega arith) (omega arith);
-  within = omega (arith, length-owners_in (owner_count word) (word / 2 ^ 20), is.within);
-}
-
 -- ---- the word, as the code computes it
 pub record Lengthened (word count each number from : ℕ) (seat : Seat) : Type 0 where
   pub product : each * number < 2 ^ 64

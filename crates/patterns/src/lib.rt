@@ -20,8 +20,7 @@ mod suit_words;
 pub use faults::PatternFault;
 pub use laws::{
     completed_rests_are_covered, completed_rests_match, equal_faults_are_one, equal_parts_are_one,
-    equal_patterns_are_one, equal_rests_are_one, equal_words_are_one_pattern,
-    equal_words_are_one_rest, words_make_their_pattern, words_make_their_rest,
+    equal_patterns_are_one, equal_rests_are_one,
 };
 pub use patterns::Pattern;
 pub use rests::Rest;

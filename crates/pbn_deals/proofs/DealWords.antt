@@ -217,7 +217,7 @@ name_four a b c d ca cb cc cd ea eb ec ed = rw (ea, eb, ec, ed) refl
 any_four : (a b c d : List ℕ) → is_unknown a ≡ false → is_unknown b ≡ false → is_unknown c ≡ false → is_unknown d ≡ false → list_any is_unknown (a ∷ b ∷ c ∷ d ∷ []) ≡ false
 any_four a b c d ea eb ec ed = rw (ea, eb, ec, ed) refl
 
-abbrev four_seats : List Seat
+abbrev pub four_seats : List Seat
 four_seats = North ∷ East ∷ South ∷ West ∷ []
 
 pub deal-named : (deal : Deal) → naming_of (deal_text deal) ≡ full (held_of deal)

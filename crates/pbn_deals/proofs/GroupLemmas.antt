@@ -26,9 +26,6 @@ pub put_all-twice : {A : Type 0} → (xs ys : List A) (x : Option (List A)) → 
 put_all-twice xs ys (Some zs) = ap Some (sym (append_assoc xs ys zs))
 put_all-twice xs ys None = refl
 
-pub put_all-none : {A : Type 0} → (xs : List A) → put_all (Some xs) None ≡ None
-put_all-none xs = refl
-
 -- a text has a group
 some_group : (text : List ℕ) → (group : List ℕ) × (groups : List (List ℕ)) × (groups_of text ≡ group ∷ groups)
 some_group [] = ([], [], refl)
@@ -97,16 +94,6 @@ cards_from-letter n byte bytes rank h e r =
 pub cards_from-stray : (n byte : ℕ) (bytes : List ℕ) → n < 4 → is_dot byte ≡ false → rank_of_letter byte ≡ None → cards_from n (byte ∷ bytes) ≡ None
 cards_from-stray n byte bytes h e r =
     ap (λ s. groups_cards s (groups_of (byte ∷ bytes))) (suits_from n h) ∙ groups_cards-stray (suit_at n) (drop (n + 1) suits_in_order) byte bytes e r
-
--- at the end of the word the last suit has come, or the hand is not of the form
-pub cards_from-end : cards_from 3 [] ≡ Some []
-cards_from-end = refl
-
-pub cards_from-short : (n : ℕ) → n < 3 → cards_from n [] ≡ None
-cards_from-short zero h = refl
-cards_from-short (suc zero) h = refl
-cards_from-short (suc (suc zero)) h = refl
-cards_from-short (suc (suc (suc n))) h = absurd (omega arith)
 
 -- ---- what was put so far
 pub reads_none : (named : Option (List Card)) (seat : Seat) (old new : Dealing) → named ≡ None → ReadsHand false named seat old new

@@ -6,7 +6,7 @@ use Rattle.pbn_deals.specs.DealValue.{is_word}
 use Rattle.pbn_deals.specs.Lines.{is_line_feed, without_mark, without_return, is_escaped, is_blank_line}
 use Rattle.pbn_deals.specs.Pieces.{Piece, Comment, bytes_of, HasPieces, Kind, Gap, Escaped, OfGame, body_of, LineIs, is_escaped_line, is_gap, is_of_game, is_in_comment, closes_comment, Row, end_of, rows_of_parts, rows_of, Line, line_bytes, AreLines, no_more, one_more, mark_of}
 use Rattle.pbn_deals.specs.LineBoards.{AreTextLines}
-use Rattle.pbn_deals.proofs.OneAnswer.{one_cut, no_cut}
+use Rattle.pbn_deals.proofs.OneCut.{one_cut, no_cut}
 use Rattle.pbn_deals.proofs.OnePieces.{one_front, one_pieces}
 use Rattle.pbn_deals.proofs.SomePieces.{pieced, bytes_of-pieces}
 use Rattle.pbn_deals.proofs.TagParts.{split, split_nowhere, split_at}

@@ -6,7 +6,7 @@ use Rattle.pbn_deals.specs.declared.faults.PbnFault.TheVariants.{TagForm, OpenCo
 use Rattle.pbn_deals.specs.Dealing.{Holding, AreSized, AreMissized}
 use Rattle.pbn_deals.specs.DealValue.{naming_of}
 use Rattle.pbn_deals.specs.LayoutValue.{SaysLayout}
-use Rattle.pbn_deals.proofs.OneTag.{one_deal, one_held, held_moved, once_or_twice}
+use Rattle.pbn_deals.proofs.OneDeal.{one_deal, one_held, held_moved, once_or_twice}
 
 -- hands of one size are not of wrong sizes
 sized_or_not : (held held' : List Holding) → held' ≡ held → AreSized held → AreMissized held' → ⊥

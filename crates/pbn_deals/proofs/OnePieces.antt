@@ -4,7 +4,7 @@ use Rattle.std.proofs.lemmas.List.{append_cancel_right}
 use Rattle.pbn_deals.specs.Tags.{Tag, tag_of}
 use Rattle.pbn_deals.specs.Reading.{Lacks, Meaning, EndsLine, OpensComment, OpensText, OpensTag, IsSpace}
 use Rattle.pbn_deals.specs.Pieces.{Piece, Comment, Pair, Data, is_data, HasPieces, at_line_end, space, section_data, quoted_text, unended_text, line_comment, brace_comment, open_comment, tag_pair, no_tag_pair}
-use Rattle.pbn_deals.proofs.OneAnswer.{one_cut, no_cut}
+use Rattle.pbn_deals.proofs.OneCut.{one_cut, no_cut}
 
 -- ---- what is section data means nothing else
 data_is : (in_data : Bool) {meaning other : Meaning} → is_data in_data meaning ≡ true → meaning ≡ other → is_data in_data other ≡ true

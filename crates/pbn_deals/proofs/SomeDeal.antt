@@ -1,9 +1,9 @@
 -- Of any cards that a text names, one is named twice, or the hands are of wrong sizes, or there is their deal.
-use Rattle.std.proofs.Common.{◌≡◌, ℕ, ◌+◌, ◌≤◌, Bool, true, false, List, [], ◌∷◌, ◌++◌, refl, sym, ◌∙◌, ap, subst, arith, inl, inr, ◌⊎◌, append_assoc, append-nil, lit<}
+use Rattle.std.proofs.Common.{◌≡◌, ℕ, ◌+◌, ◌≤◌, Bool, true, false, List, [], ◌∷◌, ◌++◌, refl, sym, ◌∙◌, ap, subst, arith, inl, inr, append_assoc, append-nil, lit<}
 use Rattle.std.specs.Prelude.{slice_index}
 use Rattle.std.specs.Int.{bit_at}
 use lib.Count.{ones}
-use Rattle.std.proofs.lemmas.Bool.{cases_eq, cases_lt}
+use Rattle.std.proofs.lemmas.Bool.{cases_eq}
 use Rattle.std.proofs.lemmas.Nat.Bits.{bit_at-zero}
 use Rattle.cards.specs.declared.seats.Seat.{Seat}
 use Rattle.cards.specs.declared.seats.Seat.TheVariants.{North, East, South, West}
@@ -14,11 +14,11 @@ use Rattle.cards.specs.SameDeal.{count_of-deal_of_words}
 use Rattle.cards.specs.Hands.{word_of, HasBit, IsDealt, deal_of_words}
 use Rattle.cards.proofs.HandLaws.{Deals-from_words, AreDisjoint-from_dealt, IsLayout-from_words, at_most_one, some_card_twice, shared_of}
 use Rattle.pbn_deals.specs.declared.dealings.Dealing.{Dealing}
-use Rattle.pbn_deals.specs.Dealing.{Holding, held_by, cards_named, NamesOnce, NamesTwice, AreSized, AreMissized, IsDealOf}
+use Rattle.pbn_deals.specs.Dealing.{Holding, held_by, cards_named, AreSized, IsDealOf}
 use Rattle.pbn_deals.specs.Words.{Represents, IsOnce, TellsTwice}
 use Rattle.pbn_deals.proofs.DealingLemmas.{Represents-add}
 use Rattle.pbn_deals.proofs.LayoutLemmas.{IsDealOf-from_words}
-use Rattle.pbn_deals.proofs.OneTag.{one_deal, once_or_twice}
+use Rattle.pbn_deals.proofs.OneDeal.{one_deal, once_or_twice}
 
 -- ---- any cards stand in words of bits
 abbrev no_words : List ℕ
@@ -55,39 +55,8 @@ worded_from (one ∷ after) before dealing rep =
     let more = worded_from after (before ++ held_by one.seat one.card ∷ []) _ (Represents-add dealing before one.seat one.card rep) in
     (more.0, subst (λ held. Represents more.0 held) (append_assoc before (held_by one.seat one.card ∷ []) after) more.1)
 
-worded : (held : List Holding) → (dealing : Dealing) × Represents dealing held
+pub worded : (held : List Holding) → (dealing : Dealing) × Represents dealing held
 worded held = worded_from held [] _ no_cards
-
--- ---- the sizes of the hands
-sizes_cases : (held : List Holding) → AreSized held ⊎ AreMissized held
-sizes_cases held =
-    let size = cards_named held in
-    elim (cases_eq (size North) 0) [
-      | inl e ↦ inr (inl e)
-      | inr some ↦ elim (cases_lt 13 (size North)) [
-        | inl over ↦ inr (inr (inl over))
-        | inr at_most ↦ elim (cases_eq (size East) (size North)) [
-          | inr ne ↦ inr (inr (inr (East, ne)))
-          | inl east ↦ elim (cases_eq (size South) (size North)) [
-            | inr ne ↦ inr (inr (inr (South, ne)))
-            | inl south ↦ elim (cases_eq (size West) (size North)) [
-              | inr ne ↦ inr (inr (inr (West, ne)))
-              | inl west ↦ inl (record {
-                some_cards = omega (arith, some);
-                at_most_13 = at_most;
-                equal = elim [ North ↦ refl | East ↦ east | South ↦ south | West ↦ west ];
-              })
-            ]
-          ]
-        ]
-      ]
-    ]
-
--- ---- what holds of any cards that are named
-pub data Judged (held : List Holding) : Type 0 where
-  judged_twice : NamesTwice held → Judged held
-  judged_missized : NamesOnce held → AreMissized held → Judged held
-  judged_deal : (deal : Deal) → IsDealOf held deal → Judged held
 
 module _ (dealing : Dealing) (held : List Holding) (rep : Represents dealing held) (once : IsOnce dealing.hands held) where
   one_holder : (i : ℕ) → bit_at (slice_index dealing.hands 0) i + bit_at (slice_index dealing.hands 1) i + bit_at (slice_index dealing.hands 2) i + bit_at (slice_index dealing.hands 3) i ≤ 1
@@ -112,7 +81,7 @@ module _ (dealing : Dealing) (held : List Holding) (rep : Represents dealing hel
     };
   }
 
-  their_deal : AreSized held → IsDealOf held (deal_of_words dealing.hands)
+  pub their_deal : AreSized held → IsDealOf held (deal_of_words dealing.hands)
   their_deal sized =
       let dealt = are_dealt sized in
       IsDealOf-from_words dealing held rep once (deal_of_words dealing.hands) (record {
@@ -122,17 +91,6 @@ module _ (dealing : Dealing) (held : List Holding) (rep : Represents dealing hel
         deals = Deals-from_words dealing.hands dealt;
         layout = IsLayout-from_words dealing.hands dealt;
       })
-
-judged_by : (dealing : Dealing) (held : List Holding) → Represents dealing held → (twice : Bool) → TellsTwice twice dealing.hands held → Judged held
-judged_by dealing held rep true told = judged_twice told
-judged_by dealing held rep false once =
-    elim (sizes_cases held) [
-      | inl sized ↦ judged_deal (deal_of_words dealing.hands) (their_deal dealing held rep once sized)
-      | inr wrong ↦ judged_missized once.once wrong
-    ]
-
-pub judged : (held : List Holding) → Judged held
-judged held = let words = worded held in judged_by words.0 held words.1 words.0.is_twice words.1.twice
 
 -- ---- how many cards a seat of the deal holds
 pub count_of_deal : (held : List Holding) (deal : Deal) → IsDealOf held deal → (seat : Seat) → count_of deal seat ≡ cards_named held seat

@@ -34,9 +34,6 @@ ends_more byte text rest h = (byte ∷ h.0, ap (λ x. byte ∷ x) h.1)
 pub ends_twice : (text mid rest : List ℕ) → EndsWith text mid → EndsWith mid rest → EndsWith text rest
 ends_twice text mid rest h g = (h.0 ++ g.0, h.1 ∙ (ap (λ x. h.0 ++ x) g.1 ∙ sym (append_assoc h.0 g.0 rest)))
 
-pub ends_shorter : (text rest : List ℕ) → EndsWith text rest → length rest ≤ length text
-ends_shorter text rest h = omega (arith, ap length h.1, length-append h.0 rest)
-
 pub after_blanks-ends : (text : List ℕ) → EndsWith text (after_blanks text)
 after_blanks-ends [] = ([], refl)
 after_blanks-ends (byte ∷ bytes) = go (is_blank byte) (after_blanks-ends bytes) where

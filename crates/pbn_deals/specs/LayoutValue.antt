@@ -21,13 +21,3 @@ SaysLayout value (Err (SecondDeal line)) = ⊥
 SaysLayout value (Err (Inherited line)) = ⊥
 SaysLayout value (Err (TooManyBoards line)) = ⊥
 SaysLayout value (Err OutOfMemory) = ⊥
-
--- a value says one layout at most, or one fault
-abbrev pub HasOneLayout : Type 0
-HasOneLayout =
-    (value : List ℕ) (one other : Result Deal PbnFault) →
-    SaysLayout value one → SaysLayout value other → one ≡ other
-
--- a value says a layout, or has a fault
-abbrev pub HasSomeLayout : Type 0
-HasSomeLayout = (value : List ℕ) → (said : Result Deal PbnFault) × SaysLayout value said

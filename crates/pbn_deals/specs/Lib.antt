@@ -5,7 +5,6 @@ pub mod DealValue
 pub mod Faults
 pub mod LayoutValue
 pub mod DealText
-pub mod LayoutsBack
 pub mod Tags
 pub mod Games
 pub mod Lines
@@ -14,6 +13,5 @@ pub mod Pieces
 pub mod LineBoards
 pub mod FirstPieces
 pub mod Printable
-pub mod TwoTexts
 pub mod Views
 pub mod Steps

@@ -5,8 +5,7 @@ use Rattle.pbn_deals.specs.declared.boards.Board.{Board}
 use Rattle.pbn_deals.specs.Games.{Tags, no_tags, TakesTag, boards_of}
 use Rattle.pbn_deals.specs.Lines.{without_mark}
 use Rattle.pbn_deals.specs.Pieces.{Piece, Space, Comment, Pair, Data, NoPair, Gap, Escaped, OfGame, rows_of, Line}
-use Rattle.pbn_deals.specs.Pieces.{line_bytes, AreLines, mark_of, HasLines}
-use Rattle.pbn_deals.specs.Reading.{TextAnswers}
+use Rattle.pbn_deals.specs.Pieces.{line_bytes, AreLines, mark_of}
 
 -- what a tag pair makes of a game that follows so many boards, on whatever line it stands
 abbrev pub AddsTag : ℕ → Tags → List ℕ → List ℕ → Tags → Type 0
@@ -58,15 +57,3 @@ pub record AreTextLines (text : List ℕ) : Type 0 where
   pub one :
       (others : List Line) (is_open' : Bool) → AreLines false (rows_of (without_mark text)) others is_open' →
       (others ≡ lines) × (is_open' ≡ is_open)
-
-abbrev pub TextsAreLines : Type 0
-TextsAreLines = (text : List ℕ) → AreTextLines text
-
--- The boards that a text says are those of its lines, and a text whose lines have boards says them.
-pub record AreBoardsOfLines : Type 0 where
-  pub said :
-      (text : List ℕ) (boards : List Board) → TextAnswers text (Ok boards) →
-      (lines : List Line) × HasLines text lines × HaveBoards 0 no_tags lines boards
-  pub says :
-      (text : List ℕ) (lines : List Line) (boards : List Board) →
-      HasLines text lines → HaveBoards 0 no_tags lines boards → TextAnswers text (Ok boards)

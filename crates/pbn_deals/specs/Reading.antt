@@ -163,15 +163,3 @@ abbrev pub SaysBoards : List ℕ → Result (List Board) PbnFault → Type 0
 SaysBoards text (Ok boards) = TextAnswers text (Ok boards)
 SaysBoards text (Err OutOfMemory) = Unit {0}
 SaysBoards text (Err fault) = TextAnswers text (Err fault)
-
--- a text has one answer at most
-abbrev pub HasOneAnswer : Type 0
-HasOneAnswer =
-    (text : List ℕ) (one other : Result (List Board) PbnFault) →
-    TextAnswers text one → TextAnswers text other → one ≡ other
-
--- a text has an answer, and it is not that memory ran out
-abbrev pub HasSomeAnswer : Type 0
-HasSomeAnswer =
-    (text : List ℕ) →
-    (answer : Result (List Board) PbnFault) × (answer ≢ Err OutOfMemory) × TextAnswers text answer

@@ -24,10 +24,7 @@ pub use deal_values::{read_dealing, read_layout};
 pub use dealings::Dealing;
 pub use faults::PbnFault;
 pub use games::MOST_BOARDS;
-pub use laws::{
-    boards_are_of_lines, boards_are_printable, layouts_are_read_back, one_answer, one_layout,
-    some_answer, some_layout, texts_are_lines, texts_are_read_in_turn,
-};
+pub use laws::boards_are_printable;
 pub use line_cuts::without_mark;
 pub use line_starts::{LineStart, line_start};
 pub use pieces::{Piece, Row, first_piece, first_row, front_of};

@@ -16,7 +16,7 @@ use Rattle.play_dialogues.specs.Lines.{GivesLine, LosesLine}
 use Rattle.cards.specs.declared.pack.Card.{Card}
 use Rattle.play_dialogues.specs.Texts.{closing_text, promise_line, played_text, left_in, asks}
 use Rattle.play_dialogues.specs.Trails.{Trail, IsAsked, AreReplies}
-use Rattle.play_dialogues.specs.Dialogues.{IsTurn, AreTurns, AreTurnsFrom, IsOpening, AreRead, AreReadBefore, AreReadAlmost, EndsIn, IsDialogue}
+use Rattle.play_dialogues.specs.Dialogues.{IsTurn, AreTurns, AreTurnsFrom, IsOpening, AddsSome, AreRead, AreReadBefore, AreReadAlmost, EndsIn, IsDialogue}
 use Rattle.play_dialogues.specs.Conversing.{IsSettled, Opens, TakesTurn, Closes, Converses}
 use Rattle.play_dialogues.proofs.LineLaws.{lines_more, lines_none, lines_stay, end_told}
 use Rattle.play_dialogues.proofs.TrailLaws.{replies_since, turns_more}
@@ -62,39 +62,35 @@ read_stays input input' input'' lines read stays failed = record {
 
 module _ (trail trail' : Trail) (input input' output output' : Device) (count : ℕ)
     (under : IsUnderway trail trail' input input' output output' count) where
+  -- what was said so far is the whole
+  stops : (input'' output'' : Device) (wanted result : End) → result ≡ wanted →
+      EndsIn input input'' output output'' trail'.now under.lines under.turns wanted → Converses trail trail' input input'' output output'' result
+  stops input'' output'' wanted result is ends = record {
+    lines = under.lines;
+    turns = under.turns;
+    turns_are = under.turns_are;
+    ends = subst (λ (e : End). EndsIn input input'' output output'' trail'.now under.lines under.turns e) (sym is) ends;
+  }
+
+  -- nothing more was written
+  as_before : (output'' : Device) → output'' ≡ output' → AddsSome output output'' under.turns
+  as_before output'' same = record {
+    gone = under.turns;
+    rest = [];
+    whole = sym (append-nil under.turns);
+    adds = subst (λ (d : Device). Adds output d under.turns) (sym same) under.adds;
+  }
+
   -- the closing lines
   pub closes : (input'' output'' : Device) (wanted result : End) → Closes trail'.now output' output'' wanted result →
       AreReadAlmost input input'' under.lines →
       (Adds output output'' (under.turns ++ closing_text trail'.now) → EndsIn input input'' output output'' trail'.now under.lines under.turns wanted) →
       Converses trail trail' input input'' output output'' result
-  closes input'' output'' wanted result (inl done) almost ends = record {
-    lines = under.lines;
-    turns = under.turns;
-    turns_are = under.turns_are;
-    ends = subst (λ (e : End). EndsIn input input'' output output'' trail'.now under.lines under.turns e) (sym done.0)
-        (ends (Adds-twice under.adds done.1));
-  }
-  closes input'' output'' wanted result (inr (inl failed)) almost ends = record {
-    lines = under.lines;
-    turns = under.turns;
-    turns_are = under.turns_are;
-    ends = subst (λ (e : End). EndsIn input input'' output output'' trail'.now under.lines under.turns e) (sym failed.0)
-        (almost, AddsBeginning-then under.adds failed.1);
-  }
-  closes input'' output'' wanted result (inr (inr full)) almost ends = record {
-    lines = under.lines;
-    turns = under.turns;
-    turns_are = under.turns_are;
-    ends = subst (λ (e : End). EndsIn input input'' output output'' trail'.now under.lines under.turns e) (sym full.0) (
-      almost,
-      record {
-        gone = under.turns;
-        rest = [];
-        whole = sym (append-nil under.turns);
-        adds = subst (λ (d : Device). Adds output d under.turns) (sym full.1) under.adds;
-      },
-    );
-  }
+  closes input'' output'' wanted result (inl done) almost ends = stops input'' output'' wanted result done.0 (ends (Adds-twice under.adds done.1))
+  closes input'' output'' wanted result (inr (inl failed)) almost ends =
+      stops input'' output'' end.WriteFails result failed.0 (almost, AddsBeginning-then under.adds failed.1)
+  closes input'' output'' wanted result (inr (inr full)) almost ends =
+      stops input'' output'' end.OutOfMemory result full.0 (almost, as_before output'' full.1)
 
   -- a turn more
   module _ (input'' : Device) (typed : Typed) (asked : IsAsked trail'.now)
@@ -124,29 +120,15 @@ module _ (trail trail' : Trail) (input input' output output' : Device) (count : 
           ends = subst (λ (e : End). EndsIn input input'' output output'' trail''.now (under.lines ++ before.line ∷ []) (under.turns ++ takes.0) e) (sym failed.0)
               (inl before.read, AddsBeginning-stop (closing_text trail''.now) (AddsBeginning-then under.adds takes.2));
         }
-    turn_fails trail'' output'' result (inr full) = record {
-      lines = under.lines;
-      turns = under.turns;
-      turns_are = subst (λ (t : Trail). AreTurns trail under.lines t under.turns) (sym full.1) under.turns_are;
-      ends = subst (λ (e : End). EndsIn input input'' output output'' trail''.now under.lines under.turns e) (sym full.0) (
-        inr (typed, before),
-        record {
-          gone = under.turns;
-          rest = [];
-          whole = sym (append-nil under.turns);
-          adds = subst (λ (d : Device). Adds output d under.turns) (sym full.2) under.adds;
-        },
-      );
-    }
+    turn_fails trail'' output'' result (inr full) = subst (λ (t : Trail). Converses trail t input input'' output output'' result) (sym full.1)
+        (stops input'' output'' end.OutOfMemory result full.0 (inr (typed, before), as_before output'' full.2))
 
--- ---- the ends
-module _ (trail trail' : Trail) (input input' output output' : Device) (count : ℕ)
-    (under : IsUnderway trail trail' input input' output output' count) where
+  -- ---- the ends
   pub over : (output'' : Device) (result : End) → IsReached trail'.now.position → turn_of trail'.now.position ≡ None →
       Closes trail'.now output' output'' end.Played result → Converses trail trail' input input' output output'' result
   over output'' result reached none closed =
       let play : IsPlay trail'.now.position.opening trail'.now.position.history = record { legal = reached.legal; whole = no_turn-over trail'.now.position reached none } in
-      closes trail trail' input input' output output' count under input' output'' end.Played result closed (inl under.read)
+      closes input' output'' end.Played result closed (inl under.read)
       (λ adds. (play, under.read, adds))
 
   module _ (asked : IsAsked trail'.now) (input'' : Device) where
@@ -155,7 +137,7 @@ module _ (trail trail' : Trail) (input input' output output' : Device) (count : 
         Closes trail'.now output' output'' end.InputEnds result → Converses trail trail' input input'' output output'' result
     input_ends output'' result none stays failed closed =
         let read = read_stays input input' input'' under.lines under.read stays failed in
-        closes trail trail' input input' output output' count under input'' output'' end.InputEnds result closed (inl read)
+        closes input'' output'' end.InputEnds result closed (inl read)
         (λ adds. (asked, read, end_told input.bytes input'.bytes input''.bytes under.lines under.read.lines_are none stays, adds))
 
     pub quits : (output'' : Device) (result : End) →
@@ -163,28 +145,14 @@ module _ (trail trail' : Trail) (input input' output output' : Device) (count : 
         Closes trail'.now output' output'' end.Quit result → Converses trail trail' input input'' output output'' result
     quits output'' result gives failed closed =
         let before = read_more input input' input'' under.lines Quit under.read gives failed in
-        closes trail trail' input input' output output' count under input'' output'' end.Quit result closed (inr (Quit, before))
+        closes input'' output'' end.Quit result closed (inr (Quit, before))
         (λ adds. (asked, before, adds))
 
     pub read_fails : LosesLine input' input'' → Converses trail trail' input input'' output output' end.ReadFails
-    read_fails loses = record {
-      lines = under.lines;
-      turns = under.turns;
-      turns_are = under.turns_are;
-      ends = (
-        inl (
-          asked,
-          record {
-            read = input'.bytes;
-            lines_are = under.read.lines_are;
-            lost = loses.lost;
-            lost_are = loses.first;
-            why = why loses.why;
-          },
-        ),
-        under.adds,
-      );
-    }
+    read_fails loses = stops input'' output' end.ReadFails end.ReadFails refl (
+      inl (asked, record { read = input'.bytes; lines_are = under.read.lines_are; lost = loses.lost; lost_are = loses.first; why = why loses.why }),
+      under.adds,
+    )
       where
         why : (input''.failed ≡ one_more input'.failed) ⊎ ((input''.failed ≡ input'.failed) × (2 ^ 64 - 1 ≤ length loses.lost)) →
             (input''.failed ≡ one_more input.failed) ⊎ ((input''.failed ≡ input.failed) × (2 ^ 64 - 1 ≤ length loses.lost))
@@ -192,12 +160,8 @@ module _ (trail trail' : Trail) (input input' output output' : Device) (count : 
         why (inr many) = inr (many.0 ∙ under.read.none_failed, many.1)
 
   pub gives_up : 2 ^ 64 - 1 ≤ count → Converses trail trail' input input' output output' end.ReadFails
-  gives_up many = record {
-    lines = under.lines;
-    turns = under.turns;
-    turns_are = under.turns_are;
-    ends = (inr (under.read, subst (λ (n : ℕ). 2 ^ 64 - 1 ≤ n) (sym under.counted) many), under.adds);
-  }
+  gives_up many = stops input' output' end.ReadFails end.ReadFails refl
+      (inr (under.read, subst (λ (n : ℕ). 2 ^ 64 - 1 ≤ n) (sym under.counted) many), under.adds)
 
 -- a card is asked for where it's a seat's turn
 pub asked_at : (promise : Promise) (seat : Seat) → IsSettled promise → turn_of promise.position ≡ Some seat → IsAsked promise
@@ -239,6 +203,22 @@ ends_after input input' output middle output' last lines opening turns end.OutOf
 )
 
 -- ---- the whole
+turns_from : (promise first : Promise) (cards : List Card) (trail' : Trail) (lines : List (List ℕ)) (opening turns : List ℕ) →
+    AreReplies promise cards first → IsOpening promise first opening → AreTurns (record { earlier = []; now = first }) lines trail' turns →
+    AreTurnsFrom promise lines trail'.now (opening ++ turns)
+turns_from promise first cards trail' lines opening turns replied is are = record {
+  replies = cards;
+  first = first;
+  replied = replied;
+  opening = opening;
+  opening_is = is;
+  trail = trail';
+  turns = turns;
+  turns_are = are;
+  last_is = refl;
+  text_is = refl;
+}
+
 -- a dialogue that was opened
 pub is_dialogue : (promise first : Promise) (cards : List Card) (trail : Trail) (input input' output middle output' : Device)
     (opening : List ℕ) (trail' : Trail) (result : End) →
@@ -252,36 +232,10 @@ is_dialogue promise first cards trail input input' output middle output' opening
     record {
       lines = turns.lines;
       text = opening ++ turns.turns;
-      turns = record {
-        replies = cards;
-        first = first;
-        replied = replied;
-        opening = opening;
-        opening_is = is;
-        trail = trail';
-        turns = turns.turns;
-        turns_are = subst (λ (t : Trail). AreTurns t turns.lines trail' turns.turns) start turns.turns_are;
-        last_is = refl;
-        text_is = refl;
-      };
+      turns = turns_from promise first cards trail' turns.lines opening turns.turns replied is
+          (subst (λ (t : Trail). AreTurns t turns.lines trail' turns.turns) start turns.turns_are);
       ends = ends_after input input' output middle output' trail'.now turns.lines opening turns.turns result opened turns.ends;
     }
-
-nothing_said : (promise : Promise) (cards : List Card) (trail : Trail) (opening : List ℕ) →
-    AreReplies promise cards trail.now → trail.earlier ≡ [] → IsOpening promise trail.now opening →
-    AreTurnsFrom promise [] trail.now (opening ++ [])
-nothing_said promise cards trail opening replied new is = record {
-  replies = cards;
-  first = trail.now;
-  replied = replied;
-  opening = opening;
-  opening_is = is;
-  trail = record { earlier = []; now = trail.now };
-  turns = [];
-  turns_are = (refl, refl);
-  last_is = refl;
-  text_is = refl;
-}
 
 -- one that wasn't
 pub not_opened : (promise : Promise) (cards : List Card) (trail : Trail) (input output output' : Device) (result : End) →
@@ -290,7 +244,7 @@ pub not_opened : (promise : Promise) (cards : List Card) (trail : Trail) (input 
 not_opened promise cards trail input output output' result replied new (inl failed) = record {
   lines = [];
   text = failed.1.0 ++ [];
-  turns = nothing_said promise cards trail failed.1.0 replied new failed.1.1;
+  turns = turns_from promise trail.now cards (record { earlier = []; now = trail.now }) [] failed.1.0 [] replied failed.1.1 (refl, refl);
   ends = subst (λ (e : End). EndsIn input input output output' trail.now [] (failed.1.0 ++ []) e) (sym failed.0) (
     inl (record { lines_are = lines_none input.bytes; none_failed = refl }),
     AddsBeginning-stop (closing_text trail.now)
@@ -303,7 +257,7 @@ not_opened promise cards trail input output output' result replied new (inr full
     record {
       lines = [];
       text = opening ++ [];
-      turns = nothing_said promise cards trail opening replied new (cards, since, refl);
+      turns = turns_from promise trail.now cards (record { earlier = []; now = trail.now }) [] opening [] replied (cards, since, refl) (refl, refl);
       ends = subst (λ (e : End). EndsIn input input output output' trail.now [] (opening ++ []) e) (sym full.0) (
         inl (record { lines_are = lines_none input.bytes; none_failed = refl }),
         record {

@@ -1,14 +1,13 @@
 -- Leaders, turns and tricks.
-use Rattle.std.proofs.Common.{◌≡◌, ◌-◌, ◌/◌, ◌≤◌, ◌<◌, List, length, false, Some, refl, sym, arith}
+use Rattle.std.proofs.Common.{◌≡◌, ◌-◌, ◌/◌, ◌≤◌, ◌<◌, List, length, false, Some, sym, arith}
 use denote.Enum.Bare.{sameb}
 use Rattle.cards.specs.contracts.seats.Side.{the_type}
 use Rattle.cards.specs.declared.suits.Trump.{Trump}
 use Rattle.cards.specs.declared.seats.Seat.{Seat}
-use Rattle.cards.specs.declared.seats.Seat.TheVariants.{North, East, South, West}
 use Rattle.cards.specs.declared.seats.Side.{Side}
 use Rattle.cards.specs.declared.seats.Side.TheVariants.{NorthSouth, EastWest}
 use Rattle.cards.specs.declared.pack.Card.{Card}
-use Rattle.cards.specs.Seats.{next_of, seat_in_place}
+use Rattle.cards.specs.Seats.{seat_in_place}
 use Rattle.cards.specs.Deal.{size_of}
 use Rattle.play_rules.specs.History.{trick_of, leader_after, tricks_of}
 use Rattle.play_rules.specs.Legal.{IsUnfinished}
@@ -17,13 +16,6 @@ use Rattle.play_rules.proofs.HistoryLaws.{length-trick_of}
 use Rattle.strategies.proofs.Counting.{tricks-add_up, some_card_to_play}
 use Rattle.strategies.proofs.Deciding.{some_legal_card}
 use Rattle.strategies.proofs.SearchProofs.{turn-unfinished}
-
--- four places on sits the same seat
-pub around : (seat : Seat) → next_of (next_of (next_of (next_of seat))) ≡ seat
-around North = refl
-around East = refl
-around South = refl
-around West = refl
 
 -- the seat to play sits as many places from the leader as the trick has cards
 pub turn_of_trick : (position : Position) (seat : Seat) → turn_of position ≡ Some seat →
@@ -51,10 +43,6 @@ tricks_within trump leader history NorthSouth =
     omega (arith, tricks-add_up trump leader history, length-trick_of history)
 tricks_within trump leader history EastWest =
     omega (arith, tricks-add_up trump leader history, length-trick_of history)
-
--- no more than 52 cards are played
-pub history_within : (position : Position) → IsReached position → length position.history ≤ 52
-history_within position reached = omega (arith, reached.within, reached.layout.at_most_13)
 
 -- while a card is still to be played some card may be
 pub some_listed : (position : Position) (cards : List Card) → IsReached position →

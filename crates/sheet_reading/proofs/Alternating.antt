@@ -1,6 +1,7 @@
 -- The parts of a page that ends between tags are a text, and then tags, each with the text after it.
 use Rattle.std.proofs.Common.{◌≡◌, ℕ, Bool, true, false, true≢false, List, [], ◌∷◌, refl, sym, ◌∙◌, ap}
-use Rattle.html.specs.Pages.{Place, InText, InTag, InQuotes, is_text, place_after, place_at_end, with_byte, parts_with, parts_from, parts_of}
+use Rattle.html.specs.Places.{Place, InText, InTag, InQuotes, is_text, place_after, place_at_end}
+use Rattle.sheet_reading.specs.Pages.{with_byte, parts_with, parts_from, parts_of}
 use Rattle.sheet_reading.proofs.Chunks.{Tagged, flat, tagged_in, tagged_of}
 
 -- from a place in a text on, or from a place in a tag

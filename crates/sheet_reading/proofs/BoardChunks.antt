@@ -10,7 +10,7 @@ use Rattle.cards.specs.Deal.{Deal}
 use Rattle.scoring.specs.declared.vulnerable_sides.VulnerableSides.{VulnerableSides}
 use Rattle.scoring.specs.declared.vulnerable_sides.VulnerableSides.TheVariants.{Neither, NorthSouth, EastWest, Both}
 use Rattle.board_conditions.specs.declared.conditions.Conditions.{Conditions}
-use Rattle.html.specs.Pages.{resolved}
+use Rattle.sheet_reading.specs.Pages.{resolved}
 use Rattle.html.specs.Values.{value_text}
 use Rattle.html.specs.Plain.{is_plain}
 use Rattle.sheets.specs.declared.templates.TheConstants.{FACTS, COMPASS, HANDS}

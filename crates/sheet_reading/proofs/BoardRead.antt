@@ -9,8 +9,8 @@ use Rattle.pbn_deals.specs.declared.boards.Board.{Board}
 use Rattle.board_conditions.specs.declared.conditions.Conditions.{Conditions}
 use Rattle.tables.specs.ParText.{IsSmallPar}
 use Rattle.tables.specs.TablesText.{Printed}
-use Rattle.tables.specs.PageReading.{Section}
-use Rattle.html.specs.Pages.{resolved}
+use Rattle.text_laws.specs.PageReading.{Section}
+use Rattle.sheet_reading.specs.Pages.{resolved}
 use Rattle.html.specs.Values.{value_text}
 use Rattle.sheets.specs.declared.templates.TheConstants.{BOARD, BOARD_END}
 use Rattle.sheets.specs.Facts.{with_value, facts_text}

@@ -2,13 +2,15 @@
 use Rattle.std.proofs.Common.{◌≡◌, ◌≢◌, ℕ, Bool, true, false, true≢false, List, [], ◌∷◌, ◌++◌, map, None, refl, sym, ◌∙◌, ap}
 use Rattle.std.proofs.lemmas.List.{append-nil}
 use Rattle.html.specs.Values.{value_text}
-use Rattle.html.specs.Pages.{Place, InText, place_after, place_at_end, parts_from, parts_of, joined, resolved}
-use Rattle.html.specs.Templates.{filled_from, filled, is_template}
-use Rattle.html.proofs.Filling.{InPage, AreCalm, end-filled}
-use Rattle.html.proofs.FilledTexts.{fill_all, parts-filled}
+use Rattle.html.specs.Places.{Place, InText, place_after, place_at_end}
+use Rattle.sheet_reading.specs.Pages.{parts_from, parts_of, joined, resolved}
+use Rattle.html.specs.Templates.{filled_from, filled}
+use Rattle.html.specs.PlainTemplates.{is_template}
+use Rattle.sheet_reading.proofs.Filling.{InPage, AreCalm, end-filled}
+use Rattle.sheet_reading.proofs.FilledTexts.{fill_all, parts-filled}
 use Rattle.html.proofs.Each.{Each}
-use Rattle.html.proofs.Parts.{parts-append, calm-end, calm-before, with_text}
-use Rattle.html.proofs.ValueTexts.{value-calm}
+use Rattle.sheet_reading.proofs.Parts.{parts-append, calm-end, calm-before, with_text}
+use Rattle.sheet_reading.proofs.ValueTexts.{value-calm}
 use Rattle.sheet_reading.specs.Elements.{Piece, tag_name, pieces_in, pieces_of, past_text}
 
 -- ---- tags, each with the text after it

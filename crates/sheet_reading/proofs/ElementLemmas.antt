@@ -32,15 +32,6 @@ before-lacks name (piece ∷ one) other h =
     ap (λ b. cond b [] (piece ∷ before_tag name (one ++ other))) (not-true (bytes_eq piece.name name) parts.0)
     ∙ ap (λ t. piece ∷ t) (before-lacks name one other parts.1)
 
-pub elements-lacks : (name : List ℕ) (one other : List Piece) → lacks name one ≡ true →
-    elements name (one ++ other) ≡ elements name other
-elements-lacks name [] other h = refl
-elements-lacks name (piece ∷ one) other h =
-    let parts = and_parts (is_other name piece) (lacks name one) h in
-    ap (λ b. cond b ((piece ∷ before_tag (end_of name) (one ++ other)) ∷ elements name (one ++ other)) (elements name (one ++ other)))
-    (not-true (bytes_eq piece.name name) parts.0)
-    ∙ elements-lacks name one other parts.1
-
 pub lacks-append : (name : List ℕ) (one other : List Piece) → lacks name one ≡ true → lacks name other ≡ true →
     lacks name (one ++ other) ≡ true
 lacks-append name one other h k = list_all-append (is_other name) one other ∙ and_from (lacks name one) (lacks name other) h k

@@ -15,8 +15,8 @@ use Rattle.tables.specs.declared.pars.BoardPar.TheVariants.{Known, NoDealer, NoV
 use Rattle.tables.specs.ParText.{IsSmallPar}
 use Rattle.tables.specs.TablesText.{Results, Printed, published_count, is_complete}
 use Rattle.tables.proofs.PageBack.{unknown_incomplete}
-use Rattle.tables.proofs.BoardsBack.{published_count-le}
-use Rattle.html.specs.Pages.{resolved}
+use Rattle.text_laws.proofs.BoardsBack.{published_count-le}
+use Rattle.sheet_reading.specs.Pages.{resolved}
 use Rattle.html.specs.Values.{value_text}
 use Rattle.html.specs.Templates.{filled}
 use Rattle.html.specs.Plain.{is_plain}

@@ -9,8 +9,8 @@ use Rattle.par.specs.Texts.{score_text, contracts_text}
 use Rattle.tables.specs.declared.pars.BoardPar.{BoardPar}
 use Rattle.tables.specs.declared.pars.BoardPar.TheVariants.{Known, NoDealer, NoVulnerability}
 use Rattle.tables.specs.TablesText.{Printed}
-use Rattle.tables.specs.PageReading.{Values, Section}
-use Rattle.tables.specs.WrittenOnce.{par_said, SaysSection}
+use Rattle.text_laws.specs.PageReading.{Values, Section}
+use Rattle.text_laws.specs.WrittenOnce.{par_said, SaysSection}
 use Rattle.sheet_reading.specs.Elements.{Piece, elements}
 use Rattle.sheet_reading.specs.SheetReading.{par_in, only_par, section_with, section_of_parts, section_in}
 use Rattle.sheet_reading.proofs.ElementLemmas.{Yields, yields-append}

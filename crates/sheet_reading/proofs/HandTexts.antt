@@ -12,7 +12,7 @@ use Rattle.cards.specs.declared.pack.Rank.TheVariants.{Two, Three, Four, Five, S
 use Rattle.cards.specs.declared.pack.Rank.TheVariants.{Queen, King, Ace}
 use Rattle.cards.specs.Pack.{card_of}
 use Rattle.cards.specs.Deal.{Deal, holder_of, is_held_by}
-use Rattle.html.specs.Pages.{resolved}
+use Rattle.sheet_reading.specs.Pages.{resolved}
 use Rattle.html.specs.Values.{value_text}
 use Rattle.html.proofs.Each.{Each, each-append}
 use Rattle.sheets.specs.HandText.{rank_shown, ranks_falling, card_shown, cards_shown, holding_shown, is_void, suit_points, points_of, seat_name, hand_place, hand_value_at, hand_value}
@@ -21,9 +21,6 @@ use Rattle.sheet_reading.proofs.SaidTexts.{read-as, decimal-free}
 
 abbrev Free : List ℕ → Type 0
 Free text = Each (λ byte. byte ≢ 38) text
-
-other : (byte : ℕ) → byte < 38 → byte ≢ 38
-other byte h e = omega (arith, h, e)
 
 greater : (byte : ℕ) → 38 < byte → byte ≢ 38
 greater byte h e = omega (arith, h, e)

@@ -4,8 +4,10 @@ use Rattle.std.specs.Prelude.{codes}
 use Rattle.std.specs.List.{list_all}
 use Rattle.std.proofs.lemmas.Bool.{and_parts, not-true, eqb-false}
 use Rattle.board_conditions.specs.Titles.{TitleValues}
-use Rattle.html.specs.Pages.{InText, parts_from, resolved, parts_of}
-use Rattle.html.specs.Templates.{filled, is_template}
+use Rattle.html.specs.Places.{InText}
+use Rattle.sheet_reading.specs.Pages.{parts_from, resolved, parts_of}
+use Rattle.html.specs.Templates.{filled}
+use Rattle.html.specs.PlainTemplates.{is_template}
 use Rattle.html.proofs.Each.{Each}
 use Rattle.sheets.specs.declared.templates.TheConstants.{HEAD, STYLE, BODY}
 use Rattle.sheets.specs.Headings.{title_value}

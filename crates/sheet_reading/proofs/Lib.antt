@@ -18,3 +18,12 @@ pub mod HandsBack
 pub mod FactsBack
 pub mod SameSections
 pub mod OneSheet
+pub mod FilledTexts
+pub mod Filling
+pub mod Parts
+pub mod PlainTexts
+pub mod ValueTexts
+pub mod BoardMarkup
+pub mod PlainTemplates
+pub mod SameMarkup
+pub mod SheetMarkup

@@ -9,8 +9,8 @@ use Rattle.cards.specs.Deal.{Deal, holder_of, is_held_by}
 use Rattle.pbn_deals.specs.declared.boards.Board.{Board}
 use Rattle.board_conditions.specs.declared.conditions.Conditions.{Conditions}
 use Rattle.tables.specs.TablesText.{Printed}
-use Rattle.tables.specs.PageReading.{Section}
-use Rattle.tables.specs.WrittenOnce.{SaySame}
+use Rattle.text_laws.specs.PageReading.{Section}
+use Rattle.text_laws.specs.WrittenOnce.{SaySame}
 use Rattle.sheets.specs.HandText.{holding_shown}
 use Rattle.sheets.specs.Markup.{Shown}
 use Rattle.sheet_reading.specs.SheetReading.{Block, Sheet, sheet_in}

@@ -5,12 +5,13 @@ use Rattle.std.specs.Str.Parse.{AllDigits}
 use Rattle.std.proofs.lemmas.Fmt.{decimal_is_IsNumeral}
 use Rattle.std.proofs.lemmas.List.{append-nil}
 use Rattle.std.proofs.lemmas.Str.Parse.{digit_at}
-use Rattle.html.specs.Pages.{resolved}
+use Rattle.sheet_reading.specs.Pages.{resolved}
 use Rattle.html.specs.Values.{value_text}
 use Rattle.html.specs.Plain.{is_plain}
 use Rattle.html.proofs.Each.{Each}
-use Rattle.html.proofs.PlainTexts.{plain-stays, plain-resolved, amp-free-resolved}
-use Rattle.html.proofs.ValueTexts.{value-resolved}
+use Rattle.html.proofs.PlainTexts.{plain-stays}
+use Rattle.sheet_reading.proofs.PlainTexts.{plain-resolved, amp-free-resolved}
+use Rattle.sheet_reading.proofs.ValueTexts.{value-resolved}
 use Rattle.sheets.proofs.PlainTexts.{decimal-stays}
 use Rattle.sheet_reading.specs.Laws.{said}
 

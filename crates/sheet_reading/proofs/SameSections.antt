@@ -6,8 +6,8 @@ use Rattle.std.proofs.lemmas.List.Sums.{length-filter}
 use Rattle.cards.specs.declared.seats.Seat.{Seat}
 use Rattle.cards.specs.declared.suits.Trump.{Trump}
 use Rattle.tables.specs.TablesText.{Results, Printed, entries, published_count, is_complete}
-use Rattle.tables.specs.PageReading.{Row, Table, Rows, Incomplete, Section}
-use Rattle.tables.specs.WrittenOnce.{IsWrittenOnce, SaysResults, SaysSection, SaySame}
+use Rattle.text_laws.specs.PageReading.{Row, Table, Rows, Incomplete, Section}
+use Rattle.text_laws.specs.WrittenOnce.{IsWrittenOnce, SaysResults, SaysSection, SaySame}
 
 kept_all : {X : Type 0} (p : X → Bool) → ((x : X) → p x ≡ true) → (xs : List X) → length (filter p xs) ≡ length xs
 kept_all p each [] = refl

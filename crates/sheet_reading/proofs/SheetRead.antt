@@ -5,8 +5,8 @@ use Rattle.std.proofs.lemmas.List.{append-nil}
 use Rattle.pbn_deals.specs.declared.boards.Board.{Board}
 use Rattle.board_conditions.specs.Titles.{TitleValues}
 use Rattle.tables.specs.TablesText.{Printed}
-use Rattle.tables.specs.ReadBack.{AreTricks}
-use Rattle.tables.specs.PageReading.{all_items, put_item}
+use Rattle.text_laws.specs.ReadBack.{AreTricks}
+use Rattle.text_laws.specs.PageReading.{all_items, put_item}
 use Rattle.html.specs.Templates.{filled}
 use Rattle.sheets.specs.declared.templates.TheConstants.{GROUP, END}
 use Rattle.sheets.specs.Boards.{board_text}

@@ -11,15 +11,15 @@ use Rattle.cards.specs.declared.suits.Trump.{Trump}
 use Rattle.cards.specs.declared.suits.Trump.TheVariants as trump
 use Rattle.cards.specs.Seats.{seat_letter}
 use Rattle.tables.specs.TablesText.{Results, published_count, is_complete}
-use Rattle.tables.specs.PageReading.{Row, Table, Rows, Incomplete}
-use Rattle.tables.specs.WrittenOnce.{numbers_in, SaysResults}
-use Rattle.tables.proofs.SmallNumbers.{for_small}
-use Rattle.tables.proofs.PageBack.{fewer}
-use Rattle.tables.proofs.BoardsBack.{published_count-le}
+use Rattle.text_laws.specs.PageReading.{Row, Table, Rows, Incomplete}
+use Rattle.text_laws.specs.WrittenOnce.{numbers_in, SaysResults}
+use Rattle.text_laws.proofs.SmallNumbers.{for_small}
+use Rattle.text_laws.proofs.PageBack.{fewer}
+use Rattle.text_laws.proofs.BoardsBack.{published_count-le}
 use Rattle.sheets.specs.CellText.{level_shown, tricks_shown}
 use Rattle.sheets.specs.Results.{columns}
 use Rattle.sheet_reading.specs.Elements.{Piece, before_tag, elements}
-use Rattle.sheet_reading.specs.SheetReading.{texts_of, columns_of, tricks_in, rows_of, rows_in, table_of_lines, count_in, only_par, section_with, section_of_parts}
+use Rattle.sheet_reading.specs.SheetReading.{tricks_in, rows_of, rows_in, table_of_lines, count_in, only_par, section_with, section_of_parts}
 use Rattle.sheet_reading.proofs.ElementLemmas.{lacks, before-lacks, Yields, yields-append, yields-nothing}
 use Rattle.sheet_reading.proofs.Names.{among, only, only-append, only-lacks, whole-element}
 use Rattle.sheet_reading.proofs.TemplatePieces.{table_start, heading_line, line_end, line_start, cell_content, table_end, count_content, count_pieces}
@@ -56,9 +56,6 @@ row_at results declarer denomination =
 
 abbrev pub table_columns : List (Option Trump)
 table_columns = map (λ denomination. Some denomination) columns
-
-columns-read : columns_of (texts_of (codes "th") heading_line) ≡ table_columns
-columns-read = refl
 
 abbrev numbers_read : Results → Seat → List (Option ℕ)
 numbers_read results declarer = map (λ denomination. tricks_in (cell_at (tricks_at results declarer denomination))) columns

@@ -1,9 +1,10 @@
 -- The pieces of each template with its values.
 use Rattle.std.proofs.Common.{ℕ, Bool, true, false, List, [], ◌∷◌, ◌++◌, refl}
 use Rattle.std.specs.Prelude.{codes}
-use Rattle.html.specs.Pages.{resolved}
+use Rattle.sheet_reading.specs.Pages.{resolved}
 use Rattle.html.specs.Values.{value_text}
-use Rattle.html.specs.Templates.{filled, is_template}
+use Rattle.html.specs.Templates.{filled}
+use Rattle.html.specs.PlainTemplates.{is_template}
 use Rattle.sheets.specs.declared.templates.TheConstants.{BOARD, FACTS, DEALER, VULNERABLE, COMPASS, HANDS, HAND, FOOT}
 use Rattle.sheets.specs.declared.templates.TheConstants.{TABLE, ROW, CELL, ROW_END, TABLE_END, INCOMPLETE, PAR}
 use Rattle.sheets.specs.declared.templates.TheConstants.{PAR_UNKNOWN, FOOT_END, BOARD_END, GROUP, END}

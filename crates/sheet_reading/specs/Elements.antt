@@ -1,7 +1,7 @@
 -- How the elements of a page of HTML are read, and their text. Nothing here looks at how a page is written.
 use Rattle.std.specs.Prelude.{ℕ, ◌==◌, Bool, ◌||◌, List, [], ◌∷◌, if◌then◌else◌, bytes_eq}
 use Rattle.std.specs.List.{flat_map}
-use Rattle.html.specs.Pages.{parts_of, resolved}
+use Rattle.sheet_reading.specs.Pages.{parts_of, resolved}
 
 -- ---- the name of a tag
 -- a blank, the end of a line, or the end of the tag

@@ -13,10 +13,10 @@ use Rattle.scoring.specs.declared.vulnerable_sides.VulnerableSides.{VulnerableSi
 use Rattle.board_conditions.specs.declared.conditions.Conditions.{Conditions}
 use Rattle.board_conditions.specs.Titles.{TitleValues}
 use Rattle.tables.specs.TablesText.{Printed}
-use Rattle.tables.specs.ReadBack.{AreTricks}
-use Rattle.tables.specs.PageReading.{Section}
-use Rattle.tables.specs.WrittenOnce.{SaysSection}
-use Rattle.html.specs.Values.{shown as shown_chars}
+use Rattle.text_laws.specs.ReadBack.{AreTricks}
+use Rattle.text_laws.specs.PageReading.{Section}
+use Rattle.text_laws.specs.WrittenOnce.{SaysSection}
+use Rattle.sheet_reading.specs.Values.{shown as shown_chars}
 use Rattle.sheets.specs.HandText.{seat_name, holding_shown, points_of}
 use Rattle.sheets.specs.Facts.{sides_shown}
 use Rattle.sheets.specs.Headings.{title_shown}

@@ -5,8 +5,8 @@ use Rattle.cards.specs.Deal.{Deal, holder_of}
 use Rattle.pbn_deals.specs.declared.boards.Board.{Board}
 use Rattle.board_conditions.specs.declared.conditions.Conditions.{Conditions}
 use Rattle.tables.specs.TablesText.{Printed}
-use Rattle.tables.specs.ReadBack.{AreTricks}
-use Rattle.tables.specs.WrittenOnce.{SaySame}
+use Rattle.text_laws.specs.ReadBack.{AreTricks}
+use Rattle.text_laws.specs.WrittenOnce.{SaySame}
 use Rattle.sheets.specs.Markup.{Shown, page_of}
 use Rattle.sheet_reading.specs.Laws.{said, title_said, conditions_at}
 

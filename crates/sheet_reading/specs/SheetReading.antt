@@ -8,9 +8,9 @@ use Rattle.cards.specs.declared.seats.Seat.{Seat}
 use Rattle.cards.specs.declared.suits.Suit.TheVariants.{Spades, Hearts, Diamonds, Clubs}
 use Rattle.cards.specs.declared.suits.Trump.{Trump}
 use Rattle.cards.specs.declared.suits.Trump.TheVariants as trump
-use Rattle.tables.specs.PageReading.{all_items, put_item, Row, row_of, seat_named, number_named, Table, rows_table}
-use Rattle.tables.specs.PageReading.{count_table, ParSaid, Nothing, Values, DealerUnknown, VulnerabilityUnknown}
-use Rattle.tables.specs.PageReading.{Section, section_of}
+use Rattle.text_laws.specs.PageReading.{all_items, put_item, Row, row_of, seat_named, number_named, Table, rows_table}
+use Rattle.text_laws.specs.PageReading.{count_table, ParSaid, Nothing, Values, DealerUnknown, VulnerabilityUnknown}
+use Rattle.text_laws.specs.PageReading.{Section, section_of}
 use Rattle.sheet_reading.specs.Elements.{Piece, pieces_of, end_of, before_tag, elements, text_in}
 
 -- ---- one element of a name

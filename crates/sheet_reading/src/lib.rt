@@ -4,8 +4,16 @@
 //! the templates that the page is written by.
 #![tactic(auto)]
 
+mod markup;
+mod pages;
+
 ghost use Rattle.sheet_reading.specs.Laws.{SheetsAreRead};
 ghost use Rattle.sheet_reading.specs.OneSheet.{SheetsSayOneThing};
+
+pub use markup::markup_is_ours;
+pub use pages::{
+    pages_add, plain_values_stay, templates_are_plain, values_are_read, values_are_texts,
+};
 
 /// A sheet is read, element by element, as its title and one block for each board, in their order, and no other block.
 /// A block has the board's name. If the board has a deal, the block also has who deals and who is vulnerable, the four

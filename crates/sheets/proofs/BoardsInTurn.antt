@@ -1,5 +1,5 @@
 -- The boards of a sheet, one after the other.
-use Rattle.std.proofs.Common.{◌≡◌, ℕ, suc, ◌+◌, ◌<◌, List, [], ◌∷◌, ◌++◌, length, get_or, drop, refl, sym, ◌∙◌, ap, arith, append_assoc}
+use Rattle.std.proofs.Common.{◌≡◌, ℕ, suc, ◌+◌, ◌<◌, List, [], ◌∷◌, ◌++◌, length, get_or, drop, sym, ◌∙◌, ap, arith, append_assoc}
 use Rattle.std.specs.Prelude.{slice_index_or}
 use Rattle.std.proofs.Math.Seq.{drop-cons}
 use Rattle.pbn_deals.specs.declared.boards.Board.{Board}
@@ -66,9 +66,3 @@ group-first titles conditions printed before place (board ∷ boards) gone whole
           ap (λ t. gone ++ (group_text before t ++ (its ++ others))) is
           ∙ (ap (λ t. gone ++ t) (sym (append_assoc head its others)) ∙ are);
     }
-
--- none is left
-pub none-left : (titles : List TitleValues) (conditions : List Conditions) (printed : ℕ → Printed) (before : TitleValues)
-    (place : ℕ) (boards : List Board) → length boards ≡ 0 → boards_text titles conditions printed before place boards ≡ []
-none-left titles conditions printed before place [] h = refl
-none-left titles conditions printed before place (board ∷ boards) h = absurd (omega (arith, h))

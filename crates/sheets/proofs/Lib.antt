@@ -5,7 +5,3 @@ pub mod ResultLemmas
 pub mod ParPlain
 pub mod ParLemmas
 pub mod BoardsInTurn
-pub mod SameMarkup
-pub mod PlainTemplates
-pub mod BoardMarkup
-pub mod SheetMarkup

@@ -7,3 +7,4 @@ pub mod Boards
 pub mod Headings
 pub mod Pages
 pub mod Markup
+pub mod Places

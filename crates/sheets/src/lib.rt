@@ -6,7 +6,6 @@ mod cells;
 mod facts;
 mod hands;
 mod headings;
-mod laws;
 mod names;
 mod pages;
 mod pars;
@@ -14,5 +13,4 @@ mod results;
 pub mod templates;
 mod values;
 
-pub use laws::markup_is_ours;
 pub use pages::write_page;

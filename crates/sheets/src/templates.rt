@@ -1,7 +1,9 @@
 //! The templates of a sheet: HTML with places `{name}` for values.
 //!
-//! Values stand only between tags. The style is the text of an element, and HEAD has its hash. How a sheet is read by
-//! its elements (`sheet_reading`) follows the tags and the words here.
+//! The style is the text of an element, and HEAD has its hash. How a sheet is read by its elements (`sheet_reading`)
+//! follows the tags and the words here.
+
+ghost use Rattle.sheets.specs.Places.{ValuesStandBetweenTags};
 
 /// The head of a page, up to its style. Its policy names the SHA-256 of STYLE: a browser takes no other style.
 pub const HEAD: &[u8] = br#"<!DOCTYPE html>
@@ -163,3 +165,8 @@ pub const END: &[u8] = br#"</main>
 </body>
 </html>
 "#;
+
+/// Values stand only between tags, in each template. This is a law: the function does nothing.
+pub fn values_stand_between_tags()
+    ensures { ValuesStandBetweenTags }
+{}

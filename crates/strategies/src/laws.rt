@@ -2,7 +2,6 @@
 
 ghost use Rattle.strategies.specs.Laws.{WinsByOwnCard, WinsAgainstEachCard, WinsTheRest, WinsNothing};
 ghost use Rattle.strategies.specs.Laws.{WinsWhatIsWon, WinsFewer, ShareTheTricks, WinNoMoreThanAll};
-ghost use Rattle.strategies.specs.Laws.{HasOneValue, HasOnePlainValue, PlainValueIsValue};
 
 /// At its own turn a side can win k tricks exactly if it can after some legal card.
 pub fn wins_by_own_card()
@@ -43,20 +42,4 @@ pub fn tricks_are_shared()
 /// The two sides together can win no more tricks than there are.
 pub fn sides_win_no_more_than_all()
     ensures { WinNoMoreThanAll }
-{}
-
-/// A contract on a deal has one double-dummy value.
-pub fn value_is_unique()
-    ensures { HasOneValue }
-{}
-
-/// An ending has one value for North and South, the number that [`crate::plain_value`] answers.
-pub fn plain_value_is_unique()
-    ensures { HasOnePlainValue }
-{}
-
-/// The plain value of a contract's deal is its double-dummy value if North or South declares. Otherwise it is the
-/// number of the other tricks.
-pub fn plain_value_is_value()
-    ensures { PlainValueIsValue }
 {}

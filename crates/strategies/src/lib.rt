@@ -9,8 +9,7 @@ mod laws;
 mod plain;
 
 pub use laws::{
-    each_side_wins_nothing, plain_value_is_unique, plain_value_is_value,
-    sides_win_no_more_than_all, tricks_are_shared, value_is_unique, wins_against_each_card,
+    each_side_wins_nothing, sides_win_no_more_than_all, tricks_are_shared, wins_against_each_card,
     wins_by_own_card, wins_fewer, wins_the_rest, wins_what_is_won,
 };
 pub use plain::{TooLarge, plain_value};

@@ -1,11 +1,7 @@
 -- One read more.
-use Rattle.std.proofs.Common.{◌≡◌, ℕ, List, [], ◌++◌, Option, None, Some, refl, sym, ◌∙◌, ap, append_assoc, append-nil}
+use Rattle.std.proofs.Common.{◌≡◌, ℕ, List, [], ◌++◌, Option, None, Some, sym, ◌∙◌, ap, append_assoc, append-nil}
 use Rattle.cards.specs.Devices.{TakesWhereTold, StaysWhereTold, NoneIsLeft}
 use Rattle.streams.specs.Inputs.{IsAllOf}
-
-pub takes_none : (left : Option (List ℕ)) → TakesWhereTold left left []
-takes_none None = tt
-takes_none (Some left) = (left, refl, refl)
 
 pub takes_twice : (first second third : Option (List ℕ)) (one other : List ℕ) → TakesWhereTold first second one → TakesWhereTold second third other → TakesWhereTold first third (one ++ other)
 takes_twice None second third one other a b = tt

@@ -2,4 +2,3 @@ pub mod TellLemmas
 pub mod RunLemmas
 pub mod BesideLaws
 pub mod ExplainLaws
-pub mod ReportLaws

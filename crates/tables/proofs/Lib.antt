@@ -1,13 +1,6 @@
 pub mod NumberLemmas
-pub mod SmallNumbers
 pub mod RowLemmas
 pub mod TableLemmas
 pub mod BoardLemmas
-pub mod LinesBack
-pub mod CalmTexts
-pub mod ParTexts
 pub mod ParLines
-pub mod BoardsBack
-pub mod PageLines
 pub mod PageBack
-pub mod OnePage

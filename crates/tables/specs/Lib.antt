@@ -1,5 +1,2 @@
 pub mod ParText
 pub mod TablesText
-pub mod ReadBack
-pub mod PageReading
-pub mod WrittenOnce

@@ -5,7 +5,6 @@
 //! of the text has been written.
 #![tactic(auto)]
 
-mod laws;
 mod pars;
 mod pieces;
 mod rows;
@@ -13,9 +12,6 @@ mod sheet_text;
 mod sheets;
 mod tables;
 
-pub use laws::{
-    boards_are_read_back, pages_are_read, pages_say_one_thing, said_boards_are_read_back,
-};
 pub use pars::BoardPar;
 pub use sheet_text::{write_deal, write_sheet};
 pub use sheets::{Renews, Report, Sheet};

@@ -1,6 +1,4 @@
 pub mod WorkLaws
-pub mod PageLaws
-pub mod WholePageLaws
+pub mod CompleteCounts
 pub mod PutLaws
 pub mod ParLaws
-pub mod SheetLaws

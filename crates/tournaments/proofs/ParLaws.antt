@@ -6,7 +6,6 @@ use Rattle.std.proofs.lemmas.List.{take_more, take_all}
 use Rattle.std.proofs.lemmas.List.Elements.{All-map, All-push}
 use Rattle.std.proofs.lemmas.List.FromFn.{length-enumerate_from, get_or-enumerate_from}
 use Rattle.cards.specs.declared.seats.Seat.{Seat}
-use Rattle.cards.specs.declared.seats.Seat.TheVariants.{North, East, South, West}
 use Rattle.cards.specs.declared.suits.Suit.TheVariants.{Spades, Hearts, Diamonds, Clubs}
 use Rattle.cards.specs.declared.suits.Trump.{Trump}
 use Rattle.cards.specs.declared.suits.Trump.TheVariants as trump
@@ -20,7 +19,6 @@ use Rattle.scoring.specs.Scores.{tricks_bid, outcome_of}
 use Rattle.scoring.specs.declared.vulnerable_sides.VulnerableSides.{VulnerableSides}
 use Rattle.par.specs.declared.contracts.Contract.{Contract}
 use Rattle.par.specs.declared.contracts.ParContract.{ParContract}
-use Rattle.par.specs.Boards.{tricks_in}
 use Rattle.par.specs.FinalScores.{first_hand, second_hand, most_tricks}
 use Rattle.par.specs.ParContracts.{AreParContracts, as_printed}
 use Rattle.board_conditions.specs.declared.conditions.Conditions.{Conditions}
@@ -28,7 +26,7 @@ use Rattle.tables.specs.declared.pars.BoardPar.{BoardPar}
 use Rattle.par.specs.Texts.{IsSmallResult}
 use Rattle.tables.specs.ParText.{IsSmallPar}
 use Rattle.tables.specs.TablesText.{Results}
-use Rattle.tournaments.specs.BoardTricks.{AreAtMost13, HasTricks, IsRow}
+use Rattle.tournaments.specs.BoardTricks.{AreAtMost13, IsRow}
 use Rattle.tournaments.specs.Pages.{Pars, AreSmallPars}
 use Rattle.tournaments.specs.Pars.{IsBoardPar}
 
@@ -50,24 +48,6 @@ module _ (results : Results) (declarer : Seat) (n s h d c : ℕ) where
       at_most (trump.Suit Hearts) = most_h
       at_most (trump.Suit Diamonds) = most_d
       at_most (trump.Suit Clubs) = most_c
-
-pub tricks_from : (results : Results) (n e s w : List ℕ) → IsRow results North n → IsRow results East e → IsRow results South s → IsRow results West w → HasTricks results (tricks_in (record { rows = n ∷ e ∷ s ∷ w ∷ [] }))
-tricks_from results n e s w north east south west = record { are = are; at_most = at_most }
-  where
-    tricks : Seat → Trump → ℕ
-    tricks = tricks_in (record { rows = n ∷ e ∷ s ∷ w ∷ [] })
-
-    are : (declarer : Seat) (denomination : Trump) → results declarer denomination ≡ Some (tricks declarer denomination)
-    are North = north.are
-    are East = east.are
-    are South = south.are
-    are West = west.are
-
-    at_most : AreAtMost13 tricks
-    at_most North = north.at_most
-    at_most East = east.at_most
-    at_most South = south.at_most
-    at_most West = west.at_most
 
 -- ---- the contracts
 at_most_seven : (level : Level) → level_number level ≤ 7

@@ -14,16 +14,16 @@ use Rattle.tables.specs.declared.sheets.Renews.TheVariants.{Tables, TablesAndPar
 use Rattle.tournaments.specs.declared.faults.MakeFault.{MakeFault}
 use Rattle.tournaments.specs.declared.faults.MakeFault.TheVariants.{OutOfMemory, Read, Pbn, NoThread, Write}
 use Rattle.tournaments.specs.Making.{PageFact, AreReported}
-use Rattle.tournaments.specs.Pages.{Pars, IsTablesPage}
-use Rattle.tournaments.specs.WholePages.{IsWholePage}
-use Rattle.tournaments.specs.SheetPages.{IsSheetPage}
+use Rattle.tournaments.specs.Pages.{Pars, AreTables}
+use Rattle.tournaments.specs.WholePages.{HasTables}
+use Rattle.tournaments.specs.SheetPages.{IsSheet}
 use Rattle.tournaments.specs.Pars.{AreBoardPars}
 
 -- the tables with these pars alone, the text with them in it, or a sheet
 abbrev pub form_fact : PageForm → Renews → Pars → PageFact
-form_fact form.Tables renews pars = IsTablesPage pars
-form_fact form.Whole renews pars = IsWholePage renews pars
-form_fact form.Sheet renews pars = IsSheetPage pars
+form_fact form.Tables renews pars = AreTables pars
+form_fact form.Whole renews pars = HasTables renews pars
+form_fact form.Sheet renews pars = IsSheet pars
 
 -- the page without pars, or with those of the boards
 abbrev pub par_fact : ParTags → PageForm → PageFact

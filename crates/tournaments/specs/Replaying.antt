@@ -12,7 +12,7 @@ use Rattle.tournaments.specs.declared.faults.MakeFault.{MakeFault}
 use Rattle.tournaments.specs.declared.faults.MakeFault.TheVariants.{OutOfMemory, Read, Pbn, NoThread, Write}
 use Rattle.lease_book.specs.TrueHistories.{IsTrueHistory}
 use Rattle.tournaments.specs.Making.{AreReported}
-use Rattle.tournaments.specs.Pages.{history_text, IsReadOnce}
+use Rattle.tournaments.specs.Pages.{history_text}
 
 -- The boards are the boards of the text, and the history answers the requests, each hand-in judged by its texts. It is
 -- legal, and it publishes exactly the numbers of the first good hand-ins, each once, and each the double-dummy value.
@@ -26,7 +26,7 @@ pub record IsHistoryOf (text : List ℕ) (term tries : ℕ) (requests : List Req
       (record { terms = record { boards = boards; term = term; tries = tries }; events = events }) replies
   pub history : IsTrueHistory (record { boards = boards; term = term; tries = tries }) events
 
--- the sink has got the text of the boards with the numbers of that history; it is read as them, each number once
+-- the sink has got the text of the boards with the numbers of that history
 pub record FillsFromRequests (text : List ℕ) (term tries : ℕ) (requests : List Request) (sink sink' : Device)
     (report : Report)
     : Type 0 where
@@ -34,7 +34,6 @@ pub record FillsFromRequests (text : List ℕ) (term tries : ℕ) (requests : Li
   pub events : List Event
   pub history : IsHistoryOf text term tries requests boards events
   pub written : Adds sink sink' (history_text [] boards events)
-  pub page : IsReadOnce [] boards events (history_text [] boards events)
   pub counts : AreReported boards events report
 
 -- a beginning of that text was written, and then the sink failed

@@ -1,21 +1,13 @@
--- The sheet of a tournament: a page of HTML to print, and how it is read by its elements (`SheetReading` of
--- `sheet_reading` has the rules).
-use Rattle.std.specs.Prelude.{◌≡◌, ℕ, List, Option, None, Some, Ok, ⊤}
-use Rattle.std.specs.List.{AllZip}
+-- The sheet of a tournament: a page of HTML to print.
+use Rattle.std.specs.Prelude.{◌≡◌, ℕ, List}
 use Rattle.pbn_deals.specs.declared.boards.Board.{Board}
-use Rattle.pbn_deals.specs.Reading.{TextAnswers}
 use Rattle.board_conditions.specs.Games.{HasConditions}
 use Rattle.board_conditions.specs.Titles.{HasTitles, HasFirstTitles}
 use Rattle.lease_book.specs.declared.events.Event.{Event}
-use Rattle.lease_book.specs.Histories.{Terms}
-use Rattle.lease_book.specs.TrueHistories.{IsTrueHistory}
 use Rattle.lease_book.specs.BookResults.{book_results}
 use Rattle.tables.specs.TablesText.{printed_with}
-use Rattle.tables.specs.PageReading.{Section}
 use Rattle.sheets.specs.Markup.{Shown, page_of}
-use Rattle.sheet_reading.specs.SheetReading.{Sheet, sheet_in}
-use Rattle.sheet_reading.specs.Laws.{title_said, SayBoards}
-use Rattle.tournaments.specs.Pages.{Pars, AreSmallPars, IsTrueTable}
+use Rattle.tournaments.specs.Pages.{Pars}
 
 -- the sheet shows what the text says of its boards beside their deals: where and when they were played, who deals and
 -- who is vulnerable
@@ -31,31 +23,9 @@ pub record IsShown (pars : Pars) (text : List ℕ) (boards : List Board) (events
   pub printed_is : shown.printed ≡ printed_with pars (book_results boards events)
   pub said : IsSaid text shown
 
--- each number of the table is true, if there is one
-abbrev pub IsTrueSection : Board → Option Section → Type 0
-IsTrueSection board None = ⊤
-IsTrueSection board (Some section) = IsTrueTable board section.table
-
--- The page is the sheet of the text's boards with these pars. It is read as one block for each board, in their order,
--- and no other block. A block has the board's name. If the board has a deal, the block has who deals and is vulnerable,
--- the four hands, par, if there is one, and twenty rows, one for each declarer and denomination, with the number that
--- the history publishes, or it says how many of the twenty are published (`SayBoards`). Each number in it is the
--- double-dummy value.
-pub record IsSheetPage (pars : Pars) (text : List ℕ) (boards : List Board) (events : List Event) (page : List ℕ)
+-- the page is the sheet of the text's boards with these pars
+pub record IsSheet (pars : Pars) (text : List ℕ) (boards : List Board) (events : List Event) (page : List ℕ)
     : Type 0 where
   pub shown : Shown
   pub shows : IsShown pars text boards events shown
   pub is : page ≡ page_of shown
-  pub sheet : Sheet
-  pub read : sheet_in page ≡ Some sheet
-  pub title : sheet.title ≡ title_said shown.head
-  pub boards_said : SayBoards shown 0 shown.boards sheet.blocks
-  pub values : AllZip (λ board block. IsTrueSection board block.section) boards sheet.blocks
-
--- the sheet of the boards that any text says, after any true history over them, is read so, whatever small pars it has
-abbrev pub SheetPagesAreRead : Type 0
-SheetPagesAreRead =
-    (text : List ℕ) (terms : Terms) (events : List Event) (pars : Pars) (shown : Shown) →
-    TextAnswers text (Ok terms.boards) → IsTrueHistory terms events → AreSmallPars pars →
-    IsShown pars text terms.boards events shown →
-    IsSheetPage pars text terms.boards events (page_of shown)

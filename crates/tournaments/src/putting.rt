@@ -3,14 +3,13 @@
 ghost use Rattle.std.specs.Prelude.{◌≡◌, ℕ, List, Ok};
 ghost use Rattle.lease_book.specs.TrueHistories.{IsTrueHistory};
 ghost use Rattle.pbn_deals.specs.Reading.{TextAnswers};
-ghost use Rattle.tournaments.specs.Pages.{AreSmallPars, IsTablesPage};
-ghost use Rattle.tournaments.specs.WholePages.{IsWholePage};
+ghost use Rattle.tournaments.specs.Pages.{AreTables};
+ghost use Rattle.tournaments.specs.WholePages.{HasTables};
 ghost use Rattle.tournaments.specs.Putting.{PutsPage, form_fact, page_fact, par_tags};
-ghost use Rattle.tournaments.specs.SheetPages.{IsSheetPage};
+ghost use Rattle.tournaments.specs.SheetPages.{IsSheet};
 
 use crate::book_sheets::BookSheet;
 use crate::faults::{MakeFault, write_failed};
-use crate::laws::{sheet_pages_are_read, tables_are_read, whole_pages_are_read};
 use crate::pars::board_pars;
 use asked::{Page, PageForm, ParTags};
 use board_conditions::{first_titles, read_conditions, read_titles};
@@ -19,17 +18,13 @@ use lease_book::Book;
 use sheets::write_page;
 use std::alloc::Global;
 use tables::{Renews, Report, write_sheet};
-use whole_texts::{one_is_written, write_whole};
+use whole_texts::write_whole;
 
 /// Writes the tables of the boards of a book, with the numbers that it publishes.
 fn put_tables<O: Sink>(sheet: &BookSheet<'_>, output: &mut O) -> Result<Report, MakeFault>
-    requires history { IsTrueHistory sheet.now.book.terms sheet.now.book.events }
-    requires small { AreSmallPars sheet.now.pars }
-    ensures { (text : List ℕ) → TextAnswers text (Ok sheet.now.book.terms.boards)
-        → PutsPage (IsTablesPage sheet.now.pars) text sheet.now.book (O.state output.old) (O.state output.new)
-        result }
+    ensures { (text : List ℕ) → PutsPage (AreTables sheet.now.pars) text sheet.now.book (O.state output.old)
+        (O.state output.new) result }
 {
-    tables_are_read();
     match write_sheet(sheet, output) {
         Ok(report) => Ok(report),
         Err(fault) => Err(write_failed(fault)),
@@ -43,13 +38,9 @@ fn put_whole<O: Sink>(
     output: &mut O,
 ) -> Result<Report, MakeFault>
     requires boards { TextAnswers text.now (Ok sheet.now.book.terms.boards) }
-    requires history { IsTrueHistory sheet.now.book.terms sheet.now.book.events }
-    requires small { AreSmallPars sheet.now.pars }
-    ensures { PutsPage (IsWholePage sheet.now.renews sheet.now.pars) text.now sheet.now.book (O.state output.old)
+    ensures { PutsPage (HasTables sheet.now.renews sheet.now.pars) text.now sheet.now.book (O.state output.old)
         (O.state output.new) result }
 {
-    one_is_written();
-    whole_pages_are_read();
     match write_whole(text, sheet, output) {
         Ok(report) => Ok(report),
         Err(fault) => Err(write_failed(fault)),
@@ -64,10 +55,7 @@ fn put_sheet<O: Sink>(
     sheet: &BookSheet<'_>,
     output: &mut O,
 ) -> Result<Report, MakeFault>
-    requires boards { TextAnswers text.now (Ok sheet.now.book.terms.boards) }
-    requires history { IsTrueHistory sheet.now.book.terms sheet.now.book.events }
-    requires small { AreSmallPars sheet.now.pars }
-    ensures { PutsPage (IsSheetPage sheet.now.pars) text.now sheet.now.book (O.state output.old) (O.state output.new)
+    ensures { PutsPage (IsSheet sheet.now.pars) text.now sheet.now.book (O.state output.old) (O.state output.new)
         result }
 {
     let Ok(conditions) = read_conditions(alloc, text) else {
@@ -76,7 +64,6 @@ fn put_sheet<O: Sink>(
     let Ok(titles) = read_titles(alloc, text) else {
         return Err(MakeFault::OutOfMemory);
     };
-    sheet_pages_are_read();
     match write_page(
         output,
         sheet,
@@ -98,8 +85,6 @@ fn put_form<O: Sink>(
     output: &mut O,
 ) -> Result<Report, MakeFault>
     requires boards { TextAnswers text.now (Ok sheet.now.book.terms.boards) }
-    requires history { IsTrueHistory sheet.now.book.terms sheet.now.book.events }
-    requires small { AreSmallPars sheet.now.pars }
     ensures { PutsPage (form_fact form sheet.now.renews sheet.now.pars) text.now sheet.now.book (O.state output.old)
         (O.state output.new) result }
 {

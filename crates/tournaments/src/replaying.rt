@@ -7,7 +7,6 @@ ghost use Rattle.tournaments.specs.Replaying.{ReplaysTables};
 ghost use Rattle.tournaments.specs.Texts.{IsReplayedBook};
 
 use crate::faults::{MakeFault, write_failed};
-use crate::laws::tables_are_read;
 use crate::texts::take_boards;
 use cards::Sink;
 use lease_book::{Book, BookFault, Request, is_true_history, replay, write_tables};
@@ -56,6 +55,5 @@ pub fn replay_tables<O: Sink>(
     let boards = take_boards(alloc, text)?;
     let book = replay_book(alloc, boards, term, tries, requests)?;
     is_true_history(&book);
-    tables_are_read();
     write_tables(&book, output).map_err(write_failed)
 }

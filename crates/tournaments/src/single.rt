@@ -5,7 +5,7 @@ ghost use Rattle.lease_book.specs.Books.{AreTries};
 ghost use Rattle.tournaments.specs.declared.faults.MakeFault.TheVariants.{NoThread};
 ghost use Rattle.streams.specs.RunStreams.{devices};
 ghost use Rattle.tournaments.specs.Making.{MakesPage, IsWholeRun};
-ghost use Rattle.tournaments.specs.Pages.{IsTablesPage};
+ghost use Rattle.tournaments.specs.Pages.{AreTables};
 
 use crate::faults::MakeFault;
 use crate::putting::put_page;
@@ -37,7 +37,7 @@ pub fn make_single<I: Source, O: Sink, S: Solver, C: Clock>(
 ) -> Result<(Report, Book), MakeFault>
     requires tries { AreTries tries }
     requires budget { 0 < budget }
-    ensures made { MakesPage (IsWholeRun (S.may_find solver.now) (C.may_tell clock.now) budget) (IsTablesPage [])
+    ensures made { MakesPage (IsWholeRun (S.may_find solver.now) (C.may_tell clock.now) budget) (AreTables [])
         term tries (devices (I.state input.old) (O.state output.old))
         (devices (I.state input.new) (O.state output.new)) result }
     ensures one_thread { IfErr result (λ fault. fault ≢ NoThread) }

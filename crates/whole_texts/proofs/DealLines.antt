@@ -1,160 +1,39 @@
--- The line of a game's Deal tag, and the section with its end.
-use Rattle.std.proofs.Common.{◌≡◌, ℕ, Bool, true, false, cond, ◌||◌, List, [], ◌∷◌, ◌++◌, Option, None, refl, sym, ◌∙◌, ap, subst, append_assoc, append-nil, flat_map, inl, inr}
-use Rattle.std.specs.List.{list_any}
+-- The end of the line of a game's Deal tag, and the bytes of its section.
+use Rattle.std.proofs.Common.{◌≡◌, ℕ, Bool, true, false, cond, ◌||◌, List, [], ◌∷◌, ◌++◌, None, refl, sym, ◌∙◌, ap, append_assoc, append-nil, flat_map}
 use Rattle.std.proofs.lemmas.Grind.{flat_map-append}
-use Rattle.pbn_deals.specs.Pieces.{Piece, Space, Comment, Pair, Data, NoPair, Kind, Gap, Escaped, OfGame, Line, line_bytes}
-use Rattle.pbn_deals.specs.Tags.{is_deal}
-use Rattle.pbn_deals.proofs.RowsBack.{Follow}
+use Rattle.pbn_deals.specs.Pieces.{body_of, Line, line_bytes}
 use Rattle.tables.specs.TablesText.{Printed, section_text}
 use Rattle.whole_texts.specs.LineEnds.{last_of, missing_end}
-use Rattle.whole_texts.specs.OldTables.{is_old, left_pieces, has_more, put_left, table_behind_line, without_tables, is_count, is_escaped_kind, without_counts, left_of, is_deal_pair, is_deal_kind, has_deal}
-use Rattle.whole_texts.specs.WholeText.{section_lines, if_none, new_end, deal_end, with_ends, with_section}
-use Rattle.whole_texts.specs.LeftText.{kind_left, tables_behind}
+use Rattle.whole_texts.specs.OldTables.{is_deal_kind, has_deal}
+use Rattle.whole_texts.specs.WholeText.{section_lines, if_none, deal_end, with_more, with_section}
 use Rattle.whole_texts.specs.FirstGame.{HasDealLine}
-use Rattle.whole_texts.proofs.LeftLines.{Ended}
-use Rattle.whole_texts.proofs.WholeLines.{left_of_ended}
-use Rattle.whole_texts.proofs.AgainSame.{left_deal, count_no_deal, new_again, back_ended}
-use Rattle.whole_texts.proofs.NothingLost.{section-text}
-use Rattle.whole_texts.proofs.EndsBytes.{last-append, unended_missing, ends_text}
-use Rattle.whole_texts.proofs.SolidLines.{tables-append, solid_stays}
-use Rattle.tables.specs.declared.sheets.Renews.{Renews}
+use Rattle.whole_texts.proofs.SectionText.{section-text}
 
--- ---- lines without a Deal tag
-or_parts : (a b : Bool) → (a || b) ≡ false → (a ≡ false) × (b ≡ false)
-or_parts true b e = absurd (cc)
-or_parts false b e = (refl, e)
+end_at : (before : List Line) (line : Line) (after : List Line) → has_deal before ≡ false → is_deal_kind line.kind ≡ true → deal_end (before ++ line ∷ after) ≡ line.end
+end_at [] line after none d = ap (λ b. cond b line.end (deal_end after)) d
+end_at (first ∷ before) line after none d = go (is_deal_kind first.kind) none (end_at before line after) where
+  go : (b : Bool) → (b || has_deal before) ≡ false → (has_deal before ≡ false → is_deal_kind line.kind ≡ true → deal_end (before ++ line ∷ after) ≡ line.end) → cond b first.end (deal_end (before ++ line ∷ after)) ≡ line.end
+  go true n more = absurd (cc)
+  go false n more = more n d
 
-pieces_no_deal : (old : Renews) (in_table : Bool) (pieces : List Piece) → list_any is_deal_pair pieces ≡ false → list_any is_deal_pair (left_pieces old in_table pieces) ≡ false
-pieces_no_deal old in_table [] e = refl
-pieces_no_deal old in_table (Space byte ∷ pieces) e = pieces_no_deal old in_table pieces e
-pieces_no_deal old in_table (Comment bytes ∷ pieces) e = pieces_no_deal old in_table pieces e
-pieces_no_deal old in_table (Pair name value bytes ∷ pieces) e =
-    let both = or_parts (is_deal name) (list_any is_deal_pair pieces) e in
-    go (is_old old name) both.0 (pieces_no_deal old true pieces both.1) (pieces_no_deal old false pieces both.1)
-  where
-    go : (b : Bool) → is_deal name ≡ false → list_any is_deal_pair (left_pieces old true pieces) ≡ false → list_any is_deal_pair (left_pieces old false pieces) ≡ false → list_any is_deal_pair (cond b (left_pieces old true pieces) (Pair name value bytes ∷ left_pieces old false pieces)) ≡ false
-    go true d gone kept = gone
-    go false d gone kept = ap (λ b. b || list_any is_deal_pair (left_pieces old false pieces)) d ∙ kept
-pieces_no_deal old true (Data bytes ∷ pieces) e = pieces_no_deal old true pieces e
-pieces_no_deal old false (Data bytes ∷ pieces) e = pieces_no_deal old false pieces e
-pieces_no_deal old in_table (NoPair bytes ∷ pieces) e = pieces_no_deal old in_table pieces e
+pub deal_end_is : (lines : List Line) (end : List ℕ) → HasDealLine lines end → deal_end lines ≡ end
+deal_end_is lines end h = ap deal_end h.parts ∙ end_at h.before (record { kind = h.kind; end = end }) h.after h.none_before h.deal
 
-put_no_deal : (old : Renews) (in_table : Bool) (kind : Kind) (end : List ℕ) (lines : List Line) → is_deal_kind kind ≡ false → has_deal lines ≡ false → has_deal (put_left old in_table kind end lines) ≡ false
-put_no_deal old in_table (Gap bytes) end lines d h = h
-put_no_deal old in_table (Escaped bytes) end lines d h = h
-put_no_deal old in_table (OfGame pieces) end lines d h = go (has_more (left_pieces old in_table pieces)) where
-  go : (b : Bool) → has_deal (cond b (record { kind = OfGame (left_pieces old in_table pieces); end = end } ∷ lines) lines) ≡ false
-  go true = ap (λ b. b || has_deal lines) (pieces_no_deal old in_table pieces d) ∙ h
-  go false = h
+more_bytes : (bytes : List ℕ) (line : Line) (lines : List Line) → flat_map line_bytes (with_more bytes (line ∷ lines)) ≡ flat_map line_bytes (line ∷ lines) ++ bytes
+more_bytes bytes line [] =
+    append-nil (body_of line.kind ++ (line.end ++ bytes))
+    ∙ (sym (append_assoc (body_of line.kind) line.end bytes) ∙ ap (λ b. b ++ bytes) (sym (append-nil (line_bytes line))))
+more_bytes bytes line (next ∷ lines) = ap (λ r. line_bytes line ++ r) (more_bytes bytes next lines) ∙ sym (append_assoc (line_bytes line) (flat_map line_bytes (next ∷ lines)) bytes)
 
-tables_no_deal : (old : Renews) (in_table : Bool) (lines : List Line) → has_deal lines ≡ false → has_deal (without_tables old in_table lines) ≡ false
-tables_no_deal old in_table [] h = refl
-tables_no_deal old in_table (line ∷ lines) h =
-    let both = or_parts (is_deal_kind line.kind) (has_deal lines) h in
-    let behind = table_behind_line old in_table line.kind in
-    put_no_deal old in_table line.kind line.end (without_tables old behind lines) both.0 (tables_no_deal old behind lines both.1)
+ends_text : (end : List ℕ) (left : List Line) → flat_map line_bytes (with_more (missing_end (last_of None (flat_map line_bytes left)) end) left) ≡ flat_map line_bytes left ++ missing_end (last_of None (flat_map line_bytes left)) end
+ends_text end [] = refl
+ends_text end (line ∷ lines) = more_bytes (missing_end (last_of None (flat_map line_bytes (line ∷ lines))) end) line lines
 
--- ---- the line of the Deal tag stays
-put_deal : (old : Renews) (in_table : Bool) (kind : Kind) (end : List ℕ) (lines : List Line) → is_deal_kind kind ≡ true → (put_left old in_table kind end lines ≡ record { kind = kind_left old in_table kind; end = end } ∷ lines) × (is_deal_kind (kind_left old in_table kind) ≡ true)
-put_deal old in_table (Gap bytes) end lines d = absurd (cc)
-put_deal old in_table (Escaped bytes) end lines d = absurd (cc)
-put_deal old in_table (OfGame pieces) end lines d =
-    let left = left_deal old in_table pieces d in
-    (ap (λ b. cond b (record { kind = OfGame (left_pieces old in_table pieces); end = end } ∷ lines) lines) left.1, left.0)
-
-not_count : (old : Renews) (kind : Kind) → is_deal_kind kind ≡ true → is_count old kind ≡ false
-not_count old kind d = go (is_count old kind) refl where
-  go : (b : Bool) → is_count old kind ≡ b → b ≡ false
-  go true c = let x : true ≡ false = sym d ∙ count_no_deal old kind c in absurd (cc)
-  go false c = refl
-
-not_escaped : (kind : Kind) → is_deal_kind kind ≡ true → is_escaped_kind kind ≡ false
-not_escaped (Gap bytes) d = refl
-not_escaped (Escaped bytes) d = absurd (cc)
-not_escaped (OfGame pieces) d = refl
-
-record StaysDeal (old : Renews) (lines : List Line) (end : List ℕ) (after : List Line) : Type 0 where
-  before : List Line
-  kind : Kind
-  behind : List Line
-  parts : left_of old lines ≡ before ++ record { kind = kind; end = end } ∷ behind
-  none_before : has_deal before ≡ false
-  deal : is_deal_kind kind ≡ true
-  last : after ≡ [] → behind ≡ []
-
-deal_stays : (old : Renews) (lines : List Line) (end : List ℕ) (h : HasDealLine lines end) → StaysDeal old lines end h.after
-deal_stays old lines end h =
-    let in_table = tables_behind old false h.before in
-    let line : Line = record { kind = h.kind; end = end } in
-    let after = without_tables old (table_behind_line old in_table h.kind) h.after in
-    let left : Line = record { kind = kind_left old in_table h.kind; end = end } in
-    let before = without_tables old false h.before in
-    let put = put_deal old in_table h.kind end after h.deal in
-    record {
-      before = before;
-      kind = left.kind;
-      behind = without_counts old after;
-      parts =
-          ap (left_of old) h.parts
-          ∙ (ap (without_counts old) (tables-append old false h.before (line ∷ h.after) ∙ ap (λ l. before ++ l) put.0)
-          ∙ solid_stays old before left after (not_count old left.kind put.1) (not_escaped left.kind put.1));
-      none_before = tables_no_deal old false h.before h.none_before;
-      deal = put.1;
-      last = λ none. ap (λ l. without_counts old (without_tables old (table_behind_line old in_table h.kind) l)) none;
-    }
-
--- ---- its end
-deal_end-at : (other : List ℕ) (before : List Line) (line : Line) (after : List Line) → has_deal before ≡ false → is_deal_kind line.kind ≡ true → deal_end other (before ++ line ∷ after) ≡ if_none (new_end other line.kind) line.end
-deal_end-at other [] line after none d = ap (λ b. cond b (if_none (new_end other line.kind) line.end) (deal_end other after)) d
-deal_end-at other (first ∷ before) line after none d =
-    let both = or_parts (is_deal_kind first.kind) (has_deal before) none in
-    ap (λ b. cond b (if_none (new_end other first.kind) first.end) (deal_end other (before ++ line ∷ after))) both.0
-    ∙ deal_end-at other before line after both.1 d
-
--- a line without an end is the last one
-unended_last : (line : Line) (after : List Line) → line.end ≡ [] → Ended (line ∷ after) → after ≡ []
-unended_last line [] none h = refl
-unended_last line (next ∷ after) none (inl ((lacks, inl e), more)) = absurd (let x = sym none ∙ e in cc)
-unended_last line (next ∷ after) none (inl ((lacks, inr (e, n)), more)) = absurd (let x = sym none ∙ e in cc)
-unended_last line (next ∷ after) none (inr (u, m)) = absurd (cc)
-
--- ---- the section
-module _ (old : Renews) (other : List ℕ) (results : Printed) (lines : List Line) (follows : Follow false lines false) (ended : Ended lines) where
-  abbrev pub left : List Line
-  left = left_of old lines
-
-  abbrev pub last : Option ℕ
-  last = last_of None (flat_map line_bytes left)
-
-  section_with : (end missing given : List ℕ) → deal_end other left ≡ given → missing_end last given ≡ missing → given ≡ if_none missing end → flat_map line_bytes (with_section other results left) ≡ flat_map line_bytes left ++ (missing ++ section_text (if_none missing end) results)
-  section_with end missing given is m g =
-      ap (λ d. flat_map line_bytes (with_ends d left ++ section_lines d results)) is
-      ∙ (flat_map-append line_bytes (with_ends given left) (section_lines given results)
-      ∙ (ap (λ t. t ++ flat_map line_bytes (section_lines given results)) (ends_text given left (left_of_ended old follows ended))
-      ∙ (ap (λ s. (flat_map line_bytes left ++ missing_end last given) ++ s) (section-text given results ∙ ap (λ e. section_text e results) g)
-      ∙ (ap (λ x. (flat_map line_bytes left ++ x) ++ section_text (if_none missing end) results) m
-      ∙ append_assoc (flat_map line_bytes left) missing (section_text (if_none missing end) results)))))
-
-  pub section_bytes : (end : List ℕ) → HasDealLine lines end → flat_map line_bytes (with_section other results left) ≡ flat_map line_bytes left ++ (missing_end last (if_none other end) ++ section_text (if_none (missing_end last (if_none other end)) end) results)
-  section_bytes (byte ∷ bytes) h =
-      let end = byte ∷ bytes in
-      let stays = deal_stays old lines end h in
-      let at = ap (deal_end other) stays.parts ∙ deal_end-at other stays.before (record { kind = stays.kind; end = end }) stays.behind stays.none_before stays.deal in
-      section_with end (missing_end last end) end at refl refl
-  section_bytes [] h =
-      let stays = deal_stays old lines [] h in
-      let line : Line = record { kind = stays.kind; end = [] } in
-      let own : Line = record { kind = h.kind; end = [] } in
-      let none = stays.last (unended_last own h.after refl (back_ended h.before (own ∷ h.after) (subst Ended h.parts ended))) in
-      let whole : left ≡ stays.before ++ line ∷ [] = stays.parts ∙ ap (λ b. stays.before ++ line ∷ b) none in
-      let line_ended = back_ended stays.before (line ∷ []) (subst Ended whole (left_of_ended old follows ended)) in
-      let front = last_of None (flat_map line_bytes stays.before) in
-      let last_is : last ≡ last_of front (line_bytes line) =
-      ap (λ l. last_of None (flat_map line_bytes l)) whole
-      ∙ (ap (last_of None) (flat_map-append line_bytes stays.before (line ∷ []))
-      ∙ (last-append None (flat_map line_bytes stays.before) (line_bytes line ++ [])
-      ∙ ap (last_of front) (append-nil (line_bytes line)))) in
-      let missing : (end : List ℕ) → missing_end last end ≡ new_end end stays.kind = λ end. ap (λ l. missing_end l end) last_is ∙ unended_missing front end line line_ended refl in
-      let given = new_end other stays.kind in
-      let at : deal_end other left ≡ given = ap (deal_end other) stays.parts ∙ deal_end-at other stays.before line stays.behind stays.none_before stays.deal in
-      section_with [] (missing_end last other) given at (missing given ∙ (new_again other stays.kind ∙ sym (missing other))) (sym (missing other))
+pub section_bytes : (other end : List ℕ) (results : Printed) (left : List Line) → flat_map line_bytes (with_section other end results left) ≡ flat_map line_bytes left ++ (missing_end (last_of None (flat_map line_bytes left)) (if_none other end) ++ section_text (if_none (missing_end (last_of None (flat_map line_bytes left)) (if_none other end)) end) results)
+section_bytes other end results left =
+    let missing = missing_end (last_of None (flat_map line_bytes left)) (if_none other end) in
+    let own = if_none missing end in
+    flat_map-append line_bytes (with_more missing left) (section_lines own results)
+    ∙ (ap (λ t. t ++ flat_map line_bytes (section_lines own results)) (ends_text (if_none other end) left)
+    ∙ (ap (λ s. (flat_map line_bytes left ++ missing) ++ s) (section-text own results)
+    ∙ append_assoc (flat_map line_bytes left) missing (section_text own results)))

@@ -16,12 +16,10 @@ use Rattle.whole_texts.specs.FirstGame.{HasDealLine, IsDealEnd, EndsGame, HasGam
 use Rattle.whole_texts.specs.LineEnds.{last_of, missing_end}
 use Rattle.whole_texts.specs.LeftText.{without_any_count, tables_behind}
 use Rattle.whole_texts.specs.OldTables.{without_tables, left_of, is_deal_kind, has_deal}
-use Rattle.whole_texts.specs.WholeText.{Game, put_line, is_gap_kind, games_of, if_none, with_section, dealt_lines, behind, games_lines}
+use Rattle.whole_texts.specs.WholeText.{Game, put_line, is_gap_kind, games_of, if_none, deal_end, with_section, dealt_lines, behind, games_lines}
 use Rattle.whole_texts.specs.WrittenGame.{boards_from, game_lines, boards_behind}
 use Rattle.whole_texts.specs.declared.games.GameText.{GameText}
-use Rattle.pbn_deals.proofs.RowsBack.{follow}
-use Rattle.whole_texts.proofs.DealLines.{section_bytes}
-use Rattle.whole_texts.proofs.LineCuts.{text_ends}
+use Rattle.whole_texts.proofs.DealLines.{deal_end_is, section_bytes}
 use Rattle.whole_texts.proofs.LinesGo.{LeftText}
 use Rattle.whole_texts.proofs.Gone.{Gone, none_gone, more_gone, fault_in, all_gone}
 use Rattle.tables.specs.declared.sheets.Renews.{Renews}
@@ -110,7 +108,7 @@ module _ (old : Renews) (other : List ℕ) (results : ℕ → Printed) (lines : 
     game_without_board boards none =
         (sym ((dealt boards).0 ∙ ap (λ b. dealt_lines old other results b lines) none), none ∙ sym ((dealt boards).1 ∙ ap behind none))
 
-    pub game_with_board : (boards more : List (ℕ × Board)) (place : ℕ) (board : Board) → boards ≡ (place, board) ∷ more → (cond (is_some board.deal) (with_section other (results place) (left_of old lines)) (left_of old lines) ≡ game_lines old other results boards lines) × (more ≡ boards_behind boards lines)
+    pub game_with_board : (boards more : List (ℕ × Board)) (place : ℕ) (board : Board) → boards ≡ (place, board) ∷ more → (cond (is_some board.deal) (with_section other (deal_end lines) (results place) (left_of old lines)) (left_of old lines) ≡ game_lines old other results boards lines) × (more ≡ boards_behind boards lines)
     game_with_board boards more place board is =
         (sym ((dealt boards).0 ∙ ap (λ b. dealt_lines old other results b lines) is), sym ((dealt boards).1 ∙ ap behind is))
 
@@ -131,24 +129,24 @@ section_behind old other lines end results =
     missing_end (last_of None (left_bytes old lines)) (if_none other end)
     ++ section_text (if_none (missing_end (last_of None (left_bytes old lines)) (if_none other end)) end) results
 
-module _ (old : Renews) (other : List ℕ) (results : ℕ → Printed) (lines : List Line) (text : List ℕ) (read : AreLines false (rows_of text) lines false) (end : List ℕ) (h : HasDealLine lines end) where
-  with_board : (boards more : List (ℕ × Board)) (place : ℕ) (board : Board) → boards ≡ (place, board) ∷ more → flat_map line_bytes (cond (is_some board.deal) (with_section other (results place) (left_of old lines)) (left_of old lines)) ≡ flat_map line_bytes (game_lines old other results boards lines)
+module _ (old : Renews) (other : List ℕ) (results : ℕ → Printed) (lines : List Line) (end : List ℕ) (h : HasDealLine lines end) where
+  with_board : (boards more : List (ℕ × Board)) (place : ℕ) (board : Board) → boards ≡ (place, board) ∷ more → flat_map line_bytes (cond (is_some board.deal) (with_section other (deal_end lines) (results place) (left_of old lines)) (left_of old lines)) ≡ flat_map line_bytes (game_lines old other results boards lines)
   with_board boards more place board is = ap (flat_map line_bytes) (game_with_board old other results lines end h boards more place board is).0
 
-  section_is : (place : ℕ) → flat_map line_bytes (with_section other (results place) (left_of old lines)) ≡ left_bytes old lines ++ section_behind old other lines end (results place)
-  section_is place = section_bytes old other (results place) lines (follow read) (text_ends text lines read) end h
+  section_is : (place : ℕ) → flat_map line_bytes (with_section other (deal_end lines) (results place) (left_of old lines)) ≡ left_bytes old lines ++ section_behind old other lines end (results place)
+  section_is place = ap (λ e. flat_map line_bytes (with_section other e (results place) (left_of old lines))) (deal_end_is lines end h) ∙ section_bytes other end (results place) (left_of old lines)
 
   -- a board with a deal
   pub dealt_bytes : (boards more : List (ℕ × Board)) (place : ℕ) (board : Board) → boards ≡ (place, board) ∷ more → is_some board.deal ≡ true → left_bytes old lines ++ section_behind old other lines end (results place) ≡ flat_map line_bytes (game_lines old other results boards lines)
   dealt_bytes boards more place board is d =
       sym (section_is place)
-      ∙ (ap (λ b. flat_map line_bytes (cond b (with_section other (results place) (left_of old lines)) (left_of old lines))) (sym d)
+      ∙ (ap (λ b. flat_map line_bytes (cond b (with_section other (deal_end lines) (results place) (left_of old lines)) (left_of old lines))) (sym d)
       ∙ with_board boards more place board is)
 
   -- one without
   pub undealt_bytes : (boards more : List (ℕ × Board)) (place : ℕ) (board : Board) → boards ≡ (place, board) ∷ more → is_some board.deal ≡ false → left_bytes old lines ≡ flat_map line_bytes (game_lines old other results boards lines)
   undealt_bytes boards more place board is d =
-      ap (λ b. flat_map line_bytes (cond b (with_section other (results place) (left_of old lines)) (left_of old lines))) (sym d)
+      ap (λ b. flat_map line_bytes (cond b (with_section other (deal_end lines) (results place) (left_of old lines)) (left_of old lines))) (sym d)
       ∙ with_board boards more place board is
 
   -- and in any case they begin with what is left

@@ -61,14 +61,6 @@ more_before old kind (piece ∷ pieces) which e = go (has_more (piece ∷ pieces
   go false (inl w) e = absurd (cc)
   go false (inr w) e = absurd (cc)
 
-none_before : (old : Renews) (kind : Left) (before : List Piece) → kind ≡ Nothing → kind ≡ left_kind old before → before ≡ []
-none_before old kind [] w e = refl
-none_before old kind (piece ∷ pieces) w e = go (has_more (piece ∷ pieces)) (is_count old (OfGame (piece ∷ pieces))) e where
-  go : (b c : Bool) → kind ≡ cond b (cond c Count More) Blanks → piece ∷ pieces ≡ []
-  go true true e = absurd (cc)
-  go true false e = absurd (cc)
-  go false c e = absurd (cc)
-
 some_before : (old : Renews) (kind : Left) (before : List Piece) → (kind ≡ Nothing → ⊥) → kind ≡ left_kind old before → before ≢ []
 some_before old kind before n e none = n (e ∙ ap (left_kind old) none)
 

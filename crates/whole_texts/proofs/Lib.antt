@@ -1,15 +1,5 @@
-pub mod LeftPieces
-pub mod LeftSigns
-pub mod LeftLines
-pub mod SectionLines
-pub mod WholeLines
-pub mod SameBoards
-pub mod FirstBytes
-pub mod WrittenLines
-pub mod CleanLines
-pub mod AgainSame
-pub mod NothingLost
-pub mod ShownOnce
+pub mod Ends
+pub mod SectionText
 pub mod CountTexts
 pub mod LeftKinds
 pub mod FactsOf
@@ -22,3 +12,5 @@ pub mod PiecesGo
 pub mod LinesGo
 pub mod Surveys
 pub mod GamesGo
+pub mod ReadLines
+pub mod SomeTexts

@@ -4,13 +4,12 @@ use Rattle.std.proofs.lemmas.Grind.{flat_map-append}
 use Rattle.pbn_deals.specs.Pieces.{rows_of, Line, line_bytes, AreLines}
 use Rattle.pbn_deals.proofs.LinesOfText.{bytes_of-lines, bytes_of-rows}
 use Rattle.pbn_deals.proofs.RowsBack.{AreEnded, text_ended, Follow, follow_none, follow_line, follow, rows_are, lines_back}
-use Rattle.whole_texts.proofs.LeftLines.{Ended}
-use Rattle.whole_texts.proofs.AgainSame.{front_ended, back_ended}
+use Rattle.whole_texts.proofs.Ends.{Ended, front_ended, back_ended}
 
 pub lines_bytes : {is_open last : Bool} (text : List ℕ) (lines : List Line) → AreLines is_open (rows_of text) lines last → text ≡ flat_map line_bytes lines
 lines_bytes text lines h = sym (bytes_of-lines h ∙ bytes_of-rows text)
 
-pub text_ends : {is_open last : Bool} (text : List ℕ) (lines : List Line) → AreLines is_open (rows_of text) lines last → Ended lines
+text_ends : {is_open last : Bool} (text : List ℕ) (lines : List Line) → AreLines is_open (rows_of text) lines last → Ended lines
 text_ends text lines h = subst AreEnded (rows_are h) (text_ended text)
 
 record Split (is_open : Bool) (one other : List Line) (last : Bool) : Type 0 where

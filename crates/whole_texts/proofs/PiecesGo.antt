@@ -7,8 +7,8 @@ use Rattle.cards.specs.Devices.{Device, Adds, AddsBeginning}
 use Rattle.pbn_deals.specs.declared.pieces.Piece.{Piece as CodePiece}
 use Rattle.pbn_deals.specs.declared.pieces.Piece.TheVariants as found
 use Rattle.pbn_deals.specs.FirstPieces.{is_data_piece, is_found_data, ArePieces, IsFirst, comment_before}
-use Rattle.pbn_deals.specs.Pieces.{Piece, Space, Comment, Pair, NoPair, bytes_of, HasPieces}
-use Rattle.whole_texts.specs.OldTables.{is_old, left_pieces, table_behind}
+use Rattle.pbn_deals.specs.Pieces.{Piece, Space, Comment, NoPair, bytes_of, HasPieces}
+use Rattle.whole_texts.specs.OldTables.{left_pieces, table_behind}
 use Rattle.whole_texts.specs.LineEnds.{last_of}
 use Rattle.whole_texts.proofs.FactsOf.{left-append, AreSilent, silent_spaces, data_silent}
 use Rattle.whole_texts.proofs.Gone.{Gone, none_gone, more_gone, fault_in, all_gone}
@@ -41,14 +41,6 @@ others_left old in_table piece pieces bytes (inl is) are = blanks_left old in_ta
 others_left old in_table piece pieces bytes (inr (inl is)) are = comment_left old in_table pieces bytes.now (subst (λ p. ArePieces p pieces) is are)
 others_left old in_table piece pieces bytes (inr (inr (inl is))) are = comment_left old in_table pieces bytes.now (subst (λ p. ArePieces p pieces) is are)
 others_left old in_table piece pieces bytes (inr (inr (inr is))) are = no_pair_left old in_table pieces bytes.now (subst (λ p. ArePieces p pieces) is are)
-
-pub pair_left : (old : Renews) (in_table flag : Bool) (pieces : List Piece) (name value bytes left : List ℕ) → pieces ≡ Pair name value bytes ∷ [] → flag ≡ is_old old name → left ≡ cond flag [] bytes → LeavesBytes old in_table pieces left flag
-pair_left old in_table flag pieces name value bytes left e f l =
-    subst (λ p. LeavesBytes old in_table p left flag) (sym e) (go (is_old old name) f, f)
-  where
-    go : (b : Bool) → flag ≡ b → left ≡ flat_map bytes_of (cond b [] (Pair name value bytes ∷ []))
-    go true f = l ∙ ap (λ b. cond b [] bytes) f
-    go false f = l ∙ (ap (λ b. cond b [] bytes) f ∙ sym (append-nil bytes))
 
 pub data_left : (old : Renews) (in_table : Bool) (pieces : List Piece) (bytes left : List ℕ) → list_all is_data_piece pieces ≡ true → flat_map bytes_of pieces ≡ bytes → left ≡ cond in_table [] bytes → LeavesBytes old in_table pieces left in_table
 data_left old true pieces bytes left all is l = silent_left old left (data_silent old true pieces all) (sym l)

@@ -7,4 +7,3 @@ pub mod LeftText
 pub mod WholeText
 pub mod FirstGame
 pub mod WrittenGame
-pub mod Laws

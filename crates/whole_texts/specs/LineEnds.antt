@@ -1,5 +1,9 @@
--- The end that the last line of a text lacks.
-use Rattle.std.specs.Prelude.{ℕ, ◌==◌, List, [], ◌∷◌, Option, None, Some, if◌then◌else◌}
+-- The ends of lines, and the end that the last line of a text lacks.
+use Rattle.std.specs.Prelude.{◌≡◌, ℕ, ◌==◌, List, [], ◌∷◌, Option, None, Some, ◌⊎◌, if◌then◌else◌}
+
+-- the end of a line
+abbrev pub IsLineEnd : List ℕ → Type 0
+IsLineEnd end = (end ≡ 13 ∷ 10 ∷ []) ⊎ (end ≡ 10 ∷ [])
 
 -- the last byte of a text that ended with the first one, with these bytes more
 abbrev pub last_of : Option ℕ → List ℕ → Option ℕ

@@ -5,14 +5,15 @@ use Rattle.std.specs.List.{flat_map, enumerate_from}
 use Rattle.cards.specs.declared.seats.Seat.{Seat}
 use Rattle.cards.specs.declared.suits.Trump.{Trump}
 use Rattle.pbn_deals.specs.declared.boards.Board.{Board}
-use Rattle.pbn_deals.specs.Pieces.{Piece, Comment, Pair, Data, Kind, Gap, Escaped, OfGame, body_of, Line, line_bytes}
-use Rattle.pbn_deals.specs.Pieces.{ends_with_return, mark_of, HasLines}
+use Rattle.pbn_deals.specs.Pieces.{Piece, Comment, Pair, Data, Kind, Gap, Escaped, OfGame, Line, line_bytes}
+use Rattle.pbn_deals.specs.Pieces.{mark_of, HasLines}
 use Rattle.par.specs.Texts.{score_text, contracts_text}
 use Rattle.tables.specs.declared.pars.BoardPar.{BoardPar}
 use Rattle.tables.specs.declared.pars.BoardPar.TheVariants.{Known, NoDealer, NoVulnerability}
 use Rattle.tables.specs.ParText.{tag_text}
 use Rattle.tables.specs.TablesText.{Results, Printed, entries, row_text, is_complete, published_count, table_tag}
 use Rattle.tables.specs.TablesText.{incomplete_text, line_feed}
+use Rattle.whole_texts.specs.LineEnds.{last_of, missing_end}
 use Rattle.whole_texts.specs.OldTables.{is_deal_kind, has_deal, left_of}
 use Rattle.tables.specs.declared.sheets.Renews.{Renews}
 
@@ -95,33 +96,34 @@ abbrev pub first_end : List Line → List ℕ
 first_end [] = line_feed
 first_end (line ∷ lines) = if_none line_feed line.end
 
--- an end for a line that has none: a carriage return that is the line's own isn't made a part of the end
-abbrev pub new_end : List ℕ → Kind → List ℕ
-new_end end kind = if ends_with_return (body_of kind) then (13 ∷ 10 ∷ []) else end
+-- the end of the line of the Deal tag, or nothing where it has none
+abbrev pub deal_end : List Line → List ℕ
+deal_end [] = []
+deal_end (line ∷ lines) = if is_deal_kind line.kind then line.end else deal_end lines
 
--- the end of the line of the Deal tag: the one that it gets, where it has none
-abbrev pub deal_end : List ℕ → List Line → List ℕ
-deal_end other [] = other
-deal_end other (line ∷ lines) =
-    if is_deal_kind line.kind then if_none (new_end other line.kind) line.end else deal_end other lines
-
--- the lines, the last of them with an end
-abbrev pub with_ends : List ℕ → List Line → List Line
-with_ends end [] = []
-with_ends end (line ∷ []) = record { kind = line.kind; end = if_none (new_end end line.kind) line.end } ∷ []
-with_ends end (line ∷ next ∷ lines) = line ∷ with_ends end (next ∷ lines)
+-- the lines, with these bytes more at the end of the last one
+abbrev pub with_more : List ℕ → List Line → List Line
+with_more bytes [] = []
+with_more bytes (line ∷ []) = record { kind = line.kind; end = line.end ++ bytes } ∷ []
+with_more bytes (line ∷ next ∷ lines) = line ∷ with_more bytes (next ∷ lines)
 
 -- ---- the whole
--- what is left of a game whose board has a deal, and the section
-abbrev pub with_section : List ℕ → Printed → List Line → List Line
-with_section other results left =
-    with_ends (deal_end other left) left ++ section_lines (deal_end other left) results
+-- the lines with what they lack of an end, and a section in lines with the Deal tag's end, or if it has none, with what
+-- they lack
+abbrev pub ended_with : List ℕ → List ℕ → Printed → List Line → List Line
+ended_with missing end results left = with_more missing left ++ section_lines (if_none missing end) results
+
+-- what is left of a game whose board has a deal, and the section: this is the end of the Deal tag's line
+abbrev pub with_section : List ℕ → List ℕ → Printed → List Line → List Line
+with_section other end results left =
+    ended_with (missing_end (last_of None (flat_map line_bytes left)) (if_none other end)) end results left
 
 -- a game with a Deal tag
 abbrev pub dealt_lines : Renews → List ℕ → (ℕ → Printed) → List (ℕ × Board) → List Line → List Line
 dealt_lines old other results [] lines = left_of old lines
 dealt_lines old other results (numbered ∷ more) lines =
-    if is_some numbered.1.deal then with_section other (results numbered.0) (left_of old lines) else left_of old lines
+    if is_some numbered.1.deal then with_section other (deal_end lines) (results numbered.0) (left_of old lines)
+    else left_of old lines
 
 abbrev pub behind : List (ℕ × Board) → List (ℕ × Board)
 behind [] = []

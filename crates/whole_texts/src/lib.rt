@@ -2,7 +2,6 @@
 #![tactic(auto)]
 
 mod games;
-mod laws;
 mod leaving;
 mod lefts;
 mod line_ends;
@@ -11,7 +10,4 @@ mod olds;
 mod piece_facts;
 mod whole;
 
-pub use laws::{
-    boards_are_kept, nothing_is_lost, one_is_written, tables_are_shown_once, tables_stay,
-};
 pub use whole::write_whole;

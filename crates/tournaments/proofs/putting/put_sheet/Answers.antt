@@ -1,4 +1,4 @@
--- The sheet that is written shows the text's boards, titles and conditions, and it is read as the law says.
+-- The sheet that is written shows the text's boards, titles and conditions.
 use Rattle.std.proofs.Common.{◌∙◌, List, map, refl, sym, subst}
 use Rattle.board_conditions.specs.declared.conditions.Conditions.{Conditions}
 use Rattle.board_conditions.specs.declared.titles.Titles.{Titles}
@@ -8,7 +8,7 @@ use Rattle.lease_book.specs.BookResults.{book_results}
 use Rattle.tables.specs.TablesText.{printed_with}
 use Rattle.sheets.specs.Markup.{Shown, page_of}
 use Rattle.tournaments.specs.SheetPages.{IsShown}
-use Rattle.tournaments.proofs.PageLaws.{complete_alike}
+use Rattle.tournaments.proofs.CompleteCounts.{complete_alike}
 use Rattle.tournaments.proofs.putting.put_sheet.Goals as goal
 
 pub returns-in-Ok-write_page : goal.returns-in-Ok-write_page
@@ -34,7 +34,7 @@ returns-in-Ok-write_page g c =
       };
     } in (
       page_of shown,
-      c.sheet_pages_are_read.ensures text terms events sheet.pars shown c.requires.boards c.requires.history c.requires.small shows,
+      record { shown = shown; shows = shows; is = refl },
       c.in-Ok-write_page.ensures.writes,
       record {
         boards_are = c.in-Ok-write_page.ensures.boards;
@@ -66,6 +66,6 @@ returns g c =
     } in
     rw c.write_failed.ensures (
       page_of shown,
-      c.sheet_pages_are_read.ensures text terms events sheet.pars shown c.requires.boards c.requires.history c.requires.small shows,
+      record { shown = shown; shows = shows; is = refl },
       c.in-Err.ensures.writes,
     )

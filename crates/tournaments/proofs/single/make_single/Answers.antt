@@ -4,7 +4,7 @@ use Rattle.pbn_deals.specs.Reading.{TextAnswers}
 use Rattle.lease_book.specs.Histories.{Terms}
 use Rattle.lease_book.specs.Books.{Ledger}
 use Rattle.tournaments.specs.Making.{IsWholeRun}
-use Rattle.tournaments.specs.Pages.{IsTablesPage}
+use Rattle.tournaments.specs.Pages.{AreTables}
 use Rattle.tournaments.specs.Putting.{PutsPage}
 use Rattle.tournaments.proofs.PutLaws.{page_filled, page_begun}
 use Rattle.tournaments.proofs.single.make_single.Goals as goal
@@ -34,8 +34,8 @@ returns-clause-made g c =
       worked_on = given.worked_on;
       timed = given.timed;
     } in
-    let put = subst (λ (t : List ℕ). PutsPage (IsTablesPage []) t book (g.O.Sink.state c.args.output.now) (g.O.Sink.state c.put_page.new.output) (Ok c.in_ok-report.report)) c.as_slice-2.ensures.value c.in_ok-report.ensures in
-    page_filled is_run (IsTablesPage []) boards _ _ _ _ _ _ text book c.in_ok-text.ensures.all says terms run c.in_ok-report.report put
+    let put = subst (λ (t : List ℕ). PutsPage (AreTables []) t book (g.O.Sink.state c.args.output.now) (g.O.Sink.state c.put_page.new.output) (Ok c.in_ok-report.report)) c.as_slice-2.ensures.value c.in_ok-report.ensures in
+    page_filled is_run (AreTables []) boards _ _ _ _ _ _ text book c.in_ok-text.ensures.all says terms run c.in_ok-report.report put
 
 -- a page that a failed sink has got a beginning of
 pub returns-in_err-report-clause-made : goal.returns-in_err-report-clause-made
@@ -55,6 +55,6 @@ returns-in_err-report-clause-made g c =
       worked_on = given.worked_on;
       timed = given.timed;
     } in
-    let put = subst (λ (t : List ℕ). PutsPage (IsTablesPage []) t book (g.O.Sink.state c.args.output.now) (g.O.Sink.state c.put_page.new.output) (Err c.in_err-report.field-0.0)) c.as_slice-2.ensures.value c.in_err-report.ensures in
-    let begun = page_begun is_run (IsTablesPage []) boards _ _ _ _ _ _ text book c.in_ok-text.ensures.all says terms run c.in_err-report.field-0.0 put in
+    let put = subst (λ (t : List ℕ). PutsPage (AreTables []) t book (g.O.Sink.state c.args.output.now) (g.O.Sink.state c.put_page.new.output) (Err c.in_err-report.field-0.0)) c.as_slice-2.ensures.value c.in_err-report.ensures in
+    let begun = page_begun is_run (AreTables []) boards _ _ _ _ _ _ text book c.in_ok-text.ensures.all says terms run c.in_err-report.field-0.0 put in
     search (rules, begun)

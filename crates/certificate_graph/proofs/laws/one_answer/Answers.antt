@@ -1,8 +1,0 @@
-use Rattle.certificate_graph.proofs.OneAnswer.{one_answer_of}
-use Rattle.certificate_graph.proofs.SomeAnswer.{some_answer}
-use Rattle.certificate_graph.proofs.laws.one_answer.Goals as goal
-
-pub returns : goal.returns
-returns c = λ text.
-    let some = some_answer text in
-    (some.0, some.1, λ other said. one_answer_of text other some.0 said some.1)

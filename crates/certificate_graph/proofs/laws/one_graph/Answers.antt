@@ -1,5 +1,0 @@
-use Rattle.certificate_graph.proofs.OneAnswer.{one_graph_of}
-use Rattle.certificate_graph.proofs.laws.one_graph.Goals as goal
-
-pub returns : goal.returns
-returns c = one_graph_of

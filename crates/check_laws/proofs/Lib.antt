@@ -1,0 +1,12 @@
+pub mod BegunFaultLaws
+pub mod Decisions
+pub mod ExtractLaws
+pub mod LineLaws
+pub mod NoFaultLaws
+pub mod StepDecisions
+pub mod VersionLaws
+pub mod PatternLemmas
+pub mod SomeAnswer
+pub mod SomeForm
+pub mod SomeTree
+pub mod ShapeWordLaws

@@ -1,0 +1,5 @@
+use Rattle.check_laws.proofs.ShapeWordLaws.{words_make}
+use Rattle.check_laws.proofs.words.words_make_their_rest.Goals as goal
+
+pub returns : goal.returns
+returns c = λ shape answer is meets. words_make 0 12 shape answer is meets

@@ -1,0 +1,4 @@
+pub mod Begun
+pub mod Laws
+pub mod TextLaws
+pub mod PatternLaws

@@ -1,5 +1,0 @@
-use Rattle.checker.proofs.BegunFaultLaws.{one_begun_fault}
-use Rattle.checker.proofs.laws.begun_node_has_one_first_fault.Goals as goal
-
-pub returns : goal.returns
-returns c = one_begun_fault

@@ -1,5 +1,0 @@
-use Rattle.checker.proofs.FaultLaws.{one_of_graph}
-use Rattle.checker.proofs.laws.graph_has_one_first_fault.Goals as goal
-
-pub returns : goal.returns
-returns c = one_of_graph

@@ -1,6 +1,0 @@
-use Rattle.checker.proofs.FaultLaws.{none_of_graph}
-use Rattle.checker.proofs.NoFaultLaws.{steps_hold}
-use Rattle.checker.proofs.laws.no_fault_where_steps_hold.Goals as goal
-
-pub returns : goal.returns
-returns c = λ graph is. (none_of_graph graph, steps_hold graph is)

@@ -1,5 +1,0 @@
-use Rattle.checker.proofs.FaultLaws.{one_first}
-use Rattle.checker.proofs.laws.place_has_one_first_fault.Goals as goal
-
-pub returns : goal.returns
-returns c = one_first

@@ -1,5 +1,0 @@
-use Rattle.checker.proofs.LineLaws.{on_lines}
-use Rattle.checker.proofs.laws.places_are_on_lines.Goals as goal
-
-pub returns : goal.returns
-returns c = on_lines

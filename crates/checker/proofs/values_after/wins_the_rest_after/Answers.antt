@@ -1,5 +1,0 @@
-use Rattle.checker.proofs.RestLaws.{wins_the_rest_after}
-use Rattle.checker.proofs.values_after.wins_the_rest_after.Goals as goal
-
-pub returns : goal.returns
-returns c = wins_the_rest_after

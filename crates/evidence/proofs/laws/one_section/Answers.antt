@@ -1,5 +1,0 @@
-use Rattle.evidence.proofs.SectionLemmas as lemma
-use Rattle.evidence.proofs.laws.one_section.Goals as goal
-
-pub returns : goal.returns
-returns c = lemma.one_section

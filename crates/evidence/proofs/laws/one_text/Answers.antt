@@ -1,6 +1,0 @@
-use Rattle.std.proofs.Common.{refl}
-use Rattle.evidence.specs.SectionTexts.{section_text}
-use Rattle.evidence.proofs.laws.one_text.Goals as goal
-
-pub returns : goal.returns
-returns c = λ section is. (section_text section, (is, refl), λ other of. of.1)

@@ -1,5 +1,0 @@
-use Rattle.lease_book.proofs.PublicationLaws.{publishes_first_good}
-use Rattle.lease_book.proofs.laws.publishes_first_good.Goals as goal
-
-pub returns : goal.returns
-returns c = publishes_first_good

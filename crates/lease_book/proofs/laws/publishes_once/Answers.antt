@@ -1,5 +1,0 @@
-use Rattle.lease_book.proofs.PublicationLaws.{publishes_once}
-use Rattle.lease_book.proofs.laws.publishes_once.Goals as goal
-
-pub returns : goal.returns
-returns c = publishes_once

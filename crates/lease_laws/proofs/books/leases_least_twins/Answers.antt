@@ -1,0 +1,5 @@
+use Rattle.lease_book.proofs.NamedLaws.{leases_least}
+use Rattle.lease_laws.proofs.books.leases_least_twins.Goals as goal
+
+pub returns : goal.returns
+returns c = leases_least

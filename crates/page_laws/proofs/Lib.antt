@@ -1,0 +1,4 @@
+pub mod TablesPageLaws
+pub mod WholePageLaws
+pub mod SheetLaws
+pub mod ReadingLaws

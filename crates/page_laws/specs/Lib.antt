@@ -1,0 +1,5 @@
+pub mod TablesPages
+pub mod WholePages
+pub mod SheetPages
+pub mod Readings
+pub mod ReplayedTables

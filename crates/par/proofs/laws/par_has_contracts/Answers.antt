@@ -1,8 +1,0 @@
-use Rattle.par.proofs.Lowest.{has_par_contract, none_at_zero}
-use Rattle.par.proofs.laws.par_has_contracts.Goals as goal
-
-pub returns-clause-some : goal.returns-clause-some
-returns-clause-some c = has_par_contract
-
-pub returns-clause-none : goal.returns-clause-none
-returns-clause-none c = none_at_zero

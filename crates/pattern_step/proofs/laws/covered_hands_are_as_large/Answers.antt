@@ -1,5 +1,0 @@
-use Rattle.pattern_step.proofs.LayoutLaws.{hand_size-covered}
-use Rattle.pattern_step.proofs.laws.covered_hands_are_as_large.Goals as goal
-
-pub returns : goal.returns
-returns c = hand_size-covered

@@ -1,5 +1,0 @@
-use Rattle.pattern_step.proofs.LayoutLaws.{length_is_held}
-use Rattle.pattern_step.proofs.laws.lengths_are_held.Goals as goal
-
-pub returns : goal.returns
-returns c = length_is_held

@@ -1,5 +1,0 @@
-use Rattle.pattern_step.proofs.TrickLaws.{one_left}
-use Rattle.pattern_step.proofs.laws.one_is_left.Goals as goal
-
-pub returns : goal.returns
-returns c = one_left

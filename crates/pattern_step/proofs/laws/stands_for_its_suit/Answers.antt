@@ -1,5 +1,0 @@
-use Rattle.pattern_step.proofs.LayoutLaws.{stands_suit}
-use Rattle.pattern_step.proofs.laws.stands_for_its_suit.Goals as goal
-
-pub returns : goal.returns
-returns c = stands_suit

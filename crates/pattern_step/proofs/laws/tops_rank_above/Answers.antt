@@ -1,5 +1,0 @@
-use Rattle.pattern_step.proofs.LayoutLaws.{top_ranks_above}
-use Rattle.pattern_step.proofs.laws.tops_rank_above.Goals as goal
-
-pub returns : goal.returns
-returns c = top_ranks_above

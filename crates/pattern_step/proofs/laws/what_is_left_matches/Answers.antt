@@ -1,5 +1,0 @@
-use Rattle.pattern_step.proofs.LeftLaws.{Matches-left}
-use Rattle.pattern_step.proofs.laws.what_is_left_matches.Goals as goal
-
-pub returns : goal.returns
-returns c = Matches-left

@@ -1,5 +1,0 @@
-use Rattle.patterns.proofs.ShapeWordLaws.{same_words}
-use Rattle.patterns.proofs.laws.equal_words_are_one_pattern.Goals as goal
-
-pub returns : goal.returns
-returns c = λ one other is is'. same_words 1 13 one other is is'

@@ -1,5 +1,0 @@
-use Rattle.patterns.proofs.ShapeWordLaws.{words_make}
-use Rattle.patterns.proofs.laws.words_make_their_rest.Goals as goal
-
-pub returns : goal.returns
-returns c = λ shape answer is meets. words_make 0 12 shape answer is meets

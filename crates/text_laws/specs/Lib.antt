@@ -1,0 +1,11 @@
+pub mod GivenEnds
+pub mod Laws
+pub mod LayoutValue
+pub mod LayoutsBack
+pub mod LineBoards
+pub mod Reading
+pub mod TwoTexts
+pub mod PageReading
+pub mod ReadBack
+pub mod WrittenOnce
+pub mod ConditionLaws

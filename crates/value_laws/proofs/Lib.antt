@@ -1,0 +1,8 @@
+pub mod BestLaws
+pub mod RestLaws
+pub mod ValueLaws
+pub mod IntLaws
+pub mod Lowest
+pub mod PlayedOut
+pub mod Standing
+pub mod UniqueProofs

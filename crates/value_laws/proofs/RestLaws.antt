@@ -1,0 +1,126 @@
+-- After whole tricks, play goes on as from the layout that is left, also after some more cards.
+use Rattle.std.proofs.Common.{◌≡◌, ℕ, zero, suc, ◌+◌, ◌-◌, ◌*◌, List, [], ◌∷◌, ◌++◌, length, sym, ◌∙◌, ap, subst, arith, append_assoc, append-nil, length-append}
+use Rattle.cards.specs.declared.seats.Seat.TheVariants.{North}
+use Rattle.cards.specs.declared.seats.Side.{Side}
+use Rattle.cards.specs.declared.seats.Side.TheVariants.{NorthSouth, EastWest}
+use Rattle.cards.specs.declared.pack.Card.{Card}
+use Rattle.cards.specs.Seats.{side_of, other_side}
+use Rattle.cards.specs.Deal.{size_of}
+use Rattle.play_rules.specs.History.{Opening, trick_of}
+use Rattle.play_rules.specs.Legal.{IsLegalAfter, IsLegalHistory, cards_in_play}
+use Rattle.strategies.specs.Strategies.{CanWin}
+use Rattle.strategies.specs.Values.{opening_after}
+use Rattle.strategies.proofs.Shifting.{seat_to_play-after, tricks_of-after, CanPlay-after, CanPlay-before, IsLegalAfter-after}
+use Rattle.strategies.proofs.Counting.{legal-within, tricks-add_up, count_of-left_of}
+use Rattle.strategies.proofs.Minimax.{Gets, Gets-from_CanWin}
+use Rattle.strategies.proofs.Planning.{CanWin-from_Gets}
+use Rattle.checker.specs.ValuesAfter.{side_to_play}
+use Rattle.value_laws.specs.ValuesAfter.{tricks_won, WinsTheRestAfter, ValueCountsTricksWon}
+
+-- ---- histories
+-- the beginning of a legal history, and the rest of it
+first_is_legal : (opening : Opening) (before history more : List Card) → IsLegalAfter opening before (history ++ more) → IsLegalAfter opening before history
+first_is_legal opening before [] more legal = tt
+first_is_legal opening before (card ∷ history) more legal = (legal.0, first_is_legal opening (before ++ card ∷ []) history more legal.1)
+
+rest_is_legal : (opening : Opening) (before history more : List Card) → IsLegalAfter opening before (history ++ more) → IsLegalAfter opening (before ++ history) more
+rest_is_legal opening before [] more legal = subst (λ (h : List Card). IsLegalAfter opening h more) (sym (append-nil before)) legal
+rest_is_legal opening before (card ∷ history) more legal =
+    subst (λ (h : List Card). IsLegalAfter opening h more) (append_assoc before (card ∷ []) history) (rest_is_legal opening (before ++ card ∷ []) history more legal.1)
+
+-- ---- what a side gets
+gets_after : (opening : Opening) (side : Side) (tricks left : ℕ) (history more : List Card) → trick_of history ≡ [] → Gets opening side tricks left (history ++ more) →
+    Gets (opening_after opening history) side (tricks - tricks_won opening side history) left more
+gets_after opening side tricks zero history more whole gets = omega (arith, tricks_of-after opening side history more whole)
+gets_after opening side tricks (suc left) history more whole gets =
+    let seat = seat_to_play-after opening history more whole in (
+      λ turn.
+          let own = gets.0 (ap side_of seat ∙ turn) in (
+            own.0,
+            CanPlay-after opening history more own.0 whole own.1,
+            gets_after opening side tricks left history (more ++ own.0 ∷ []) whole (subst (λ (h : List Card). Gets opening side tricks left h) (append_assoc history more (own.0 ∷ [])) own.2),
+          ),
+      λ not card can.
+          gets_after opening side tricks left history (more ++ card ∷ []) whole
+          (subst (λ (h : List Card). Gets opening side tricks left h) (append_assoc history more (card ∷ []))
+          (gets.1 (λ turn. not (sym (ap side_of seat) ∙ turn)) card (CanPlay-before opening history more card whole can))),
+    )
+
+gets_before : (opening : Opening) (side : Side) (tricks left : ℕ) (history more : List Card) → trick_of history ≡ [] → Gets (opening_after opening history) side (tricks - tricks_won opening side history) left more →
+    Gets opening side tricks left (history ++ more)
+gets_before opening side tricks zero history more whole gets = omega (arith, tricks_of-after opening side history more whole)
+gets_before opening side tricks (suc left) history more whole gets =
+    let seat = seat_to_play-after opening history more whole in (
+      λ turn.
+          let own = gets.0 (sym (ap side_of seat) ∙ turn) in (
+            own.0,
+            CanPlay-before opening history more own.0 whole own.1,
+            subst (λ (h : List Card). Gets opening side tricks left h) (sym (append_assoc history more (own.0 ∷ []))) (gets_before opening side tricks left history (more ++ own.0 ∷ []) whole own.2),
+          ),
+      λ not card can.
+          subst (λ (h : List Card). Gets opening side tricks left h) (sym (append_assoc history more (card ∷ [])))
+          (gets_before opening side tricks left history (more ++ card ∷ []) whole
+          (gets.1 (λ turn. not (ap side_of seat ∙ turn)) card (CanPlay-after opening history more card whole can))),
+    )
+
+-- ---- what a side can win
+pub wins_the_rest_after : WinsTheRestAfter
+wins_the_rest_after opening side tricks history more layout legal whole =
+    let within = legal-within opening.trump opening.deal opening.leader (history ++ more) (size_of opening.deal) layout.equal_hands legal in
+    let left = cards_in_play opening - length (history ++ more) in
+    let all : length (history ++ more) + left ≡ cards_in_play opening = omega (arith, within) in
+    let after = opening_after opening history in
+    let gone = count_of-left_of opening.trump opening.deal opening.leader history (first_is_legal opening [] history more legal) whole North in
+    let rest : length more + left ≡ cards_in_play after = omega (arith, all, gone, length-append history more) in
+    let later : IsLegalHistory after more = IsLegalAfter-after opening history [] more whole
+    (subst (λ (h : List Card). IsLegalAfter opening h more) (sym (append-nil history)) (rest_is_legal opening [] history more legal)) in
+    let fewer = tricks - tricks_won opening side history in (
+      λ win. CanWin-from_Gets after side fewer left more rest later
+          (gets_after opening side tricks left history more whole (Gets-from_CanWin opening side tricks left (history ++ more) all legal win)),
+      λ win. CanWin-from_Gets opening side tricks left (history ++ more) all legal
+          (gets_before opening side tricks left history more whole (Gets-from_CanWin after side fewer left more rest later win)),
+    )
+
+-- the tricks of whole tricks are the sides' together
+tricks_are_shared : (opening : Opening) (history more : List Card) → IsLegalHistory opening (history ++ more) → trick_of history ≡ [] → (side : Side) →
+    size_of (opening_after opening history).deal + tricks_won opening side history + tricks_won opening (other_side side) history ≡ size_of opening.deal
+tricks_are_shared opening history more legal whole side =
+    go side
+  where
+    gone : 4 * size_of (opening_after opening history).deal + length history ≡ 4 * size_of opening.deal
+    gone = count_of-left_of opening.trump opening.deal opening.leader history (first_is_legal opening [] history more legal) whole North
+
+    won : 4 * (tricks_won opening NorthSouth history + tricks_won opening EastWest history) ≡ length history
+    won = omega (arith, tricks-add_up opening.trump opening.leader history, ap length whole)
+
+    go : (side : Side) → size_of (opening_after opening history).deal + tricks_won opening side history + tricks_won opening (other_side side) history ≡ size_of opening.deal
+    go NorthSouth = omega (arith, gone, won)
+    go EastWest = omega (arith, gone, won)
+
+pub value_counts_tricks_won : ValueCountsTricksWon
+value_counts_tricks_won opening history more tricks layout legal whole value = record {
+  within = omega (arith, shared, value.within);
+  player_wins = (wins_the_rest_after opening side (won + tricks) history more layout legal whole).1
+      (subst (λ (n : ℕ). CanWin after side n more) (omega arith) (subst (λ (s : Side). CanWin after s tricks more) (sym same) value.player_wins));
+  others_win = (wins_the_rest_after opening (other_side side) (size_of opening.deal - (won + tricks)) history more layout legal whole).1
+      (subst (λ (n : ℕ). CanWin after (other_side side) n more) others
+      (subst (λ (s : Side). CanWin after (other_side s) (size_of after.deal - tricks) more) (sym same) value.others_win));
+}
+  where
+    after : Opening
+    after = opening_after opening history
+
+    side : Side
+    side = side_to_play opening (history ++ more)
+
+    same : side_to_play opening (history ++ more) ≡ side_to_play (opening_after opening history) more
+    same = ap side_of (seat_to_play-after opening history more whole)
+
+    won : ℕ
+    won = tricks_won opening (side_to_play opening (history ++ more)) history
+
+    shared : size_of (opening_after opening history).deal + tricks_won opening (side_to_play opening (history ++ more)) history + tricks_won opening (other_side (side_to_play opening (history ++ more))) history ≡ size_of opening.deal
+    shared = tricks_are_shared opening history more legal whole (side_to_play opening (history ++ more))
+
+    others : size_of (opening_after opening history).deal - tricks ≡ size_of opening.deal - (won + tricks) - tricks_won opening (other_side (side_to_play opening (history ++ more))) history
+    others = omega (arith, shared, value.within)

@@ -1,0 +1,4 @@
+pub mod CardLaws
+pub mod ValuesAfter
+pub mod ParLaws
+pub mod LayoutLaws
