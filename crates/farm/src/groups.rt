@@ -68,9 +68,12 @@ fn is_declared(group: &Tasks, declarer: Seat) -> bool
     ensures { result ≡ is_declared_in group.now.items declarer }
 {
     let tasks = group.as_slice();
-    tasks
-        .iter()
-        .any(|task| task.entry.declarer.number() == declarer.number())
+    for task in tasks.iter() {
+        if task.entry.declarer.number() == declarer.number() {
+            return true;
+        }
+    }
+    false
 }
 
 /// Returns the declarers of the leases, each once, in the order of the seats.
