@@ -1,1 +1,2 @@
 mod ReadLemmas
+mod RuleLemmas

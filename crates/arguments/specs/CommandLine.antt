@@ -2,7 +2,7 @@
 -- `asked` has the ranges and defaults.
 use Rattle.std.specs.Prelude.{◌≡◌, Bool, List, [], ◌∷◌, ◌++◌, Some, map, fold, codes, true, false, pos}
 use Rattle.std.specs.Borrow.{Bor}
-use Rattle.clap.specs.Words.{App, Rule, Shape, Text, app_of, new_rule, rule_of, with_rule}
+use Rattle.clap.specs.Words.{App, Rule, Shape, Text, app_of, new_rule, rule_of, with_rule, with_subcommand}
 use Rattle.clap.specs.Simple.{new_shape}
 use Rattle.clap.specs.declared.builder.arg.Arg.{Arg}
 use Rattle.clap.specs.declared.builder.action.ArgAction.TheVariants.{SetTrue}
@@ -134,19 +134,26 @@ abbrev pub leads : Shape
 leads = subcommand (codes "leads")
     (number_rule solvers_option ∷ number_rule budget_option ∷ optional_word (codes "BOARDS") ∷ [])
 
--- the program's words: one of the nine subcommands has to be named
-abbrev pub command_line : Letters → App
-command_line letters = record {
+-- the nine subcommands
+abbrev pub subcommands : Letters → List Shape
+subcommands letters = table ∷ audit ∷ leads ∷ solve letters ∷ check letters ∷ line letters ∷ play letters
+    ∷ cards letters ∷ plain letters ∷ []
+
+-- the program without its subcommands
+abbrev pub program : App
+program = record {
   top = record (new_shape (codes "ddfarm")) {
-    is_leaf = false;
     has_version = true;
     disable_help_subcommand = true;
     arg_required_else_help = true;
     subcommand_required = true;
   };
-  subs = table ∷ audit ∷ leads ∷ solve letters ∷ check letters ∷ line letters ∷ play letters ∷ cards letters
-      ∷ plain letters ∷ [];
+  subs = [];
 }
+
+-- the program's words: one of the nine subcommands has to be named
+abbrev pub command_line : Letters → App
+command_line letters = record { top = record program.top { is_leaf = false }; subs = subcommands letters }
 
 -- the argument has the rule, and is none of the subcommands' too
 abbrev pub IsArg : Rule → Arg → Type 0
@@ -160,3 +167,11 @@ AddsRules old rules new = (app_of new ≡ fold with_rule (app_of old) rules)
 -- the command is the subcommand of this shape
 abbrev pub IsLeaf : Shape → Command → Type 0
 IsLeaf shape made = (app_of made ≡ record { top = shape; subs = [] }) × ((fields_of made).has_globals ≡ false)
+
+-- the command has subcommands of these shapes more, at the end
+abbrev pub AddsShapes : Command → List Shape → Command → Type 0
+AddsShapes old shapes new = app_of new ≡ fold with_subcommand (app_of old) shapes
+
+-- `clap` reads the command as it read the old one
+abbrev pub KeepsShape : Command → Command → Type 0
+KeepsShape old new = (app_of new ≡ app_of old) × ((fields_of new).has_globals ≡ (fields_of old).has_globals)

@@ -2,6 +2,7 @@
 #![tactic(auto)]
 
 mod command;
+mod definitions;
 mod help;
 mod words;
 
