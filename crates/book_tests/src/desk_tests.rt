@@ -1,6 +1,6 @@
 //! The desk, by its calls from one thread and from many.
 
-mod asking;
+pub mod asking;
 mod drawn_requests;
 mod gated_check;
 mod hand_ins;

@@ -3,57 +3,33 @@
 ghost use Rattle.std.specs.Prelude.{◌≡◌};
 ghost use Rattle.lease_desk.specs.Desks.{IsChairOf, number_of};
 
+use crate::desk_tests::asking::claimed_by;
 use crate::expect::expect_eq;
-use cards::{Seat, Suit, Trump};
-use certificate_graph::Graph;
-use checker::{CheckedGraph, Claimed, EntryFault, HandFault, PartFault, Rooted};
+use crate::lease_tests::certificates::{Answer, EAST_HIGH, NORTH_HIGH, NT, boards};
+use crate::lease_tests::slow_book::{DECLARERS, TRUMPS};
+use crate::lease_tests::twins::leases;
+use cards::{Seat, Trump};
+use checker::{Claimed, EntryFault, HandFault, PartFault};
 use lease_book::{Entry, GraphText, Reply, Request, replay};
 use lease_desk::{Chair, Desk};
-use pbn_deals::{Board, BoardName, read_layout};
 use std::alloc::{AllocError, Global};
 use std::process::Abort;
-use std::sync::{Arc, Wait};
+use std::sync::Wait;
 use std::test::Fail;
 use test_support::idle::LetsPass;
 
 /// North has the highest card on the first two boards, and East on the third.
-const LAYOUTS: [&str; 3] = [
-    "N:A... K... Q... J...",
-    "N:A... Q... K... J...",
-    "N:K... A... Q... J...",
+const LAYOUTS: [Option<&str>; 3] = [
+    Some(NORTH_HIGH),
+    Some("N:A... Q... K... J..."),
+    Some(EAST_HIGH),
 ];
-
-/// North has the highest card and takes the trick that East leads to. It is so on every such board.
-const HIGHEST: &[u8] = b"DDC 1
-trump NT
-side NS
-nodes 1
-E 1 1.1.1.1/N 0.0.0.0/ 0.0.0.0/ 0.0.0.0/ (SxSx(SxSa{}))
-";
-
-/// East and West need nothing.
-const NOTHING: &[u8] = b"DDC 1
-trump NT
-side EW
-nodes 0
-";
 
 /// How long a lease lasts.
 const TERM: u64 = 10;
 
 /// How many leases are given: all of the first two boards, and one of the third.
 const LEASES: usize = 41;
-
-/// The declarers and the denominations in the order in which their entries are leased.
-const DECLARERS: [Seat; 4] = [Seat::North, Seat::South, Seat::East, Seat::West];
-
-const TRUMPS: [Trump; 5] = [
-    Trump::Nt,
-    Trump::Suit(Suit::Spades),
-    Trump::Suit(Suit::Hearts),
-    Trump::Suit(Suit::Diamonds),
-    Trump::Suit(Suit::Clubs),
-];
 
 /// The third board doesn't match the pattern.
 const NO_MATCH: HandFault = HandFault::Entry(EntryFault::Declarer(PartFault::RootPattern));
@@ -70,116 +46,82 @@ const HAND_INS: [(u64, usize, Reply); 5] = [
 
 /// North's no-trump on a board.
 fn entry_on(board: usize) -> Entry {
-    Entry {
-        board,
-        declarer: Seat::North,
-        trump: Trump::Nt,
-    }
+    Entry { board, ..NT }
 }
 
-/// The three boards.
-fn boards(alloc: Global) -> Result<Vec<Board>, Fail> {
-    let mut boards = Vec::new(alloc);
-    for layout in LAYOUTS {
-        boards.push(Board {
-            name: BoardName::new(Vec::new(alloc)),
-            deal: Some(read_layout(layout.as_bytes())?),
-        })?;
-    }
-    Ok(boards)
-}
-
-/// The first leases of the three boards.
-fn leases(alloc: Global) -> Result<Vec<Reply>, AllocError> {
-    let mut replies = Vec::new(alloc);
+/// The entries of the three boards in the order in which they are leased.
+fn entries(alloc: Global) -> Result<Vec<Entry>, AllocError> {
+    let mut entries = Vec::new(alloc);
     for board in 0..LAYOUTS.len() {
         for declarer in DECLARERS {
             for trump in TRUMPS {
-                if replies.len() < LEASES {
-                    replies.push(Reply::Given {
-                        lease: replies.len() as u64 + 1,
-                        entry: Entry {
-                            board,
-                            declarer,
-                            trump,
-                        },
-                        deadline: TERM,
-                    })?;
-                }
+                entries.push(Entry {
+                    board,
+                    declarer,
+                    trump,
+                })?;
             }
         }
     }
-    Ok(replies)
+    Ok(entries)
 }
 
 /// What is replied to the requests for leases and to the hand-ins.
-fn replies(alloc: Global) -> Result<Vec<Reply>, AllocError> {
-    let mut replies = leases(alloc)?;
-    for (_, _, reply) in HAND_INS {
-        replies.push(reply)?;
+fn replies(rt: &impl Abort, alloc: Global) -> Vec<Reply> {
+    let entries = entries(alloc).expect(rt, "memory for entries");
+    let mut replies = Vec::new(alloc);
+    for (place, entry) in entries.iter().take(LEASES).enumerate() {
+        let given = Reply::Given {
+            lease: (place as u64).wrapping_add(1),
+            entry: *entry,
+            deadline: TERM,
+        };
+        replies.push(given).expect(rt, "memory for a reply");
     }
-    Ok(replies)
+    for (_, _, reply) in HAND_INS {
+        replies.push(reply).expect(rt, "memory for a reply");
+    }
+    replies
 }
 
-/// The request that hands the answer in.
-fn hand_in(alloc: Global, lease: u64, board: usize) -> Result<Request, AllocError> {
-    let declarer = Vec::from_slice(alloc, HIGHEST)?;
-    let defenders = Vec::from_slice(alloc, NOTHING)?;
-    Ok(Request::HandIn {
-        lease,
-        entry: entry_on(board),
-        k: 1,
-        declarer: GraphText::new(declarer),
-        defenders: GraphText::new(defenders),
-    })
+/// The answer: North has the highest card and takes the trick that East leads to. It is so on every such board.
+fn answer(rt: &impl Abort, alloc: Global) -> Answer {
+    let answer = Answer::of(alloc, Seat::North, Seat::North, Trump::Nt);
+    answer.expect(rt, "memory for an answer")
 }
 
 /// The requests for leases, and then the hand-ins.
-fn requests(alloc: Global) -> Result<Vec<Request>, AllocError> {
-    let mut requests = Vec::new(alloc);
-    for _ in 0..LEASES {
-        requests.push(Request::Lease { now: 0 })?;
-    }
+fn requests(rt: &impl Abort, alloc: Global) -> Vec<Request> {
+    let mut requests = leases(rt, alloc, LEASES);
     for (lease, board, _) in HAND_INS {
-        requests.push(hand_in(alloc, lease, board)?)?;
+        let request = answer(rt, alloc).hand_in(lease, entry_on(board));
+        requests.push(request).expect(rt, "memory for a request");
     }
-    Ok(requests)
+    requests
 }
 
 #[test]
 fn in_a_list(rt: HostRuntime) -> Result<(), Fail> {
     let alloc = rt.alloc();
-    let requests = requests(alloc)?;
-    let (book, told) = replay(alloc, boards(alloc)?, TERM, 1, requests.as_slice())?;
-    expect_eq(&rt, &told.as_slice(), &replies(alloc)?.as_slice());
+    let requests = requests(&rt, alloc);
+    let boards = boards(&rt, alloc, &LAYOUTS);
+    let (book, told) = replay(alloc, boards, TERM, 1, requests.as_slice())?;
+    expect_eq(&rt, &told, &replies(&rt, alloc));
     for (board, published) in [Some(1), Some(1), None].iter().enumerate() {
         expect_eq(&rt, &book.published(entry_on(board)), published);
     }
     Ok(())
 }
 
-/// The graph of a text, claimed by its first node if it has one.
-fn rooted(alloc: Global, text: &[u8]) -> Result<Rooted, Fail> {
-    let graph = Graph::read(alloc, text)?;
-    let root = if graph.nodes().is_empty() {
-        None
-    } else {
-        Some(0)
-    };
-    let graph = CheckedGraph::of(Arc::new(alloc, graph)?);
-    Ok(Rooted {
-        graph: Arc::new(alloc, graph)?,
-        root,
-    })
-}
-
 /// The answer, as a claim.
-fn claimed(alloc: Global) -> Result<Claimed, Fail> {
-    Ok(Claimed {
-        k: 1,
-        declarer: rooted(alloc, HIGHEST)?,
-        defenders: rooted(alloc, NOTHING)?,
-    })
+fn claimed(rt: &impl Abort, alloc: Global) -> Claimed {
+    let Answer {
+        k,
+        declarer,
+        defenders,
+    } = answer(rt, alloc);
+    let texts = (GraphText::new(declarer), GraphText::new(defenders));
+    claimed_by(rt, alloc, k, &texts.0, &texts.1)
 }
 
 /// Asks for so many leases.
@@ -216,12 +158,13 @@ fn hand_in_each<R: Abort + Wait>(
 #[test]
 fn at_a_desk(rt: HostRuntime) -> Result<(), Fail> {
     let alloc = rt.alloc();
-    let claimed = claimed(alloc)?;
-    let (desk, mut chairs) = Desk::open(&rt, alloc, boards(alloc)?, TERM, 1, 1)?;
+    let claimed = claimed(&rt, alloc);
+    let boards = boards(&rt, alloc, &LAYOUTS);
+    let (desk, mut chairs) = Desk::open(&rt, alloc, boards, TERM, 1, 1)?;
     let mut chair = chairs.pop().ok_or("no chair")?;
     lease_some(&rt, &desk, &mut chair, LEASES);
     hand_in_each(&rt, &desk, &mut chair, &claimed, &HAND_INS);
-    let wanted = replies(alloc)?;
+    let wanted = replies(&rt, alloc);
     expect_eq(&rt, &chair.receipts().len(), &wanted.len());
     for (receipt, reply) in chair.receipts().iter().zip(wanted.as_slice()) {
         expect_eq(&rt, &receipt.event.reply, reply);

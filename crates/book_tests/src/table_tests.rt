@@ -96,45 +96,38 @@ fn sheet_of(
     Ok(TestSheet { boards, results })
 }
 
-/// What is written of the sheet, in pieces of so many bytes, and what is reported.
+/// What is written of the sheet where there is so much room, in pieces of so many bytes, and what is reported.
 fn expect_written(
     rt: &impl Abort,
     alloc: Global,
     sheet: &TestSheet,
-    greatest_piece: usize,
-    wanted: Report,
+    (room, greatest_piece): (usize, usize),
+    wanted: &Result<Report, DeviceFault>,
     text: &[u8],
-) -> Result<(), Fail> {
-    let mut sink = Buffer::new(alloc, 400, greatest_piece)?;
-    expect_eq(rt, &write_sheet(sheet, &mut sink), &Ok(wanted));
+) {
+    let mut sink = Buffer::new(alloc, room, greatest_piece).expect(rt, "memory for a sink");
+    expect_eq(rt, &write_sheet(sheet, &mut sink), wanted);
     expect_bytes(rt, sink.bytes(), text);
-    Ok(())
 }
 
 /// The whole table, and its beginnings where the sink is full.
 #[test]
 fn a_complete_table(rt: HostRuntime) -> Result<(), Fail> {
     let alloc = rt.alloc();
-    let sheet = sheet_of(alloc, b"1", Some(read_layout(ONE_SUIT_EACH)?), RESULTS)?;
+    let deal = read_layout(ONE_SUIT_EACH)?;
+    let sheet = sheet_of(alloc, b"1", Some(deal), RESULTS)?;
     expect_eq(&rt, &TABLE.len(), &320);
-    let complete = Report {
+    let complete = Ok(Report {
         boards: 1,
         complete: 1,
-    };
+    });
     for greatest_piece in [1, 7, 1000] {
-        expect_written(
-            &rt,
-            alloc,
-            &sheet,
-            greatest_piece,
-            complete,
-            TABLE.as_bytes(),
-        )?;
+        let device = (400, greatest_piece);
+        expect_written(&rt, alloc, &sheet, device, &complete, TABLE.as_bytes());
     }
     for room in 0..TABLE.len() {
-        let mut sink = Buffer::new(alloc, room, 7)?;
-        expect_eq(&rt, &write_sheet(&sheet, &mut sink), &Err(DeviceFault));
-        expect_bytes(&rt, sink.bytes(), &TABLE.as_bytes()[..room]);
+        let written = &TABLE.as_bytes()[..room];
+        expect_written(&rt, alloc, &sheet, (room, 7), &Err(DeviceFault), written);
     }
     Ok(())
 }
@@ -161,34 +154,42 @@ const TWO_BOARDS: &[u8] = b"% PBN 2.1
 ";
 
 /// The report of so many boards of which none is complete.
-fn none_of(boards: usize) -> Report {
-    Report {
+fn none_of(boards: usize) -> Result<Report, DeviceFault> {
+    Ok(Report {
         boards,
         complete: 0,
-    }
+    })
 }
 
-/// One board, two in their order, and none.
+/// A board without a deal.
 #[test]
-fn incomplete_tables(rt: HostRuntime) -> Result<(), Fail> {
+fn incomplete_tables(rt: HostRuntime) {
     let alloc = rt.alloc();
     let head = b"% PBN 2.1\n[Board \"N\xE9 \\ ;\"]\n[Deal \"?\"]\n";
     for (count, line) in INCOMPLETE {
-        let results = RESULTS.get(..count).ok_or("fewer results")?;
-        let sheet = sheet_of(alloc, b"N\xE9 \\ ;", None, results)?;
-        let text = joined(alloc, &[head, line, b"\n"])?;
-        expect_written(&rt, alloc, &sheet, 50, none_of(1), text.as_slice())?;
+        let results = RESULTS.get(..count).expect(&rt, "so many results");
+        let sheet = sheet_of(alloc, b"N\xE9 \\ ;", None, results).expect(&rt, "memory");
+        let text = joined(alloc, &[head, line, b"\n"]).expect(&rt, "memory for a text");
+        expect_written(&rt, alloc, &sheet, (400, 50), &none_of(1), text.as_slice());
     }
+}
+
+/// Two boards in their order, and none.
+#[test]
+fn two_boards_and_none(rt: HostRuntime) -> Result<(), Fail> {
+    let alloc = rt.alloc();
     let ending = read_layout(b"w:K.Q.. A.2.. .43.. ..J.9")?;
     let mut sheet = sheet_of(alloc, b"b", Some(ending), &RESULTS[..2])?;
-    sheet.boards.push(Board {
+    let second = Board {
         name: BoardName::new(Vec::new(alloc)),
         deal: None,
-    })?;
-    expect_written(&rt, alloc, &sheet, 300, none_of(2), TWO_BOARDS)?;
+    };
+    sheet.boards.push(second).expect(&rt, "memory for a board");
+    expect_written(&rt, alloc, &sheet, (400, 300), &none_of(2), TWO_BOARDS);
     let empty = TestSheet {
         boards: Vec::new(alloc),
         results: RESULTS,
     };
-    expect_written(&rt, alloc, &empty, 1, none_of(0), b"% PBN 2.1\n")
+    expect_written(&rt, alloc, &empty, (400, 1), &none_of(0), b"% PBN 2.1\n");
+    Ok(())
 }

@@ -1,11 +1,15 @@
 //! Tournaments with solvers that answer for another entry, with devices that fail, and with boards of one deal; whole
 //! ones are among `worked_cases`.
 
+ghost use Rattle.lease_book.specs.Books.{AreTries};
+
 use crate::expect::{expect_bytes, expect_eq};
+use crate::lease_tests::certificates::{Answer, NT};
+use crate::lease_tests::twins::{add, leases};
 use arrayvec::ArrayVec;
 use cards::{Buffer, Bytes, Layout, Seat, Side, Trump};
 use certificate_graph::{Bundle, Claim, Solver};
-use lease_book::{Entry, GraphText, Request};
+use lease_book::Request;
 use partition_solver::Partition;
 use std::alloc::{AllocError, Global};
 use std::process::Abort;
@@ -71,26 +75,51 @@ pub(crate) fn incomplete(alloc: Global, line: &[u8]) -> Result<Vec<u8>, AllocErr
     joined(alloc, &[b"% PBN 2.1\n", ONE_SUIT_EACH, line, b"\n"])
 }
 
-/// The answer counts for its own entry alone; the others are leased three times, and handed in as often.
-#[test]
-fn answers_for_another_entry(rt: HostRuntime) -> Result<(), Fail> {
-    let alloc = rt.alloc();
-    let written = incomplete(alloc, b"; table incomplete: 1 of 20\n")?;
-    let mut source = Bytes::new(ONE_SUIT_EACH, 7);
-    let mut sink = Buffer::new(alloc, 2000, 5)?;
+/// What is made by the solver, with so many tries an entry, and how many calls the book had. A call of `make_single`
+/// itself carries its promises to the end of the caller.
+fn made_by<S: Solver>(
+    alloc: Global,
+    source: &mut Bytes<'_>,
+    sink: &mut Buffer,
+    tries: u32,
+    solver: &S,
+) -> Result<(Report, usize), MakeFault>
+    requires { AreTries tries }
+{
     let made = make_single(
         alloc,
-        &mut source,
-        &mut sink,
+        source,
+        sink,
         600,
-        3,
+        tries,
         BUDGET,
-        &OneAnswer,
+        solver,
         &StandsStill,
     );
     let (report, book) = made?;
+    Ok((report, book.history().len()))
+}
+
+/// What is made of a list of requests, where a lease has so long a term, with one try an entry.
+pub(crate) fn replayed(
+    alloc: Global,
+    text: &[u8],
+    term: u64,
+    requests: &[Request],
+    sink: &mut Buffer,
+) -> Result<Report, MakeFault> {
+    replay_tables(alloc, text, term, 1, requests, sink)
+}
+
+/// The answer counts for its own entry alone; the others are leased three times, and handed in as often.
+#[test]
+fn answers_for_another_entry(rt: HostRuntime) -> Result<(), Fail> {
+    let written = incomplete(rt.alloc(), b"; table incomplete: 1 of 20\n")?;
+    let mut source = Bytes::new(ONE_SUIT_EACH, 7);
+    let mut sink = Buffer::new(rt.alloc(), 2000, 5).expect(&rt, "memory for a sink");
+    let made = made_by(rt.alloc(), &mut source, &mut sink, 3, &OneAnswer);
     expect_bytes(&rt, sink.bytes(), written.as_slice());
-    expect_eq(&rt, &(report, book.history().len()), &(NOT_COMPLETE, 118));
+    expect_eq(&rt, &made, &Ok((NOT_COMPLETE, 118)));
     Ok(())
 }
 
@@ -102,21 +131,11 @@ fn expect_fault(
     room: usize,
     wanted: MakeFault,
     written: &[u8],
-) -> Result<(), Fail> {
-    let mut sink = Buffer::new(alloc, room, 7)?;
-    let made = make_single(
-        alloc,
-        source,
-        &mut sink,
-        600,
-        1,
-        BUDGET,
-        &FindsNothing,
-        &StandsStill,
-    );
-    expect_eq(rt, &made.err(), &Some(wanted));
+) {
+    let mut sink = Buffer::new(alloc, room, 7).expect(rt, "memory for a sink");
+    let made = made_by(alloc, source, &mut sink, 1, &FindsNothing);
+    expect_eq(rt, &made, &Err(wanted));
     expect_bytes(rt, sink.bytes(), written);
-    Ok(())
 }
 
 /// Sources that fail after so many calls, and sinks with so much room.
@@ -125,13 +144,13 @@ fn torn_sources_and_full_sinks(rt: HostRuntime) -> Result<(), Fail> {
     let alloc = rt.alloc();
     for calls in [0, 1, 8, 12] {
         let mut source = Bytes::failing_after(ONE_SUIT_EACH, 7, calls);
-        expect_fault(&rt, alloc, &mut source, 400, MakeFault::Read, b"")?;
+        expect_fault(&rt, alloc, &mut source, 400, MakeFault::Read, b"");
     }
     let whole = incomplete(alloc, b"; table incomplete: 0 of 20\n")?;
     for room in [0, 1, 9, 10, 33, 129] {
         let mut source = Bytes::new(ONE_SUIT_EACH, 100);
-        let written = whole.as_slice().get(..room).ok_or("a shorter text")?;
-        expect_fault(&rt, alloc, &mut source, room, MakeFault::Write, written)?;
+        let written = whole.as_slice().get(..room).expect(&rt, "so long a text");
+        expect_fault(&rt, alloc, &mut source, room, MakeFault::Write, written);
     }
     Ok(())
 }
@@ -183,36 +202,29 @@ E 2 2.0.0.0/ 0.2.0.0/ 0.0.2.0/ 0.0.0.2/ Hx(DxCx(Sx{E12}))
 E 1 1.0.0.0/ 0.1.0.0/ 0.0.1.0/ 0.0.0.1/ Hx(DxCx(Sx{}))
 ";
 
-/// A lease of the first entry, and what shows that North takes no trick in no-trump.
-fn lease_and_hand_in(alloc: Global) -> Result<Vec<Request>, AllocError> {
-    let mut requests = Vec::new(alloc);
-    requests.push(Request::Lease { now: 0 })?;
-    requests.push(Request::HandIn {
-        lease: 1,
-        entry: Entry {
-            board: 0,
-            declarer: Seat::North,
-            trump: Trump::Nt,
-        },
+/// What shows that North takes no trick in no-trump, handed in under the first lease.
+fn hand_in(alloc: Global) -> Result<Request, AllocError> {
+    let answer = Answer {
         k: 0,
-        declarer: GraphText::new(Vec::from_slice(alloc, NOTHING)?),
-        defenders: GraphText::new(Vec::from_slice(alloc, ALL_HEARTS)?),
-    })?;
-    Ok(requests)
+        declarer: Vec::from_slice(alloc, NOTHING)?,
+        defenders: Vec::from_slice(alloc, ALL_HEARTS)?,
+    };
+    Ok(answer.hand_in(1, NT))
 }
 
 /// What is published for one of two boards of one deal is known of both.
 #[test]
-fn boards_of_one_deal_share_a_number(rt: HostRuntime) -> Result<(), Fail> {
+fn boards_of_one_deal_share_a_number(rt: HostRuntime) {
     let alloc = rt.alloc();
-    let requests = lease_and_hand_in(alloc)?;
-    let mut sink = Buffer::new(alloc, 2000, 5)?;
-    let made = replay_tables(alloc, TWO_BOARDS, 600, 1, requests.as_slice(), &mut sink);
+    let mut requests = leases(&rt, alloc, 1);
+    let request = hand_in(alloc).expect(&rt, "memory for a request");
+    add(&rt, &mut requests, request);
+    let mut sink = Buffer::new(alloc, 2000, 5).expect(&rt, "memory for a sink");
+    let made = replayed(alloc, TWO_BOARDS, 600, requests.as_slice(), &mut sink);
     let wanted = Report {
         boards: 2,
         complete: 0,
     };
     expect_eq(&rt, &made, &Ok(wanted));
     expect_bytes(&rt, sink.bytes(), ONE_NUMBER_EACH);
-    Ok(())
 }

@@ -1,15 +1,20 @@
 //! What is asked, and a solver that counts how often it is.
 
-use crate::disks::Open;
+use crate::disks::{Disk, NAME, Open, System};
+use crate::expect::{expect_eq, got};
 use cards::{Layout, Seat, Trump};
 use certificate_graph::{Bundle, Solver};
 use evidence::read_section;
-use evidence_solvers::Keeping;
+use evidence_solvers::{KeepFault, Keeping, Opened, Tail, open_evidence};
 use lease_book::Clock;
 use std::alloc::{AllocError, Global};
+use std::io::Take;
 use std::marker::Brand;
+use std::process::Abort;
+use std::sync::Wait;
 use std::sync::atomic::AtomicU64;
 use std::sync::atomic::Ordering::SeqCst;
+use streams::CannotOpen;
 
 /// What stands for an answer that is none.
 const NO_ANSWER: u8 = 255;
@@ -73,6 +78,50 @@ impl Clock for Steps {
     fn now(&self) -> u64 {
         self.now.fetch_add(self.step, SeqCst)
     }
+}
+
+/// A solver around this one whose answers are kept on a disk.
+pub fn keeping_of<'a, R: Wait>(
+    rt: &'a R,
+    clock: &'a Steps,
+    inner: &'a Counts<'a>,
+    tail: Tail<Open<'a, R>>,
+) -> DiskKeeping<'a, R> {
+    Keeping::new(rt, clock, inner, tail)
+}
+
+/// Whether the file has all that was to be added to it.
+pub fn kept<R: Wait>(keeping: DiskKeeping<'_, R>) -> Result<(), KeepFault> {
+    keeping.close().kept
+}
+
+/// A file of a disk, opened, or why it can't be.
+pub fn open<'a, R: Wait>(
+    disk: &'a Disk<'a, R>,
+    name: &str,
+) -> Result<Opened<Open<'a, R>>, CannotOpen> {
+    open_evidence(&System(disk), name)
+}
+
+/// The file of a disk, opened to be read. What is added later isn't read.
+pub fn front_of<'a, R: Wait + Abort>(rt: &R, disk: &'a Disk<'a, R>) -> Take<Open<'a, R>> {
+    got(rt, open(disk, NAME)).front
+}
+
+/// The file of a disk, opened to be added to.
+pub fn tail_of<'a, R: Wait + Abort>(rt: &R, disk: &'a Disk<'a, R>) -> Tail<Open<'a, R>> {
+    got(rt, open(disk, NAME)).tail
+}
+
+/// The solver claims so many tricks for North in no-trump.
+pub fn expect_tricks<S: Solver>(
+    rt: &impl Abort,
+    alloc: Global,
+    solver: &S,
+    layout: &Layout,
+    tricks: u8,
+) {
+    expect_eq(rt, &tricks_of_north(alloc, solver, layout), &tricks);
 }
 
 /// How many tricks are claimed for North in no-trump.

@@ -2,48 +2,56 @@
 
 use crate::audited::{Shown, audit};
 use crate::expect::expect_eq;
-use crate::two_boards::RUNS;
+use crate::pieces::Piece::{Both, Fewer, Hearts, Line, Ruffs, Runs};
+use crate::pieces::{Piece, evidence_of};
 use evidence::Damage;
-use std::test::Fail;
-use test_support::four_suits::RUFFS;
+use std::alloc::Global;
+use std::process::Abort;
+use std::thread::Threads;
 
-/// North's claim of all tricks.
-const CLAIM: &str = "claims 1\nN 13 0 -\n";
+const NO_DAMAGE: Damage = Damage { count: 0, first: 0 };
+
+/// Evidence, whether each of the two numbers is shown, and how many pieces are passed over and where the first begins.
+const ROWS: [(&[Piece], [bool; 2], Damage); 9] = [
+    (&[Ruffs, Runs], [true, true], NO_DAMAGE),
+    (&[Runs, Ruffs], [true, true], NO_DAMAGE),
+    (&[Ruffs, Ruffs, Ruffs], [true, false], NO_DAMAGE),
+    (&[Fewer, Runs], [false, true], NO_DAMAGE),
+    (&[Fewer, Ruffs], [true, false], NO_DAMAGE),
+    (&[Ruffs, Fewer], [true, false], NO_DAMAGE),
+    (&[Both, Fewer], [true, false], NO_DAMAGE),
+    (
+        &[Hearts, Runs],
+        [false, true],
+        Damage { count: 1, first: 0 },
+    ),
+    (
+        &[Runs, Hearts, Line, Hearts, Ruffs],
+        [true, true],
+        Damage {
+            count: 2,
+            first: 933,
+        },
+    ),
+];
+
+/// The evidence shows these numbers, and this is passed over.
+fn expect_shown<R: Abort + Threads + Sync>(
+    rt: &R,
+    alloc: Global,
+    pieces: &[Piece],
+    shown: [bool; 2],
+    damage: Damage,
+) {
+    let evidence = evidence_of(rt, alloc, pieces);
+    let got = audit(rt, alloc, evidence.as_bytes(), 1000);
+    expect_eq(rt, &got, &(Shown::by(shown[0], shown[1]), damage));
+}
 
 /// What a section shows neither a later nor an earlier one takes away, of whatever deal it is, false or damaged.
 #[test]
-fn which_sections_count(rt: HostRuntime) -> Result<(), Fail> {
-    let alloc = rt.alloc();
-    // the graph shows 13 tricks and not 12, and North's and not South's
-    let fewer = RUFFS.replacen(alloc, CLAIM, "claims 1\nN 12 0 -\n", 1)?;
-    let both = RUFFS.replacen(alloc, CLAIM, "claims 2\nN 13 0 -\nS 13 0 -\n", 1)?;
-    // graphs of another denomination
-    let hearts = RUFFS.replacen(alloc, "trump S", "trump H", 1)?;
-    for (evidence, shown, damage) in [
-        (format!(in alloc; "{RUFFS}{RUNS}")?, (true, true), (0, 0)),
-        (format!(in alloc; "{RUNS}{RUFFS}")?, (true, true), (0, 0)),
-        (
-            format!(in alloc; "{RUFFS}{RUFFS}{RUFFS}")?,
-            (true, false),
-            (0, 0),
-        ),
-        (format!(in alloc; "{fewer}{RUNS}")?, (false, true), (0, 0)),
-        (format!(in alloc; "{fewer}{RUFFS}")?, (true, false), (0, 0)),
-        (format!(in alloc; "{RUFFS}{fewer}")?, (true, false), (0, 0)),
-        (format!(in alloc; "{both}{fewer}")?, (true, false), (0, 0)),
-        (format!(in alloc; "{hearts}{RUNS}")?, (false, true), (1, 0)),
-        (
-            format!(in alloc; "{RUNS}{hearts}x\n{hearts}{RUFFS}")?,
-            (true, true),
-            (2, 933),
-        ),
-    ] {
-        let wanted = Damage {
-            count: damage.0,
-            first: damage.1,
-        };
-        let got = audit(&rt, alloc, evidence.as_bytes(), 1000)?;
-        expect_eq(&rt, &got, &(Shown::by(shown.0, shown.1), wanted));
+fn which_sections_count(rt: HostRuntime) {
+    for &(pieces, shown, damage) in &ROWS {
+        expect_shown(&rt, rt.alloc(), pieces, shown, damage);
     }
-    Ok(())
 }

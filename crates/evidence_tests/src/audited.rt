@@ -1,12 +1,13 @@
 //! An audit of the two boards over memory, and what it shows.
 
+use crate::expect::{got, some};
 use crate::two_boards::BOARDS;
 use audits::audit_tables;
 use cards::{Buffer, Bytes, Seat, Suit, Trump};
 use evidence::{Damage, Sections};
 use lease_book::{Book, Entry};
 use std::alloc::Global;
-use std::test::Fail;
+use std::process::Abort;
 use std::thread::Threads;
 use test_support::settings::TABLES;
 
@@ -35,19 +36,22 @@ impl Shown {
     }
 }
 
+/// The number of a contract, if it has one.
+fn number_at(book: &Book, board: usize, declarer: Seat, trump: Trump) -> Option<u8> {
+    book.published(Entry {
+        board,
+        declarer,
+        trump,
+    })
+}
+
 /// How many contracts of a board have a number.
 fn numbers_of(book: &Book, board: usize) -> u64 {
     let mut numbers = 0u64;
     for declarer in Seat::ALL {
         for trump in Trump::ALL {
-            let entry = Entry {
-                board,
-                declarer,
-                trump,
-            };
-            if book.published(entry).is_some() {
-                numbers = numbers.saturating_add(1);
-            }
+            let has_number = number_at(book, board, declarer, trump).is_some();
+            numbers = numbers.saturating_add(u64::from(has_number));
         }
     }
     numbers
@@ -55,32 +59,45 @@ fn numbers_of(book: &Book, board: usize) -> u64 {
 
 /// The number of a contract of North's.
 pub fn number_of(book: &Book, board: usize, trump: Trump) -> Option<u8> {
-    book.published(Entry {
-        board,
-        declarer: Seat::North,
-        trump,
-    })
+    number_at(book, board, Seat::North, trump)
 }
 
-/// What this evidence shows, whose bytes come in pieces of at most so many, and what is passed over.
-pub fn audit<R: Threads + Sync>(
+/// What a book over the two boards shows.
+fn shown_in(book: &Book) -> Shown {
+    Shown {
+        numbers: numbers_of(book, 0).saturating_add(numbers_of(book, 1)),
+        first: number_of(book, 0, Trump::Suit(Suit::Spades)),
+        second: number_of(book, 1, Trump::Nt),
+    }
+}
+
+/// What this evidence shows, whose bytes come in pieces of at most so many, and what is passed over. Nothing where the
+/// audit fails.
+fn audit_to<R: Threads + Sync>(
     rt: &R,
     alloc: Global,
     evidence: &[u8],
     greatest_piece: usize,
-) -> Result<(Shown, Damage), Fail> {
+    output: &mut Buffer,
+) -> Option<(Shown, Damage)> {
     let mut input = Bytes::new(BOARDS.as_bytes(), ROOM);
     let mut sections = Sections::new(alloc, Bytes::new(evidence, greatest_piece));
-    let mut output = Buffer::new(alloc, ROOM, ROOM)?;
-    match audit_tables(rt, alloc, TABLES, &mut input, &mut sections, &mut output) {
-        Ok((_, book, damage)) => {
-            let shown = Shown {
-                numbers: numbers_of(&book, 0).saturating_add(numbers_of(&book, 1)),
-                first: number_of(&book, 0, Trump::Suit(Suit::Spades)),
-                second: number_of(&book, 1, Trump::Nt),
-            };
-            Ok((shown, damage))
-        }
-        Err(_) => Err(Fail::new("an audit without faults")),
+    match audit_tables(rt, alloc, TABLES, &mut input, &mut sections, output) {
+        Ok((_, book, damage)) => Some((shown_in(&book), damage)),
+        Err(_) => None,
     }
+}
+
+/// What this evidence shows, and what is passed over. The audit is one without faults.
+pub fn audit<R: Abort + Threads + Sync>(
+    rt: &R,
+    alloc: Global,
+    evidence: &[u8],
+    greatest_piece: usize,
+) -> (Shown, Damage) {
+    let mut output = got(rt, Buffer::new(alloc, ROOM, ROOM));
+    some(
+        rt,
+        audit_to(rt, alloc, evidence, greatest_piece, &mut output),
+    )
 }

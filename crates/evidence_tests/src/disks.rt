@@ -1,10 +1,15 @@
 //! A disk in memory with one file.
 
+use crate::expect::expect_bytes;
 use std::alloc::Allocator;
 use std::fs::{Files, Metadata, OpenFile, OpenOptions};
 use std::io;
 use std::io::{Error, ErrorKind, Read, Seek, SeekFrom, Write};
+use std::process::Abort;
 use std::sync::{Mutex, Wait};
+
+/// The name of the file.
+pub const NAME: &str = "kept.dde";
 
 /// What the disk lets be done with its file.
 #[derive(Clone, Copy, Debug, PartialEq, Eq)]
@@ -51,6 +56,32 @@ impl<'a, R: Wait> Disk<'a, R> {
                 syncs: 0,
             }),
         }
+    }
+
+    /// From now on the file is a folder or not, and this may be done with it.
+    pub fn becomes(&self, is_folder: bool, allows: Allows) {
+        let mut held = self.held.lock(self.rt);
+        held.is_folder = is_folder;
+        held.allows = allows;
+    }
+
+    /// From now on syncs fail.
+    pub fn fails_syncs(&self) {
+        self.held.lock(self.rt).syncs_fail = true;
+    }
+
+    /// How many writes and syncs there were.
+    pub fn calls(&self) -> (u64, u64) {
+        let held = self.held.lock(self.rt);
+        (held.writes, held.syncs)
+    }
+}
+
+impl<'a, R: Wait + Abort> Disk<'a, R> {
+    /// The file has these bytes.
+    pub fn expect_bytes(&self, wanted: &[u8]) {
+        let held = self.held.lock(self.rt);
+        expect_bytes(self.rt, held.bytes.as_slice(), wanted);
     }
 }
 
@@ -152,7 +183,7 @@ fn not_done<T>() -> io::Result<T> {
     Err(Error::from(ErrorKind::Unsupported))
 }
 
-/// A system whose one file is that of a disk, by the name `kept.dde`.
+/// A system whose one file is that of a disk, by its name.
 #[derive(Drop)]
 pub struct System<'a, R>(pub &'a Disk<'a, R>);
 
@@ -163,7 +194,7 @@ impl<'a, R: Wait> Files for System<'a, R> {
 
     fn open_file(&self, how: &OpenOptions, path: &str) -> io::Result<Open<'a, R>> {
         how.check()?;
-        if path != "kept.dde" {
+        if path != NAME {
             return Err(Error::from(ErrorKind::NotFound));
         }
         let writes = how.asks_append() || how.asks_write();

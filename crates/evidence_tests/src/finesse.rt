@@ -1,7 +1,9 @@
 //! The parts of a section that was worked out by hand (docs/CERTIFICATES.md): West has the king and a small spade, and
 //! South leads towards North's ace and queen, so that East takes no trick in no-trump.
 
-use std::alloc::{AllocError, Global};
+use crate::expect::joined;
+use std::alloc::Global;
+use std::process::Abort;
 use test_support::graphs::NOTHING;
 
 /// The deal.
@@ -23,24 +25,31 @@ N 1 1.1.1.1/N 0.0.0.0/ 0.0.0.0/ 0.0.0.0/ Sa(SxSx(Sx{}))
 /// 6 + 9 + 8 + 8 + 72 + 56 of one graph, 1 of the empty line, 6 + 9 + 8 + 8 of the other.
 pub const LENGTH: u64 = 6 + 31 + 9 + 17 + (6 + 9 + 8 + 8 + 72 + 56) + 1 + (6 + 9 + 8 + 8);
 
-/// A section's text, of its parts.
-pub fn text_of(
-    alloc: Global,
-    deal: &str,
-    trump: &str,
-    claims: &str,
-    graphs: &str,
-) -> Result<String, AllocError> {
-    format!(in alloc; "DDE 1\ndeal {deal}\ntrump {trump}\n{claims}{graphs}")
+/// A section's text, of its parts: the deal, the denomination, the lines of the claims, the graphs.
+pub fn text_of(rt: &impl Abort, alloc: Global, parts: [&str; 4]) -> String {
+    let [deal, trump, claims, graphs] = parts;
+    joined(
+        rt,
+        alloc,
+        &[
+            "DDE 1\ndeal ",
+            deal,
+            "\ntrump ",
+            trump,
+            "\n",
+            claims,
+            graphs,
+        ],
+    )
 }
 
 /// Both graphs: East and West can win nothing.
-pub fn graphs(alloc: Global) -> Result<String, AllocError> {
-    format!(in alloc; "{NS}\n{NOTHING}")
+pub fn graphs(rt: &impl Abort, alloc: Global) -> String {
+    joined(rt, alloc, &[NS, "\n", NOTHING])
 }
 
 /// The section.
-pub fn section(alloc: Global) -> Result<String, AllocError> {
-    let graphs = graphs(alloc)?;
-    text_of(alloc, DEAL, "NT", CLAIMS, graphs.as_str())
+pub fn section(rt: &impl Abort, alloc: Global) -> String {
+    let graphs = graphs(rt, alloc);
+    text_of(rt, alloc, [DEAL, "NT", CLAIMS, graphs.as_str()])
 }

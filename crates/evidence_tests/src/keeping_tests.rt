@@ -1,17 +1,16 @@
 //! What is added to a file, when the file is synced, and what is answered meanwhile.
 
-use crate::asking::{Counts, DiskKeeping, Steps, tricks_of_north};
-use crate::disks::{Disk, System};
+use crate::asking::{Counts, Steps, expect_tricks, keeping_of, kept, tail_of, tricks_of_north};
+use crate::disks::Disk;
 use crate::expect::expect_eq;
-use crate::untrue_sections::{layout, section};
+use crate::untrue_sections::{layout, nines, section};
 use cards::Layout;
 use certificate_graph::Solver;
-use evidence_solvers::{KeepFault, Keeping, Opened, open_evidence};
+use evidence_solvers::KeepFault;
 use std::alloc::Global;
 use std::process::Abort;
 use std::sync::Wait;
 use std::sync::atomic::Ordering::SeqCst;
-use std::test::Fail;
 use std::thread;
 use std::thread::Threads;
 
@@ -22,90 +21,83 @@ fn keep_five<R: Wait + Abort>(
     alloc: Global,
     disk: &Disk<'_, R>,
     step: u64,
-) -> Result<Result<(), KeepFault>, Fail> {
-    let layout = layout(alloc)?;
-    let text = section(alloc, 9)?;
-    let Opened { tail, .. } = open_evidence(&System(disk), "kept.dde")?;
+) -> Result<(), KeepFault> {
+    let layout = layout(rt, alloc);
+    let text = section(rt, alloc, 9);
     let inner = Counts::of(text.as_str());
     let clock = Steps::new(step);
-    let keeping: DiskKeeping<'_, R> = Keeping::new(rt, &clock, &inner, tail);
+    let keeping = keeping_of(rt, &clock, &inner, tail_of(rt, disk));
     for _turn in 0..5u8 {
-        expect_eq(rt, &tricks_of_north(alloc, &keeping, &layout), &9);
+        expect_tricks(rt, alloc, &keeping, &layout, 9);
     }
-    let closed = keeping.close();
+    let kept = kept(keeping);
     expect_eq(rt, &inner.asked.load(SeqCst), &5);
-    Ok(closed.kept)
+    kept
 }
 
-/// The texts of this many sections.
-fn sections(alloc: Global, count: u8) -> Result<String, Fail> {
-    let text = section(alloc, 9)?;
-    let mut all = String::new(alloc);
-    for _section in 0..count {
-        all.push_str(text.as_str())?;
-    }
-    Ok(all)
+/// Keeps five answers on a disk with this much room, and expects what is lacking and how often the file is written and
+/// synced. It has these bytes then.
+fn expect_five<R: Abort + Wait>(
+    rt: &R,
+    alloc: Global,
+    disk: &Disk<'_, R>,
+    step: u64,
+    wanted: Result<(), KeepFault>,
+    bytes: &[u8],
+) {
+    expect_eq(rt, &keep_five(rt, alloc, disk, step), &wanted);
+    disk.expect_bytes(bytes);
 }
 
 /// Each answer is written by one call. The file is synced at the end, and after an answer if ten seconds have passed
 /// since the last sync: with a clock that stands still only at the end.
 #[test]
-fn syncs(rt: HostRuntime) -> Result<(), Fail> {
+fn syncs(rt: HostRuntime) {
     let alloc = rt.alloc();
-    let five = sections(alloc, 5)?;
+    let five = nines(&rt, alloc, 5);
     for (step, syncs) in [(0, 1), (2, 1), (3, 2), (4, 2), (9, 3), (10, 5), (3600, 5)] {
         let disk = Disk::new(&rt, Vec::new(alloc), usize::MAX);
-        expect_eq(&rt, &keep_five(&rt, alloc, &disk, step)?, &Ok(()));
-        let held = disk.held.lock(&rt);
-        expect_eq(&rt, &(held.writes, held.syncs), &(5, syncs));
-        expect_eq(&rt, &held.bytes.as_slice(), &five.as_bytes());
+        expect_five(&rt, alloc, &disk, step, Ok(()), five.as_bytes());
+        expect_eq(&rt, &disk.calls(), &(5, syncs));
     }
-    Ok(())
 }
 
 /// A sync that fails is told at the end, and after it nothing is written. Each answer is still handed on.
 #[test]
-fn failing_syncs(rt: HostRuntime) -> Result<(), Fail> {
+fn failing_syncs(rt: HostRuntime) {
     let alloc = rt.alloc();
     for (step, written) in [(0, 5), (4, 4), (10, 2)] {
         let disk = Disk::new(&rt, Vec::new(alloc), usize::MAX);
-        disk.held.lock(&rt).syncs_fail = true;
-        expect_eq(
-            &rt,
-            &keep_five(&rt, alloc, &disk, step)?,
-            &Err(KeepFault::Write),
-        );
-        let held = disk.held.lock(&rt);
-        expect_eq(
-            &rt,
-            &held.bytes.as_slice(),
-            &sections(alloc, written)?.as_bytes(),
-        );
+        disk.fails_syncs();
+        let wanted = nines(&rt, alloc, written);
+        let lacks = Err(KeepFault::Write);
+        expect_five(&rt, alloc, &disk, step, lacks, wanted.as_bytes());
     }
-    Ok(())
 }
 
-/// A disk whose room ends at any byte stops no answer. After a write that it didn't take whole there is none, and that
-/// is told once, at the end.
+/// A disk with this much room stops no answer. After a write that it didn't take whole there is none, and that is told
+/// once, at the end.
+fn expect_room<R: Abort + Wait>(rt: &R, alloc: Global, room: usize, length: usize, wanted: &[u8]) {
+    let disk = Disk::new(rt, Vec::new(alloc), room);
+    let whole = room.checked_div(length).unwrap_or(0);
+    let (kept, writes) = if whole < 5 {
+        (Err(KeepFault::Write), whole.saturating_add(1))
+    } else {
+        (Ok(()), 5)
+    };
+    expect_five(rt, alloc, &disk, 0, kept, wanted);
+    expect_eq(rt, &disk.calls().0, &(writes as u64));
+}
+
+/// A disk whose room ends at any byte.
 #[test]
-fn full_disk(rt: HostRuntime) -> Result<(), Fail> {
+fn full_disk(rt: HostRuntime) {
     let alloc = rt.alloc();
-    let five = sections(alloc, 5)?;
-    let length = section(alloc, 9)?.len();
+    let five = nines(&rt, alloc, 5);
+    let length = section(&rt, alloc, 9).len();
     for room in 0..=five.len() {
-        let disk = Disk::new(&rt, Vec::new(alloc), room);
-        let told = keep_five(&rt, alloc, &disk, 0)?;
-        let whole = room.checked_div(length).unwrap_or(0);
-        let (wanted, writes) = if whole < 5 {
-            (Err(KeepFault::Write), whole.saturating_add(1))
-        } else {
-            (Ok(()), 5)
-        };
-        let held = disk.held.lock(&rt);
-        expect_eq(&rt, &(told, held.writes), &(wanted, writes as u64));
-        expect_eq(&rt, &held.bytes.as_slice(), &&five.as_bytes()[..room]);
+        expect_room(&rt, alloc, room, length, &five.as_bytes()[..room]);
     }
-    Ok(())
 }
 
 /// Whether the answer to each of six questions claims nine tricks.
@@ -132,29 +124,30 @@ fn ask_at_once<R: Threads + Sync, S: Solver + Sync>(
 }
 
 /// The answers to two threads are all added, each whole.
+fn expect_twelve<R: Abort + Threads + Wait + Sync>(
+    rt: &R,
+    alloc: Global,
+    layout: &Layout,
+    text: &str,
+    twelve: &str,
+) {
+    let disk = Disk::new(rt, Vec::new(alloc), usize::MAX);
+    let inner = Counts::of(text);
+    let clock = Steps::new(1);
+    let keeping = keeping_of(rt, &clock, &inner, tail_of(rt, &disk));
+    expect_eq(rt, &ask_at_once(rt, alloc, &keeping, layout), &(true, true));
+    expect_eq(rt, &kept(keeping), &Ok(()));
+    disk.expect_bytes(twelve.as_bytes());
+}
+
+/// Two threads ask at once, ten times.
 #[test]
-fn two_threads(rt: HostRuntime) -> Result<(), Fail> {
+fn two_threads(rt: HostRuntime) {
     let alloc = rt.alloc();
-    let layout = layout(alloc)?;
-    let text = section(alloc, 9)?;
-    let twelve = sections(alloc, 12)?;
+    let layout = layout(&rt, alloc);
+    let text = section(&rt, alloc, 9);
+    let twelve = nines(&rt, alloc, 12);
     for _turn in 0..10u8 {
-        let disk = Disk::new(&rt, Vec::new(alloc), usize::MAX);
-        let Opened { tail, .. } = open_evidence(&System(&disk), "kept.dde")?;
-        let inner = Counts::of(text.as_str());
-        let clock = Steps::new(1);
-        let keeping: DiskKeeping<'_, HostRuntime> = Keeping::new(&rt, &clock, &inner, tail);
-        expect_eq(
-            &rt,
-            &ask_at_once(&rt, alloc, &keeping, &layout),
-            &(true, true),
-        );
-        expect_eq(&rt, &keeping.close().kept, &Ok(()));
-        expect_eq(
-            &rt,
-            &disk.held.lock(&rt).bytes.as_slice(),
-            &twelve.as_bytes(),
-        );
+        expect_twelve(&rt, alloc, &layout, text.as_str(), twelve.as_str());
     }
-    Ok(())
 }

@@ -22,6 +22,8 @@ mod opening_tests;
 #[cfg(test)]
 mod piece_tests;
 #[cfg(test)]
+mod pieces;
+#[cfg(test)]
 mod section_tests;
 #[cfg(test)]
 mod showing_tests;

@@ -1,195 +1,176 @@
 //! How a file of evidence is opened, and what is read of it then.
 
-use crate::asking::{Counts, DiskKeeping, Steps, tricks_of_north};
-use crate::disks::{Allows, Disk, Open, System};
-use crate::expect::expect_eq;
+use crate::asking::{Counts, Steps, expect_tricks, front_of, keeping_of, kept, open, tail_of};
+use crate::disks::{Allows, Disk, NAME, Open};
+use crate::expect::{expect, expect_eq, got, joined};
 use crate::untrue_sections::{layout, section};
 use evidence::{Part, Sections};
-use evidence_solvers::{Access, KeepFault, Keeping, Opened, open_evidence};
+use evidence_solvers::{Access, KeepFault, Tail};
 use std::alloc::Global;
 use std::io::Take;
 use std::process::Abort;
 use std::sync::Wait;
-use std::test::Fail;
 use streams::{CannotOpen, ReaderSource};
 
-/// How many sections and how many damaged pieces are read of a file.
-fn parts_of<R: Wait>(alloc: Global, front: Take<Open<'_, R>>) -> Result<(u8, u8), Fail> {
+/// How many sections and how many damaged pieces are read of a file. It has fewer than a hundred of both.
+fn parts_of<R: Wait + Abort>(rt: &R, alloc: Global, front: Take<Open<'_, R>>) -> (u8, u8) {
     let mut sections = Sections::new(alloc, ReaderSource::new(front));
     let mut found = 0u8;
     let mut damaged = 0u8;
     for _turn in 0..100u8 {
-        match sections.next(alloc)? {
+        match got(rt, sections.next(alloc)) {
             Part::Found(_) => found = found.saturating_add(1),
             Part::Damaged { .. } => damaged = damaged.saturating_add(1),
-            Part::End => return Ok((found, damaged)),
+            Part::End => return (found, damaged),
         }
     }
-    Err(Fail::new("the file has an end"))
+    expect(rt, false);
+    (found, damaged)
 }
 
 /// A disk whose file has the text.
-fn disk_of<'a, R: Wait>(rt: &'a R, alloc: Global, text: &[u8]) -> Result<Disk<'a, R>, Fail> {
-    Ok(Disk::new(rt, Vec::from_slice(alloc, text)?, usize::MAX))
+fn disk_of<'a, R: Abort + Wait>(rt: &'a R, alloc: Global, text: &[u8]) -> Disk<'a, R> {
+    Disk::new(rt, got(rt, Vec::from_slice(alloc, text)), usize::MAX)
 }
 
-/// Opens a file with this text, which has to have this other text then. Answers how many sections and how many damaged
-/// pieces are read of it.
-fn open_text<R: Wait + Abort>(
+/// Opens a file with this text, which has to have this other text then. So many sections and so many damaged pieces are
+/// read of it.
+fn expect_opened<R: Abort + Wait>(
     rt: &R,
     alloc: Global,
     text: &[u8],
     after: &[u8],
-) -> Result<(u8, u8), Fail> {
-    let disk = disk_of(rt, alloc, text)?;
-    let Opened { front, .. } = open_evidence(&System(&disk), "kept.dde")?;
-    expect_eq(rt, &disk.held.lock(rt).bytes.as_slice(), &after);
-    parts_of(alloc, front)
+    parts: (u8, u8),
+) {
+    let disk = disk_of(rt, alloc, text);
+    let front = front_of(rt, &disk);
+    disk.expect_bytes(after);
+    expect_eq(rt, &parts_of(rt, alloc, front), &parts);
 }
 
 /// If the last line has no end, a line feed is written, and read as a part of that line: so a sound last section whose
 /// last byte is missing is read as a section.
 #[test]
-fn line_end(rt: HostRuntime) -> Result<(), Fail> {
+fn line_end(rt: HostRuntime) {
     let alloc = rt.alloc();
-    let text = section(alloc, 9)?;
+    let text = section(&rt, alloc, 9);
     let one = text.as_bytes();
     let cut = &one[..one.len().saturating_sub(1)];
-    let cases: [(&[u8], &[u8], (u8, u8)); 4] = [
-        (b"", b"", (0, 0)),
-        (one, one, (1, 0)),
-        (cut, one, (1, 0)),
-        (b"x", b"x\n", (0, 1)),
-    ];
-    for (before, after, parts) in cases {
-        expect_eq(&rt, &open_text(&rt, alloc, before, after)?, &parts);
-    }
-    Ok(())
+    expect_opened(&rt, alloc, b"", b"", (0, 0));
+    expect_opened(&rt, alloc, one, one, (1, 0));
+    expect_opened(&rt, alloc, cut, one, (1, 0));
+    expect_opened(&rt, alloc, b"x", b"x\n", (0, 1));
 }
 
-/// Why the file of this name on a disk can't be opened. Nothing is written.
-fn refusal<R: Wait + Abort>(rt: &R, disk: &Disk<'_, R>, name: &str) -> Option<CannotOpen> {
-    let fault = open_evidence(&System(disk), name).err();
-    expect_eq(rt, &disk.held.lock(rt).writes, &0);
-    fault
+/// The file of this name on a disk can't be opened, and this is why. Nothing is written.
+fn expect_refused<R: Abort + Wait>(rt: &R, disk: &Disk<'_, R>, name: &str, wanted: CannotOpen) {
+    let fault = open(disk, name).err();
+    expect_eq(rt, &disk.calls().0, &0);
+    expect_eq(rt, &fault, &Some(wanted));
 }
+
+/// A name, whether the file is a folder, what may be done with it, and why it can't be opened.
+const REFUSALS: [(&str, bool, Allows, CannotOpen); 3] = [
+    ("other.dde", false, Allows::All, CannotOpen::Missing),
+    (NAME, true, Allows::All, CannotOpen::NotAFile),
+    (NAME, true, Allows::Nothing, CannotOpen::Denied),
+];
 
 /// What isn't there, isn't a regular file or may not be read can't be opened, and the reason is given.
 #[test]
-fn refusals(rt: HostRuntime) -> Result<(), Fail> {
-    let alloc = rt.alloc();
-    let disk = disk_of(&rt, alloc, b"x")?;
-    expect_eq(
-        &rt,
-        &refusal(&rt, &disk, "other.dde"),
-        &Some(CannotOpen::Missing),
-    );
-    disk.held.lock(&rt).is_folder = true;
-    expect_eq(
-        &rt,
-        &refusal(&rt, &disk, "kept.dde"),
-        &Some(CannotOpen::NotAFile),
-    );
-    disk.held.lock(&rt).allows = Allows::Nothing;
-    expect_eq(
-        &rt,
-        &refusal(&rt, &disk, "kept.dde"),
-        &Some(CannotOpen::Denied),
-    );
-    Ok(())
+fn refusals(rt: HostRuntime) {
+    let disk = disk_of(&rt, rt.alloc(), b"x");
+    for (name, is_folder, allows, why) in REFUSALS {
+        disk.becomes(is_folder, allows);
+        expect_refused(&rt, &disk, name, why);
+    }
 }
+
+/// Beginnings of PBN texts.
+const PBN_TEXTS: [&[u8]; 3] = [b"% PBN 2.1\n[Board \"1\"]", b"[Event \"Club\"]", b"["];
 
 /// A file that begins as a PBN text does is refused, and nothing is written, although its last line has no end.
 #[test]
-fn pbn_files(rt: HostRuntime) -> Result<(), Fail> {
-    let texts: [&[u8]; 3] = [b"% PBN 2.1\n[Board \"1\"]", b"[Event \"Club\"]", b"["];
-    for text in texts {
-        let disk = disk_of(&rt, rt.alloc(), text)?;
-        expect_eq(
-            &rt,
-            &refusal(&rt, &disk, "kept.dde"),
-            &Some(CannotOpen::PbnText),
-        );
+fn pbn_files(rt: HostRuntime) {
+    for text in PBN_TEXTS {
+        let disk = disk_of(&rt, rt.alloc(), text);
+        expect_refused(&rt, &disk, NAME, CannotOpen::PbnText);
     }
-    Ok(())
+}
+
+/// The section of this text that is to be added to this tail is lost, and that is said.
+fn expect_lost<'a, R: Abort + Wait>(rt: &'a R, alloc: Global, tail: Tail<Open<'a, R>>, text: &str) {
+    let inner = Counts::of(text);
+    let clock = Steps::new(1);
+    let keeping = keeping_of(rt, &clock, &inner, tail);
+    expect_tricks(rt, alloc, &keeping, &layout(rt, alloc), 9);
+    expect_eq(rt, &kept(keeping), &Err(KeepFault::Write));
 }
 
 /// A file that can only be read is read as it is: its last line gets no end, so its last section is damaged. A section
 /// that is to be added to it is lost, and that is said.
 #[test]
-fn read_only(rt: HostRuntime) -> Result<(), Fail> {
+fn read_only(rt: HostRuntime) {
     let alloc = rt.alloc();
-    let (layout, text) = (layout(alloc)?, section(alloc, 9)?);
-    let cut = format!(in alloc; "{text}{}", text.as_str().strip_suffix("\n").unwrap_or(""))?;
-    let disk = disk_of(&rt, alloc, cut.as_bytes())?;
-    disk.held.lock(&rt).allows = Allows::Reading;
-    let opened = open_evidence(&System(&disk), "kept.dde")?;
+    let text = section(&rt, alloc, 9);
+    let without_end = text.as_str().strip_suffix("\n").unwrap_or("");
+    let cut = joined(&rt, alloc, &[text.as_str(), without_end]);
+    let disk = disk_of(&rt, alloc, cut.as_bytes());
+    disk.becomes(false, Allows::Reading);
+    let opened = got(&rt, open(&disk, NAME));
     expect_eq(
         &rt,
-        &(opened.access, disk.held.lock(&rt).writes),
+        &(opened.access, disk.calls().0),
         &(Access::ReadOnly, 0),
     );
-    expect_eq(&rt, &parts_of(alloc, opened.front)?, &(1, 1));
-    let inner = Counts::of(text.as_str());
-    let clock = Steps::new(1);
-    let keeping: DiskKeeping<'_, HostRuntime> = Keeping::new(&rt, &clock, &inner, opened.tail);
-    expect_eq(&rt, &tricks_of_north(alloc, &keeping, &layout), &9);
-    expect_eq(&rt, &keeping.close().kept, &Err(KeepFault::Write));
-    expect_eq(&rt, &disk.held.lock(&rt).bytes.as_slice(), &cut.as_bytes());
-    Ok(())
+    expect_eq(&rt, &parts_of(&rt, alloc, opened.front), &(1, 1));
+    expect_lost(&rt, alloc, opened.tail, text.as_str());
+    disk.expect_bytes(cut.as_bytes());
 }
 
 /// Sections that are added after a file was opened aren't read.
 #[test]
-fn added_sections(rt: HostRuntime) -> Result<(), Fail> {
+fn added_sections(rt: HostRuntime) {
     let alloc = rt.alloc();
-    let layout = layout(alloc)?;
-    let text = section(alloc, 13)?;
-    let disk = disk_of(&rt, alloc, text.as_bytes())?;
-    let Opened {
-        front,
-        tail,
-        access,
-    } = open_evidence(&System(&disk), "kept.dde")?;
-    expect_eq(&rt, &access, &Access::ReadAndAdd);
+    let text = section(&rt, alloc, 13);
+    let disk = disk_of(&rt, alloc, text.as_bytes());
+    let opened = got(&rt, open(&disk, NAME));
+    expect_eq(&rt, &opened.access, &Access::ReadAndAdd);
     let inner = Counts::of(text.as_str());
     let clock = Steps::new(1);
-    let keeping: DiskKeeping<'_, HostRuntime> = Keeping::new(&rt, &clock, &inner, tail);
-    expect_eq(&rt, &tricks_of_north(alloc, &keeping, &layout), &13);
-    expect_eq(&rt, &parts_of(alloc, front)?, &(1, 0));
-    expect_eq(&rt, &keeping.close().kept, &Ok(()));
-    let Opened { front, .. } = open_evidence(&System(&disk), "kept.dde")?;
-    expect_eq(&rt, &parts_of(alloc, front)?, &(2, 0));
-    Ok(())
+    let keeping = keeping_of(&rt, &clock, &inner, opened.tail);
+    expect_tricks(&rt, alloc, &keeping, &layout(&rt, alloc), 13);
+    expect_eq(&rt, &parts_of(&rt, alloc, opened.front), &(1, 0));
+    expect_eq(&rt, &kept(keeping), &Ok(()));
+    let front = front_of(&rt, &disk);
+    expect_eq(&rt, &parts_of(&rt, alloc, front), &(2, 0));
+}
+
+/// Two runs add the sections of these texts to one file by turns, twice each.
+fn add_by_turns<R: Abort + Wait>(rt: &R, alloc: Global, disk: &Disk<'_, R>, texts: [&str; 2]) {
+    let layout = layout(rt, alloc);
+    let (one, other) = (tail_of(rt, disk), tail_of(rt, disk));
+    let (eight, nine) = (Counts::of(texts[0]), Counts::of(texts[1]));
+    let clock = Steps::new(1);
+    let keeping = keeping_of(rt, &clock, &eight, one);
+    let beside = keeping_of(rt, &clock, &nine, other);
+    for _turn in 0..2u8 {
+        expect_tricks(rt, alloc, &keeping, &layout, 8);
+        expect_tricks(rt, alloc, &beside, &layout, 9);
+    }
+    expect_eq(rt, &(kept(keeping), kept(beside)), &(Ok(()), Ok(())));
 }
 
 /// Two runs that add to one file by turns overwrite nothing: neither what the file held, nor what the other one added.
 #[test]
-fn two_runs(rt: HostRuntime) -> Result<(), Fail> {
+fn two_runs(rt: HostRuntime) {
     let alloc = rt.alloc();
-    let layout = layout(alloc)?;
-    let (held, ours, theirs) = (section(alloc, 7)?, section(alloc, 8)?, section(alloc, 9)?);
-    let disk = disk_of(&rt, alloc, held.as_bytes())?;
-    let one = open_evidence(&System(&disk), "kept.dde")?;
-    let other = open_evidence(&System(&disk), "kept.dde")?;
-    let (eight, nine) = (Counts::of(ours.as_str()), Counts::of(theirs.as_str()));
-    let clock = Steps::new(1);
-    let keeping: DiskKeeping<'_, HostRuntime> = Keeping::new(&rt, &clock, &eight, one.tail);
-    let beside: DiskKeeping<'_, HostRuntime> = Keeping::new(&rt, &clock, &nine, other.tail);
-    for _turn in 0..2u8 {
-        expect_eq(&rt, &tricks_of_north(alloc, &keeping, &layout), &8);
-        expect_eq(&rt, &tricks_of_north(alloc, &beside, &layout), &9);
-    }
-    expect_eq(
-        &rt,
-        &(keeping.close().kept, beside.close().kept),
-        &(Ok(()), Ok(())),
-    );
-    let wanted = format!(in alloc; "{held}{ours}{theirs}{ours}{theirs}")?;
-    expect_eq(
-        &rt,
-        &disk.held.lock(&rt).bytes.as_slice(),
-        &wanted.as_bytes(),
-    );
-    Ok(())
+    let held = section(&rt, alloc, 7);
+    let ours = section(&rt, alloc, 8);
+    let theirs = section(&rt, alloc, 9);
+    let disk = disk_of(&rt, alloc, held.as_bytes());
+    add_by_turns(&rt, alloc, &disk, [ours.as_str(), theirs.as_str()]);
+    let (held, ours, theirs) = (held.as_str(), ours.as_str(), theirs.as_str());
+    let wanted = joined(&rt, alloc, &[held, ours, theirs, ours, theirs]);
+    disk.expect_bytes(wanted.as_bytes());
 }

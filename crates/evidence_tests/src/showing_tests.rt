@@ -1,18 +1,18 @@
 //! What evidence shows, published in a book that is used on.
 
 use crate::audited::number_of;
-use crate::expect::expect_eq;
-use crate::two_boards::{BOARDS, RUNS};
+use crate::expect::{expect_eq, some};
+use crate::pieces::Piece::{Fewer, Line, Ruffs, Runs, Title};
+use crate::pieces::{Piece, evidence_of};
+use crate::two_boards::BOARDS;
 use audits::{EvidenceRead, show_evidence};
-use cards::{Bytes, Seat, Suit, Trump};
+use cards::{Bytes, Suit, Trump};
 use evidence::{Damage, Sections};
-use lease_book::{Book, Entry, Reply};
+use lease_book::{Book, Reply};
 use std::alloc::Global;
 use std::process::Abort;
-use std::test::Fail;
 use std::thread::Threads;
 use streams::InputFault;
-use test_support::four_suits::RUFFS;
 use tournaments::{open_book, take_boards};
 
 /// Two boards with one deal.
@@ -35,39 +35,43 @@ struct After {
     next: Option<u64>,
 }
 
-/// What a book over these boards shows after this evidence.
-fn after_evidence<R: Threads + Sync>(
+/// A book over these boards after this evidence, and how that was read. Nothing where there is no book or no memory.
+fn book_after<R: Threads + Sync>(
     rt: &R,
     alloc: Global,
     boards: &str,
     evidence: Bytes<'_>,
-) -> Result<After, Fail> {
-    let Ok(boards) = take_boards(alloc, boards.as_bytes()) else {
-        return Err(Fail::new("boards"));
-    };
-    let Ok(mut book) = open_book(alloc, boards, 10, 2) else {
-        return Err(Fail::new("a book"));
-    };
+) -> Option<(Book, EvidenceRead)> {
+    let boards = take_boards(alloc, boards.as_bytes()).ok()?;
+    let mut book = open_book(alloc, boards, 10, 2).ok()?;
     let mut sections = Sections::new(alloc, evidence);
-    let Ok(read) = show_evidence(rt, alloc, &mut book, 7, &mut sections) else {
-        return Err(Fail::new("memory"));
-    };
-    let events = book.history().len();
-    let next = match book.lease(8) {
+    match show_evidence(rt, alloc, &mut book, 7, &mut sections) {
+        Ok(read) => Some((book, read)),
+        Err(_) => None,
+    }
+}
+
+/// The number of the next lease of a book, if one is given.
+fn next_lease(book: &mut Book) -> Option<u64> {
+    match book.lease(8) {
         Ok(Reply::Given { lease, .. }) => Some(lease),
         _ => None,
-    };
+    }
+}
+
+/// What a book shows, whose evidence was read so.
+fn shown_after(mut book: Book, read: EvidenceRead) -> After {
     let spades = Trump::Suit(Suit::Spades);
-    Ok(After {
+    After {
         read,
         numbers: [
             number_of(&book, 0, spades),
             number_of(&book, 1, Trump::Nt),
             number_of(&book, 1, spades),
         ],
-        events,
-        next,
-    })
+        events: book.history().len(),
+        next: next_lease(&mut book),
+    }
 }
 
 /// So many pieces were passed over, the first at this byte.
@@ -105,82 +109,72 @@ fn expect_after<R: Abort + Threads + Sync>(
     evidence: Bytes<'_>,
     read: EvidenceRead,
     numbers: [Option<u8>; 3],
-) -> Result<(), Fail> {
-    let got = after_evidence(rt, alloc, over.boards, evidence)?;
+) {
+    let (book, got) = some(rt, book_after(rt, alloc, over.boards, evidence));
     let wanted = After {
         read,
         numbers,
         events: over.events,
         next: Some(over.next),
     };
-    expect_eq(rt, &got, &wanted);
-    Ok(())
+    expect_eq(rt, &shown_after(book, got), &wanted);
 }
 
 /// Evidence, how many pieces of it are passed over and where the first begins, and the numbers.
-type Row = (String, (u64, u64), [Option<u8>; 3]);
+type Row = (&'static [Piece], (u64, u64), [Option<u8>; 3]);
+
+const OF_TWO_DEALS: [Row; 4] = [
+    (&[Ruffs, Runs], (0, 0), [Some(13), Some(0), None]),
+    (
+        &[Line, Ruffs, Title, Runs],
+        (2, 0),
+        [Some(13), Some(0), None],
+    ),
+    (
+        &[Fewer, Fewer, Fewer, Ruffs, Fewer],
+        (0, 0),
+        [Some(13), None, None],
+    ),
+    (&[], (0, 0), [None, None, None]),
+];
+
+const OF_ONE_DEAL: [Row; 2] = [
+    (&[Runs, Ruffs], (0, 0), [Some(13), None, Some(13)]),
+    (&[Runs, Fewer], (0, 0), [None, None, None]),
+];
 
 /// All evidence of a table is read to its end.
-fn expect_rows<R: Abort + Threads + Sync>(
-    rt: &R,
-    alloc: Global,
-    over: &Over,
-    rows: &[Row],
-) -> Result<(), Fail> {
-    for (evidence, (count, first), numbers) in rows {
-        let evidence = Bytes::new(evidence.as_bytes(), 1000);
+fn expect_rows<R: Abort + Threads + Sync>(rt: &R, alloc: Global, over: &Over, rows: &[Row]) {
+    for (pieces, (count, first), numbers) in rows {
+        let evidence = evidence_of(rt, alloc, pieces);
+        let source = Bytes::new(evidence.as_bytes(), 1000);
         let read = read_so(Ok(()), *count, *first);
-        expect_after(rt, alloc, over, evidence, read, *numbers)?;
+        expect_after(rt, alloc, over, source, read, *numbers);
     }
-    Ok(())
 }
 
 /// Whatever the evidence holds, its sections are published, each entry is leased once, and no lease is held.
 #[test]
-fn what_is_published(rt: HostRuntime) -> Result<(), Fail> {
-    let alloc = rt.alloc();
-    let fewer = RUFFS.replacen(alloc, "N 13 0 -", "N 12 0 -", 1)?;
-    let damaged = format!(in alloc; "x\n{RUFFS}DDE 1\n{RUNS}")?;
-    let repeated = format!(in alloc; "{fewer}{fewer}{fewer}{RUFFS}{fewer}")?;
-    let of_two_deals = [
-        (
-            format!(in alloc; "{RUFFS}{RUNS}")?,
-            (0, 0),
-            [Some(13), Some(0), None],
-        ),
-        (damaged, (2, 0), [Some(13), Some(0), None]),
-        (repeated, (0, 0), [Some(13), None, None]),
-        (String::new(alloc), (0, 0), [None, None, None]),
-    ];
-    expect_rows(&rt, alloc, &TWO_DEALS, of_two_deals.as_slice())?;
-    let of_one_deal = [
-        (
-            format!(in alloc; "{RUNS}{RUFFS}")?,
-            (0, 0),
-            [Some(13), None, Some(13)],
-        ),
-        (
-            format!(in alloc; "{RUNS}{fewer}")?,
-            (0, 0),
-            [None, None, None],
-        ),
-    ];
-    expect_rows(&rt, alloc, &ONE_DEAL, of_one_deal.as_slice())
+fn what_is_published(rt: HostRuntime) {
+    expect_rows(&rt, rt.alloc(), &TWO_DEALS, OF_TWO_DEALS.as_slice());
+    expect_rows(&rt, rt.alloc(), &ONE_DEAL, OF_ONE_DEAL.as_slice());
 }
+
+/// The call that fails, how many pieces are passed over before it, and the numbers.
+const FAILING: [(u64, u64, [Option<u8>; 3]); 3] = [
+    (0, 0, [None, None, None]),
+    (1, 1, [None, None, None]),
+    (15, 1, [Some(13), None, None]),
+];
 
 /// If reading fails, what was read before that is published.
 #[test]
-fn reading_that_fails(rt: HostRuntime) -> Result<(), Fail> {
+fn reading_that_fails(rt: HostRuntime) {
     let alloc = rt.alloc();
-    let evidence = format!(in alloc; "x\n{RUFFS}{RUNS}")?;
-    for (calls, damaged, numbers) in [
-        (0, 0, [None, None, None]),
-        (1, 1, [None, None, None]),
-        (15, 1, [Some(13), None, None]),
-    ] {
+    let evidence = evidence_of(&rt, alloc, &[Line, Ruffs, Runs]);
+    for (calls, damaged, numbers) in FAILING {
         let source = Bytes::failing_after(evidence.as_bytes(), 100, calls);
         let read = read_so(Err(InputFault::Read), damaged, 0);
-        expect_after(&rt, alloc, &TWO_DEALS, source, read, numbers)?;
+        expect_after(&rt, alloc, &TWO_DEALS, source, read, numbers);
     }
-    Ok(())
 }

@@ -1,27 +1,24 @@
 //! What is leased at a time, and how it is grouped.
 
-use crate::dividing::{CountsCalls, LetsOthersOn};
+use crate::dividing::LetsOthersOn;
 use crate::expect::expect_eq;
-use crate::gates::{TellsAll, Told};
-use crate::remembers::{Call, Remembers, declarers_of, trumps_of};
-use crate::tallies::{TURNED, TableTally, boards_of, one_board, tally_of};
-use cards::{Seat, Trump};
-use farm::{Means, Settings, run_farm};
+use crate::notices::{KeepsNotices, leases_in};
+use crate::remembers::{Call, Remembers, counts_of, digits_of};
+use crate::runs::{BUDGET, book_of, quiet_book};
+use crate::tallies::{NONE, TURNED, TableTally, tally_of};
+use cards::{Layout, Seat, Trump};
+use farm::{Means, Settings, SettingsFault};
 use lease_book::{Book, Reply};
 use partition_solver::Partition;
 use pbn_deals::read_layout;
 use std::alloc::Global;
 use std::process::Abort;
 use std::sync::Wait;
-use std::sync::atomic::Ordering::SeqCst;
-use std::test::Fail;
 use std::thread::Threads;
+use std::time::Clock;
 use test_support::deals::{ACE, FOUR_SUITS};
-use test_support::idle::{LetsPass, StandsStill};
+use test_support::idle::{FindsNothing, LetsPass, StandsStill};
 use test_support::settings::once;
-
-/// How many steps a solver has for a declarer.
-const BUDGET: u64 = 10_000_000;
 
 /// What comes of a batch on one board, with one solver, checker and clerk.
 #[derive(Clone, Copy)]
@@ -80,165 +77,146 @@ const ROWS: [Row; 5] = [
 /// The sum of two to the power of each of the leases 1 to 20.
 const ALL_LEASES: u64 = 0x1f_fffe;
 
-/// A thread was told of each lease once, in this order.
-fn expect_told(rt: &impl Abort, told: &Told, leases: u64) {
-    expect_eq(rt, &told.trumps.number(), &leases);
-    expect_eq(rt, &told.leases.load(SeqCst), &ALL_LEASES);
-}
-
-/// Fills the table of four hands of one suit each. A message has two graphs, which are checked once the gate is told of
-/// its leases. So by the runs of like digits before the graphs it is told how many messages there were, and half of how
-/// many graphs were checked: with a batch of twenty five runs, and ten graphs. That none is checked twice is not seen
-/// here.
-fn expect_groups<R: Threads + Wait + Abort + Sync>(
-    rt: &R,
-    alloc: Global,
-    row: &Row,
-) -> Result<(), Fail> {
-    let (solver, gate) = (Remembers::new(rt, alloc), TellsAll::new());
-    let settings = once(1, 1, BUDGET, row.batch)?;
-    let boards = one_board(alloc, FOUR_SUITS)?;
+/// Fills the table of four hands of one suit each. Solver, checker and clerk are each told of each lease once, in the
+/// order of the row. A message has two graphs, which are checked once the gate is told of its leases. So the runs of
+/// like digits before the graphs show how many messages there were, and half of how many graphs were checked: with a
+/// batch of twenty there are five runs, and ten graphs. The test does not see that no graph is checked twice.
+fn expect_groups<R: Threads + Wait + Abort + Sync>(rt: &R, alloc: Global, row: &Row) {
+    let search = Partition::new();
+    let solver = Remembers::new(rt, alloc, &search);
+    let gate = KeepsNotices::new(rt, alloc);
     let means = Means {
         solver: &solver,
         gate: &gate,
         clock: &StandsStill,
     };
-    let book = run_farm(rt, alloc, boards, settings, &means)?;
+    let settings = once(1, 1, BUDGET, row.batch);
+    let tally = tally_of(&book_of(rt, alloc, &[FOUR_SUITS], settings, &means));
     let wanted = TableTally {
         given: 20,
         published: 20,
-        gave_up: 0,
-        bad: 0,
         nothing: row.nothing,
         freed_none: 1,
-        others: 0,
+        ..NONE
     };
-    expect_eq(rt, &tally_of(&book), &wanted);
-    let calls = solver.into_calls();
-    expect_eq(rt, &trumps_of(calls.as_slice()), &row.calls);
-    expect_eq(rt, &declarers_of(calls.as_slice()), &row.declarers);
-    expect_told(rt, &gate.solved, row.leases);
-    expect_told(rt, &gate.checked, row.leases);
-    expect_told(rt, &gate.handed_in, row.leases);
-    Ok(())
+    expect_eq(rt, &tally, &wanted);
+    let digits = digits_of(solver.into_calls().as_slice());
+    expect_eq(rt, &digits, &(row.calls, row.declarers));
+    let leases = leases_in(gate.into_notices().as_slice());
+    expect_eq(rt, &leases, &[(row.leases, ALL_LEASES); 3]);
 }
 
 #[test]
-fn leases_are_grouped_by_denominations(rt: HostRuntime) -> Result<(), Fail> {
+fn leases_are_grouped_by_denominations(rt: HostRuntime) {
     for row in &ROWS {
-        expect_groups(&rt, rt.alloc(), row)?;
+        expect_groups(&rt, rt.alloc(), row);
     }
-    Ok(())
+}
+
+/// That a solver was asked this.
+fn call_of(
+    rt: &impl Abort,
+    alloc: Global,
+    layout: Layout,
+    declarers: &[Seat],
+    trump: Trump,
+    budget: u64,
+) -> Call {
+    Call {
+        layout,
+        declarers: Vec::from_slice(alloc, declarers).expect(rt, "memory for declarers"),
+        trump,
+        budget,
+    }
 }
 
 /// What the leases of a history say, each alone: the deal of its board, its declarer, its denomination, and the budget.
-fn said_one_by_one(alloc: Global, book: &Book, budget: u64) -> Result<Vec<Call>, Fail> {
+fn said_one_by_one(rt: &impl Abort, alloc: Global, book: &Book, budget: u64) -> Vec<Call> {
     let mut said = Vec::new(alloc);
     for event in book.history() {
-        let Reply::Given { entry, .. } = event.reply else {
-            continue;
-        };
-        let board = book.boards().get(entry.board).ok_or("no such board")?;
-        said.push(Call {
-            layout: board.deal.ok_or("no deal")?,
-            declarers: Vec::from_slice(alloc, &[entry.declarer])?,
-            trump: entry.trump,
-            budget,
-        })?;
+        if let Reply::Given { entry, .. } = event.reply {
+            let board = book.boards().get(entry.board).expect(rt, "such a board");
+            let layout = board.deal.expect(rt, "a deal");
+            let call = call_of(rt, alloc, layout, &[entry.declarer], entry.trump, budget);
+            said.push(call).expect(rt, "memory for a call");
+        }
     }
-    Ok(said)
+    said
 }
 
 /// What the twenty leases of each of two boards say together: in each denomination the deal for all its declarers.
-fn said_board_by_board(alloc: Global, budget: u64) -> Result<Vec<Call>, Fail> {
+fn said_board_by_board(rt: &impl Abort, alloc: Global, budget: u64) -> Vec<Call> {
     let mut said = Vec::new(alloc);
     for deal in [ACE, TURNED] {
-        let layout = read_layout(deal.as_bytes())?;
+        let layout = read_layout(deal.as_bytes()).expect(rt, "a deal");
         for trump in Trump::ALL {
-            said.push(Call {
-                layout,
-                declarers: Vec::from_slice(alloc, &Seat::ALL)?,
-                trump,
-                budget,
-            })?;
+            let call = call_of(rt, alloc, layout, &Seat::ALL, trump, budget);
+            said.push(call).expect(rt, "memory for a call");
         }
     }
-    Ok(said)
+    said
 }
 
-/// These are the calls that are wanted, in their order.
-fn expect_calls(rt: &impl Abort, calls: &[Call], wanted: &[Call]) {
-    expect_eq(rt, &calls.len(), &wanted.len());
-    for (call, wanted) in calls.iter().zip(wanted) {
-        expect_eq(rt, call, wanted);
-    }
-}
-
-/// The solver is asked for what the leases say, with the budget of the settings, and for nothing else.
-#[test]
-fn leases_say_what_is_asked(rt: HostRuntime) -> Result<(), Fail> {
-    let alloc = rt.alloc();
-    for (batch, budget) in [(1, 1_234_567), (20, 7_654_321)] {
-        let settings = once(1, 1, budget, batch)?;
-        let boards = boards_of(alloc, &[ACE, TURNED])?;
-        let solver = Remembers::new(&rt, alloc);
-        let means = Means {
-            solver: &solver,
-            gate: &LetsPass,
-            clock: &StandsStill,
-        };
-        let book = run_farm(&rt, alloc, boards, settings, &means)?;
-        let said = if batch == 1 {
-            said_one_by_one(alloc, &book, budget)?
-        } else {
-            said_board_by_board(alloc, budget)?
-        };
-        expect_calls(&rt, solver.into_calls().as_slice(), said.as_slice());
-    }
-    Ok(())
-}
-
-/// The book of one card each, and of the same cards one seat further on.
-fn book_of_two_boards<R: Threads + Wait + Sync>(
+/// What is asked in a run over two boards, in batches of so many, and what its leases say.
+fn asked_and_said<R: Threads + Wait + Abort + Sync>(
     rt: &R,
     alloc: Global,
-    settings: Settings,
-) -> Result<Book, Fail> {
-    let boards = boards_of(alloc, &[ACE, TURNED])?;
-    let solver = Partition::new();
-    let means = Means {
-        solver: &solver,
-        gate: &LetsPass,
-        clock: &StandsStill,
+    batch: usize,
+    budget: u64,
+) -> (Vec<Call>, Vec<Call>) {
+    let search = Partition::new();
+    let solver = Remembers::new(rt, alloc, &search);
+    let settings = once(1, 1, budget, batch);
+    let book = quiet_book(rt, alloc, &[ACE, TURNED], settings, &solver);
+    let said = if batch == 1 {
+        said_one_by_one(rt, alloc, &book, budget)
+    } else {
+        said_board_by_board(rt, alloc, budget)
     };
-    let book = run_farm(rt, alloc, boards, settings, &means)?;
-    Ok(book)
+    (solver.into_calls(), said)
+}
+
+/// The solver is asked for what the leases say, with the budget of the settings, and for nothing else, in this order.
+#[test]
+fn leases_say_what_is_asked(rt: HostRuntime) {
+    for (batch, budget) in [(1, 1_234_567), (20, 7_654_321)] {
+        let (asked, said) = asked_and_said(&rt, rt.alloc(), batch, budget);
+        expect_eq(&rt, &asked, &said);
+    }
+}
+
+/// What is in the book of one card each, and of the same cards one seat further on.
+fn tally_of_two_boards<R: Threads + Wait + Abort + Sync>(
+    rt: &R,
+    alloc: Global,
+    settings: Result<Settings, SettingsFault>,
+) -> TableTally {
+    let deals = [ACE, TURNED];
+    tally_of(&quiet_book(rt, alloc, &deals, settings, &Partition::new()))
 }
 
 /// Batches with the last entries of one board and the first of the next, among them some in the same denomination.
 #[test]
-fn leases_are_grouped_by_boards(rt: HostRuntime) -> Result<(), Fail> {
+fn leases_are_grouped_by_boards(rt: HostRuntime) {
     for batch in [8, 13, 20] {
-        let settings = once(1, 1, BUDGET, batch)?;
-        let tally = tally_of(&book_of_two_boards(&rt, rt.alloc(), settings)?);
+        let tally = tally_of_two_boards(&rt, rt.alloc(), once(1, 1, BUDGET, batch));
         expect_eq(&rt, &(tally.given, tally.published), &(40, 40));
     }
-    Ok(())
+}
+
+/// Settings with two solvers and checkers, by which a lease runs out at once.
+fn hurried(batch: usize) -> Result<Settings, SettingsFault> {
+    once(2, 2, BUDGET, batch)?.with_term(0).with_tries(3)
 }
 
 /// Leases that run out at once: what is handed in late counts.
 #[test]
-fn late_answers_are_published(rt: HostRuntime) -> Result<(), Fail> {
+fn late_answers_are_published(rt: HostRuntime) {
     for batch in [1, 13, 20] {
-        let settings = once(2, 2, BUDGET, batch)?.with_term(0).with_tries(3)?;
-        let tally = tally_of(&book_of_two_boards(&rt, rt.alloc(), settings)?);
-        expect_eq(
-            &rt,
-            &(tally.published, tally.gave_up, tally.bad),
-            &(40, 0, 0),
-        );
+        let tally = tally_of_two_boards(&rt, rt.alloc(), hurried(batch));
+        let outcome = (tally.published, tally.gave_up, tally.bad);
+        expect_eq(&rt, &outcome, &(40, 0, 0));
     }
-    Ok(())
 }
 
 /// Four deals of one card each.
@@ -249,23 +227,27 @@ const ROUND: [&str; 4] = [
     "N:K... Q... J... A...",
 ];
 
+/// So many solvers are each asked for the declarers of a denomination together.
+fn expect_whole<R: Threads + Wait + Abort + Clock + Sync>(rt: &R, alloc: Global, solvers: usize) {
+    let nothing = FindsNothing;
+    let solver = Remembers::new(rt, alloc, &nothing);
+    let means = Means {
+        solver: &solver,
+        gate: &LetsPass,
+        clock: &LetsOthersOn { rt },
+    };
+    let settings = once(solvers, 1, BUDGET, 20);
+    let tally = tally_of(&book_of(rt, alloc, &ROUND, settings, &means));
+    expect_eq(rt, &tally.gave_up, &80);
+    let counts = counts_of(solver.into_calls().as_slice());
+    expect_eq(rt, &counts, &(20, 0));
+}
+
 /// Several solvers. The declarers of a denomination are asked for together, so that what was kept of them
 /// serves the next run.
 #[test]
-fn denominations_are_not_divided(rt: HostRuntime) -> Result<(), Fail> {
-    let alloc = rt.alloc();
+fn denominations_are_not_divided(rt: HostRuntime) {
     for solvers in [2, 4] {
-        let settings = once(solvers, 1, BUDGET, 20)?;
-        let boards = boards_of(alloc, &ROUND)?;
-        let solver = CountsCalls::new();
-        let means = Means {
-            solver: &solver,
-            gate: &LetsPass,
-            clock: &LetsOthersOn { rt: &rt },
-        };
-        let book = run_farm(&rt, alloc, boards, settings, &means)?;
-        expect_eq(&rt, &tally_of(&book).gave_up, &80);
-        expect_eq(&rt, &solver.counts(), &(20, 0));
+        expect_whole(&rt, rt.alloc(), solvers);
     }
-    Ok(())
 }

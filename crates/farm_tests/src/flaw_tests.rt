@@ -3,21 +3,12 @@
 
 use crate::expect::expect_eq;
 use crate::flawed::{Change, FindsSome, Flawed, Graphs};
-use crate::tallies::{leases_given_up, one_board, tally_of};
-use certificate_graph::Solver;
-use farm::{Means, run_farm};
-use lease_book::Book;
+use crate::runs::{BUDGET, quiet_book};
+use crate::tallies::{leases_given_up, tally_of};
 use partition_solver::Partition;
-use std::alloc::Global;
-use std::sync::Wait;
 use std::test::Fail;
-use std::thread::Threads;
 use test_support::deals::ACE;
-use test_support::idle::{LetsPass, StandsStill};
 use test_support::settings::once;
-
-/// How many steps a solver has for a declarer.
-const BUDGET: u64 = 10_000_000;
 
 /// What is done to the graphs, and to the claims, how many entries are leased at a time, and how many of twenty are
 /// published, given up, and refused.
@@ -76,39 +67,20 @@ const ROWS: [Row; 22] = [
     (Graphs::OfAnotherTrump, &[Change::Same], 20, REFUSED),
 ];
 
-/// The book of a run over the board of one card each, with one try an entry.
-fn book_of_the_ace<S: Solver + Sync, R: Threads + Wait + Sync>(
-    rt: &R,
-    alloc: Global,
-    batch: usize,
-    solver: &S,
-) -> Result<Book, Fail> {
-    let settings = once(1, 1, BUDGET, batch)?;
-    let boards = one_board(alloc, ACE)?;
-    let means = Means {
-        solver,
-        gate: &LetsPass,
-        clock: &StandsStill,
-    };
-    let book = run_farm(rt, alloc, boards, settings, &means)?;
-    Ok(book)
-}
-
 #[test]
-fn flawed_answers(rt: HostRuntime) -> Result<(), Fail> {
+fn flawed_answers(rt: HostRuntime) {
     let search = Partition::new();
-    for (graphs, changes, batch, wanted) in ROWS {
+    for (number, (graphs, changes, batch, wanted)) in ROWS.iter().enumerate() {
         let solver = Flawed {
             search: &search,
-            graphs,
-            changes,
+            graphs: *graphs,
+            changes: *changes,
         };
-        let book = book_of_the_ace(&rt, rt.alloc(), batch, &solver)?;
-        let tally = tally_of(&book);
+        let settings = once(1, 1, BUDGET, *batch);
+        let tally = tally_of(&quiet_book(&rt, rt.alloc(), &[ACE], settings, &solver));
         let outcome = [tally.published, tally.gave_up, tally.bad];
-        assert_eq!(rt; outcome, wanted, "{graphs:?} {changes:?} by {batch}");
+        expect_eq(&rt, &(number, outcome), &(number, *wanted));
     }
-    Ok(())
 }
 
 /// All of no-trump and of spades is given up, and South's and West's hearts: all else is published.
@@ -118,7 +90,8 @@ fn parts_of_answers(rt: HostRuntime) -> Result<(), Fail> {
     let search = Partition::new();
     let solver = FindsSome { search: &search };
     for batch in [7, 10, 20] {
-        let book = book_of_the_ace(&rt, rt.alloc(), batch, &solver)?;
+        let settings = once(1, 1, BUDGET, batch);
+        let book = quiet_book(&rt, rt.alloc(), &[ACE], settings, &solver);
         let leases = leases_given_up(rt.alloc(), &book)?;
         expect_eq(&rt, &leases.as_slice(), &unanswered.as_slice());
         expect_eq(&rt, &tally_of(&book).published, &10);

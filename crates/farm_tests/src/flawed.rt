@@ -7,7 +7,7 @@ use partition_solver::Partition;
 use std::alloc::{AllocError, Global};
 
 /// What is done to the graphs of an answer.
-#[derive(Clone, Copy, Debug)]
+#[derive(Clone, Copy)]
 pub enum Graphs {
     /// Nothing.
     Right,
@@ -18,7 +18,7 @@ pub enum Graphs {
 }
 
 /// What is done to a claim.
-#[derive(Clone, Copy, Debug)]
+#[derive(Clone, Copy)]
 pub enum Change {
     /// Nothing.
     Same,

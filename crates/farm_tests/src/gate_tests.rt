@@ -1,11 +1,12 @@
 //! What a gate is told by a checker and by a clerk, and what it sees.
 
 use crate::expect::expect_eq;
-use crate::gates::Hears;
+use crate::notices::{KeepsNotices, answers_in};
+use crate::runs::book_of;
 use crate::sharing::CountsHolders;
 use crate::solvers::FindsTheAce;
-use crate::tallies::{hand_ins_of, one_board, tally_of};
-use farm::{Means, run_farm};
+use crate::tallies::{hand_ins_of, tally_of};
+use farm::Means;
 use std::test::Fail;
 use test_support::deals::ACE;
 use test_support::idle::StandsStill;
@@ -16,18 +17,16 @@ use test_support::settings::once;
 #[test]
 fn hand_ins_are_told_with_their_replies(rt: HostRuntime) -> Result<(), Fail> {
     let alloc = rt.alloc();
-    let settings = once(1, 1, 1, 1)?;
-    let boards = one_board(alloc, ACE)?;
-    let gate = Hears::new(&rt, alloc);
+    let gate = KeepsNotices::new(&rt, alloc);
     let means = Means {
         solver: &FindsTheAce,
         gate: &gate,
         clock: &StandsStill,
     };
-    let book = run_farm(&rt, alloc, boards, settings, &means)?;
+    let book = book_of(&rt, alloc, &[ACE], once(1, 1, 1, 1), &means);
     let tally = tally_of(&book);
     expect_eq(&rt, &(tally.published, tally.bad), &(1, 19));
-    let told = gate.into_told();
+    let told = answers_in(alloc, gate.into_notices().as_slice())?;
     expect_eq(&rt, &told.len(), &20);
     expect_eq(&rt, &told, &hand_ins_of(alloc, &book)?);
     Ok(())
@@ -37,16 +36,13 @@ fn hand_ins_are_told_with_their_replies(rt: HostRuntime) -> Result<(), Fail> {
 /// checked for all of them at once.
 #[test]
 fn claims_share_what_was_checked(rt: HostRuntime) -> Result<(), Fail> {
-    let alloc = rt.alloc();
-    let settings = once(1, 1, 1, 20)?;
-    let boards = one_board(alloc, ACE)?;
-    let counts = CountsHolders::new(alloc)?;
+    let counts = CountsHolders::new(rt.alloc())?;
     let means = Means {
         solver: &counts,
         gate: &counts,
         clock: &StandsStill,
     };
-    let book = run_farm(&rt, alloc, boards, settings, &means)?;
+    let book = book_of(&rt, rt.alloc(), &[ACE], once(1, 1, 1, 20), &means);
     expect_eq(&rt, &tally_of(&book).bad, &20);
     expect_eq(&rt, &counts.holders(), &(2, 2));
     Ok(())

@@ -5,8 +5,6 @@
 #[cfg(test)]
 mod batch_tests;
 #[cfg(test)]
-mod digits;
-#[cfg(test)]
 mod dividing;
 #[cfg(test)]
 mod expect;
@@ -42,6 +40,8 @@ mod relay_watch;
 mod remembers;
 #[cfg(test)]
 mod run_tests;
+#[cfg(test)]
+mod runs;
 #[cfg(test)]
 mod settings_tests;
 #[cfg(test)]

@@ -1,8 +1,9 @@
 //! A gate that keeps all that it is told.
 
+use crate::remembers::with_digit;
 use lease_book::{Entry, Gate, Reply};
 use pbn_deals::Board;
-use std::alloc::Global;
+use std::alloc::{AllocError, Global};
 use std::sync::{Mutex, Wait};
 
 /// What a gate was told.
@@ -81,4 +82,42 @@ impl<R: Wait> Gate for KeepsNotices<'_, R> {
     fn after_work(&self) {
         self.keep(Notice::Ends);
     }
+}
+
+/// The place of a step on the way of a lease, from solver to checker and clerk, and the lease.
+fn step_of(notice: &Notice) -> Option<(usize, u64)> {
+    match notice {
+        Notice::Solves(lease) => Some((0, *lease)),
+        Notice::ChecksGraphs(lease) => Some((1, *lease)),
+        Notice::Checks(lease) => Some((2, *lease)),
+        _ => None,
+    }
+}
+
+/// The leases of a board that solver, checker and clerk were told of, if there is one of each. For each there is a
+/// number whose digits are the denominations in order, no-trump, spades, hearts, diamonds and clubs being 1 to 5, and
+/// the sum of two to the power of each lease. Of twenty leases the sum says which they were.
+pub fn leases_in(notices: &[Notice]) -> [(u64, u64); 3] {
+    let mut leases = [(0u64, 0u64); 3];
+    for notice in notices {
+        if let Some((place, lease)) = step_of(notice)
+            && let Some(told) = leases.get_mut(place)
+        {
+            // The leases of a board are in the order of the entries, so that each fifth is in the same denomination.
+            told.0 = with_digit(told.0, lease.wrapping_sub(1) % 5 + 1);
+            told.1 = told.1.wrapping_add(1 << (lease % 64));
+        }
+    }
+    leases
+}
+
+/// The entries whose numbers became known or whose claims were refused, each with the reply, in their order.
+pub fn answers_in(alloc: Global, notices: &[Notice]) -> Result<Vec<(Entry, Reply)>, AllocError> {
+    let mut answers = Vec::new(alloc);
+    for notice in notices {
+        if let Notice::Answers(entry, reply) = notice {
+            answers.push((*entry, *reply))?;
+        }
+    }
+    Ok(answers)
 }

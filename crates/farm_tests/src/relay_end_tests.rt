@@ -2,8 +2,8 @@
 //! the relay.
 
 use crate::expect::expect_eq;
-use crate::relay_runs::{numbers, put_range, take_times};
-use crate::relay_watch::{soon, take_end_soon, take_soon};
+use crate::relay_runs::{expect_left, expect_put, expect_taken};
+use crate::relay_watch::{end_soon, finish_soon, soon, take_end_soon, take_soon};
 use cards::OutOfMemory;
 use farm_relay::Relay;
 use std::alloc::Global;
@@ -14,13 +14,11 @@ use std::test::Fail;
 /// Three numbers and an end mark are taken, and nothing is left.
 fn take_three_and_an_end<R: Wait + Abort>(rt: &R, alloc: Global) -> Result<(), OutOfMemory> {
     let (relay, mut putters, mut takers) = Relay::<u64>::open(alloc, 64, 1, 1)?;
-    expect_eq(rt, &put_range(rt, &mut putters[0], 1, 4), &0);
+    expect_put(rt, &mut putters[0], 1, 4);
     putters[0].finish(rt);
-    let taken = take_times(rt, alloc, &mut takers[0], 3)?;
-    expect_eq(rt, &taken, &numbers(alloc, 1, 4)?);
+    expect_taken(rt, &mut takers[0], 1, 4);
     expect_eq(rt, &takers[0].take(rt), &None);
-    let left = relay.close(rt, putters, takers)?;
-    expect_eq(rt, &left.len(), &0);
+    expect_left(rt, relay, putters, takers, 0, 0);
     Ok(())
 }
 
@@ -36,8 +34,7 @@ fn take_two_marks<R: Wait + Abort>(rt: &R, alloc: Global) -> Result<(), OutOfMem
     putters[0].finish(rt);
     expect_eq(rt, &takers[0].take(rt), &None);
     expect_eq(rt, &takers[1].take(rt), &None);
-    let left = relay.close(rt, putters, takers)?;
-    expect_eq(rt, &left.len(), &0);
+    expect_left(rt, relay, putters, takers, 0, 0);
     Ok(())
 }
 
@@ -54,8 +51,7 @@ fn finish_twice<R: Wait + Abort>(rt: &R, alloc: Global) -> Result<(), OutOfMemor
     putters[0].finish(rt);
     expect_eq(rt, &putters[0].put(rt, 7), &Err(7));
     expect_eq(rt, &takers[0].take(rt), &None);
-    let left = relay.close(rt, putters, takers)?;
-    expect_eq(rt, &left.len(), &0);
+    expect_left(rt, relay, putters, takers, 0, 0);
     Ok(())
 }
 
@@ -69,10 +65,9 @@ fn finished_twice(rt: HostRuntime) -> Result<(), Fail> {
 #[test]
 fn marks_are_not_left(rt: HostRuntime) -> Result<(), Fail> {
     let (relay, mut putters, takers) = Relay::<u64>::open(rt.alloc(), 8, 1, 3)?;
-    expect_eq(&rt, &put_range(&rt, &mut putters[0], 1, 3), &0);
+    expect_put(&rt, &mut putters[0], 1, 3);
     putters[0].finish(&rt);
-    let left = relay.close(&rt, putters, takers)?;
-    expect_eq(&rt, &left, &numbers(rt.alloc(), 1, 3)?);
+    expect_left(&rt, relay, putters, takers, 1, 3);
     Ok(())
 }
 
@@ -88,13 +83,13 @@ fn only_the_last_putter_puts_marks(rt: HostRuntime) -> Result<(), Fail> {
         let mut last = putters.pop().ok_or("no putter")?;
         let mut number = 0u64;
         for putter in &mut putters {
-            soon(&rt, || putter.finish(&rt));
+            finish_soon(&rt, putter);
             number = number.wrapping_add(1);
             expect_eq(&rt, &last.put(&rt, number), &Ok(()));
             expect_eq(&rt, &take_soon(&rt, &mut takers[0]), &Some(number));
         }
         expect_eq(&rt, &(number as usize), &putters.len());
-        soon(&rt, || last.finish(&rt));
+        finish_soon(&rt, &mut last);
         for taker in &mut takers {
             take_end_soon(&rt, taker);
         }
@@ -125,9 +120,9 @@ fn ended_when_one_has_finished(rt: HostRuntime) -> Result<(), Fail> {
 fn finished_after_the_end(rt: HostRuntime) -> Result<(), Fail> {
     for count in PUTTERS {
         let (mut relay, mut putters, mut takers) = Relay::<u64>::open(rt.alloc(), 1, count, 1)?;
-        soon(&rt, || relay.end(&rt));
+        end_soon(&rt, &mut relay);
         for putter in &mut putters {
-            soon(&rt, || putter.finish(&rt));
+            finish_soon(&rt, putter);
         }
         take_end_soon(&rt, &mut takers[0]);
     }
@@ -140,9 +135,9 @@ fn ended_when_all_have_finished(rt: HostRuntime) -> Result<(), Fail> {
     for count in PUTTERS {
         let (mut relay, mut putters, mut takers) = Relay::<u64>::open(rt.alloc(), 1, count, 1)?;
         for putter in &mut putters {
-            soon(&rt, || putter.finish(&rt));
+            finish_soon(&rt, putter);
         }
-        soon(&rt, || relay.end(&rt));
+        end_soon(&rt, &mut relay);
         take_end_soon(&rt, &mut takers[0]);
     }
     Ok(())
@@ -152,9 +147,8 @@ fn ended_when_all_have_finished(rt: HostRuntime) -> Result<(), Fail> {
 #[test]
 fn closed_after_its_end(rt: HostRuntime) -> Result<(), Fail> {
     let (mut relay, mut putters, takers) = Relay::<u64>::open(rt.alloc(), 8, 1, 3)?;
-    expect_eq(&rt, &put_range(&rt, &mut putters[0], 1, 3), &0);
+    expect_put(&rt, &mut putters[0], 1, 3);
     relay.end(&rt);
-    let left = relay.close(&rt, putters, takers)?;
-    expect_eq(&rt, &left, &numbers(rt.alloc(), 1, 3)?);
+    expect_left(&rt, relay, putters, takers, 1, 3);
     Ok(())
 }

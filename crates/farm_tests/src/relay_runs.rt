@@ -1,20 +1,21 @@
 //! Numbers that are put into a relay, and taken.
 
 ghost use Rattle.std.specs.Prelude.{IfOk};
-ghost use Rattle.farm_relay.specs.Relays.{PutsAtSame, TakesAtSame};
+ghost use Rattle.farm_relay.specs.Relays.{AreAllOf, PutsAtSame, TakesAtSame};
 
+use crate::expect::expect_eq;
 use cards::OutOfMemory;
-use farm_relay::{Putter, Taker};
-use std::alloc::{AllocError, Global};
+use farm_relay::{Putter, Relay, Taker};
+use std::alloc::Global;
+use std::process::Abort;
 use std::sync::Wait;
 
-/// The numbers from one up to another, without it.
-pub fn numbers(alloc: Global, first: u64, end: u64) -> Result<Vec<u64>, AllocError> {
-    let mut all = Vec::new(alloc);
-    for number in first..end {
-        all.push(number)?;
+/// These are the numbers from one up to another, without it.
+pub fn expect_numbers(rt: &impl Abort, got: &[u64], first: u64, end: u64) {
+    expect_eq(rt, &(got.len() as u64), &end.wrapping_sub(first));
+    for (place, number) in got.iter().enumerate() {
+        expect_eq(rt, number, &first.wrapping_add(place as u64));
     }
-    Ok(all)
 }
 
 /// Puts these numbers, and says how many were handed back.
@@ -30,22 +31,37 @@ pub fn put_range<R: Wait>(rt: &R, putter: &mut Putter<u64>, first: u64, end: u64
     back
 }
 
-/// Takes so many times, and gives what came.
-pub fn take_times<R: Wait>(
-    rt: &R,
-    alloc: Global,
-    taker: &mut Taker<u64>,
-    times: usize,
-) -> Result<Vec<u64>, OutOfMemory>
+/// Puts these numbers, of which none is handed back.
+pub fn expect_put<R: Wait + Abort>(rt: &R, putter: &mut Putter<u64>, first: u64, end: u64)
+    ensures { PutsAtSame putter.old putter.new }
+{
+    expect_eq(rt, &put_range(rt, putter, first, end), &0);
+}
+
+/// Takes these numbers, one by one.
+pub fn expect_taken<R: Wait + Abort>(rt: &R, taker: &mut Taker<u64>, first: u64, end: u64)
     ensures { TakesAtSame taker.old taker.new }
 {
-    let mut taken = Vec::new(alloc);
-    for _time in 0..times {
-        if let Some(number) = taker.take(rt) {
-            taken.push(number)?;
-        }
+    for number in first..end {
+        expect_eq(rt, &taker.take(rt), &Some(number));
     }
-    Ok(taken)
+}
+
+/// Closes the relay, in which these numbers are left.
+pub fn expect_left<R: Wait + Abort>(
+    rt: &R,
+    relay: Relay<u64>,
+    putters: Vec<Putter<u64>>,
+    takers: Vec<Taker<u64>>,
+    first: u64,
+    end: u64,
+)
+    requires { AreAllOf relay putters.items takers.items }
+{
+    let left = relay
+        .close(rt, putters, takers)
+        .expect(rt, "memory for what is left");
+    expect_numbers(rt, left.as_slice(), first, end);
 }
 
 /// Takes until nothing comes, and gives what came.

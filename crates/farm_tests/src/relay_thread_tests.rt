@@ -4,7 +4,7 @@ ghost use Rattle.std.specs.Prelude.{◌≡◌, ◌∷◌, [], IfOk, length};
 ghost use Rattle.farm_relay.specs.Relays.{PutsAtSame, TakesAtSame};
 
 use crate::expect::expect_eq;
-use crate::relay_runs::{numbers, put_range, take_all};
+use crate::relay_runs::{expect_numbers, put_range, take_all};
 use crate::relay_watch::soon;
 use cards::OutOfMemory;
 use farm_relay::{Putter, Relay, Taker};
@@ -153,7 +153,7 @@ fn two_and_two(rt: HostRuntime) -> Result<(), Fail> {
     let (came, back) = exchanged?;
     let mut came = came;
     came.sort()?;
-    expect_eq(&rt, &came, &numbers(rt.alloc(), 1, 1001)?);
+    expect_numbers(&rt, came.as_slice(), 1, 1001);
     expect_eq(&rt, &back, &0);
     Ok(())
 }

@@ -2,7 +2,7 @@
 //! no take if the relay is ended.
 
 use crate::expect::expect_eq;
-use crate::relay_watch::{soon, take_end_soon};
+use crate::relay_watch::{end_soon, soon, take_end_soon};
 use cards::OutOfMemory;
 use farm_relay::{Putter, Relay, Taker};
 use std::alloc::Global;
@@ -155,7 +155,7 @@ fn nobody_is_left(rt: HostRuntime) -> Result<(), Fail> {
     expect_eq(&rt, &putters[0].put(&rt, 8), &Ok(()));
     drop(takers);
     expect_eq(&rt, &soon(&rt, || putters[0].put(&rt, 9)), &Err(9));
-    soon(&rt, || relay.end(&rt));
+    end_soon(&rt, &mut relay);
     Ok(())
 }
 

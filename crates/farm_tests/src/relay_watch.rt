@@ -1,7 +1,7 @@
 //! Calls of a relay that must end by themselves.
 
 use crate::expect::expect_eq;
-use farm_relay::Taker;
+use farm_relay::{Putter, Relay, Taker};
 use std::process::Abort;
 use std::sync::Wait;
 use std::sync::atomic::AtomicBool;
@@ -56,4 +56,14 @@ pub fn take_soon<R: Threads + Wait + Abort + Clock + Sync>(
 /// Takes an end mark. The test fails if none is at the front.
 pub fn take_end_soon<R: Threads + Wait + Abort + Clock + Sync>(rt: &R, taker: &mut Taker<u64>) {
     expect_eq(rt, &take_soon(rt, taker), &None);
+}
+
+/// Ends the putter. The test fails if that takes too long.
+pub fn finish_soon<R: Threads + Wait + Abort + Clock + Sync>(rt: &R, putter: &mut Putter<u64>) {
+    soon(rt, || putter.finish(rt));
+}
+
+/// Ends the relay. The test fails if that takes too long.
+pub fn end_soon<R: Threads + Wait + Abort + Clock + Sync>(rt: &R, relay: &mut Relay<u64>) {
+    soon(rt, || relay.end(rt));
 }

@@ -2,7 +2,6 @@
 
 use cards::{Layout, Seat, Suit, Trump};
 use certificate_graph::{Bundle, Solver};
-use partition_solver::Partition;
 use std::alloc::{AllocError, Global};
 use std::sync::{Mutex, Wait};
 
@@ -15,19 +14,19 @@ pub struct Call {
     pub budget: u64,
 }
 
-/// The partition search, with all that it was asked, in order.
+/// A solver, with all that it was asked, in order.
 #[derive(Drop)]
-pub struct Remembers<'a, R> {
+pub struct Remembers<'a, S, R> {
     rt: &'a R,
-    search: Partition,
+    solver: &'a S,
     calls: Mutex<Vec<Call>>,
 }
 
-impl<'a, R: Wait> Remembers<'a, R> {
-    pub fn new(rt: &'a R, alloc: Global) -> Remembers<'a, R> {
+impl<'a, S, R: Wait> Remembers<'a, S, R> {
+    pub fn new(rt: &'a R, alloc: Global, solver: &'a S) -> Remembers<'a, S, R> {
         Remembers {
             rt,
-            search: Partition::new(),
+            solver,
             calls: Mutex::new(Vec::new(alloc)),
         }
     }
@@ -36,7 +35,7 @@ impl<'a, R: Wait> Remembers<'a, R> {
     pub fn into_calls(self) -> Vec<Call> {
         let Remembers {
             rt: _,
-            search: _,
+            solver: _,
             calls,
         } = self;
         calls.into_inner()
@@ -70,30 +69,35 @@ fn count_of(declarers: &[Seat]) -> u64 {
 }
 
 /// The number of these digits before, and one more.
-fn with_digit(digits: u64, digit: u64) -> u64 {
+pub fn with_digit(digits: u64, digit: u64) -> u64 {
     digits.wrapping_mul(10).wrapping_add(digit)
 }
 
 /// The denominations of up to twenty calls as the digits of one number, no-trump, spades, hearts, diamonds and clubs
-/// being 1 to 5.
-pub fn trumps_of(calls: &[Call]) -> u64 {
-    let mut digits = 0;
+/// being 1 to 5, and how many declarers they were for, likewise.
+pub fn digits_of(calls: &[Call]) -> (u64, u64) {
+    let (mut trumps, mut declarers) = (0, 0);
     for call in calls {
-        digits = with_digit(digits, digit_of(call.trump));
+        trumps = with_digit(trumps, digit_of(call.trump));
+        declarers = with_digit(declarers, count_of(call.declarers.as_slice()));
     }
-    digits
+    (trumps, declarers)
 }
 
-/// How many declarers they were for, likewise.
-pub fn declarers_of(calls: &[Call]) -> u64 {
-    let mut digits = 0;
+/// How many calls were for all four declarers, and for fewer.
+pub fn counts_of(calls: &[Call]) -> (u64, u64) {
+    let (mut all, mut fewer) = (0u64, 0u64);
     for call in calls {
-        digits = with_digit(digits, count_of(call.declarers.as_slice()));
+        if call.declarers.len() == Seat::ALL.len() {
+            all = all.wrapping_add(1);
+        } else {
+            fewer = fewer.wrapping_add(1);
+        }
     }
-    digits
+    (all, fewer)
 }
 
-impl<R: Wait> Solver for Remembers<'_, R> {
+impl<S: Solver, R: Wait> Solver for Remembers<'_, S, R> {
     fn solve(
         &self,
         alloc: Global,
@@ -109,6 +113,6 @@ impl<R: Wait> Solver for Remembers<'_, R> {
             budget,
         };
         self.calls.lock(self.rt).push(call)?;
-        self.search.solve(alloc, layout, declarers, trump, budget)
+        self.solver.solve(alloc, layout, declarers, trump, budget)
     }
 }

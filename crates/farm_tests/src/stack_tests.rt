@@ -1,17 +1,13 @@
 //! The stack that a thread has. A search of thirteen cards a hand touches 40 kB of it.
 
 use crate::expect::expect_eq;
+use crate::runs::{BUDGET, quiet_book};
 use crate::stacks::{DEPTH, NeedsStack};
-use crate::tallies::{one_board, published_in};
+use crate::tallies::published_in;
 use cards::{Side, Suit, Trump};
-use farm::{Means, run_farm};
 use lease_book::Entry;
 use std::test::Fail;
-use test_support::idle::{LetsPass, StandsStill};
 use test_support::settings::once;
-
-/// How many steps a solver has for a declarer.
-const BUDGET: u64 = 10_000_000;
 
 /// The first deal of `examples/club.pbn`.
 const DEALT: &str = "N:Q64.QJ7.K9.AK954 98.43.A7653.QJ83 T73.T92.QT842.72 AKJ52.AK865.J.T6";
@@ -33,17 +29,11 @@ fn tricks(entry: Entry) -> u8 {
 /// A solver that needs 624 KiB of stack before each search of a whole deal. With stacks of 512 KiB this test crashes.
 #[test]
 fn a_solver_has_most_of_a_mebibyte_of_stack(rt: HostRuntime) -> Result<(), Fail> {
-    let alloc = rt.alloc();
     let solver = NeedsStack::new();
-    let means = Means {
-        solver: &solver,
-        gate: &LetsPass,
-        clock: &StandsStill,
-    };
-    let settings = once(1, 1, BUDGET, 20)?;
-    let book = run_farm(&rt, alloc, one_board(alloc, DEALT)?, settings, &means)?;
+    let settings = once(1, 1, BUDGET, 20);
+    let book = quiet_book(&rt, rt.alloc(), &[DEALT], settings, &solver);
     expect_eq(&rt, &solver.depths(), &(5 * DEPTH));
-    let published = published_in(alloc, &book)?;
+    let published = published_in(rt.alloc(), &book)?;
     expect_eq(&rt, &published.len(), &20);
     for (entry, number) in &published {
         expect_eq(&rt, number, &tricks(*entry));

@@ -4,27 +4,23 @@ use cards::{Seat, Trump};
 use lease_book::{Asked, Book, Entry, Reply};
 use pbn_deals::{Board, BoardName, read_layout};
 use std::alloc::{AllocError, Global};
-use std::test::Fail;
+use std::process::Abort;
 
 /// The deal of one card each in which East has the ace: the cards of North's ace, each at the next seat.
 pub const TURNED: &str = "N:J... A... K... Q...";
 
 /// A board for each of these deals.
-pub fn boards_of(alloc: Global, deals: &[&str]) -> Result<Vec<Board>, Fail> {
+pub fn boards_of(rt: &impl Abort, alloc: Global, deals: &[&str]) -> Vec<Board> {
     let mut boards = Vec::new(alloc);
     for deal in deals {
-        let layout = read_layout(deal.as_bytes())?;
-        boards.push(Board {
+        let layout = read_layout(deal.as_bytes()).expect(rt, "a deal");
+        let board = Board {
             name: BoardName::new(Vec::new(alloc)),
             deal: Some(layout),
-        })?;
+        };
+        boards.push(board).expect(rt, "memory for a board");
     }
-    Ok(boards)
-}
-
-/// One board with this deal.
-pub fn one_board(alloc: Global, deal: &str) -> Result<Vec<Board>, Fail> {
-    boards_of(alloc, &[deal])
+    boards
 }
 
 /// So many boards without a deal.
@@ -51,40 +47,48 @@ pub struct TableTally {
     pub others: u64,
 }
 
-impl TableTally {
-    fn none() -> TableTally {
-        TableTally {
-            given: 0,
-            published: 0,
-            gave_up: 0,
-            bad: 0,
-            nothing: 0,
-            freed_none: 0,
-            others: 0,
-        }
-    }
+/// A history without replies.
+pub const NONE: TableTally = TableTally {
+    given: 0,
+    published: 0,
+    gave_up: 0,
+    bad: 0,
+    nothing: 0,
+    freed_none: 0,
+    others: 0,
+};
 
-    fn place(&mut self, reply: &Reply) -> &mut u64 {
-        match reply {
-            Reply::Given { .. } => &mut self.given,
-            Reply::Published(_) => &mut self.published,
-            Reply::GaveUp => &mut self.gave_up,
-            Reply::BadCertificate(_) => &mut self.bad,
-            Reply::Nothing => &mut self.nothing,
-            Reply::Freed(0) => &mut self.freed_none,
-            _ => &mut self.others,
-        }
+/// The place of a reply among the counts of a tally.
+fn place_of(reply: &Reply) -> usize {
+    match reply {
+        Reply::Given { .. } => 0,
+        Reply::Published(_) => 1,
+        Reply::GaveUp => 2,
+        Reply::BadCertificate(_) => 3,
+        Reply::Nothing => 4,
+        Reply::Freed(0) => 5,
+        _ => 6,
     }
 }
 
 /// How often each reply stands in the history of a book.
 pub fn tally_of(book: &Book) -> TableTally {
-    let mut tally = TableTally::none();
+    let mut counts = [0u64; 7];
     for event in book.history() {
-        let count = tally.place(&event.reply);
-        *count = count.saturating_add(1);
+        if let Some(count) = counts.get_mut(place_of(&event.reply)) {
+            *count = count.saturating_add(1);
+        }
     }
-    tally
+    let [given, published, gave_up, bad, nothing, freed_none, others] = counts;
+    TableTally {
+        given,
+        published,
+        gave_up,
+        bad,
+        nothing,
+        freed_none,
+        others,
+    }
 }
 
 /// The entries of the first board that have a number, each with it, clockwise from North, in no-trump first.

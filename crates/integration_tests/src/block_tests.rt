@@ -1,13 +1,12 @@
 //! Nodes that are put together block by block.
 
-use crate::expect::expect_eq;
+use crate::expect::{expect_eq, got, some};
 use cards::{Seat, Suit};
 use certificate_graph::{BareNode, Node, Token};
 use pattern_step::PatCard;
 use patterns::Pattern;
 use std::alloc::Global;
 use std::process::Abort;
-use std::test::Fail;
 
 /// The word of a suit: one card of spades each, North's the ace.
 const ONE_EACH: u64 = 0x11111;
@@ -42,64 +41,55 @@ const COUNTS: [(&[usize], bool); 11] = [
 ];
 
 /// Nodes without their trees, which have so many tokens.
-fn bare_nodes(alloc: Global, counts: &[usize]) -> Result<Vec<BareNode>, Fail> {
-    let pattern = Pattern::from_words([ONE_EACH, 0, 0, 0])?;
+fn bare_nodes(rt: &impl Abort, alloc: Global, counts: &[usize]) -> Vec<BareNode> {
+    let pattern = got(rt, Pattern::from_words([ONE_EACH, 0, 0, 0]));
     let mut bares = Vec::new(alloc);
     for count in counts {
-        bares.push(BareNode {
+        let bare = BareNode {
             pattern,
             lead: Seat::West,
             need: 1,
             count: *count,
-        })?;
+        };
+        got(rt, bares.push(bare));
     }
-    Ok(bares)
+    bares
 }
 
-/// Checks that the nodes behind the first have these numbers of tokens, which are together those of the row.
-fn expect_trees(
-    rt: &impl Abort,
-    alloc: Global,
-    nodes: &[Node],
-    counts: &[usize],
-) -> Result<(), Fail> {
+/// Checks that these nodes have these numbers of tokens, which are together those of the row.
+fn expect_trees(rt: &impl Abort, alloc: Global, nodes: &[Node], counts: &[usize]) {
     let mut row = Vec::new(alloc);
-    for (number, node) in nodes.iter().enumerate() {
-        if number > 0 {
-            expect_eq(
-                rt,
-                &Some(&node.tree.tokens().len()),
-                &counts.get(number - 1),
-            );
-            expect_eq(rt, &node.lead, &Seat::West);
-            expect_eq(rt, &node.need, &1);
-            row.extend_from_slice(node.tree.tokens())?;
-        }
+    for (node, count) in nodes.iter().zip(counts) {
+        expect_eq(rt, &node.tree.tokens().len(), count);
+        expect_eq(rt, &node.lead, &Seat::West);
+        expect_eq(rt, &node.need, &1);
+        got(rt, row.extend_from_slice(node.tree.tokens()));
     }
     expect_eq(rt, &(row.as_slice() == ROW.as_slice()), &true);
-    Ok(())
+}
+
+/// A list with one node.
+fn one_node(rt: &impl Abort, alloc: Global) -> Vec<Node> {
+    let mut nodes = Vec::new(alloc);
+    let first = bare_nodes(rt, alloc, &[0]);
+    let done = Node::push_all(alloc, first.as_slice(), &[], &mut nodes);
+    expect_eq(rt, &got(rt, done), &true);
+    nodes
 }
 
 /// A list gets the nodes of a block behind those that it has, or stays as it is.
 #[test]
-fn blocks_of_nodes(rt: HostRuntime) -> Result<(), Fail> {
+fn blocks_of_nodes(rt: HostRuntime) {
     for (counts, are_theirs) in COUNTS {
-        let mut nodes = Vec::new(rt.alloc());
-        let first = bare_nodes(rt.alloc(), &[0])?;
-        expect_eq(
-            &rt,
-            &Node::push_all(rt.alloc(), first.as_slice(), &[], &mut nodes)?,
-            &true,
-        );
-        let bares = bare_nodes(rt.alloc(), counts)?;
-        let done = Node::push_all(rt.alloc(), bares.as_slice(), &ROW, &mut nodes)?;
-        expect_eq(&rt, &done, &are_theirs);
-        if done {
-            expect_eq(&rt, &nodes.len(), &(counts.len() + 1));
-            expect_trees(&rt, rt.alloc(), nodes.as_slice(), counts)?;
-        } else {
-            expect_eq(&rt, &nodes.len(), &1);
+        let mut nodes = one_node(&rt, rt.alloc());
+        let bares = bare_nodes(&rt, rt.alloc(), counts);
+        let done = Node::push_all(rt.alloc(), bares.as_slice(), &ROW, &mut nodes);
+        expect_eq(&rt, &got(&rt, done), &are_theirs);
+        let added = if are_theirs { counts.len() } else { 0 };
+        expect_eq(&rt, &nodes.len(), &added.saturating_add(1));
+        if are_theirs {
+            let theirs = some(&rt, nodes.as_slice().get(1..));
+            expect_trees(&rt, rt.alloc(), theirs, counts);
         }
     }
-    Ok(())
 }

@@ -1,10 +1,9 @@
 //! What no clause says: that the letters, the numbers and the refusals are those that a bridge player expects.
-use crate::expect::{expect_bytes, expect_eq, expect_printed};
+use crate::expect::{expect_bytes, expect_eq, expect_printed, got};
 use cards::{
     Buffer, Bytes, Card, DeviceFault, Layout, LayoutFault, Rank, Seat, Side, Sink, Source, Suit,
     Trump, write_all, write_number,
 };
-use std::test::Fail;
 
 const SPADES: u64 = 0x1fff;
 
@@ -21,21 +20,21 @@ const NUMBERS: [(u64, &[u8]); 5] = [
 ];
 
 #[test]
-fn letters_and_digits(rt: HostRuntime) -> Result<(), Fail> {
+fn letters_and_digits(rt: HostRuntime) {
     let alloc = rt.alloc();
-    expect_printed(&rt, alloc, &Seat::ALL, &["N", "E", "S", "W"])?;
+    expect_printed(&rt, alloc, &Seat::ALL, &["N", "E", "S", "W"]);
     expect_printed(
         &rt,
         alloc,
         &[Side::NorthSouth, Side::EastWest],
         &["NS", "EW"],
-    )?;
-    expect_printed(&rt, alloc, &Trump::ALL, &["NT", "S", "H", "D", "C"])?;
-    expect_printed(&rt, alloc, &Suit::ALL, &["S", "H", "D", "C"])?;
+    );
+    expect_printed(&rt, alloc, &Trump::ALL, &["NT", "S", "H", "D", "C"]);
+    expect_printed(&rt, alloc, &Suit::ALL, &["S", "H", "D", "C"]);
     let falling = [
         "A", "K", "Q", "J", "T", "9", "8", "7", "6", "5", "4", "3", "2",
     ];
-    expect_printed(&rt, alloc, &Rank::FALLING, &falling)?;
+    expect_printed(&rt, alloc, &Rank::FALLING, &falling);
     let cards = [
         Card::at(0),
         Card::at(8),
@@ -43,13 +42,16 @@ fn letters_and_digits(rt: HostRuntime) -> Result<(), Fail> {
         Card::at(13),
         Card::at(51),
     ];
-    expect_printed(&rt, alloc, &cards, &["S2", "ST", "SA", "H2", "CA"])?;
+    expect_printed(&rt, alloc, &cards, &["S2", "ST", "SA", "H2", "CA"]);
+}
+
+#[test]
+fn numbers_in_digits(rt: HostRuntime) {
     for (number, digits) in NUMBERS {
-        let mut sink = Buffer::new(alloc, 20, 20)?;
+        let mut sink = got(&rt, Buffer::new(rt.alloc(), 20, 20));
         expect_eq(&rt, &write_number(&mut sink, number), &Ok(()));
         expect_bytes(&rt, sink.bytes(), digits);
     }
-    Ok(())
 }
 
 const QUEEN: Card = Card {
@@ -87,8 +89,8 @@ const REFUSED: [([u64; 4], LayoutFault); 8] = [
 ];
 
 #[test]
-fn layouts_and_refused_hands(rt: HostRuntime) -> Result<(), Fail> {
-    let layout = Layout::from_hands(WHOLE_SUITS)?;
+fn layouts(rt: HostRuntime) {
+    let layout = got(&rt, Layout::from_hands(WHOLE_SUITS));
     expect_eq(&rt, &layout.len(), &13);
     expect_eq(&rt, &layout.owner(QUEEN), &Some(Seat::East));
     expect_eq(&rt, &layout.holds(Seat::East, QUEEN), &true);
@@ -96,15 +98,18 @@ fn layouts_and_refused_hands(rt: HostRuntime) -> Result<(), Fail> {
     expect_eq(&rt, &layout.holding(Seat::East, Suit::Hearts), &0x1fff);
     expect_eq(&rt, &layout.holding(Seat::East, Suit::Clubs), &0);
 
-    let ending = Layout::from_hands([1, 2, 4, 8])?;
+    let ending = got(&rt, Layout::from_hands([1, 2, 4, 8]));
     expect_eq(&rt, &ending.len(), &1);
     expect_eq(&rt, &ending.owner(QUEEN), &None);
-    expect_eq(&rt, &ending, &Layout::from_hands([1, 2, 4, 8])?);
+    expect_eq(&rt, &Ok(ending), &Layout::from_hands([1, 2, 4, 8]));
     expect_eq(&rt, &(ending == layout), &false);
+}
+
+#[test]
+fn refused_hands(rt: HostRuntime) {
     for (hands, fault) in REFUSED {
         expect_eq(&rt, &Layout::from_hands(hands), &Err(fault));
     }
-    Ok(())
 }
 
 #[test]
@@ -129,21 +134,23 @@ fn reads_in_pieces(rt: HostRuntime) {
 }
 
 #[test]
-fn writes_in_pieces(rt: HostRuntime) -> Result<(), Fail> {
-    let mut sink = Buffer::new(rt.alloc(), 4, 3)?;
+fn writes_in_pieces(rt: HostRuntime) {
+    let mut sink = got(&rt, Buffer::new(rt.alloc(), 4, 3));
     expect_eq(&rt, &sink.write(b"abcdef"), &Ok(3));
     expect_eq(&rt, &sink.write(b"def"), &Ok(1));
     expect_eq(&rt, &sink.write(b"ef"), &Err(DeviceFault));
     expect_eq(&rt, &sink.write(b""), &Ok(0));
     expect_bytes(&rt, sink.bytes(), b"abcd");
+}
 
-    let mut whole = Buffer::new(rt.alloc(), 10, 3)?;
+#[test]
+fn writes_all(rt: HostRuntime) {
+    let mut whole = got(&rt, Buffer::new(rt.alloc(), 10, 3));
     expect_eq(&rt, &write_all(&mut whole, b"0123456789"), &Ok(()));
     expect_bytes(&rt, whole.bytes(), b"0123456789");
 
-    let mut beginning = Buffer::new(rt.alloc(), 7, 0)?;
+    let mut beginning = got(&rt, Buffer::new(rt.alloc(), 7, 0));
     let written = write_all(&mut beginning, b"0123456789");
     expect_eq(&rt, &written, &Err(DeviceFault));
     expect_bytes(&rt, beginning.bytes(), b"0123456");
-    Ok(())
 }

@@ -3,7 +3,6 @@
 use crate::expect::expect_printed;
 use certificate_graph::TextFault;
 use checker::{EntryFault, HandFault, NodeFault, PartFault, StepFault};
-use std::test::Fail;
 
 /// Faults of each form.
 const FAULTS: [HandFault; 5] = [
@@ -27,6 +26,6 @@ const PRINTED: [&str; 5] = [
 ];
 
 #[test]
-fn printed_faults(rt: HostRuntime) -> Result<(), Fail> {
-    expect_printed(&rt, rt.alloc(), &FAULTS, &PRINTED)
+fn printed_faults(rt: HostRuntime) {
+    expect_printed(&rt, rt.alloc(), &FAULTS, &PRINTED);
 }

@@ -2,7 +2,8 @@
 //! (`worked_cases`).
 
 use crate::certificates::NOTHING;
-use crate::expect::expect_eq;
+use crate::checked::{checked, rooted};
+use crate::expect::{expect_eq, got};
 use cards::{Seat, Trump};
 use certificate_graph::Graph;
 use checker::{CheckedGraph, Claimed, EntryFault, NodeFault, PartFault, StepFault, check_claim};
@@ -10,8 +11,6 @@ use pbn_deals::read_layout;
 use std::alloc::Global;
 use std::process::Abort;
 use std::sync::Arc;
-use std::test::Fail;
-use test_support::claimed::{checked, rooted};
 
 /// Two cards each. South leads, and North covers West's card.
 const FINESSE_DEAL: &str = "N:AQ... 65... 32... K4...";
@@ -51,8 +50,9 @@ N 1 1.1.1.1/N 0.0.0.0/ 0.0.0.0/ 0.0.0.0/ {}
 type Row = (Seat, u8, Option<u32>, Option<u32>, Option<EntryFault>);
 
 /// The graph of a text, checked.
-fn read_checked(alloc: Global, text: &[u8]) -> Result<Arc<CheckedGraph>, Fail> {
-    Ok(checked(alloc, Graph::read(alloc, text)?)?)
+fn read_checked(rt: &impl Abort, alloc: Global, text: &[u8]) -> Arc<CheckedGraph> {
+    let graph = got(rt, Graph::read(alloc, text));
+    checked(rt, alloc, got(rt, Arc::new(alloc, graph)))
 }
 
 /// The claims on these two graphs, declarer's first, get the answers of the rows.
@@ -62,18 +62,17 @@ fn expect_answers(
     declarers: &Arc<CheckedGraph>,
     defenders: &Arc<CheckedGraph>,
     rows: &[Row],
-) -> Result<(), Fail> {
-    let layout = read_layout(deal.as_bytes())?;
+) {
+    let layout = got(rt, read_layout(deal.as_bytes()));
     for (declarer, k, root, other, fault) in rows {
         let claimed = Claimed {
             k: *k,
-            declarer: rooted(declarers, *root)?,
-            defenders: rooted(defenders, *other)?,
+            declarer: rooted(rt, declarers, *root),
+            defenders: rooted(rt, defenders, *other),
         };
         let answer = check_claim(&layout, *declarer, Trump::Nt, &claimed);
         expect_eq(rt, &answer.err(), fault);
     }
-    Ok(())
 }
 
 const NORTH: Seat = Seat::North;
@@ -136,13 +135,13 @@ const BY_WRONG: [Row; 2] = [
 ];
 
 #[test]
-fn claims_by_roots(rt: HostRuntime) -> Result<(), Fail> {
-    let nothing = read_checked(rt.alloc(), NOTHING)?;
-    let finesse = read_checked(rt.alloc(), FINESSE)?;
-    let aces = read_checked(rt.alloc(), ACES)?;
-    let wrong = read_checked(rt.alloc(), WRONG)?;
-    expect_answers(&rt, FINESSE_DEAL, &nothing, &finesse, &ON_FINESSE)?;
-    expect_answers(&rt, ACE_DEAL, &aces, &nothing, &FOR_ACE)?;
-    expect_answers(&rt, ACE_DEAL, &nothing, &aces, &AGAINST_ACE)?;
-    expect_answers(&rt, ACE_DEAL, &wrong, &aces, &BY_WRONG)
+fn claims_by_roots(rt: HostRuntime) {
+    let nothing = read_checked(&rt, rt.alloc(), NOTHING);
+    let finesse = read_checked(&rt, rt.alloc(), FINESSE);
+    let aces = read_checked(&rt, rt.alloc(), ACES);
+    let wrong = read_checked(&rt, rt.alloc(), WRONG);
+    expect_answers(&rt, FINESSE_DEAL, &nothing, &finesse, &ON_FINESSE);
+    expect_answers(&rt, ACE_DEAL, &aces, &nothing, &FOR_ACE);
+    expect_answers(&rt, ACE_DEAL, &nothing, &aces, &AGAINST_ACE);
+    expect_answers(&rt, ACE_DEAL, &wrong, &aces, &BY_WRONG);
 }

@@ -1,47 +1,49 @@
 //! Graphs that begin with another node.
 
 use crate::certificates::FINESSE;
+use crate::expect::{expect_bytes, expect_eq, got};
 use cards::Buffer;
 use certificate_graph::Graph;
 use std::alloc::Global;
 use std::process::Abort;
-use std::test::Fail;
 
-fn text_of(rt: &impl Abort, alloc: Global, graph: &Graph, text: &[u8]) -> Result<(), Fail> {
-    let mut sink = Buffer::new(alloc, 400, 100)?;
-    assert!(rt; graph.write(&mut sink).is_ok());
-    assert_eq!(rt; sink.bytes(), text);
-    Ok(())
+/// The graph has this text.
+fn expect_text(rt: &impl Abort, alloc: Global, graph: &Graph, text: &[u8]) {
+    let mut sink = got(rt, Buffer::new(alloc, 400, 100));
+    expect_eq(rt, &graph.write(&mut sink), &Ok(()));
+    expect_bytes(rt, sink.bytes(), text);
 }
 
 /// The graph that begins with a node of this one.
-fn begun_with(alloc: Global, graph: &Graph, root: u32) -> Result<Graph, Fail> {
-    if root as usize >= graph.nodes().len() {
-        return Err(Fail::from(root));
-    }
-    Ok(graph.extract(alloc, Some(root))?)
+fn begun_with(rt: &impl Abort, alloc: Global, graph: &Graph, root: u32) -> Graph {
+    assert!(rt; (root as usize) < graph.nodes().len());
+    got(rt, graph.extract(alloc, Some(root)))
 }
 
 #[test]
-fn extracted(rt: HostRuntime) -> Result<(), Fail> {
-    let graph = Graph::read(rt.alloc(), TEXT)?;
-    let same = begun_with(rt.alloc(), &graph, 0)?;
-    text_of(&rt, rt.alloc(), &same, TEXT)?;
-    let other = begun_with(rt.alloc(), &graph, 1)?;
-    text_of(&rt, rt.alloc(), &other, OTHER)?;
-    let back = begun_with(rt.alloc(), &other, 1)?;
-    text_of(&rt, rt.alloc(), &back, TEXT)?;
-    let none = graph.extract(rt.alloc(), None)?;
-    text_of(&rt, rt.alloc(), &none, NONE)?;
-    Ok(())
+fn extracted(rt: HostRuntime) {
+    let graph = got(&rt, Graph::read(rt.alloc(), TEXT));
+    let same = begun_with(&rt, rt.alloc(), &graph, 0);
+    expect_text(&rt, rt.alloc(), &same, TEXT);
+    let other = begun_with(&rt, rt.alloc(), &graph, 1);
+    expect_text(&rt, rt.alloc(), &other, OTHER);
+    let back = begun_with(&rt, rt.alloc(), &other, 1);
+    expect_text(&rt, rt.alloc(), &back, TEXT);
 }
 
 /// The finesse with its two nodes in the other order begins with the second one of them.
 #[test]
-fn extracted_finesse(rt: HostRuntime) -> Result<(), Fail> {
-    let graph = Graph::read(rt.alloc(), EXCHANGED)?;
-    let begun = begun_with(rt.alloc(), &graph, 1)?;
-    text_of(&rt, rt.alloc(), &begun, FINESSE)
+fn extracted_finesse(rt: HostRuntime) {
+    let graph = got(&rt, Graph::read(rt.alloc(), EXCHANGED));
+    let begun = begun_with(&rt, rt.alloc(), &graph, 1);
+    expect_text(&rt, rt.alloc(), &begun, FINESSE);
+}
+
+#[test]
+fn extracted_from_no_node(rt: HostRuntime) {
+    let graph = got(&rt, Graph::read(rt.alloc(), TEXT));
+    let none = got(&rt, graph.extract(rt.alloc(), None));
+    expect_text(&rt, rt.alloc(), &none, NONE);
 }
 
 const EXCHANGED: &[u8] = b"DDC 1

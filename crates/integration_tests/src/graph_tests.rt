@@ -1,52 +1,53 @@
 //! Graphs of nodes and their texts. Texts that are refused are among the worked cases (`worked_cases`).
 
 use crate::certificates::{ACE, FINESSE, NOTHING, SECOND_ACE};
-use crate::expect::{expect_bytes, expect_eq};
+use crate::expect::{expect_bytes, expect_eq, got, some};
 use cards::{Buffer, DeviceFault, Seat, Side, Suit, Trump};
 use certificate_graph::{Child, Graph, GraphFault, Node, TextFault, Token, Tree, Version};
 use pattern_step::PatCard;
 use patterns::Pattern;
 use std::alloc::Global;
 use std::process::Abort;
-use std::test::Fail;
 
-/// Checks that a graph is written so, in pieces of so many bytes.
-fn expect_written(
-    rt: &impl Abort,
-    alloc: Global,
-    graph: &Graph,
-    piece: usize,
-    text: &[u8],
-) -> Result<(), Fail> {
-    let mut sink = Buffer::new(alloc, 200, piece)?;
+/// The graph is written so, in pieces of so many bytes.
+fn expect_written(rt: &impl Abort, alloc: Global, graph: &Graph, piece: usize, text: &[u8]) {
+    let mut sink = got(rt, Buffer::new(alloc, 200, piece));
     expect_eq(rt, &graph.write(&mut sink), &Ok(()));
     expect_bytes(rt, sink.bytes(), text);
-    Ok(())
 }
 
-/// What is read is written as it was, in pieces of any size, and what is built as what is read. A sink with so much
-/// room gets the beginning of the text, and a fault.
+/// What is read is written as it was, in pieces of any size.
 #[test]
-fn written_as_read(rt: HostRuntime) -> Result<(), Fail> {
+fn written_as_read(rt: HostRuntime) {
     for text in [FINESSE, ACE, SECOND_ACE, NOTHING] {
-        let graph = Graph::read(rt.alloc(), text)?;
+        let graph = got(&rt, Graph::read(rt.alloc(), text));
         for piece in [1, 7, 200] {
-            expect_written(&rt, rt.alloc(), &graph, piece, text)?;
+            expect_written(&rt, rt.alloc(), &graph, piece, text);
         }
     }
+}
+
+/// What is built is written as what is read.
+#[test]
+fn written_as_built(rt: HostRuntime) {
     for (version, text) in [(Version::One, ACE), (Version::Two, SECOND_ACE)] {
-        let nodes = ace(rt.alloc(), PatCard::Top(Suit::Spades, 0), 1, &[])?;
-        let built = Graph::new(version, Trump::Nt, Side::NorthSouth, nodes)?;
+        let nodes = ace(&rt, rt.alloc(), TOP_OF_NORTH, 1, &[]);
+        let built = Graph::new(version, Trump::Nt, Side::NorthSouth, nodes);
+        let built = got(&rt, built);
         expect_eq(&rt, &built.version(), &version);
-        expect_written(&rt, rt.alloc(), &built, 200, text)?;
+        expect_written(&rt, rt.alloc(), &built, 200, text);
     }
-    let graph = Graph::read(rt.alloc(), FINESSE)?;
+}
+
+/// A sink with so much room gets the beginning of the text, and a fault.
+#[test]
+fn written_in_part(rt: HostRuntime) {
+    let graph = got(&rt, Graph::read(rt.alloc(), FINESSE));
     for room in 0..FINESSE.len() {
-        let mut sink = Buffer::new(rt.alloc(), room, 3)?;
+        let mut sink = got(&rt, Buffer::new(rt.alloc(), room, 3));
         expect_eq(&rt, &graph.write(&mut sink), &Err(DeviceFault));
         expect_bytes(&rt, sink.bytes(), &FINESSE[..room]);
     }
-    Ok(())
 }
 
 /// The fault of the first so many bytes of the finesse.
@@ -78,38 +79,37 @@ const ONE_EACH: u64 = 0x11111;
 const LOW: PatCard = PatCard::Low(Suit::Spades);
 
 /// How the ace is played, with this card for it and these children at the end.
-fn tree_of_ace(alloc: Global, card: PatCard, children: &[Child]) -> Result<Tree, Fail> {
+fn tree_of_ace(rt: &impl Abort, alloc: Global, card: PatCard, children: &[Child]) -> Tree {
     // The table below has two at most.
     let count = (children.len() & 3) as u32;
-    let mut tokens = Vec::new(alloc);
-    tokens.push(Token::Reply)?;
-    tokens.push(Token::Branch(LOW, count + 4))?;
-    tokens.push(Token::Own(LOW))?;
-    tokens.push(Token::Reply)?;
-    tokens.push(Token::Branch(LOW, count + 1))?;
-    tokens.push(Token::Own(card))?;
+    let cards = [
+        Token::Reply,
+        Token::Branch(LOW, count + 4),
+        Token::Own(LOW),
+        Token::Reply,
+        Token::Branch(LOW, count + 1),
+        Token::Own(card),
+    ];
+    let mut tokens = got(rt, Vec::from_slice(alloc, &cards));
     for child in children {
-        tokens.push(Token::Child(child.winner, child.number))?;
+        got(rt, tokens.push(Token::Child(child.winner, child.number)));
     }
-    match Tree::from_tokens(alloc, tokens)? {
-        Some(tree) => Ok(tree),
-        None => Err(Fail::new("these tokens are of no tree")),
-    }
+    some(rt, got(rt, Tree::from_tokens(alloc, tokens)))
 }
 
 /// The nodes of the ace, with this card for it, this need, and these children at the end.
-fn ace(alloc: Global, card: PatCard, need: u8, children: &[Child]) -> Result<Vec<Node>, Fail> {
-    let tree = tree_of_ace(alloc, card, children)?;
-    let pattern = Pattern::from_words([ONE_EACH, 0, 0, 0])?;
-    let mut nodes = Vec::new(alloc);
-    nodes.push(Node {
-        pattern,
+fn ace(rt: &impl Abort, alloc: Global, card: PatCard, need: u8, children: &[Child]) -> Vec<Node> {
+    let node = Node {
+        pattern: got(rt, Pattern::from_words([ONE_EACH, 0, 0, 0])),
         lead: Seat::East,
         need,
-        tree,
-    })?;
-    Ok(nodes)
+        tree: tree_of_ace(rt, alloc, card, children),
+    };
+    got(rt, Vec::from_array(alloc, [node]))
 }
+
+/// North's ace, where the highest card of each suit is North's.
+const TOP_OF_NORTH: PatCard = PatCard::Top(Suit::Spades, 0);
 
 const TOP: PatCard = PatCard::Top(Suit::Spades, 12);
 
@@ -141,13 +141,12 @@ const NODES: [(PatCard, u8, &[Child], Option<GraphFault>); 6] = [
 ];
 
 #[test]
-fn nodes_of_no_graph(rt: HostRuntime) -> Result<(), Fail> {
+fn nodes_of_no_graph(rt: HostRuntime) {
     for (card, need, children, fault) in NODES {
-        let nodes = ace(rt.alloc(), card, need, children)?;
+        let nodes = ace(&rt, rt.alloc(), card, need, children);
         let built = Graph::new(Version::One, Trump::Nt, Side::NorthSouth, nodes);
         expect_eq(&rt, &built.err(), &fault);
     }
-    Ok(())
 }
 
 const NORTH_TOKEN: Token = Token::Child(Seat::North, 0);
@@ -176,13 +175,13 @@ const TOKENS: [(&[Token], bool); 12] = [
 ];
 
 #[test]
-fn tokens_of_trees(rt: HostRuntime) -> Result<(), Fail> {
+fn tokens_of_trees(rt: HostRuntime) {
     for (tokens, is_tree) in TOKENS {
-        let tree = Tree::from_tokens(rt.alloc(), Vec::from_slice(rt.alloc(), tokens)?)?;
+        let row = got(&rt, Vec::from_slice(rt.alloc(), tokens));
+        let tree = got(&rt, Tree::from_tokens(rt.alloc(), row));
         expect_eq(&rt, &tree.is_some(), &is_tree);
         if let Some(tree) = tree {
             expect_eq(&rt, &(tree.tokens() == tokens), &true);
         }
     }
-    Ok(())
 }

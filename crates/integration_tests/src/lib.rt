@@ -12,6 +12,8 @@ mod card_tests;
 #[cfg(test)]
 mod certificates;
 #[cfg(test)]
+mod checked;
+#[cfg(test)]
 mod checker_tests;
 #[cfg(test)]
 mod claim_tests;

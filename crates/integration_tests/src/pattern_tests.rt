@@ -1,11 +1,11 @@
 //! Worked examples of patterns, with answers made by hand.
 
-use crate::expect::{expect, expect_eq, expect_ne};
+use crate::expect::{expect, expect_eq, expect_ne, got};
 use arrayvec::ArrayVec;
 use cards::{Seat, Suit};
 use patterns::{Pattern, PatternFault, Rest, SuitPart};
 use pbn_deals::read_layout;
-use std::test::Fail;
+use std::process::Abort;
 
 const NORTH: Seat = Seat::North;
 
@@ -16,7 +16,7 @@ const SOUTH: Seat = Seat::South;
 const WEST: Seat = Seat::West;
 
 /// A part of these lengths and owners; at most thirteen owners count.
-fn part(lens: [u8; 4], owners: &[Seat]) -> SuitPart {
+pub fn part(lens: [u8; 4], owners: &[Seat]) -> SuitPart {
     let mut listed = ArrayVec::new();
     for owner in owners {
         let _ = listed.try_push(*owner);
@@ -27,7 +27,8 @@ fn part(lens: [u8; 4], owners: &[Seat]) -> SuitPart {
     }
 }
 
-fn empty() -> SuitPart {
+/// No card of a suit.
+pub fn empty() -> SuitPart {
     part([0, 0, 0, 0], &[])
 }
 
@@ -61,12 +62,13 @@ const COVERS: [([u8; 4], &[Seat], &[Seat], bool); 5] = [
     ([1, 1, 1, 1], &[WEST], &[NORTH, WEST], false),
 ];
 
-/// The pattern of a layout lists its highest cards; a pattern matches by them, and covers a rest that says no less.
+/// The pattern of a layout lists its highest cards, and a pattern matches by them.
 #[test]
-fn made_matched_and_covered(rt: HostRuntime) -> Result<(), Fail> {
-    let layout = read_layout(FINESSE)?;
+fn made_and_matched(rt: HostRuntime) {
+    let layout = got(&rt, read_layout(FINESSE));
     let short = Pattern::of_layout(&layout, [3, 0, 0, 0]);
-    expect_eq(&rt, &short, &spades([2, 2, 2, 2], &[NORTH, WEST, NORTH])?);
+    let listed = spades([2, 2, 2, 2], &[NORTH, WEST, NORTH]);
+    expect_eq(&rt, &Ok(short), &listed);
     let whole = Pattern::of_layout(&layout, [13, 0, 0, 0]);
     let owners = [NORTH, WEST, NORTH, EAST, EAST, WEST, SOUTH, SOUTH];
     expect_eq(&rt, &whole.part(Suit::Spades), &part([2, 2, 2, 2], &owners));
@@ -75,14 +77,19 @@ fn made_matched_and_covered(rt: HostRuntime) -> Result<(), Fail> {
     let all_spades = Pattern::of_layout(&layout, [8, 0, 0, 0]);
     expect(&rt, all_spades.matches(&layout));
     for (lens, owners, matches) in MATCHES {
-        let pattern = spades(lens, owners)?;
+        let pattern = got(&rt, spades(lens, owners));
         expect_eq(&rt, &pattern.matches(&layout), &matches);
     }
+}
+
+/// A pattern covers a rest that says no less.
+#[test]
+fn covered(rt: HostRuntime) {
     for (lens, owners, left, covers) in COVERS {
-        let rest = rest_of_spades([1, 1, 1, 1], left)?;
-        expect_eq(&rt, &spades(lens, owners)?.covers(&rest), &covers);
+        let pattern = got(&rt, spades(lens, owners));
+        let rest = got(&rt, rest_of_spades([1, 1, 1, 1], left));
+        expect_eq(&rt, &pattern.covers(&rest), &covers);
     }
-    Ok(())
 }
 
 /// Lengths and owners of spades that are no pattern.
@@ -107,16 +114,20 @@ const REFUSED_WORDS: [([u64; 4], PatternFault); 5] = [
 const SUIT_EACH: [u64; 4] = [0x000D, 0x00D0, 0x0D00, 0xD000];
 
 #[test]
-fn refuses_what_is_no_pattern(rt: HostRuntime) -> Result<(), Fail> {
+fn refuses_what_is_no_pattern(rt: HostRuntime) {
     for (lens, owners, fault) in REFUSED {
         expect_eq(&rt, &spades(lens, owners), &Err(fault));
     }
     for (words, fault) in REFUSED_WORDS {
         expect_eq(&rt, &Pattern::from_words(words), &Err(fault));
     }
-    expect_eq(&rt, Pattern::from_words(SUIT_EACH)?.words(), &SUIT_EACH);
+    let each = got(&rt, Pattern::from_words(SUIT_EACH));
+    expect_eq(&rt, each.words(), &SUIT_EACH);
+}
 
-    // rests are refused likewise, but one of nothing is not
+/// Rests are refused likewise, but one of nothing is not.
+#[test]
+fn refuses_what_is_no_rest(rt: HostRuntime) {
     let twice = rest_of_spades([1, 1, 1, 1], &[SOUTH, SOUTH]);
     expect_eq(&rt, &twice, &Err(PatternFault::Owners));
     let suit_each = [
@@ -129,7 +140,6 @@ fn refuses_what_is_no_pattern(rt: HostRuntime) -> Result<(), Fail> {
     expect(&rt, rest_of_spades([0, 0, 0, 0], &[]).is_ok());
     expect(&rt, Rest::from_words([0; 4]).is_ok());
     expect_eq(&rt, &Rest::from_words(SUIT_EACH), &Err(PatternFault::Cards));
-    Ok(())
 }
 
 /// Places of owners taken out of North, West, North, and how many owners stay.
@@ -149,10 +159,10 @@ const LESS: [(Suit, u64, Seat, u8); 9] = [
     (Suit::Hearts, 1, NORTH, 0),
 ];
 
-/// What a pattern says of its suits, and what stays where cards and owners are taken out of a suit's word.
+/// What a pattern and a rest say of their suits.
 #[test]
-fn tells_its_parts(rt: HostRuntime) -> Result<(), Fail> {
-    let pattern = spades([2, 2, 2, 2], &[NORTH, WEST, NORTH])?;
+fn tells_its_parts(rt: HostRuntime) {
+    let pattern = got(&rt, spades([2, 2, 2, 2], &[NORTH, WEST, NORTH]));
     let counts = [
         pattern.len(Suit::Spades, WEST),
         pattern.len(Suit::Clubs, WEST),
@@ -165,9 +175,14 @@ fn tells_its_parts(rt: HostRuntime) -> Result<(), Fail> {
         pattern.owner(Suit::Spades, 3),
     ];
     expect_eq(&rt, &owners, &[Some(WEST), None]);
-    let rest = rest_of_spades([1, 1, 1, 1], &[EAST])?;
+    let rest = got(&rt, rest_of_spades([1, 1, 1, 1], &[EAST]));
     expect_eq(&rt, &rest.part(Suit::Spades), &part([1, 1, 1, 1], &[EAST]));
+}
 
+/// What stays where cards and owners are taken out of a suit's word.
+#[test]
+fn takes_out_of_a_suit(rt: HostRuntime) {
+    let pattern = got(&rt, spades([2, 2, 2, 2], &[NORTH, WEST, NORTH]));
     let held = pattern.suit(Suit::Spades);
     for (places, count) in WITHOUT {
         expect_eq(&rt, &held.without(places).owner_count(), &count);
@@ -180,7 +195,6 @@ fn tells_its_parts(rt: HostRuntime) -> Result<(), Fail> {
     }
     expect_eq(&rt, &west_alone.len(NORTH), &2);
     expect_eq(&rt, &held.less(0x1000).tops(NORTH), &2);
-    Ok(())
 }
 
 /// Lengths and owners of a suit of a rest, and the owners where it is completed: one hand alone with low cards owns
@@ -219,45 +233,52 @@ fn rest_in(suit: usize, lens: [u8; 4], owners: &[Seat]) -> Result<Rest, PatternF
 
 /// Each suit is completed by itself: of the other suit two hands or more have low cards, so that it stays.
 #[test]
-fn completes_rests(rt: HostRuntime) -> Result<(), Fail> {
+fn completes_rests(rt: HostRuntime) {
     for suit in 0..4 {
         for (lens, owners, completed) in COMPLETED {
-            let rest = rest_in(suit, lens, owners)?;
-            expect_eq(&rt, &rest.completed(), &rest_in(suit, lens, completed)?);
+            let rest = got(&rt, rest_in(suit, lens, owners));
+            let wanted = rest_in(suit, lens, completed);
+            expect_eq(&rt, &Ok(rest.completed()), &wanted);
         }
     }
-    Ok(())
 }
 
 const ONES: [u8; 4] = [1, 1, 1, 1];
 
 /// Four suits of a card a seat, one of which lists these owners.
 fn suits_with_owners(suit: usize, owners: &[Seat]) -> [SuitPart; 4] {
-    [
-        part(ONES, if suit == 0 { owners } else { &[] }),
-        part(ONES, if suit == 1 { owners } else { &[] }),
-        part(ONES, if suit == 2 { owners } else { &[] }),
-        part(ONES, if suit == 3 { owners } else { &[] }),
-    ]
+    let mut parts = [
+        part(ONES, &[]),
+        part(ONES, &[]),
+        part(ONES, &[]),
+        part(ONES, &[]),
+    ];
+    parts[suit % 4] = part(ONES, owners);
+    parts
+}
+
+/// The pattern of these suits.
+fn pattern_of(rt: &impl Abort, suit: usize, owners: &[Seat]) -> Pattern {
+    got(rt, Pattern::from_parts(suits_with_owners(suit, owners)))
+}
+
+/// The rest of these suits.
+fn rest_of(rt: &impl Abort, suit: usize, owners: &[Seat]) -> Rest {
+    got(rt, Rest::from_parts(suits_with_owners(suit, owners)))
 }
 
 #[test]
-fn tells_unequal_suits_apart(rt: HostRuntime) -> Result<(), Fail> {
-    let pattern = Pattern::from_parts(suits_with_owners(0, &[]))?;
-    let rest = Rest::from_parts(suits_with_owners(0, &[]))?;
+fn tells_unequal_suits_apart(rt: HostRuntime) {
+    let pattern = pattern_of(&rt, 0, &[]);
+    let rest = rest_of(&rt, 0, &[]);
     for suit in 0..4 {
-        let none = suits_with_owners(suit, &[]);
-        expect_eq(&rt, &Pattern::from_parts(none)?, &pattern);
-        let none = suits_with_owners(suit, &[]);
-        expect_eq(&rt, &Rest::from_parts(none)?, &rest);
-        let north = Pattern::from_parts(suits_with_owners(suit, &[NORTH]))?;
+        expect_eq(&rt, &pattern_of(&rt, suit, &[]), &pattern);
+        expect_eq(&rt, &rest_of(&rt, suit, &[]), &rest);
+        let north = pattern_of(&rt, suit, &[NORTH]);
         expect_ne(&rt, &north, &pattern);
-        let west = suits_with_owners(suit, &[WEST]);
-        expect_ne(&rt, &north, &Pattern::from_parts(west)?);
-        let of_north = suits_with_owners(suit, &[NORTH]);
-        expect_ne(&rt, &Rest::from_parts(of_north)?, &rest);
+        expect_ne(&rt, &north, &pattern_of(&rt, suit, &[WEST]));
+        expect_ne(&rt, &rest_of(&rt, suit, &[NORTH]), &rest);
     }
-    Ok(())
 }
 
 /// Lengths and owners, of which no two are alike.
@@ -272,19 +293,24 @@ const PARTS: [([u8; 4], &[Seat]); 7] = [
 ];
 
 #[test]
-fn tells_unequal_lengths_apart(rt: HostRuntime) -> Result<(), Fail> {
+fn tells_unequal_lengths_apart(rt: HostRuntime) {
     for (place, (lens, owners)) in PARTS.iter().enumerate() {
         for (other, (other_lens, other_owners)) in PARTS.iter().enumerate() {
             let equal = part(*lens, owners) == part(*other_lens, other_owners);
             expect_eq(&rt, &equal, &(place == other));
         }
     }
+}
+
+#[test]
+fn tells_exchanged_lengths_apart(rt: HostRuntime) {
     let (long, short) = ([2, 0, 1, 1], [0, 2, 1, 1]);
     let one = [part(long, &[]), part(short, &[]), empty(), empty()];
     let other = [part(short, &[]), part(long, &[]), empty(), empty()];
-    expect_ne(&rt, &Rest::from_parts(one)?, &Rest::from_parts(other)?);
-    expect_ne(&rt, &spades(ONES, &[])?, &spades([2, 2, 2, 2], &[])?);
-    Ok(())
+    let one = got(&rt, Rest::from_parts(one));
+    expect_ne(&rt, &one, &got(&rt, Rest::from_parts(other)));
+    let ones = got(&rt, spades(ONES, &[]));
+    expect_ne(&rt, &ones, &got(&rt, spades([2, 2, 2, 2], &[])));
 }
 
 /// Spades in one word, and no other suit.
@@ -292,30 +318,65 @@ fn spade_word(word: u64) -> Result<Pattern, PatternFault> {
     Pattern::from_words([word, 0, 0, 0])
 }
 
-#[test]
-fn tells_a_suit_in_a_word(rt: HostRuntime) -> Result<(), Fail> {
-    let finesse = spades([2, 2, 2, 2], &[NORTH, WEST, NORTH])?;
-    let short = spade_word(0x11111)?;
-    let long = spade_word(0xC21111)?;
-    expect_eq(&rt, &spade_word(0xC32222)?, &finesse);
-    expect_eq(&rt, &short, &spades([1, 1, 1, 1], &[NORTH])?);
-    expect(&rt, short.covers(&Rest::from_words([0xC21111, 0, 0, 0])?));
-    expect(&rt, !long.covers(&Rest::from_words([0x11111, 0, 0, 0])?));
-    expect_eq(&rt, &spade_word(0x411111), &Err(PatternFault::Words));
-    expect_eq(&rt, &spade_word(0xE1111), &Err(PatternFault::Words));
-    expect_eq(&rt, &spade_word(0x51111), &Err(PatternFault::Owners));
+/// Words of spades, with the lengths and owners that they tell.
+const WORDS: [(u64, [u8; 4], &[Seat]); 2] = [
+    (0xC32222, [2, 2, 2, 2], &[NORTH, WEST, NORTH]),
+    (0x11111, [1, 1, 1, 1], &[NORTH]),
+];
 
-    // the words that it was made of
-    expect_eq(&rt, spade_word(0xC32222)?.words(), &[0xC32222, 0, 0, 0]);
+/// Words of spades that tell no pattern.
+const REFUSED_SPADES: [(u64, PatternFault); 3] = [
+    (0x411111, PatternFault::Words),
+    (0xE1111, PatternFault::Words),
+    (0x51111, PatternFault::Owners),
+];
+
+#[test]
+fn tells_a_suit_in_a_word(rt: HostRuntime) {
+    for (word, lens, owners) in WORDS {
+        let told = got(&rt, spades(lens, owners));
+        expect_eq(&rt, &spade_word(word), &Ok(told));
+    }
+    for (word, fault) in REFUSED_SPADES {
+        expect_eq(&rt, &spade_word(word), &Err(fault));
+    }
+}
+
+/// Two words of spades: whether the pattern of the first covers the rest of the second.
+const COVERED_WORDS: [(u64, u64, bool); 2] = [
+    (0x11111, 0xC21111, true),
+    (0xC21111, 0x11111, false),
+];
+
+/// The words that it was made of.
+#[test]
+fn keeps_its_words(rt: HostRuntime) {
+    for (word, left, covers) in COVERED_WORDS {
+        let rest = got(&rt, Rest::from_words([left, 0, 0, 0]));
+        expect_eq(&rt, &got(&rt, spade_word(word)).covers(&rest), &covers);
+    }
+    let finesse = got(&rt, spade_word(0xC32222));
+    expect_eq(&rt, finesse.words(), &[0xC32222, 0, 0, 0]);
     let rest_words = [0x121111, 0, 0xE441111, 0];
-    let rest = Rest::from_words(rest_words)?;
+    let rest = got(&rt, Rest::from_words(rest_words));
     expect_eq(&rt, rest.words(), &rest_words);
     let all = part([1, 1, 1, 1], &[NORTH, EAST, SOUTH, WEST]);
     expect_eq(&rt, &rest.part(Suit::Diamonds), &all);
-    let two = spades([1, 1, 1, 1], &[EAST, SOUTH])?;
+    let two = got(&rt, spades([1, 1, 1, 1], &[EAST, SOUTH]));
     expect_eq(&rt, two.words(), &[0x921111, 0, 0, 0]);
+}
+
+/// Two words of spades that are unlike.
+const UNLIKE_WORDS: [(u64, u64); 2] = [
     // North in the second place leaves no bit but in the number of owners
-    expect_ne(&rt, &spade_word(0x22222)?, &spade_word(0x12222)?);
-    expect_ne(&rt, &spade_word(0x111111)?, &short);
-    Ok(())
+    (0x22222, 0x12222),
+    (0x111111, 0x11111),
+];
+
+#[test]
+fn tells_unequal_words_apart(rt: HostRuntime) {
+    for (one, other) in UNLIKE_WORDS {
+        let one = got(&rt, spade_word(one));
+        expect_ne(&rt, &one, &got(&rt, spade_word(other)));
+    }
 }

@@ -1,11 +1,9 @@
 //! What stands in no worked case (`worked_cases`): long texts, and who holds the cards of a layout.
 
-use crate::expect::{expect_bytes, expect_eq};
+use crate::expect::{expect_bytes, expect_eq, got};
 use cards::{Card, Rank, Seat, Suit};
 use pbn_deals::{read_boards, read_layout};
 use std::process::Abort;
-use std::test::Fail;
-use test_support::texts::joined;
 
 /// More than 1 MB.
 const TEXT_SIZE: usize = 2 << 20;
@@ -13,37 +11,41 @@ const TEXT_SIZE: usize = 2 << 20;
 /// More than 255, and more than 65,535.
 const NAME_SIZE: usize = 70_000;
 
-/// A text of over 1 MB and a name of over 255 bytes are answered as others are. A text has at most 4,096 boards: games
-/// without a Deal tag do not count.
+/// A text of over 1 MB and a name of over 255 bytes are answered as others are.
 #[test]
-fn long_texts(rt: HostRuntime) -> Result<(), Fail> {
+fn long_texts(rt: HostRuntime) {
     let alloc = rt.alloc();
-    let filling = vec![in alloc; b' '; TEXT_SIZE]?;
-    let name = vec![in alloc; b'n'; NAME_SIZE]?;
-    let text = joined(
-        alloc,
-        &[
-            b"[Board \"",
-            name.as_slice(),
-            b"\"]\n{",
-            filling.as_slice(),
-            b"}\n[Deal \"?\"]\n",
-        ],
-    )?;
-    let boards = read_boards(alloc, text.as_slice())?;
+    let filling = got(&rt, vec![in alloc; b' '; TEXT_SIZE]);
+    let name = got(&rt, vec![in alloc; b'n'; NAME_SIZE]);
+    let parts: [&[u8]; 5] = [
+        b"[Board \"",
+        name.as_slice(),
+        b"\"]\n{",
+        filling.as_slice(),
+        b"}\n[Deal \"?\"]\n",
+    ];
+    let mut text = Vec::new(alloc);
+    for part in parts {
+        got(&rt, text.extend_from_slice(part));
+    }
+    let boards = got(&rt, read_boards(alloc, text.as_slice()));
     let [board] = boards.as_slice() else {
         panic!(rt; "not one board");
     };
     expect_bytes(&rt, board.name.as_bytes(), name.as_slice());
+}
 
-    let mut games = Vec::new(alloc);
+/// A text has at most 4,096 boards: games without a Deal tag do not count.
+#[test]
+fn many_boards(rt: HostRuntime) {
+    let mut games = Vec::new(rt.alloc());
     for _game in 0..4095 {
-        games.extend_from_slice(b"[Deal \"?\"]\n\n")?;
+        got(&rt, games.extend_from_slice(b"[Deal \"?\"]\n\n"));
     }
-    games.extend_from_slice(b"[Event \"x\"]\n\n[Deal \"?\"]\n")?;
-    let boards = read_boards(alloc, games.as_slice())?;
+    let last = b"[Event \"x\"]\n\n[Deal \"?\"]\n";
+    got(&rt, games.extend_from_slice(last));
+    let boards = got(&rt, read_boards(rt.alloc(), games.as_slice()));
     expect_eq(&rt, &boards.len(), &4096);
-    Ok(())
 }
 
 /// Four hands of thirteen cards.
@@ -69,12 +71,12 @@ const HOLDERS: [(&[u8], Suit, Rank, Option<Seat>); 12] = [
 ];
 
 #[test]
-fn hands_go_clockwise_from_the_seat(rt: HostRuntime) -> Result<(), Fail> {
-    expect_eq(&rt, &read_layout(WHOLE)?.len(), &13);
-    expect_eq(&rt, &read_layout(ENDING)?.len(), &2);
+fn hands_go_clockwise_from_the_seat(rt: HostRuntime) {
+    for (text, len) in [(WHOLE, 13), (ENDING, 2)] {
+        expect_eq(&rt, &got(&rt, read_layout(text)).len(), &len);
+    }
     for (text, suit, rank, holder) in HOLDERS {
-        let layout = read_layout(text)?;
+        let layout = got(&rt, read_layout(text));
         expect_eq(&rt, &layout.owner(Card { suit, rank }), &holder);
     }
-    Ok(())
 }

@@ -1,10 +1,9 @@
 //! Play by hand: who wins tricks, which cards may be played, and the three refusals.
 
-use crate::expect::{expect, expect_eq};
+use crate::expect::{expect, expect_eq, got};
 use cards::{Card, Rank, Seat, Side, Suit, Trump};
 use pbn_deals::read_layout;
 use play_rules::{PlayFault, Table, winner};
-use std::test::Fail;
 
 fn card(suit: Suit, rank: Rank) -> Card {
     Card { suit, rank }
@@ -14,8 +13,9 @@ fn card(suit: Suit, rank: Rank) -> Card {
 const SQUEEZE: &[u8] = b"N:AJ.K.. ..432. 2.2..A KQ.A..";
 
 #[test]
-fn legal_cards_and_refusals(rt: HostRuntime) -> Result<(), Fail> {
-    let mut table = Table::new(read_layout(SQUEEZE)?, Seat::South, Trump::Nt);
+fn refusals(rt: HostRuntime) {
+    let layout = got(&rt, read_layout(SQUEEZE));
+    let mut table = Table::new(layout, Seat::South, Trump::Nt);
     let club = table.play(card(Suit::Clubs, Rank::King));
     expect_eq(&rt, &club, &Err(PlayFault::NotHeld));
     expect_eq(&rt, &table.play(card(Suit::Hearts, Rank::Two)), &Ok(()));
@@ -24,21 +24,26 @@ fn legal_cards_and_refusals(rt: HostRuntime) -> Result<(), Fail> {
     let spade = table.play(card(Suit::Spades, Rank::King));
     expect_eq(&rt, &spade, &Err(PlayFault::MustFollow));
     expect_eq(&rt, &table.turn(), &Some(Seat::West));
+}
 
-    // by suit and falling
-    let table = Table::new(read_layout(SQUEEZE)?, Seat::West, Trump::Nt);
+/// By suit and falling.
+#[test]
+fn legal_cards(rt: HostRuntime) {
+    let layout = got(&rt, read_layout(SQUEEZE));
+    let table = Table::new(layout, Seat::West, Trump::Nt);
     let wanted = [
         card(Suit::Spades, Rank::King),
         card(Suit::Spades, Rank::Queen),
         card(Suit::Hearts, Rank::Ace),
     ];
-    expect(&rt, table.clone()?.legal().as_slice() == wanted.as_slice());
-    Ok(())
+    let copy = got(&rt, table.clone());
+    expect(&rt, copy.legal().as_slice() == wanted.as_slice());
 }
 
 #[test]
-fn plays_to_the_end(rt: HostRuntime) -> Result<(), Fail> {
-    let mut table = Table::new(read_layout(SQUEEZE)?, Seat::South, Trump::Nt);
+fn plays_to_the_end(rt: HostRuntime) {
+    let layout = got(&rt, read_layout(SQUEEZE));
+    let mut table = Table::new(layout, Seat::South, Trump::Nt);
     let played = [
         card(Suit::Clubs, Rank::Ace),
         card(Suit::Spades, Rank::Queen),
@@ -65,7 +70,6 @@ fn plays_to_the_end(rt: HostRuntime) -> Result<(), Fail> {
         &table.play(card(Suit::Clubs, Rank::King)),
         &Err(PlayFault::Over),
     );
-    Ok(())
 }
 
 #[test]

@@ -2,10 +2,12 @@
 //! dropped, and how many owners of each suit the depths name. A suit has sixteen bits of a word, and four of the
 //! depths.
 
-use crate::expect::{expect, expect_eq};
+use crate::expect::{expect, expect_eq, got, some};
+use cards::Side;
 use cards::Side::{EastWest, NorthSouth};
-use pattern_store::{NO_CARD, Owners, Record, Records};
-use std::test::Fail;
+use pattern_store::{List, NO_CARD, Owners, Record, Records};
+use std::alloc::Global;
+use std::process::Abort;
 
 /// The lengths of a shape: one card of the first suit each.
 const ONE_EACH: u64 = 0x1111;
@@ -24,6 +26,12 @@ const NEAR: u64 = 0x1b27_e4d8_936c_4e1b;
 
 /// And of the others.
 const DEEP: u64 = 0x0106_0234_0039_0372;
+
+/// All these owners.
+const ALL_OWNERS: Owners = Owners {
+    near: NEAR,
+    deep: DEEP,
+};
 
 /// Of depths, the first suit's last, how many owners they name, and how many of each suit.
 const DEPTHS: [(u16, u16, [u32; 4]); 5] = [
@@ -44,41 +52,81 @@ fn depths_in(suit: u32, depth: u16) -> u16 {
     depth.wrapping_shl(suit.wrapping_mul(4))
 }
 
+/// A record that names so many of these owners of each suit.
+fn record_of(owners: Owners, depths: u16, need: u8, card: u8) -> Record {
+    Record::new(owners.near, || owners.deep, depths, need, card)
+}
+
+/// The owners of a suit: the first ones, and the ninth.
+fn owners_in(suit: u32, first: u64, ninth: u64) -> Owners {
+    Owners {
+        near: in_suit(suit, first),
+        deep: in_suit(suit, ninth),
+    }
+}
+
 /// A record that names so many owners of a suit.
 fn naming(suit: u32, depth: u16, need: u8) -> Record {
-    let ninth = in_suit(suit, NINTH);
-    let depths = depths_in(suit, depth);
-    Record::new(in_suit(suit, OWNERS), || ninth, depths, need, 0)
+    let owners = owners_in(suit, OWNERS, NINTH);
+    record_of(owners, depths_in(suit, depth), need, 0)
+}
+
+/// No records yet.
+fn none(rt: &impl Abort, alloc: Global) -> Records {
+    got(rt, Records::new(alloc))
+}
+
+/// Adds a record to the list of a leader and a side.
+fn add(rt: &impl Abort, records: &mut Records, leader: usize, side: Side, record: Record) {
+    got(rt, records.add(None, ONE_EACH, leader, side, record));
+}
+
+/// The list of a leader and a side, which is there.
+fn list_of(rt: &impl Abort, records: &Records, leader: usize, side: Side) -> List {
+    some(rt, records.list(records.shape(ONE_EACH), leader, side))
+}
+
+/// The first record of a list that names these owners and wins as much, if there is one.
+fn found_in(records: &Records, list: List, owners: Owners, need: u8) -> Option<Record> {
+    let number = records.find(list, owners.near, || owners.deep, need)?;
+    Some(records.record(number))
 }
 
 #[test]
-fn told_and_found(rt: HostRuntime) -> Result<(), Fail> {
+fn told_and_found(rt: HostRuntime) {
     for suit in 0..4 {
-        let mut records = Records::new(rt.alloc())?;
+        let mut records = none(&rt, rt.alloc());
         expect(&rt, records.shape(ONE_EACH).is_none());
-        records.add(None, ONE_EACH, 1, NorthSouth, naming(suit, 4, 2))?;
+        add(&rt, &mut records, 1, NorthSouth, naming(suit, 4, 2));
+        expect_needs(&rt, &records, suit);
         let shape = records.shape(ONE_EACH);
         expect(&rt, records.shape(ONE_EACH + 1).is_none());
         expect(&rt, records.list(shape, 1, EastWest).is_none());
         expect(&rt, records.list(shape, 2, NorthSouth).is_none());
         expect(&rt, records.list(None, 1, NorthSouth).is_none());
-        let Some(list) = records.list(shape, 1, NorthSouth) else {
-            return Err(Fail::new("the list is there"));
-        };
-        for (owners, need, is_found) in [
-            (OWNERS, 0, true),
-            (OWNERS, 2, true),
-            (OWNERS, 3, false),
-            (OTHERS, 1, false),
-        ] {
-            let found = records.find(list, in_suit(suit, owners), || 0, need);
-            expect_eq(&rt, &found.is_some(), &is_found);
-            if let Some(number) = found {
-                expect_eq(&rt, &records.record(number).need, &2);
-            }
-        }
     }
-    Ok(())
+}
+
+/// First owners of a suit, the tricks, and those of the record that is found.
+const NEEDS: [(u64, u8, Option<u8>); 4] = [
+    (OWNERS, 0, Some(2)),
+    (OWNERS, 2, Some(2)),
+    (OWNERS, 3, None),
+    (OTHERS, 1, None),
+];
+
+/// A record of two tricks that names the owners of a suit is found by them.
+fn expect_needs(rt: &impl Abort, records: &Records, suit: u32) {
+    let list = list_of(rt, records, 1, NorthSouth);
+    for (first, need, wanted) in NEEDS {
+        let found = found_in(records, list, owners_in(suit, first, 0), need);
+        expect_eq(rt, &need_of(found), &wanted);
+    }
+}
+
+/// The tricks of a record, if there is one.
+fn need_of(record: Option<Record>) -> Option<u8> {
+    Some(record?.need)
 }
 
 /// The owners of a deal in which a card is another seat's.
@@ -99,51 +147,63 @@ fn where_another_owns(suit: u32, place: u32) -> Owners {
 
 /// A record is found for each deal that has the owners which it names, and for no other.
 #[test]
-fn each_suit_to_its_depth(rt: HostRuntime) -> Result<(), Fail> {
+fn each_suit_to_its_depth(rt: HostRuntime) {
     for (depths, named, depth_of) in DEPTHS {
-        let mut records = Records::new(rt.alloc())?;
-        let record = Record::new(NEAR, || DEEP, depths, 1, 0);
+        let record = record_of(ALL_OWNERS, depths, 1, 0);
         expect_eq(&rt, &record.owners_named(), &named);
-        records.add(None, ONE_EACH, 0, NorthSouth, record)?;
-        let Some(list) = records.list(records.shape(ONE_EACH), 0, NorthSouth) else {
-            return Err(Fail::new("the list is there"));
-        };
-        for suit in 0..4 {
-            let depth = depth_of[suit];
-            for place in 0..13 {
-                let deal = where_another_owns(suit as u32, place);
-                let found = records.find(list, deal.near, || deal.deep, 1);
-                expect_eq(&rt, &found.is_some(), &(place >= depth));
-            }
+        let mut records = none(&rt, rt.alloc());
+        add(&rt, &mut records, 0, NorthSouth, record);
+        for suit in 0..4u32 {
+            expect_depth(&rt, &records, suit, depth_of[suit as usize]);
         }
     }
-    Ok(())
 }
+
+/// A record is found as long as a card of a suit that another seat owns is not among its first ones, so many.
+fn expect_depth(rt: &impl Abort, records: &Records, suit: u32, depth: u32) {
+    let list = list_of(rt, records, 0, NorthSouth);
+    for place in 0..13 {
+        let deal = where_another_owns(suit, place);
+        let found = found_in(records, list, deal, 1);
+        expect_eq(rt, &found.is_some(), &(place >= depth));
+    }
+}
+
+/// The ninth owner of a suit, with a card.
+const NINTHS: [(u64, u8); 4] = [(0, 20), (1, 21), (2, NO_CARD), (3, NO_CARD)];
 
 /// Two records that differ in the ninth owner of a suit alone: each is found where its own owner has the card, and
 /// neither where a third seat has it.
 #[test]
-fn the_ninth_owner_alone(rt: HostRuntime) -> Result<(), Fail> {
+fn the_ninth_owner_alone(rt: HostRuntime) {
     for suit in 0..4 {
-        let mut records = Records::new(rt.alloc())?;
+        let mut records = none(&rt, rt.alloc());
         for (ninth, card) in [(0, 20), (1, 21)] {
-            let deep = in_suit(suit, ninth);
-            let record = Record::new(NEAR, || deep, depths_in(suit, 9), 1, card);
-            records.add(None, ONE_EACH, 2, NorthSouth, record)?;
+            let record = record_of(with_ninth(suit, ninth), depths_in(suit, 9), 1, card);
+            add(&rt, &mut records, 2, NorthSouth, record);
         }
-        let Some(list) = records.list(records.shape(ONE_EACH), 2, NorthSouth) else {
-            return Err(Fail::new("the list is there"));
-        };
-        for (ninth, card) in [(0, 20), (1, 21), (2, NO_CARD), (3, NO_CARD)] {
-            let deep = in_suit(suit, ninth);
-            let found = match records.find(list, NEAR, || deep, 1) {
-                Some(number) => records.record(number).first_card,
-                None => NO_CARD,
-            };
-            expect_eq(&rt, &found, &card);
+        let list = list_of(&rt, &records, 2, NorthSouth);
+        for (ninth, card) in NINTHS {
+            let found = found_in(&records, list, with_ninth(suit, ninth), 1);
+            expect_eq(&rt, &card_of(found), &card);
         }
     }
-    Ok(())
+}
+
+/// The first owners of each suit, and the ninth of one suit alone.
+fn with_ninth(suit: u32, ninth: u64) -> Owners {
+    Owners {
+        near: NEAR,
+        deep: in_suit(suit, ninth),
+    }
+}
+
+/// The card of a record, or none.
+fn card_of(record: Option<Record>) -> u8 {
+    match record {
+        Some(record) => record.first_card,
+        None => NO_CARD,
+    }
 }
 
 /// How many of the first records are there.
@@ -160,71 +220,82 @@ fn kept(records: &Records) -> u32 {
 /// A record of two tricks, then another: how many are kept. The first goes where the other names no more, agrees, and
 /// wins as much.
 #[test]
-fn dropped_where_another_serves(rt: HostRuntime) -> Result<(), Fail> {
-    for (first, near, deep, depths, need, count) in [
-        (0x3333, NEAR, DEEP, 0x3333, 2, 1),
-        (0x3333, NEAR, DEEP, 0x0000, 2, 1),
-        (0x3333, NEAR, DEEP, 0x2333, 3, 1),
-        (0x3333, NEAR, DEEP, 0x2333, 1, 2),
-        (0x3333, NEAR, DEEP, 0x0004, 2, 2),
-        (0x3333, NEAR, DEEP, 0x0040, 2, 2),
-        (0x3333, NEAR, DEEP, 0x0400, 2, 2),
-        (0x3333, NEAR, DEEP, 0x4000, 2, 2),
-        (0x3333, NEAR ^ 0x0000_0000_0000_0004, DEEP, 0x2222, 2, 2),
-        (0x3333, NEAR ^ 0x0000_0000_0004_0000, DEEP, 0x2222, 2, 2),
-        (0x3333, NEAR ^ 0x0000_0004_0000_0000, DEEP, 0x2222, 2, 2),
-        (0x3333, NEAR ^ 0x0004_0000_0000_0000, DEEP, 0x2222, 2, 2),
-        (0x3333, NEAR ^ 0x0010_0010_0010_0010, DEEP, 0x2222, 2, 1),
-        (0x8a88, NEAR, DEEP, 0x0090, 2, 2),
-        (0x8a88, NEAR, DEEP, 0x0900, 2, 1),
-        (0xaaaa, NEAR, DEEP, 0x9999, 2, 1),
-        (0xaaaa, NEAR, DEEP ^ 0x0000_0000_0000_0001, 0x9999, 2, 2),
-        (0xaaaa, NEAR, DEEP ^ 0x0000_0000_0001_0000, 0x9999, 2, 2),
-        (0xaaaa, NEAR, DEEP ^ 0x0000_0001_0000_0000, 0x9999, 2, 2),
-        (0xaaaa, NEAR, DEEP ^ 0x0001_0000_0000_0000, 0x9999, 2, 2),
-        (0xaaaa, NEAR, DEEP ^ 0x0004_0004_0004_0004, 0x9999, 2, 1),
-    ] {
-        let mut records = Records::new(rt.alloc())?;
-        let old = Record::new(NEAR, || DEEP, first, 2, 0);
-        records.add(None, ONE_EACH, 0, NorthSouth, old)?;
-        let new = Record::new(near, || deep, depths, need, 0);
-        records.add(None, ONE_EACH, 0, NorthSouth, new)?;
+fn dropped_where_another_serves(rt: HostRuntime) {
+    for (first, near, deep, depths, need, count) in SERVED {
+        let mut records = none(&rt, rt.alloc());
+        let old = record_of(ALL_OWNERS, first, 2, 0);
+        add(&rt, &mut records, 0, NorthSouth, old);
+        let new = record_of(Owners { near, deep }, depths, need, 0);
+        add(&rt, &mut records, 0, NorthSouth, new);
         expect_eq(&rt, &kept(&records), &count);
     }
-    Ok(())
 }
 
+/// The depths of the first record, the owners, the depths and the tricks of the other, and how many are kept.
+const SERVED: [(u16, u64, u64, u16, u8, u32); 21] = [
+    (0x3333, NEAR, DEEP, 0x3333, 2, 1),
+    (0x3333, NEAR, DEEP, 0x0000, 2, 1),
+    (0x3333, NEAR, DEEP, 0x2333, 3, 1),
+    (0x3333, NEAR, DEEP, 0x2333, 1, 2),
+    (0x3333, NEAR, DEEP, 0x0004, 2, 2),
+    (0x3333, NEAR, DEEP, 0x0040, 2, 2),
+    (0x3333, NEAR, DEEP, 0x0400, 2, 2),
+    (0x3333, NEAR, DEEP, 0x4000, 2, 2),
+    (0x3333, NEAR ^ 0x0000_0000_0000_0004, DEEP, 0x2222, 2, 2),
+    (0x3333, NEAR ^ 0x0000_0000_0004_0000, DEEP, 0x2222, 2, 2),
+    (0x3333, NEAR ^ 0x0000_0004_0000_0000, DEEP, 0x2222, 2, 2),
+    (0x3333, NEAR ^ 0x0004_0000_0000_0000, DEEP, 0x2222, 2, 2),
+    (0x3333, NEAR ^ 0x0010_0010_0010_0010, DEEP, 0x2222, 2, 1),
+    (0x8a88, NEAR, DEEP, 0x0090, 2, 2),
+    (0x8a88, NEAR, DEEP, 0x0900, 2, 1),
+    (0xaaaa, NEAR, DEEP, 0x9999, 2, 1),
+    (0xaaaa, NEAR, DEEP ^ 0x0000_0000_0000_0001, 0x9999, 2, 2),
+    (0xaaaa, NEAR, DEEP ^ 0x0000_0000_0001_0000, 0x9999, 2, 2),
+    (0xaaaa, NEAR, DEEP ^ 0x0000_0001_0000_0000, 0x9999, 2, 2),
+    (0xaaaa, NEAR, DEEP ^ 0x0001_0000_0000_0000, 0x9999, 2, 2),
+    (0xaaaa, NEAR, DEEP ^ 0x0004_0004_0004_0004, 0x9999, 2, 1),
+];
+
 #[test]
-fn the_most_general_first(rt: HostRuntime) -> Result<(), Fail> {
+fn the_most_general_first(rt: HostRuntime) {
     for suit in 0..4 {
-        let mut records = Records::new(rt.alloc())?;
+        let mut records = none(&rt, rt.alloc());
         for (depth, need) in [(4, 3), (3, 1), (2, 2), (9, 4), (10, 5)] {
-            records.add(None, ONE_EACH, 0, EastWest, naming(suit, depth, need))?;
+            add(&rt, &mut records, 0, EastWest, naming(suit, depth, need));
         }
-        let Some(list) = records.list(records.shape(ONE_EACH), 0, EastWest) else {
-            return Err(Fail::new("the list is there"));
-        };
         // That of three owners says less than that of two, so one block has room for the others. The ninth owner has to
         // agree too, and the tenth.
         expect_eq(&rt, &records.blocks(), &2);
-        for (owners, ninth, need, depth) in [
-            (OWNERS, NINTH, 1, 2),
-            (OTHERS, NINTH, 1, 2),
-            (OWNERS, NINTH, 3, 4),
-            (OWNERS, NINTH, 4, 9),
-            (OWNERS, NINTH, 5, 10),
-            (OWNERS, 0, 4, 0),
-            (OTHERS, NINTH, 3, 0),
-        ] {
-            let (near, deep) = (in_suit(suit, owners), in_suit(suit, ninth));
-            let named = match records.find(list, near, || deep, need) {
-                Some(number) => records.record(number).owners_named(),
-                None => 0,
-            };
-            expect_eq(&rt, &named, &depth);
-        }
+        expect_general(&rt, &records, suit);
     }
-    Ok(())
+}
+
+/// The first owners of a suit, the ninth, the tricks, and how many owners the record names that is found.
+const GENERAL: [(u64, u64, u8, u16); 7] = [
+    (OWNERS, NINTH, 1, 2),
+    (OTHERS, NINTH, 1, 2),
+    (OWNERS, NINTH, 3, 4),
+    (OWNERS, NINTH, 4, 9),
+    (OWNERS, NINTH, 5, 10),
+    (OWNERS, 0, 4, 0),
+    (OTHERS, NINTH, 3, 0),
+];
+
+/// The record with the fewest owners is found.
+fn expect_general(rt: &impl Abort, records: &Records, suit: u32) {
+    let list = list_of(rt, records, 0, EastWest);
+    for (first, ninth, need, depth) in GENERAL {
+        let found = found_in(records, list, owners_in(suit, first, ninth), need);
+        expect_eq(rt, &named_by(found), &depth);
+    }
+}
+
+/// How many owners a record names, or 0.
+fn named_by(record: Option<Record>) -> u16 {
+    match record {
+        Some(record) => record.owners_named(),
+        None => 0,
+    }
 }
 
 /// What is known, so many tricks, and how many owners the record names that is found where all records are liked, or
@@ -241,107 +312,101 @@ const KNOWN: [(u64, u64, u8, bool, u16); 8] = [
 ];
 
 #[test]
-fn by_what_is_known(rt: HostRuntime) -> Result<(), Fail> {
+fn by_what_is_known(rt: HostRuntime) {
     for suit in 0..4 {
-        let mut records = Records::new(rt.alloc())?;
+        let mut records = none(&rt, rt.alloc());
         for (depth, need) in [(1, 1), (2, 2), (4, 3), (9, 4)] {
-            records.add(None, ONE_EACH, 3, NorthSouth, naming(suit, depth, need))?;
+            add(&rt, &mut records, 3, NorthSouth, naming(suit, depth, need));
         }
-        let Some(list) = records.list(records.shape(ONE_EACH), 3, NorthSouth) else {
-            return Err(Fail::new("the list is there"));
-        };
-        let owners = Owners {
-            near: in_suit(suit, OWNERS),
-            deep: in_suit(suit, NINTH),
-        };
-        for (near, deep, need, likes_all, depth) in KNOWN {
-            let known = Owners {
-                near: in_suit(suit, near),
-                deep: in_suit(suit, deep),
-            };
-            let named = match records.find_known(list, owners, known, need, |_| likes_all) {
-                Some(number) => records.record(number).owners_named(),
-                None => 0,
-            };
-            expect_eq(&rt, &named, &depth);
-        }
+        expect_known(&rt, &records, suit);
     }
-    Ok(())
 }
 
-/// A record that names four owners of a suit: these.
-fn of_owners(suit: usize, owners: u64) -> Record {
-    let suit = (suit & 3) as u32;
-    Record::new(in_suit(suit, owners), || 0, depths_in(suit, 4), 1, 0)
+/// A record is found that names only owners that are known.
+fn expect_known(rt: &impl Abort, records: &Records, suit: u32) {
+    let list = list_of(rt, records, 3, NorthSouth);
+    let owners = owners_in(suit, OWNERS, NINTH);
+    for (near, deep, need, likes_all, depth) in KNOWN {
+        let known = owners_in(suit, near, deep);
+        let named = match records.find_known(list, owners, known, need, |_| likes_all) {
+            Some(number) => records.record(number).owners_named(),
+            None => 0,
+        };
+        expect_eq(rt, &named, &depth);
+    }
 }
 
-/// How many of so many records that name different owners are found in the list of a leader. Each leader has a suit.
+/// A record that names four owners of a leader's suit: these. Each leader has a suit.
+fn of_owners(leader: usize, owners: u64) -> Record {
+    let suit = (leader & 3) as u32;
+    record_of(owners_in(suit, owners, 0), depths_in(suit, 4), 1, 0)
+}
+
+/// How many of so many records that name different owners are found in the list of a leader.
 fn found_of(records: &Records, leader: usize, count: u64) -> u64 {
     let Some(list) = records.list(records.shape(ONE_EACH), leader, NorthSouth) else {
         return 0;
     };
-    let mut found = 0u64;
+    let mut found_count = 0u64;
     for owners in 0..count {
-        let near = in_suit((leader & 3) as u32, owners);
-        let number = records.find(list, near, || 0, 1);
-        if number.is_some_and(|number| records.record(number).near == near) {
-            found = found.saturating_add(1);
+        let owners = owners_in((leader & 3) as u32, owners, 0);
+        if let Some(record) = found_in(records, list, owners, 1) {
+            if record.near == owners.near {
+                found_count = found_count.saturating_add(1);
+            }
         }
     }
-    found
+    found_count
 }
+
+/// Adds the records of a leader that are not there, up to so many.
+fn add_up_to(rt: &impl Abort, records: &mut Records, leader: usize, count: u64) {
+    for owners in found_of(records, leader, count)..count {
+        add(rt, records, leader, NorthSouth, of_owners(leader, owners));
+    }
+}
+
+/// A leader, how many records the list of that leader has, and how many blocks there are then.
+const GROWING: [(usize, u64, usize); 8] = [
+    (0, 4, 2),
+    (0, 5, 4),
+    (0, 9, 8),
+    (1, 1, 8),
+    (1, 5, 8),
+    (2, 1, 8),
+    (2, 4, 8),
+    (3, 1, 9),
+];
 
 /// A list of nine records has moved from a run of one block to one of two, and to one of four. Others take what it
 /// left.
 #[test]
-fn a_list_grows_and_leaves_room(rt: HostRuntime) -> Result<(), Fail> {
-    let mut records = Records::new(rt.alloc())?;
-    for (leader, count, blocks) in [
-        (0, 4, 2),
-        (0, 5, 4),
-        (0, 9, 8),
-        (1, 1, 8),
-        (1, 5, 8),
-        (2, 1, 8),
-        (2, 4, 8),
-        (3, 1, 9),
-    ] {
-        for owners in found_of(&records, leader, count)..count {
-            records.add(
-                None,
-                ONE_EACH,
-                leader,
-                NorthSouth,
-                of_owners(leader, owners),
-            )?;
-        }
+fn a_list_grows_and_leaves_room(rt: HostRuntime) {
+    let mut records = none(&rt, rt.alloc());
+    for (leader, count, blocks) in GROWING {
+        add_up_to(&rt, &mut records, leader, count);
         expect_eq(&rt, &found_of(&records, leader, count), &count);
-        expect_eq(
-            &rt,
-            &found_of(&records, 0, 9),
-            &if records.blocks() < 8 { count } else { 9 },
-        );
+        let of_first = if records.blocks() < 8 { count } else { 9 };
+        expect_eq(&rt, &found_of(&records, 0, 9), &of_first);
         expect_eq(&rt, &records.blocks(), &blocks);
     }
-    Ok(())
 }
 
 /// Where there is no room a record is lost, and the others stay.
 #[test]
-fn no_more_than_there_is_room_for(rt: HostRuntime) -> Result<(), Fail> {
-    let mut records = Records::new(rt.alloc())?;
+fn no_more_than_there_is_room_for(rt: HostRuntime) {
+    let mut records = none(&rt, rt.alloc());
     records.set_room(3);
     expect(&rt, !records.is_full());
     for owners in 0..5 {
-        records.add(None, ONE_EACH, 0, NorthSouth, of_owners(0, owners))?;
+        add(&rt, &mut records, 0, NorthSouth, of_owners(0, owners));
     }
     // A run of two blocks has no room beside that of one.
     expect_eq(&rt, &records.blocks(), &2);
     expect_eq(&rt, &found_of(&records, 0, 5), &4);
-    records.add(None, ONE_EACH, 1, NorthSouth, of_owners(0, 0))?;
+    add(&rt, &mut records, 1, NorthSouth, of_owners(0, 0));
     expect_eq(&rt, &records.blocks(), &3);
     // The shape counts too.
     expect_eq(&rt, &records.size(), &4);
     expect(&rt, records.is_full());
-    Ok(())
 }

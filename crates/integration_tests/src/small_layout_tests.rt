@@ -1,13 +1,12 @@
 //! All layouts of one or two cards a hand in two suits, and patterns of each depth: `legal`, `winners`, `rest`,
 //! `covers` and `matches` are compared with a slow reading of their definitions over the real cards.
 
-use crate::expect::{expect, expect_eq};
+use crate::expect::{expect, expect_eq, got};
 use arrayvec::ArrayVec;
 use cards::{Layout, LayoutFault, Seat, Suit, Trump};
 use pattern_step::{PatCard, SeatSet, are_legal, legal, rest, winners};
 use patterns::{Pattern, Rest};
 use std::process::Abort;
-use std::test::Fail;
 
 /// Up to eight cards: the first are the spades and the others the hearts, each from the highest down. Two bits of
 /// the code name the holder of each.
@@ -275,13 +274,7 @@ fn check_left(rt: &impl Abort, small: &Small, suit: Suit, depth: u8, trick: &Tri
 }
 
 /// Compares one trick.
-fn check_trick(
-    rt: &impl Abort,
-    small: &Small,
-    depths: [u8; 4],
-    pattern: &Pattern,
-    trick: &Trick,
-) -> Result<(), Fail> {
+fn check_trick(rt: &impl Abort, small: &Small, depths: [u8; 4], pattern: &Pattern, trick: &Trick) {
     let [first, second, third, fourth] = trick.played;
     let cards = [
         small.pat_card(first, depths),
@@ -296,22 +289,16 @@ fn check_trick(
     let left = rest(pattern, trick.leader, &cards);
     check_left(rt, small, Suit::Spades, depths[0], trick, &left);
     check_left(rt, small, Suit::Hearts, depths[1], trick, &left);
-    check_covers(rt, small, depths, trick, &left)
+    check_covers(rt, small, depths, trick, &left);
 }
 
 /// Compares which patterns of the layout that is left cover the rest.
-fn check_covers(
-    rt: &impl Abort,
-    small: &Small,
-    depths: [u8; 4],
-    trick: &Trick,
-    left: &Rest,
-) -> Result<(), Fail> {
+fn check_covers(rt: &impl Abort, small: &Small, depths: [u8; 4], trick: &Trick, left: &Rest) {
     if small.cards <= 4 {
-        return Ok(());
+        return;
     }
     let gone = trick.played.as_slice();
-    let layout = small.layout(gone)?;
+    let layout = got(rt, small.layout(gone));
     for listed in 0..5u8 {
         let others = 4u8.saturating_sub(listed);
         let pattern = Pattern::of_layout(&layout, [listed, others, 0, 0]);
@@ -319,16 +306,10 @@ fn check_covers(
             && small.covers_suit(Suit::Hearts, others, depths[1], gone);
         expect_eq(rt, &pattern.covers(left), &covers);
     }
-    Ok(())
 }
 
 /// Compares whether the pattern of a layout matches another one, in which each card has moved on to another holder.
-fn check_matches(
-    rt: &impl Abort,
-    small: &Small,
-    depths: [u8; 4],
-    pattern: &Pattern,
-) -> Result<(), Fail> {
+fn check_matches(rt: &impl Abort, small: &Small, depths: [u8; 4], pattern: &Pattern) {
     let turned = Small {
         code: small.code.rotate_left(2) ^ 1,
         cards: small.cards,
@@ -337,10 +318,9 @@ fn check_matches(
     if turned.is_fair() {
         let same = turned.matches_suit(small, Suit::Spades, depths[0])
             && turned.matches_suit(small, Suit::Hearts, depths[1]);
-        let layout = turned.layout(&[])?;
+        let layout = got(rt, turned.layout(&[]));
         expect_eq(rt, &pattern.matches(&layout), &same);
     }
-    Ok(())
 }
 
 /// A trick in which each seat plays its first or second card, by the bits of the choice.
@@ -364,16 +344,11 @@ fn chosen_trick(small: &Small, leader: Seat, choice: u32) -> Trick {
 }
 
 /// Compares one pattern of a layout.
-fn check_pattern(
-    rt: &impl Abort,
-    small: &Small,
-    depths: [u8; 4],
-    leader: Seat,
-) -> Result<(), Fail> {
-    let layout = small.layout(&[])?;
+fn check_pattern(rt: &impl Abort, small: &Small, depths: [u8; 4], leader: Seat) {
+    let layout = got(rt, small.layout(&[]));
     let pattern = Pattern::of_layout(&layout, depths);
     expect(rt, pattern.matches(&layout));
-    check_matches(rt, small, depths, &pattern)?;
+    check_matches(rt, small, depths, &pattern);
     for led in [None, Some(Suit::Spades), Some(Suit::Hearts)] {
         let wanted = small.legal(depths, leader, led);
         let got = legal(&pattern, leader, led);
@@ -382,26 +357,24 @@ fn check_pattern(
     for choice in 0..16u32 {
         let trick = chosen_trick(small, leader, choice);
         if trick.is_legal(small) {
-            check_trick(rt, small, depths, &pattern, &trick)?;
+            check_trick(rt, small, depths, &pattern, &trick);
         }
     }
-    Ok(())
 }
 
 /// Compares the patterns of a layout, by how many owners of spades and of hearts they list.
-fn check_patterns(rt: &impl Abort, small: &Small, leader: Seat) -> Result<(), Fail> {
+fn check_patterns(rt: &impl Abort, small: &Small, leader: Seat) {
     let hearts = small.cards.saturating_sub(small.spades);
     for depth in 0..=small.spades {
         for other in 0..=hearts {
-            check_pattern(rt, small, [depth, other, 0, 0], leader)?;
+            check_pattern(rt, small, [depth, other, 0, 0], leader);
         }
     }
-    Ok(())
 }
 
 /// Compares the patterns of all the layouts with so many cards, of which so many are spades, where North has the first
 /// card: the others are these with the seats turned.
-fn check_layouts(rt: &impl Abort, cards: u8, spades: u8, codes: u32) -> Result<u32, Fail> {
+fn check_layouts(rt: &impl Abort, cards: u8, spades: u8, codes: u32) -> u32 {
     let mut met = 0u32;
     for turned in 0..codes {
         let code = turned << 2;
@@ -413,21 +386,20 @@ fn check_layouts(rt: &impl Abort, cards: u8, spades: u8, codes: u32) -> Result<u
         if small.is_fair() {
             met = met.saturating_add(1);
             for leader in Seat::ALL {
-                check_patterns(rt, &small, leader)?;
+                check_patterns(rt, &small, leader);
             }
         }
     }
-    Ok(met)
+    met
 }
 
 #[test]
-fn agrees_with_the_definitions_on_small_layouts(rt: HostRuntime) -> Result<(), Fail> {
+fn agrees_with_the_definitions_on_small_layouts(rt: HostRuntime) {
     for spades in 0..5u8 {
-        expect_eq(&rt, &check_layouts(&rt, 4, spades, 64)?, &6);
+        expect_eq(&rt, &check_layouts(&rt, 4, spades, 64), &6);
     }
     // with fewer spades than hearts the suits are only exchanged
     for spades in 4..9u8 {
-        expect_eq(&rt, &check_layouts(&rt, 8, spades, 16384)?, &630);
+        expect_eq(&rt, &check_layouts(&rt, 8, spades, 16384), &630);
     }
-    Ok(())
 }

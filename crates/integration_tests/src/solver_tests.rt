@@ -1,14 +1,13 @@
 //! Answers with DDS's numbers, which the checker has to accept.
 
-use crate::expect::expect;
+use crate::expect::{expect, got};
 use cards::{Layout, Seat, Suit, Trump};
-use certificate_graph::{Answer, Solver};
+use certificate_graph::{Answer, Bundle, Solver};
 use checker::check_entry;
 use partition_solver::Partition;
 use pbn_deals::read_layout;
-use std::alloc::{AllocError, Global};
+use std::alloc::Global;
 use std::process::Abort;
-use std::test::Fail;
 use std::thread;
 
 /// A layout, and by declarer (N E S W) the tricks in no-trump, spades, hearts, diamonds and clubs that DDS 2.9 gives.
@@ -85,6 +84,25 @@ pub fn number_in(numbers: &str, declarer: Seat, place: usize) -> u8 {
     digit.map_or(99, number_of)
 }
 
+/// What the solver answers for a declarer.
+fn answer_of(
+    alloc: Global,
+    solver: &Partition,
+    layout: &Layout,
+    declarer: Seat,
+    trump: Trump,
+) -> Option<Answer> {
+    let found = solver.solve(alloc, layout, &[declarer], trump, 10_000_000);
+    let bundle = found.ok()??;
+    bundle.answer_for(alloc, declarer).ok()?
+}
+
+/// Whether the checker accepts an answer.
+fn is_accepted(layout: &Layout, declarer: Seat, trump: Trump, answer: &Answer) -> bool {
+    let (by_declarer, defenders) = (&answer.declarer, &answer.defenders);
+    check_entry(layout, declarer, trump, answer.k, by_declarer, defenders).is_ok()
+}
+
 /// The tricks of an answer that the checker accepts.
 fn tricks_of(
     alloc: Global,
@@ -94,16 +112,12 @@ fn tricks_of(
     trump: Trump,
 ) -> Option<u8> {
     let layout = read_layout(text.as_bytes()).ok()?;
-    let found = solver.solve(alloc, &layout, &[declarer], trump, 10_000_000);
-    let bundle = found.ok()??;
-    let answer = bundle.answer_for(alloc, declarer);
-    let Answer {
-        k,
-        declarer: by_declarer,
-        defenders,
-    } = answer.ok()??;
-    check_entry(&layout, declarer, trump, k, &by_declarer, &defenders).ok()?;
-    Some(k)
+    let answer = answer_of(alloc, solver, &layout, declarer, trump)?;
+    if is_accepted(&layout, declarer, trump, &answer) {
+        Some(answer.k)
+    } else {
+        None
+    }
 }
 
 /// Solves the layout for a declarer and all denominations.
@@ -118,47 +132,48 @@ fn solves(rt: &impl Abort, alloc: Global, solver: &Partition, row: Row, declarer
 
 /// The entries of each declarer by a solver of their own.
 #[test]
-fn endings(rt: HostRuntime) -> Result<(), Fail> {
+fn endings(rt: HostRuntime) {
     for row in ENDINGS {
         for declarer in Seat::ALL {
             solves(&rt, rt.alloc(), &Partition::new(), row, declarer);
         }
     }
-    Ok(())
 }
 
-/// One solver for all declarers of a layout, and for the next layouts; then nine cards a hand, and a board, each with a
-/// new one.
+/// One solver for all declarers of a layout, and for the next layouts.
 #[test]
-fn small_and_large_layouts(rt: HostRuntime) -> Result<(), Fail> {
+fn small_layouts(rt: HostRuntime) {
     let solver = Partition::new();
     for row in SMALL {
         for declarer in Seat::ALL {
             solves(&rt, rt.alloc(), &solver, row, declarer);
         }
     }
+}
+
+/// Nine cards a hand, and a board, each with a new solver.
+#[test]
+fn large_layouts(rt: HostRuntime) {
     solves(&rt, rt.alloc(), &Partition::new(), NINE, Seat::East);
     let tricks = tricks_of(rt.alloc(), &Partition::new(), BOARD, Seat::East, Trump::Nt);
     expect(&rt, tricks == Some(5));
-    Ok(())
 }
 
 /// One solver that is asked of another layout each time.
 #[test]
-fn layouts_by_turns(rt: HostRuntime) -> Result<(), Fail> {
+fn layouts_by_turns(rt: HostRuntime) {
     let solver = Partition::new();
     for declarer in Seat::ALL {
         for row in SMALL {
             solves(&rt, rt.alloc(), &solver, row, declarer);
         }
     }
-    Ok(())
 }
 
 /// Four threads ask one solver at once, each for another declarer and denomination of one layout, until all are asked
 /// for.
 #[test]
-fn four_threads(rt: HostRuntime) -> Result<(), Fail> {
+fn four_threads(rt: HostRuntime) {
     let (alloc, solver) = (rt.alloc(), Partition::new());
     let (text, numbers) = NINE;
     for round in 0..5usize {
@@ -172,66 +187,75 @@ fn four_threads(rt: HostRuntime) -> Result<(), Fail> {
                 let tricks = tricks_of(alloc, &solver, text, declarer, TRUMPS[place]);
                 tricks == Some(number_in(numbers, declarer, place))
             },
-        )?;
-        expect(&rt, solved.iter().all(|is_right| *is_right));
+        );
+        let solved = got(&rt, solved);
+        expect(&rt, solved.as_slice() == [true; 4].as_slice());
     }
-    Ok(())
+}
+
+/// What the solver finds for a declarer who is asked for alone.
+fn found(
+    rt: &impl Abort,
+    alloc: Global,
+    solver: &Partition,
+    layout: &Layout,
+    (declarer, trump): (Seat, Trump),
+    budget: u64,
+) -> Option<Bundle> {
+    got(rt, solver.solve(alloc, layout, &[declarer], trump, budget))
 }
 
 /// The tricks that are claimed for the declarer who is asked for alone, with ten thousand steps.
 fn soon_claimed(
+    rt: &impl Abort,
     alloc: Global,
     solver: &Partition,
-    layout: &Layout,
+    text: &str,
     declarer: Seat,
-    trump: Trump,
-) -> Result<Option<u8>, AllocError> {
-    let Some(bundle) = solver.solve(alloc, layout, &[declarer], trump, 10_000)? else {
-        return Ok(None);
-    };
-    let Some(claim) = bundle.claim_for(declarer) else {
-        return Ok(None);
-    };
-    Ok(Some(claim.k))
+) -> Option<u8> {
+    let layout = got(rt, read_layout(text.as_bytes()));
+    let bundle = found(rt, alloc, solver, &layout, (declarer, DIAMONDS), 10_000)?;
+    Some(bundle.claim_for(declarer)?.k)
 }
+
+const DIAMONDS: Trump = Trump::Suit(Suit::Diamonds);
 
 /// One solver is asked of two deals by turns, with too few steps for a new search of either: the second call on a deal
 /// goes on where its first one stopped, though the other deal came between.
 #[test]
-fn two_deals_by_turns(rt: HostRuntime) -> Result<(), Fail> {
+fn two_deals_by_turns(rt: HostRuntime) {
     let solver = Partition::new();
-    let trump = Trump::Suit(Suit::Diamonds);
     for wanted in [None, Some(3)] {
         for (text, declarer) in [(NINE.0, Seat::North), (NINE_TURNED, Seat::South)] {
-            let layout = read_layout(text.as_bytes())?;
-            let number = soon_claimed(rt.alloc(), &solver, &layout, declarer, trump)?;
-            expect_for(&rt, text, declarer, trump, number == wanted);
+            let number = soon_claimed(&rt, rt.alloc(), &solver, text, declarer);
+            expect_for(&rt, text, declarer, DIAMONDS, number == wanted);
         }
     }
-    Ok(())
 }
 
-/// What a call has found before its steps ended is there for the next one. A tree has four cards, each of which is a
-/// step, so three steps are never enough.
+/// What a call has found before its steps ended is there for the next one.
 #[test]
-fn too_few_steps(rt: HostRuntime) -> Result<(), Fail> {
+fn goes_on_where_it_stopped(rt: HostRuntime) {
     let solver = Partition::new();
-    let (text, _) = NINE;
-    let (north, trump) = (Seat::North, Trump::Suit(Suit::Diamonds));
-    let layout = read_layout(text.as_bytes())?;
-    let first = soon_claimed(rt.alloc(), &solver, &layout, north, trump)?;
-    expect_for(&rt, text, north, trump, first.is_none());
-    let again = soon_claimed(rt.alloc(), &solver, &layout, north, trump)?;
-    expect_for(&rt, text, north, trump, again == Some(3));
+    let (text, north) = (NINE.0, Seat::North);
+    for wanted in [None, Some(3)] {
+        let number = soon_claimed(&rt, rt.alloc(), &solver, text, north);
+        expect_for(&rt, text, north, DIAMONDS, number == wanted);
+    }
+}
+
+/// A tree has four cards, each of which is a step, so three steps are never enough.
+#[test]
+fn too_few_steps(rt: HostRuntime) {
     let solver = Partition::new();
     for (text, _) in ENDINGS {
-        let layout = read_layout(text.as_bytes())?;
+        let layout = got(&rt, read_layout(text.as_bytes()));
         for declarer in Seat::ALL {
             for trump in TRUMPS {
-                let bundle = solver.solve(rt.alloc(), &layout, &[declarer], trump, 3)?;
+                let asked = (declarer, trump);
+                let bundle = found(&rt, rt.alloc(), &solver, &layout, asked, 3);
                 expect_for(&rt, text, declarer, trump, bundle.is_none());
             }
         }
     }
-    Ok(())
 }

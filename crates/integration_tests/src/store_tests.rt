@@ -1,10 +1,9 @@
 //! What no clause says: that an add with ample memory succeeds. The layouts and answers were made by hand.
 
-use crate::expect::expect_eq;
+use crate::expect::{expect_eq, got};
 use cards::{Layout, Seat, Side};
 use pattern_store::Store;
 use patterns::Pattern;
-use std::test::Fail;
 
 /// Each seat holds one spade, North's the highest: the ace, the king, the queen and the jack.
 const HIGH: [u64; 4] = [1 << 12, 1 << 11, 1 << 10, 1 << 9];
@@ -39,18 +38,17 @@ const ASKED: [([u64; 4], Seat, Side, u8, Option<u32>); 9] = [
 ];
 
 #[test]
-fn first_add_that_serves(rt: HostRuntime) -> Result<(), Fail> {
+fn first_add_that_serves(rt: HostRuntime) {
     let mut store = Store::new(rt.alloc());
-    let layout = Layout::from_hands(HIGH)?;
+    let layout = got(&rt, Layout::from_hands(HIGH));
     let found = store.find(&layout, Seat::East, Side::NorthSouth, 1);
     expect_eq(&rt, &found, &None);
     for (spades, lead, side, need, number) in ADDED {
         let pattern = Pattern::of_layout(&layout, [spades, 0, 0, 0]);
-        store.add(pattern, lead, side, need, number)?;
+        got(&rt, store.add(pattern, lead, side, need, number));
     }
     for (hands, lead, side, need, number) in ASKED {
-        let layout = Layout::from_hands(hands)?;
+        let layout = got(&rt, Layout::from_hands(hands));
         expect_eq(&rt, &store.find(&layout, lead, side, need), &number);
     }
-    Ok(())
 }

@@ -1,12 +1,11 @@
 //! Worked tricks on patterns, with answers made by hand.
 
-use crate::expect::{expect, expect_eq, expect_ne};
-use arrayvec::ArrayVec;
+use crate::expect::{expect, expect_eq, expect_ne, got};
+use crate::pattern_tests::{empty, part};
 use cards::{Seat, Suit, Trump};
 use pattern_step::{PatCard, SeatSet, are_legal, is_legal, legal, rest, winners};
-use patterns::{Pattern, PatternFault, SuitPart};
+use patterns::{Pattern, SuitPart};
 use std::process::Abort;
-use std::test::Fail;
 
 const NORTH: Seat = Seat::North;
 
@@ -16,34 +15,14 @@ const SOUTH: Seat = Seat::South;
 
 const WEST: Seat = Seat::West;
 
-/// A part of these lengths and owners; at most thirteen owners count.
-fn part(lens: [u8; 4], owners: &[Seat]) -> SuitPart {
-    let mut listed = ArrayVec::new();
-    for owner in owners {
-        let _ = listed.try_push(*owner);
-    }
-    SuitPart {
-        lens,
-        owners: listed,
-    }
-}
-
 /// A pattern of spades and hearts.
-fn pattern(spades: SuitPart, hearts: SuitPart) -> Result<Pattern, PatternFault> {
-    Pattern::from_parts([
-        spades,
-        hearts,
-        part([0, 0, 0, 0], &[]),
-        part([0, 0, 0, 0], &[]),
-    ])
+fn pattern(rt: &impl Abort, spades: SuitPart, hearts: SuitPart) -> Pattern {
+    got(rt, Pattern::from_parts([spades, hearts, empty(), empty()]))
 }
 
 /// North's ace and queen of spades over West's king, and two cards each.
-fn finesse() -> Result<Pattern, PatternFault> {
-    pattern(
-        part([2, 2, 2, 2], &[NORTH, WEST, NORTH]),
-        part([0, 0, 0, 0], &[]),
-    )
+fn finesse(rt: &impl Abort) -> Pattern {
+    pattern(rt, part([2, 2, 2, 2], &[NORTH, WEST, NORTH]), empty())
 }
 
 const LOW: PatCard = PatCard::Low(Suit::Spades);
@@ -86,8 +65,8 @@ const LEGAL_OF_BOTH: [(Seat, Option<Suit>, &[PatCard]); 3] = [
 ];
 
 #[test]
-fn tells_the_legal_cards(rt: HostRuntime) -> Result<(), Fail> {
-    let finesse = finesse()?;
+fn tells_the_legal_cards(rt: HostRuntime) {
+    let finesse = finesse(&rt);
     for (seat, led, cards) in LEGAL {
         expect(&rt, legal(&finesse, seat, led).as_slice() == cards);
     }
@@ -96,18 +75,18 @@ fn tells_the_legal_cards(rt: HostRuntime) -> Result<(), Fail> {
     expect(&rt, !is_legal(&finesse, WEST, None, FIRST));
     let fourth = PatCard::Top(Suit::Spades, 3);
     expect(&rt, !is_legal(&finesse, WEST, None, fourth));
+}
 
-    let both = pattern(
-        part([1, 0, 1, 1], &[NORTH]),
-        part([1, 2, 1, 1], &[EAST, NORTH]),
-    )?;
+#[test]
+fn tells_the_legal_cards_of_both_suits(rt: HostRuntime) {
+    let spades = part([1, 0, 1, 1], &[NORTH]);
+    let both = pattern(&rt, spades, part([1, 2, 1, 1], &[EAST, NORTH]));
     for (seat, led, cards) in LEGAL_OF_BOTH {
         expect(&rt, legal(&both, seat, led).as_slice() == cards);
     }
     let spades = Some(Suit::Spades);
     expect(&rt, !is_legal(&both, NORTH, spades, SECOND_HEART));
     expect(&rt, is_legal(&both, EAST, spades, LOW_HEART));
-    Ok(())
 }
 
 /// The trick is legal and won by this seat in no-trump, and leaves this part of the spades, no hearts, and what the
@@ -126,7 +105,7 @@ fn expect_trick(
     expect_eq(rt, &won, &SeatSet::new().with(winner));
     let left = rest(pattern, leader, &cards);
     expect_eq(rt, &left.part(Suit::Spades), &spades);
-    expect_eq(rt, &left.part(Suit::Hearts), &part([0, 0, 0, 0], &[]));
+    expect_eq(rt, &left.part(Suit::Hearts), &empty());
     expect_eq(rt, &child.covers(&left), &covers);
 }
 
@@ -142,19 +121,17 @@ const FINESSES: [([PatCard; 4], [u8; 4], &[Seat], bool); 3] = [
 ];
 
 #[test]
-fn moves_the_owners_up(rt: HostRuntime) -> Result<(), Fail> {
-    let finesse = finesse()?;
+fn moves_the_owners_up(rt: HostRuntime) {
+    let finesse = finesse(&rt);
     // North has the highest of one card each
-    let child = pattern(part([1, 1, 1, 1], &[NORTH]), part([0, 0, 0, 0], &[]))?;
+    let child = pattern(&rt, part([1, 1, 1, 1], &[NORTH]), empty());
     for (cards, lens, owners, covers) in FINESSES {
         let left = part(lens, owners);
         expect_trick(&rt, &finesse, SOUTH, cards, NORTH, left, (&child, covers));
     }
     // after the last trick nothing is left, and no pattern covers nothing
     let last = [FIRST, LOW, LOW, LOW];
-    let nothing = part([0, 0, 0, 0], &[]);
-    expect_trick(&rt, &child, NORTH, last, NORTH, nothing, (&child, false));
-    Ok(())
+    expect_trick(&rt, &child, NORTH, last, NORTH, empty(), (&child, false));
 }
 
 /// Who may win where two hearts are led and two spades played, by the denomination.
@@ -164,21 +141,26 @@ const TRUMP_WINNERS: [(Trump, &[Seat]); 3] = [
     (Trump::Suit(Suit::Clubs), &[EAST]),
 ];
 
-/// Low cards of the suit are any of their players' to win with; a top wins, and a trump.
+/// Low cards of the suit are any of their players' to win with; a top wins.
 #[test]
-fn tells_the_winners(rt: HostRuntime) -> Result<(), Fail> {
-    let without_ranks = pattern(part([2, 2, 2, 2], &[]), part([0, 0, 0, 0], &[]))?;
+fn tells_the_winners(rt: HostRuntime) {
+    let without_ranks = pattern(&rt, part([2, 2, 2, 2], &[]), empty());
     let all = winners(&without_ranks, Trump::Nt, NORTH, &[LOW, LOW, LOW, LOW]);
     expect_eq(&rt, &all, &set(&[NORTH, EAST, SOUTH, WEST]));
-    let one_top = pattern(part([1, 1, 1, 1], &[EAST]), part([0, 0, 0, 0], &[]))?;
+    let one_top = pattern(&rt, part([1, 1, 1, 1], &[EAST]), empty());
     let east = winners(&one_top, Trump::Nt, EAST, &[FIRST, LOW, LOW, LOW]);
     expect_eq(&rt, &east, &set(&[EAST]));
-    let ending = pattern(part([1, 0, 1, 0], &[]), part([0, 1, 0, 1], &[EAST, WEST]))?;
+}
+
+/// A trump wins.
+#[test]
+fn tells_the_winners_by_trumps(rt: HostRuntime) {
+    let hearts = part([0, 1, 0, 1], &[EAST, WEST]);
+    let ending = pattern(&rt, part([1, 0, 1, 0], &[]), hearts);
     let cards = [FIRST_HEART, LOW, SECOND_HEART, LOW];
     for (trump, seats) in TRUMP_WINNERS {
         expect_eq(&rt, &winners(&ending, trump, EAST, &cards), &set(seats));
     }
-    Ok(())
 }
 
 #[test]

@@ -15,6 +15,24 @@ use tournaments::MakeFault;
 /// How many bytes there is room for: more than the sheet has.
 const SHEET: usize = 10_000;
 
+/// A sheet.
+const PAGE: Page = Page {
+    form: PageForm::Sheet,
+    par: ParTags::Without,
+};
+
+/// What comes of an audit by this evidence. A call of `audit_tables` carries its promises to the end of the caller.
+fn audited<R: Threads + Sync>(
+    rt: &R,
+    alloc: Global,
+    sections: &mut Sections<Bytes<'_>>,
+    sink: &mut Buffer,
+) -> Result<(), AuditFault> {
+    let mut source = Bytes::new(BOARD.as_bytes(), 7);
+    audit_tables(rt, alloc, PAGE, &mut source, sections, sink)?;
+    Ok(())
+}
+
 /// `audit_tables`, on a sheet, on the four hands of one suit each, by evidence for one of their numbers.
 pub fn audit<R: Threads + Sync>(
     rt: &R,
@@ -22,17 +40,12 @@ pub fn audit<R: Threads + Sync>(
     spending: Spending,
 ) -> Result<Told, AllocError> {
     let mut sink = Buffer::new(alloc, SHEET, SHEET)?;
-    let mut source = Bytes::new(BOARD.as_bytes(), 7);
     spending.spend(alloc)?;
     let mut sections = Sections::new(alloc, Bytes::new(RUFFS.as_bytes(), 100));
-    let page = Page {
-        form: PageForm::Sheet,
-        par: ParTags::Without,
-    };
-    let made = audit_tables(rt, alloc, page, &mut source, &mut sections, &mut sink);
+    let made = audited(rt, alloc, &mut sections, &mut sink);
     let left = spending.left(alloc);
     let outcome = match made {
-        Ok(_) if sink.bytes().ends_with(SHEET_END) => Outcome::Answer,
+        Ok(()) if sink.bytes().ends_with(SHEET_END) => Outcome::Answer,
         Err(AuditFault::Page(MakeFault::OutOfMemory)) if sink.bytes().is_empty() => {
             Outcome::OutOfMemory
         }

@@ -79,18 +79,21 @@ fn requests(alloc: Global) -> Result<Vec<Request>, AllocError> {
     Ok(requests)
 }
 
+/// What comes of `Book::new`.
+fn outcome_of_opening(alloc: Global, boards: Vec<Board>) -> Outcome {
+    match Book::new(alloc, boards, 10, 2) {
+        Ok(book) if book.history().is_empty() && book.boards().len() == 1 => Outcome::Answer,
+        Err(BookFault::OutOfMemory) => Outcome::OutOfMemory,
+        _ => Outcome::Wrong,
+    }
+}
+
 /// `Book::new`.
 pub fn new_book(alloc: Global, spending: Spending) -> Result<Told, AllocError> {
     let boards = board(alloc)?;
     spending.spend(alloc)?;
-    let made = Book::new(alloc, boards, 10, 2);
-    let left = spending.left(alloc);
-    let outcome = match made {
-        Ok(book) if book.history().is_empty() && book.boards().len() == 1 => Outcome::Answer,
-        Err(BookFault::OutOfMemory) => Outcome::OutOfMemory,
-        _ => Outcome::Wrong,
-    };
-    Ok(Told::Called(outcome, left))
+    let outcome = outcome_of_opening(alloc, boards);
+    Ok(Told::Called(outcome, spending.left(alloc)))
 }
 
 /// Whether these are the replies to the list.
@@ -98,19 +101,22 @@ fn are_replies(replies: &[Reply]) -> bool {
     replies == REPLIES.as_slice()
 }
 
-/// `replay`.
-pub fn replayed(alloc: Global, spending: Spending) -> Result<Told, AllocError> {
-    let boards = board(alloc)?;
-    let requests = requests(alloc)?;
-    spending.spend(alloc)?;
-    let replayed = replay(alloc, boards, 10, 2, requests.as_slice());
-    let left = spending.left(alloc);
-    let outcome = match replayed {
+/// What comes of `replay`.
+fn outcome_of_replay(alloc: Global, boards: Vec<Board>, requests: &[Request]) -> Outcome {
+    match replay(alloc, boards, 10, 2, requests) {
         Ok((book, replies)) if are_replies(replies.as_slice()) && book.published(NT) == Some(1) => {
             Outcome::Answer
         }
         Err(BookFault::OutOfMemory) => Outcome::OutOfMemory,
         _ => Outcome::Wrong,
-    };
-    Ok(Told::Called(outcome, left))
+    }
+}
+
+/// `replay`.
+pub fn replayed(alloc: Global, spending: Spending) -> Result<Told, AllocError> {
+    let boards = board(alloc)?;
+    let requests = requests(alloc)?;
+    spending.spend(alloc)?;
+    let outcome = outcome_of_replay(alloc, boards, requests.as_slice());
+    Ok(Told::Called(outcome, spending.left(alloc)))
 }

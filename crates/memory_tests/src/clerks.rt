@@ -4,7 +4,7 @@ use crate::outcomes::{Outcome, Told};
 use crate::spending::Spending;
 use cards::{Layout, Seat, Side, Trump};
 use certificate_graph::{Bundle, Claim, Graph, Solver, Version};
-use farm::{FarmFault, Means, run_farm};
+use farm::{FarmFault, Means, Settings, run_farm};
 use lease_book::{Asked, Book, Entry, Gate, Reply};
 use pbn_deals::{Board, BoardName, read_layout};
 use std::alloc::{AllocError, Global};
@@ -217,16 +217,22 @@ fn is_whole(book: &Book) -> bool {
     count == CLAIMS
 }
 
-/// What came of the run.
-fn outcome_of(made: &Result<Book, FarmFault>) -> Outcome {
-    match made {
-        Ok(book) => {
-            if is_whole(book) {
-                Outcome::Answer
-            } else {
-                Outcome::Incomplete
-            }
-        }
+/// What comes of a run over these boards.
+fn outcome_of_run<R: Threads + Wait + Clock + Sync>(
+    rt: &R,
+    alloc: Global,
+    boards: Vec<Board>,
+    settings: Settings,
+    crowd: &Crowd<'_, R>,
+) -> Outcome {
+    let means = Means {
+        solver: crowd,
+        gate: crowd,
+        clock: &StandsStill,
+    };
+    match run_farm(rt, alloc, boards, settings, &means) {
+        Ok(book) if is_whole(&book) => Outcome::Answer,
+        Ok(_) => Outcome::Incomplete,
         Err(FarmFault::OutOfMemory) => Outcome::OutOfMemory,
         Err(FarmFault::NoThread) => Outcome::NoThread,
         Err(FarmFault::Book(_)) => Outcome::Wrong,
@@ -245,15 +251,10 @@ pub fn clerk<R: Threads + Wait + Clock + Sync>(
     };
     let boards = four_boards(alloc)?;
     let crowd = Crowd::new(rt, alloc, spending)?;
-    let means = Means {
-        solver: &crowd,
-        gate: &crowd,
-        clock: &StandsStill,
-    };
-    let made = run_farm(rt, alloc, boards, settings, &means);
-    if crowd.was_refused.load(SeqCst) {
-        return Ok(Told::Before);
-    }
-    let outcome = outcome_of(&made);
-    Ok(Told::Called(outcome, crowd.left()))
+    let outcome = outcome_of_run(rt, alloc, boards, settings, &crowd);
+    Ok(if crowd.was_refused.load(SeqCst) {
+        Told::Before
+    } else {
+        Told::Called(outcome, crowd.left())
+    })
 }

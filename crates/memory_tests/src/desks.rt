@@ -130,24 +130,38 @@ fn opened<R: Wait>(
     }
 }
 
+/// What comes of the list at a desk over these boards, each call of which is made again where its memory ran out.
+fn outcome_at_desk<R: Wait>(
+    rt: &R,
+    alloc: Global,
+    boards: Vec<Board>,
+    again: Vec<Board>,
+    claimed: &Claimed,
+) -> Outcome {
+    let (made, opening) = opened(rt, alloc, boards, again);
+    let Ok((desk, mut chairs)) = made else {
+        return Outcome::Wrong;
+    };
+    let asked = ask_from_first(rt, &desk, chairs.as_mut_slice(), claimed);
+    outcome_of_closed(&desk.close(rt, chairs), opening.and(asked))
+}
+
+/// The outcome of the calls, where the closed history is right.
+fn outcome_of_closed(closed: &Closed, asked: Outcome) -> Outcome {
+    if is_closed(closed) {
+        asked
+    } else {
+        Outcome::Wrong
+    }
+}
+
 /// `Desk::open`, and its calls for the list, each of which is made again where its memory ran out.
 pub fn desk<R: Wait>(rt: &R, alloc: Global, spending: Spending) -> Result<Told, AllocError> {
     let (boards, again) = (board(alloc)?, board(alloc)?);
     let claimed = ace_claim(alloc)?;
     spending.spend(alloc)?;
-    let (made, opening) = opened(rt, alloc, boards, again);
-    let Ok((desk, mut chairs)) = made else {
-        return Ok(Told::Called(Outcome::Wrong, None));
-    };
-    let asked = ask_from_first(rt, &desk, chairs.as_mut_slice(), &claimed);
-    let closed = desk.close(rt, chairs);
-    let left = spending.left(alloc);
-    let outcome = if is_closed(&closed) {
-        opening.and(asked)
-    } else {
-        Outcome::Wrong
-    };
-    Ok(Told::Called(outcome, left))
+    let outcome = outcome_at_desk(rt, alloc, boards, again, &claimed);
+    Ok(Told::Called(outcome, spending.left(alloc)))
 }
 
 /// `Desk::close`, after the list.
@@ -158,13 +172,12 @@ pub fn closed<R: Wait>(rt: &R, alloc: Global, spending: Spending) -> Result<Told
         return Ok(Told::Before);
     };
     let asked = ask_from_first(rt, &desk, chairs.as_mut_slice(), &claimed);
-    spending.spend(alloc)?;
+    let is_spent = spending.spend(alloc).is_ok();
     let closed = desk.close(rt, chairs);
     let left = spending.left(alloc);
-    let outcome = if is_closed(&closed) {
-        asked
+    Ok(if is_spent {
+        Told::Called(outcome_of_closed(&closed, asked), left)
     } else {
-        Outcome::Wrong
-    };
-    Ok(Told::Called(outcome, left))
+        Told::Before
+    })
 }

@@ -4,7 +4,7 @@ use crate::outcomes::{Outcome, Told};
 use crate::spending::Spending;
 use crate::texts::HEAD;
 use cards::{Buffer, Bytes, Seat, Side, Suit, Trump};
-use farm::Means;
+use farm::{Means, Settings};
 use lease_book::{Book, Entry};
 use partition_solver::Partition;
 use std::alloc::{AllocError, Global};
@@ -94,6 +94,24 @@ fn refused(fault: MakeFault, bytes: &[u8]) -> Outcome {
     }
 }
 
+/// What `make_tables` makes of the source, with a solver and a checker. A call of it carries its promises to the end of
+/// the caller.
+fn made<R: Threads + Wait + Sync>(
+    rt: &R,
+    alloc: Global,
+    settings: Settings,
+    solver: &Partition,
+    source: &mut Bytes<'_>,
+    sink: &mut Buffer,
+) -> Result<(Report, Book), MakeFault> {
+    let means = Means {
+        solver,
+        gate: &LetsPass,
+        clock: &StandsStill,
+    };
+    make_tables(rt, alloc, tables_by(settings), &means, source, sink)
+}
+
 /// `make_tables` with a solver and a checker on the four hands of one suit each.
 pub fn tables<R: Threads + Wait + Sync>(
     rt: &R,
@@ -107,13 +125,7 @@ pub fn tables<R: Threads + Wait + Sync>(
     };
     let solver = Partition::new();
     spending.spend(alloc)?;
-    let means = Means {
-        solver: &solver,
-        gate: &LetsPass,
-        clock: &StandsStill,
-    };
-    let options = tables_by(settings);
-    let made = make_tables(rt, alloc, options, &means, &mut source, &mut sink);
+    let made = made(rt, alloc, settings, &solver, &mut source, &mut sink);
     let left = spending.left(alloc);
     let outcome = match made {
         Ok((report, book)) => written(alloc, report, &book, sink.bytes())?,

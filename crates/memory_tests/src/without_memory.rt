@@ -24,18 +24,17 @@ struct Shown {
 }
 
 /// Reads what the calls are made on.
-fn read_shown(alloc: Global) -> Result<Option<Shown>, AllocError> {
+fn read_shown(alloc: Global) -> Result<Shown, AllocError> {
     let Ok(layout) = read_layout(ACE.as_bytes()) else {
-        return Ok(None);
+        return Err(AllocError);
     };
     let (declarer, defenders) = ace_graphs(alloc)?;
-    let claimed = ace_claim(alloc)?;
-    Ok(Some(Shown {
+    Ok(Shown {
         layout,
         declarer,
         defenders,
-        claimed,
-    }))
+        claimed: ace_claim(alloc)?,
+    })
 }
 
 /// Whether the entry is accepted, by its graphs and by its claim.
@@ -51,27 +50,42 @@ fn is_accepted(shown: &Shown) -> bool {
     by_graphs.is_ok() && by_claim.is_ok() && check_graph(declarer).is_ok()
 }
 
-/// `check_graph`, `check_entry`, `check_claim`, `CheckedGraph::of` and `Graph::write`.
-pub fn checks(alloc: Global, spending: Spending) -> Result<Told, AllocError> {
-    let mut sink = Buffer::new(alloc, FINESSE.len(), FINESSE.len())?;
-    let Ok(graph) = Graph::read(alloc, FINESSE) else {
-        return Ok(Told::Before);
-    };
-    let graph = Arc::new(alloc, graph)?;
-    let Some(shown) = read_shown(alloc)? else {
-        return Ok(Told::Called(Outcome::Wrong, None));
-    };
-    spending.spend(alloc)?;
-    let is_written = graph.write(&mut sink).is_ok();
+/// The graph of the finesse.
+fn finesse(alloc: Global) -> Result<Arc<Graph>, AllocError> {
+    match Graph::read(alloc, FINESSE) {
+        Ok(graph) => Ok(Arc::new(alloc, graph)?),
+        Err(_) => Err(AllocError),
+    }
+}
+
+/// What comes of `check_graph`, `check_entry`, `check_claim`, `CheckedGraph::of` and `Graph::write`.
+fn outcome_of_checks(shown: &Shown, graph: Arc<Graph>, sink: &mut Buffer) -> Outcome {
+    let is_written = graph.write(sink).is_ok() && sink.bytes() == FINESSE;
     let checked = CheckedGraph::of(graph);
-    let is_right = checked.verdict().is_ok() && is_accepted(&shown);
-    let left = spending.left(alloc);
-    let outcome = if is_right && is_written && sink.bytes() == FINESSE {
+    if checked.verdict().is_ok() && is_accepted(shown) && is_written {
         Outcome::Answer
     } else {
         Outcome::Wrong
-    };
-    Ok(Told::Called(outcome, left))
+    }
+}
+
+/// `check_graph`, `check_entry`, `check_claim`, `CheckedGraph::of` and `Graph::write`.
+pub fn checks(alloc: Global, spending: Spending) -> Result<Told, AllocError> {
+    let mut sink = Buffer::new(alloc, FINESSE.len(), FINESSE.len())?;
+    let graph = finesse(alloc)?;
+    let shown = read_shown(alloc)?;
+    spending.spend(alloc)?;
+    let outcome = outcome_of_checks(&shown, graph, &mut sink);
+    Ok(Told::Called(outcome, spending.left(alloc)))
+}
+
+/// What comes of `write_tables`.
+fn outcome_of_writing(book: &Book, sink: &mut Buffer) -> Outcome {
+    if write_tables(book, sink).is_ok() && sink.bytes() == HEAD_OF_ACE {
+        Outcome::Answer
+    } else {
+        Outcome::Wrong
+    }
 }
 
 /// `write_tables`.
@@ -81,12 +95,6 @@ pub fn writes(alloc: Global, spending: Spending) -> Result<Told, AllocError> {
         return Ok(Told::Before);
     };
     spending.spend(alloc)?;
-    let written = write_tables(&book, &mut sink);
-    let left = spending.left(alloc);
-    let outcome = if written.is_ok() && sink.bytes() == HEAD_OF_ACE {
-        Outcome::Answer
-    } else {
-        Outcome::Wrong
-    };
-    Ok(Told::Called(outcome, left))
+    let outcome = outcome_of_writing(&book, &mut sink);
+    Ok(Told::Called(outcome, spending.left(alloc)))
 }

@@ -106,12 +106,19 @@ fn vulnerability(case: &str) -> Vulnerability {
     }
 }
 
+/// The words for the sides that are vulnerable.
+const SIDES: [(&str, VulnerableSides); 3] = [
+    ("NS", VulnerableSides::NorthSouth),
+    ("EW", VulnerableSides::EastWest),
+    ("All", VulnerableSides::Both),
+];
+
 /// Which sides are vulnerable.
 fn vulnerable_sides(word: &str) -> VulnerableSides {
-    match word {
-        "NS" => VulnerableSides::NorthSouth,
-        "EW" => VulnerableSides::EastWest,
-        "All" => VulnerableSides::Both,
-        _ => VulnerableSides::Neither,
+    for (name, sides) in SIDES {
+        if name == word {
+            return sides;
+        }
     }
+    VulnerableSides::Neither
 }

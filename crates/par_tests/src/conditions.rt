@@ -50,14 +50,17 @@ fn text_of(alloc: Global, case: &str) -> Result<Vec<u8>, AllocError> {
     Ok(text)
 }
 
+/// Letters after a backslash, with the bytes that they stand for.
+const CONTROLS: [(u8, u8); 3] = [(b'n', b'\n'), (b'r', b'\r'), (b't', b'\t')];
+
 /// The byte that a letter after a backslash stands for.
 fn control(letter: u8) -> u8 {
-    match letter {
-        b'n' => b'\n',
-        b'r' => b'\r',
-        b't' => b'\t',
-        other => other,
+    for (name, byte) in CONTROLS {
+        if name == letter {
+            return byte;
+        }
     }
+    letter
 }
 
 /// Adds a dealer and a vulnerability, or `-` for what is not known.

@@ -10,9 +10,8 @@ use cases::answer_case;
 use std::io;
 
 fn main(rt: HostRuntime) -> io::Result<()> {
-    for line in rt.lines(rt.alloc()) {
-        let line = line?;
-        let case = line.as_str();
+    let text = io::read_to_string(rt.alloc(), rt.reader())?;
+    for case in text.lines() {
         if case.starts_with("=") {
             continue;
         }

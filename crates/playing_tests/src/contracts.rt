@@ -1,13 +1,16 @@
 //! A contract with the graphs that show its value, and what its sides win against the lines of their opponents.
 
+ghost use Rattle.certificate_play.specs.Promises.{GoesOn, IsSidesTurn};
+
 use crate::draws::draw_below;
+use crate::expect::{expect, got, some};
+use arrayvec::ArrayVec;
 use cards::{Card, Layout, Seat, Side, Trump};
 use certificate_graph::Graph;
 use certificate_play::{Playing, begin_both, line};
 use play_rules::winner;
 use rand_pcg::Pcg32;
 use std::process::Abort;
-use std::test::Fail;
 
 /// A contract on a layout, and the graphs that show its value.
 #[derive(Drop)]
@@ -57,7 +60,7 @@ impl Contract<'_> {
     }
 
     /// The side before the opening lead.
-    pub fn begin(&self, side: Side) -> Result<Playing<'_>, Fail> {
+    pub fn begin(&self, rt: &impl Abort, side: Side) -> Playing<'_> {
         let (declarers, defenders) = (self.declarers, self.defenders);
         let sides = begin_both(
             &self.layout,
@@ -66,11 +69,12 @@ impl Contract<'_> {
             self.k,
             declarers,
             defenders,
-        )?;
+        );
+        let sides = got(rt, sides);
         if side == self.declarer.side() {
-            Ok(sides.declarers)
+            sides.declarers
         } else {
-            Ok(sides.defenders)
+            sides.defenders
         }
     }
 
@@ -92,10 +96,11 @@ impl Contract<'_> {
 
     /// What the side has won when all cards are played: no fewer tricks than it promised.
     fn won(&self, rt: &impl Abort, playing: &Playing<'_>) -> u8 {
-        assert!(rt; playing.history().len() == self.layout.len().wrapping_mul(4));
-        let won = self.count(playing.history(), playing.side());
-        assert!(rt; won == playing.won());
-        assert!(rt; won >= self.promised(playing.side()));
+        let history = playing.history();
+        expect(rt, history.len() == self.layout.len().wrapping_mul(4));
+        let won = self.count(history, playing.side());
+        expect(rt, won == playing.won());
+        expect(rt, won >= self.promised(playing.side()));
         won
     }
 
@@ -108,42 +113,34 @@ impl Contract<'_> {
         left: usize,
         outcome: &mut Outcome,
         most: u32,
-    ) -> Result<(), Fail> {
+    ) {
         let Some(seat) = playing.turn() else {
             outcome.add(self.won(rt, playing));
-            return Ok(());
+            return;
         };
         if left == 0 || outcome.lines >= most {
-            return Ok(());
+            return;
         }
         if seat.side() == playing.side() {
-            let mut after = playing.clone().unwrap();
-            let card = after.answer();
-            assert!(rt; card == playing.next_card());
+            let after = answered(rt, playing);
             return self.play_on(rt, &after, left - 1, outcome, most);
         }
         for card in playing.legal().as_slice() {
-            let mut after = playing.clone().unwrap();
-            after.take(*card)?;
-            self.play_on(rt, &after, left - 1, outcome, most)?;
+            let after = taken(rt, playing, *card);
+            self.play_on(rt, &after, left - 1, outcome, most);
         }
-        Ok(())
     }
 
     /// Plays all lines of the opponents, or so many of them.
-    pub fn play_all(&self, rt: &impl Abort, side: Side, most: u32) -> Result<Outcome, Fail> {
+    pub fn play_all(&self, rt: &impl Abort, side: Side, most: u32) -> Outcome {
         let mut outcome = Outcome::none();
-        self.play_on(rt, &self.begin(side)?, Card::COUNT, &mut outcome, most)?;
-        Ok(outcome)
+        let start = self.begin(rt, side);
+        self.play_on(rt, &start, Card::COUNT, &mut outcome, most);
+        outcome
     }
 
     /// Plays a line in which the opponents choose at random.
-    fn play_one(
-        &self,
-        rt: &impl Abort,
-        start: &Playing<'_>,
-        words: &mut Pcg32,
-    ) -> Result<u8, Fail> {
+    fn play_one(&self, rt: &impl Abort, start: &Playing<'_>, words: &mut Pcg32) {
         let mut playing = start.clone().unwrap();
         for _card in 0..Card::COUNT {
             let Some(seat) = playing.turn() else {
@@ -152,36 +149,64 @@ impl Contract<'_> {
             if seat.side() == playing.side() {
                 playing.answer();
             } else {
-                let legal = playing.legal();
-                let place = draw_below(words, legal.len().max(1));
-                playing.take(*legal.get(place).ok_or("no card")?)?;
+                let card = drawn(rt, &playing.legal(), words);
+                got(rt, playing.take(card));
             }
         }
-        Ok(self.won(rt, &playing))
+        self.won(rt, &playing);
     }
 
     /// Plays so many lines in which the opponents choose at random.
-    pub fn play_some(&self, rt: &impl Abort, side: Side, lines: u32) -> Result<(), Fail> {
-        let start = self.begin(side)?;
+    pub fn play_some(&self, rt: &impl Abort, side: Side, lines: u32) {
+        let start = self.begin(rt, side);
         let mut words = Pcg32::new(u64::from(lines), 0);
         for _line in 0..lines {
-            self.play_one(rt, &start, &mut words)?;
+            self.play_one(rt, &start, &mut words);
         }
-        Ok(())
     }
 
     /// The line of both certificates has just k tricks of declarer's side.
-    pub fn expect_line(&self, rt: &impl Abort) -> Result<(), Fail> {
-        let sides = begin_both(
+    pub fn expect_line(&self, rt: &impl Abort) {
+        let (declarers, defenders) = (self.declarers, self.defenders);
+        let begun = begin_both(
             &self.layout,
             self.declarer,
             self.trump,
             self.k,
-            self.declarers,
-            self.defenders,
-        )?;
+            declarers,
+            defenders,
+        );
+        let Ok(sides) = begun else {
+            panic!(rt; "no sides");
+        };
         let cards = line(sides.declarers, sides.defenders);
-        assert!(rt; self.count(cards.as_slice(), self.declarer.side()) == self.k);
-        Ok(())
+        let won = self.count(cards.as_slice(), self.declarer.side());
+        expect(rt, won == self.k);
     }
+}
+
+/// The play after the card of the side, which is the next card.
+fn answered<'a>(rt: &impl Abort, playing: &Playing<'a>) -> Playing<'a>
+    requires goes_on { GoesOn playing.now }
+    requires turn { IsSidesTurn playing.now }
+{
+    let mut after = playing.clone().unwrap();
+    let card = after.answer();
+    expect(rt, card == playing.next_card());
+    after
+}
+
+/// The play after this card of the opponents.
+pub fn taken<'a>(rt: &impl Abort, playing: &Playing<'a>, card: Card) -> Playing<'a>
+    requires { IsSidesTurn playing.now → ⊥ }
+{
+    let mut after = playing.clone().unwrap();
+    got(rt, after.take(card));
+    after
+}
+
+/// One of the cards, drawn at random.
+pub fn drawn(rt: &impl Abort, cards: &ArrayVec<Card, 13>, words: &mut Pcg32) -> Card {
+    let place = draw_below(words, cards.len().max(1));
+    *some(rt, cards.get(place))
 }

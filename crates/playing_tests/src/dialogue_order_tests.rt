@@ -3,12 +3,10 @@
 use crate::dialogue_tests::play;
 use crate::expect::expect;
 use play_dialogues::End;
-use std::alloc::Global;
 use std::io;
 use std::io::{Error, ErrorKind, Read, Write};
 use std::sync::atomic::AtomicBool;
 use std::sync::atomic::Ordering::SeqCst;
-use std::test::Fail;
 use streams::{ReaderSource, WriterSink};
 
 /// How a text ends that asks for a line.
@@ -72,14 +70,13 @@ impl Read for Player<'_> {
 
 /// The player is asked before each line, and never for one more.
 #[test]
-fn asked_before_each_line(rt: HostRuntime) -> Result<(), Fail> {
-    let alloc: Global = rt.alloc();
+fn asked_before_each_line(rt: HostRuntime) {
+    let alloc = rt.alloc();
     let asked = &AtomicBool::new(false);
     let lines = b"S4\nS4\nundo\nS4\nS5\nS6\nSK\n".as_slice();
     let input = ReaderSource::new(Player { asked, lines });
     let text = Vec::new(alloc);
     let mut output = WriterSink::new(Screen { asked, text });
-    let (ended, played) = play(alloc, input, &mut output)?;
+    let (ended, played) = play(&rt, alloc, input, &mut output);
     expect(&rt, ended == End::Played && played == 8);
-    Ok(())
 }

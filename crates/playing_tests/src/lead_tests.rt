@@ -1,13 +1,14 @@
 //! The opening leads of deals whose tricks are counted by hand.
 
-use crate::expect::{expect_bytes, expect_eq};
+use crate::expect::{expect_bytes, expect_eq, got};
 use cards::{Buffer, Bytes, Card, Layout, Seat, Trump};
 use certificate_graph::{CardBundle, CardSolver};
 use opening_leads::{LeadFault, LeadOptions, LeadReport, make_leads};
 use partition_solver::Partition;
 use pbn_deals::PbnFault;
 use std::alloc::{AllocError, Global};
-use std::test::Fail;
+use std::process::Abort;
+use std::thread::Threads;
 
 /// How the leads are looked for.
 const OPTIONS: LeadOptions = LeadOptions {
@@ -84,60 +85,55 @@ impl CardSolver for FindsNone {
     }
 }
 
-/// The answers of the solver, with several threads and with one.
-#[test]
-fn leads_of_one_suit_each(rt: HostRuntime) -> Result<(), Fail> {
-    for solvers in [3usize, 1, 0] {
-        let mut sink = Buffer::new(rt.alloc(), 3000, 7)?;
-        let made = make_leads(
-            &rt,
-            rt.alloc(),
-            &mut Bytes::new(BOARDS, 7),
-            &mut sink,
-            LeadOptions { solvers, ..OPTIONS },
-            &Partition::new(),
-        );
-        expect_bytes(&rt, sink.bytes(), LEADS);
-        expect_eq(&rt, &made, &Ok(LeadReport { missing: 0 }));
-    }
-    Ok(())
+/// What [`make_leads`] reports, and what it writes.
+type Made<'a> = (Result<LeadReport, LeadFault>, &'a [u8]);
+
+/// The leads of a text are made so with a sink that has so much room.
+fn expect_made<R: Threads + Sync + Abort, S: CardSolver + Sync>(
+    rt: &R,
+    alloc: Global,
+    mut source: Bytes<'_>,
+    room: usize,
+    (options, solver): (LeadOptions, &S),
+    (wanted, written): Made<'_>,
+) {
+    let mut sink = got(rt, Buffer::new(alloc, room, 7));
+    let made = make_leads(rt, alloc, &mut source, &mut sink, options, solver);
+    expect_bytes(rt, sink.bytes(), written);
+    expect_eq(rt, &made, &wanted);
 }
 
-/// Rows are missing. Then the sink fails, the source, and the text is refused.
+/// The answers of the solver, with several threads and with one.
 #[test]
-fn leads_are_missing(rt: HostRuntime) -> Result<(), Fail> {
+fn leads_of_one_suit_each(rt: HostRuntime) {
+    let solver = Partition::new();
+    for solvers in [3usize, 1, 0] {
+        let options = LeadOptions { solvers, ..OPTIONS };
+        let source = Bytes::new(BOARDS, 7);
+        let wanted = (Ok(LeadReport { missing: 0 }), LEADS);
+        expect_made(&rt, rt.alloc(), source, 3000, (options, &solver), wanted);
+    }
+}
+
+/// Rows are missing. Then the sink fails, and the text is refused.
+#[test]
+fn leads_are_missing(rt: HostRuntime) {
+    let form = LeadFault::Pbn(PbnFault::TagForm { line: 1 });
     for (text, room, wanted, written) in [
         (BOARDS, 3000usize, Ok(LeadReport { missing: 20 }), NO_LEADS),
         (BOARDS, 40, Err(LeadFault::Write), &NO_LEADS[..40]),
-        (
-            b"[Deal",
-            3000,
-            Err(LeadFault::Pbn(PbnFault::TagForm { line: 1 })),
-            b"",
-        ),
+        (b"[Deal", 3000, Err(form), b""),
     ] {
-        let mut sink = Buffer::new(rt.alloc(), room, 7)?;
-        let made = make_leads(
-            &rt,
-            rt.alloc(),
-            &mut Bytes::new(text, 7),
-            &mut sink,
-            OPTIONS,
-            &FindsNone,
-        );
-        expect_bytes(&rt, sink.bytes(), written);
-        expect_eq(&rt, &made, &wanted);
+        let source = Bytes::new(text, 7);
+        let finds_none = (OPTIONS, &FindsNone);
+        expect_made(&rt, rt.alloc(), source, room, finds_none, (wanted, written));
     }
-    let mut sink = Buffer::new(rt.alloc(), 3000, 7)?;
-    let made = make_leads(
-        &rt,
-        rt.alloc(),
-        &mut Bytes::failing_after(BOARDS, 7, 3),
-        &mut sink,
-        OPTIONS,
-        &FindsNone,
-    );
-    expect_bytes(&rt, sink.bytes(), b"");
-    expect_eq(&rt, &made, &Err(LeadFault::Read));
-    Ok(())
+}
+
+/// The source fails.
+#[test]
+fn leads_are_not_read(rt: HostRuntime) {
+    let source = Bytes::failing_after(BOARDS, 7, 3);
+    let wanted = (Err(LeadFault::Read), b"".as_slice());
+    expect_made(&rt, rt.alloc(), source, 3000, (OPTIONS, &FindsNone), wanted);
 }

@@ -1,6 +1,6 @@
 //! The text of a play, worked out by hand.
 
-use crate::expect::{expect, expect_bytes};
+use crate::expect::{expect, expect_bytes, got};
 use crate::finesse::{DEAL, FINESSE, NOTHING};
 use arrayvec::ArrayVec;
 use cards::{Buffer, Card, Rank, Seat, Suit, Trump};
@@ -10,7 +10,6 @@ use pbn_deals::read_layout;
 use play_dialogues::write_play;
 use std::alloc::Global;
 use std::process::Abort;
-use std::test::Fail;
 
 /// The text of these cards is that one.
 fn expect_text(
@@ -20,11 +19,10 @@ fn expect_text(
     trump: Trump,
     cards: &[Card],
     wanted: &[u8],
-) -> Result<(), Fail> {
-    let mut sink = Buffer::new(alloc, 400, 7)?;
+) {
+    let mut sink = got(rt, Buffer::new(alloc, 400, 7));
     expect(rt, write_play(declarer, trump, cards, &mut sink).is_ok());
     expect_bytes(rt, sink.bytes(), wanted);
-    Ok(())
 }
 
 const FINESSE_LINE: &[u8] = b"1 S: S2 S4 SQ S5 N
@@ -34,20 +32,24 @@ declarer 0, defenders 2
 
 /// West's small card is covered by the queen, and the king falls under the ace.
 #[test]
-fn line_of_the_finesse(rt: HostRuntime) -> Result<(), Fail> {
-    let declarers = Graph::read(rt.alloc(), NOTHING)?;
-    let defenders = Graph::read(rt.alloc(), FINESSE)?;
-    let layout = read_layout(DEAL)?;
-    let sides = begin_both(&layout, Seat::East, Trump::Nt, 0, &declarers, &defenders)?;
+fn line_of_the_finesse(rt: HostRuntime) {
+    let declarers = got(&rt, Graph::read(rt.alloc(), NOTHING));
+    let defenders = got(&rt, Graph::read(rt.alloc(), FINESSE));
+    let layout = got(&rt, read_layout(DEAL));
+    let (declarer, trump) = (Seat::East, Trump::Nt);
+    let begun = begin_both(&layout, declarer, trump, 0, &declarers, &defenders);
+    let Ok(sides) = begun else {
+        panic!(rt; "no sides");
+    };
     let cards = line(sides.declarers, sides.defenders);
     expect_text(
         &rt,
         rt.alloc(),
-        Seat::East,
-        Trump::Nt,
+        declarer,
+        trump,
         cards.as_slice(),
         FINESSE_LINE,
-    )
+    );
 }
 
 /// Four hands of one suit each, each suit from the ace down: with hearts as trumps East ruffs what South leads, and
@@ -70,7 +72,7 @@ declarer 12, defenders 0
 
 /// All cards but the last, which is still to be played.
 #[test]
-fn play_but_one(rt: HostRuntime) -> Result<(), Fail> {
+fn play_but_one(rt: HostRuntime) {
     let first = [Suit::Diamonds, Suit::Clubs, Suit::Spades, Suit::Hearts];
     let later = [Suit::Hearts, Suit::Diamonds, Suit::Clubs, Suit::Spades];
     let mut cards: ArrayVec<Card, 52> = ArrayVec::new();
@@ -83,7 +85,7 @@ fn play_but_one(rt: HostRuntime) -> Result<(), Fail> {
     let _ = cards.pop();
     let trump = Trump::Suit(Suit::Hearts);
     let (declarer, alloc) = (Seat::East, rt.alloc());
-    expect_text(&rt, alloc, declarer, trump, cards.as_slice(), RUFFS)?;
+    expect_text(&rt, alloc, declarer, trump, cards.as_slice(), RUFFS);
     let none = b"declarer 0, defenders 0\n";
-    expect_text(&rt, alloc, declarer, trump, &[], none)
+    expect_text(&rt, alloc, declarer, trump, &[], none);
 }

@@ -1,11 +1,13 @@
 //! A side's strategy told card by card, as a certificate of the first version: a node for each position in which a
 //! trick can begin, whose pattern names every card.
 
+use crate::contracts::taken;
+use crate::expect::{got, some};
 use cards::{Card, Rank, Seat, Suit, Trump};
 use certificate_graph::Graph;
 use certificate_play::Playing;
 use std::alloc::Global;
-use std::test::Fail;
+use std::process::Abort;
 
 /// The letters of the highest cards of a suit, by their places.
 const PLACES: [&str; 13] = [
@@ -25,26 +27,36 @@ struct Told<'a> {
 }
 
 /// The certificate of what the side does from here on, which is before the opening lead.
-pub fn told_card_by_card(alloc: Global, start: &Playing<'_>, trump: Trump) -> Result<Graph, Fail> {
+pub fn told_card_by_card(
+    rt: &impl Abort,
+    alloc: Global,
+    start: &Playing<'_>,
+    trump: Trump,
+) -> Graph {
     let mut told = Told {
         text: String::new(alloc),
         begun: Vec::new(alloc),
         plays: Vec::new(alloc),
     };
     if needs(start) > 0 {
-        let lead = start.turn().ok_or("nothing is left to play")?;
-        number_of(&mut told, start, lead)?;
+        let lead = some(rt, start.turn());
+        number_of(rt, &mut told, start, lead);
     }
     for place in 0..u64::MAX {
         let Some(play) = told.plays.get(place as usize) else {
             break;
         };
         let play = play.clone().unwrap();
-        tell_node(alloc, &mut told, &play)?;
+        tell_node(rt, alloc, &mut told, &play);
     }
     let (side, count, nodes) = (start.side(), told.plays.len(), told.text.as_str());
-    let text = format!(in alloc; "DDC 1\ntrump {trump}\nside {side}\nnodes {count}\n{nodes}")?;
-    Ok(Graph::read(alloc, text.as_bytes())?)
+    let text = format!(in alloc; "DDC 1\ntrump {trump}\nside {side}\nnodes {count}\n{nodes}");
+    got(rt, Graph::read(alloc, got(rt, text).as_bytes()))
+}
+
+/// Tells this.
+fn tell(rt: &impl Abort, text: &mut String, told: &str) {
+    got(rt, text.push_str(told));
 }
 
 /// How many tricks of those that it promised the side still needs.
@@ -62,50 +74,52 @@ fn played(play: &Playing<'_>) -> u64 {
 }
 
 /// The number of the node of the trick to which this seat leads here: a new one where the position has none yet.
-fn number_of<'a>(told: &mut Told<'a>, play: &Playing<'a>, lead: Seat) -> Result<usize, Fail> {
+fn number_of<'a>(rt: &impl Abort, told: &mut Told<'a>, play: &Playing<'a>, lead: Seat) -> usize {
     let begun = (played(play), lead, needs(play));
     if let Some(number) = told.begun.iter().position(|other| *other == begun) {
-        return Ok(number);
+        return number;
     }
     let number = told.begun.len();
-    told.begun.push(begun)?;
-    told.plays.push(play.clone().unwrap())?;
-    Ok(number)
+    got(rt, told.begun.push(begun));
+    got(rt, told.plays.push(play.clone().unwrap()));
+    number
 }
 
 /// Tells the node of the trick that begins here.
-fn tell_node<'a>(alloc: Global, told: &mut Told<'a>, play: &Playing<'a>) -> Result<(), Fail> {
-    let lead = play.turn().ok_or("nothing is left to play")?;
+fn tell_node<'a>(rt: &impl Abort, alloc: Global, told: &mut Told<'a>, play: &Playing<'a>) {
+    let lead = some(rt, play.turn());
     let needs = needs(play);
-    told.text
-        .push_str(format!(in alloc; "{lead} {needs}")?.as_str())?;
+    let begun = got(rt, format!(in alloc; "{lead} {needs}"));
+    tell(rt, &mut told.text, begun.as_str());
     for suit in Suit::ALL {
-        tell_suit(alloc, &mut told.text, play, suit)?;
+        tell_suit(rt, alloc, &mut told.text, play, suit);
     }
-    told.text.push_str(" ")?;
-    tell_tree(alloc, told, play, play, 4)?;
-    told.text.push_str("\n")?;
-    Ok(())
+    tell(rt, &mut told.text, " ");
+    tell_tree(rt, alloc, told, play, play, 4);
+    tell(rt, &mut told.text, "\n");
 }
 
 /// Tells how many cards of the suit each seat has, and who owns them, the highest first.
-fn tell_suit(alloc: Global, text: &mut String, play: &Playing<'_>, suit: Suit) -> Result<(), Fail> {
+fn tell_suit(rt: &impl Abort, alloc: Global, text: &mut String, play: &Playing<'_>, suit: Suit) {
     let mut counts = [0u8; 4];
     let mut owners = String::new(alloc);
     for rank in Rank::FALLING {
         if let Some(seat) = play.holder(Card { suit, rank }) {
             counts[seat.number()] = counts[seat.number()].wrapping_add(1);
-            owners.push_str(seat.letter())?;
+            tell(rt, &mut owners, seat.letter());
         }
     }
     let [north, east, south, west] = counts;
     let owners = owners.as_str();
-    text.push_str(format!(in alloc; " {north}.{east}.{south}.{west}/{owners}")?.as_str())?;
-    Ok(())
+    let told = got(
+        rt,
+        format!(in alloc; " {north}.{east}.{south}.{west}/{owners}"),
+    );
+    tell(rt, text, told.as_str());
 }
 
 /// Tells the card by the place that it had when the trick began.
-fn tell_card(text: &mut String, start: &Playing<'_>, card: Card) -> Result<(), Fail> {
+fn tell_card(rt: &impl Abort, text: &mut String, start: &Playing<'_>, card: Card) {
     let mut place = 0usize;
     for rank in Rank::FALLING {
         let other = Card {
@@ -116,56 +130,53 @@ fn tell_card(text: &mut String, start: &Playing<'_>, card: Card) -> Result<(), F
             place = place.wrapping_add(1);
         }
     }
-    text.push_str(card.suit.letter())?;
-    text.push_str(PLACES.get(place).ok_or("no place")?)?;
-    Ok(())
+    tell(rt, text, card.suit.letter());
+    tell(rt, text, *some(rt, PLACES.get(place)));
 }
 
 /// Tells what is done from here on in the trick that began there, to which so many cards are still to be played.
 fn tell_tree<'a>(
+    rt: &impl Abort,
     alloc: Global,
     told: &mut Told<'a>,
     start: &Playing<'a>,
     play: &Playing<'a>,
     left: u8,
-) -> Result<(), Fail> {
+) {
     let Some(seat) = play.turn() else {
-        told.text.push_str("{}")?;
-        return Ok(());
+        tell(rt, &mut told.text, "{}");
+        return;
     };
     if left == 0 {
-        return tell_leaf(alloc, told, play, seat);
+        return tell_leaf(rt, alloc, told, play, seat);
     }
     if seat.side() == play.side() {
         let mut after = play.clone().unwrap();
-        let card = after.answer();
-        tell_card(&mut told.text, start, card)?;
-        return tell_tree(alloc, told, start, &after, left - 1);
+        tell_card(rt, &mut told.text, start, after.answer());
+        return tell_tree(rt, alloc, told, start, &after, left - 1);
     }
-    told.text.push_str("(")?;
+    tell(rt, &mut told.text, "(");
     for card in play.legal().as_slice() {
-        let mut after = play.clone().unwrap();
-        after.take(*card)?;
-        tell_card(&mut told.text, start, *card)?;
-        tell_tree(alloc, told, start, &after, left - 1)?;
+        let after = taken(rt, play, *card);
+        tell_card(rt, &mut told.text, start, *card);
+        tell_tree(rt, alloc, told, start, &after, left - 1);
     }
-    told.text.push_str(")")?;
-    Ok(())
+    tell(rt, &mut told.text, ")");
 }
 
 /// Tells who has won the trick, and the node that goes on, if more is needed.
 fn tell_leaf<'a>(
+    rt: &impl Abort,
     alloc: Global,
     told: &mut Told<'a>,
     play: &Playing<'a>,
     winner: Seat,
-) -> Result<(), Fail> {
+) {
     if needs(play) == 0 {
-        told.text.push_str("{}")?;
-        return Ok(());
+        tell(rt, &mut told.text, "{}");
+        return;
     }
-    let number = number_of(told, play, winner)?;
-    told.text
-        .push_str(format!(in alloc; "{{{winner}{number}}}")?.as_str())?;
-    Ok(())
+    let number = number_of(rt, told, play, winner);
+    let leaf = got(rt, format!(in alloc; "{{{winner}{number}}}"));
+    tell(rt, &mut told.text, leaf.as_str());
 }

@@ -1,17 +1,16 @@
 //! The tricks of cards and of opening leads, by a search and by evidence.
 
 use crate::disks::{BOARDS, Disk, EVIDENCE, System};
-use crate::expect::{End, ROOM, expect_bytes, expect_ended, means};
+use crate::expect::{End, ROOM, expect_ended, got, joined_text, means, memory, some};
+use crate::file_runs::{disk_of, expect_held};
 use crate::solve_tests::STEPS;
 use asked::{CardProof, CardsOptions, LeadsOptions, PlayedWords};
-use cards::{Buffer, Bytes, Seat, Trump};
+use cards::{Bytes, Seat, Trump};
 use partition_solver::Partition;
-use std::alloc::{AllocError, Global};
+use std::alloc::Global;
 use std::process::Abort;
 use std::sync::Wait;
-use std::test::Fail;
 use std::thread::Threads;
-use streams::Streams;
 use subcommands::{Status, Subcommand, run_subcommand};
 use test_support::four_suits::BOARD;
 use test_support::idle::LetsPass;
@@ -29,23 +28,20 @@ fn expect_done<R: Abort + Threads + Wait + Sync>(
     asked: Subcommand<'_>,
     disk: &Disk,
     wanted: End<'_>,
-) -> Result<(), Fail> {
-    let boards = format!(in alloc; "{BOARD}{NO_DEAL}")?;
-    let boards = Disk::new(alloc, boards.as_bytes(), 0, u64::MAX)?;
+) {
+    let boards = joined_text(rt, alloc, &[BOARD, NO_DEAL]);
+    let boards = disk_of(rt, alloc, boards.as_bytes(), 0, u64::MAX);
     let system = System {
         rt,
         evidence: disk,
         boards: &boards,
     };
-    let mut streams = Streams {
-        input: Bytes::failing_after(b"", 1, 0),
-        output: Buffer::new(alloc, ROOM, 3)?,
-        errors: Buffer::new(alloc, ROOM, 7)?,
-    };
+    let input = Bytes::failing_after(b"", 1, 0);
+    let mut streams = memory(rt, alloc, input, (ROOM, 3), (ROOM, 7));
     let solver = Partition::new();
     let means = means(&solver, &LetsPass);
     let status = run_subcommand(&system, alloc, asked, &means, &mut streams);
-    expect_ended(rt, status, &streams, wanted)
+    expect_ended(rt, status, &streams, wanted);
 }
 
 /// The cards that may be played in a finesse without trumps, after those that these words name.
@@ -89,28 +85,27 @@ const FINESSES: [([Option<&str>; 3], &str); 6] = [
 
 /// A search without a file, one whose evidence is kept in a new file, and an audit of that file print the same.
 #[test]
-fn finesses(rt: HostRuntime) -> Result<(), Fail> {
+fn finesses(rt: HostRuntime) {
     let alloc = rt.alloc();
     for (played, printed) in FINESSES {
-        let disk = Disk::new(alloc, b"", ROOM, u64::MAX)?;
+        let disk = disk_of(&rt, alloc, b"", ROOM, u64::MAX);
         for proof in [
             CardProof::Dropped,
             CardProof::Kept(EVIDENCE),
             CardProof::Audited(EVIDENCE),
         ] {
             let asked = Subcommand::Cards(finesse(played, proof));
-            expect_done(&rt, alloc, asked, &disk, (Status::Done, printed, ""))?;
+            expect_done(&rt, alloc, asked, &disk, (Status::Done, printed, ""));
         }
     }
-    Ok(())
 }
 
 /// The evidence of North's cards, as it is kept.
-fn kept_text<R: Abort + Threads + Wait + Sync>(rt: &R, alloc: Global) -> Result<Vec<u8>, Fail> {
-    let disk = Disk::new(alloc, b"", ROOM, u64::MAX)?;
+fn kept_text<R: Abort + Threads + Wait + Sync>(rt: &R, alloc: Global) -> Vec<u8> {
+    let disk = disk_of(rt, alloc, b"", ROOM, u64::MAX);
     let asked = Subcommand::Cards(finesse(TWO_PLAYED, CardProof::Kept(EVIDENCE)));
-    expect_done(rt, alloc, asked, &disk, (Status::Done, NORTH, ""))?;
-    Ok(disk.bytes(alloc)?)
+    expect_done(rt, alloc, asked, &disk, (Status::Done, NORTH, ""));
+    got(rt, disk.bytes(alloc))
 }
 
 /// A part of the evidence, another in its place, and the line that refuses the changed evidence.
@@ -122,23 +117,23 @@ const CHANGES: [(&str, &str, &str); 4] = [
 ];
 
 /// The text with one part replaced.
-fn changed(alloc: Global, text: &str, old: &str, new: &str) -> Result<String, Fail> {
-    let (before, after) = text.split_once(old).ok_or("another text")?;
-    Ok(format!(in alloc; "{before}{new}{after}")?)
+fn changed(rt: &impl Abort, alloc: Global, text: &[u8], old: &str, new: &str) -> String {
+    let text = got(rt, str::from_utf8(text));
+    let (before, after) = some(rt, text.split_once(old));
+    joined_text(rt, alloc, &[before, new, after])
 }
 
 /// Changed evidence is refused.
 #[test]
-fn changed_evidence(rt: HostRuntime) -> Result<(), Fail> {
+fn changed_evidence(rt: HostRuntime) {
     let alloc = rt.alloc();
-    let kept = kept_text(&rt, alloc)?;
+    let kept = kept_text(&rt, alloc);
     let asked = Subcommand::Cards(finesse(TWO_PLAYED, CardProof::Audited(EVIDENCE)));
     for (old, new, line) in CHANGES {
-        let text = changed(alloc, str::from_utf8(kept.as_slice())?, old, new)?;
-        let disk = Disk::new(alloc, text.as_bytes(), 0, u64::MAX)?;
-        expect_done(&rt, alloc, asked, &disk, (Status::Rejected, line, ""))?;
+        let text = changed(&rt, alloc, kept.as_slice(), old, new);
+        let disk = disk_of(&rt, alloc, text.as_bytes(), 0, u64::MAX);
+        expect_done(&rt, alloc, asked, &disk, (Status::Rejected, line, ""));
     }
-    Ok(())
 }
 
 /// The refusal to make a file that is there.
@@ -153,18 +148,17 @@ const MISSING: &str = "ddfarm: evidence: cannot open
 
 /// A file that is there stays as it is, and one that is missing shows nothing.
 #[test]
-fn files_that_are_of_no_use(rt: HostRuntime) -> Result<(), Fail> {
+fn files_that_are_of_no_use(rt: HostRuntime) {
     let alloc = rt.alloc();
-    let disk = Disk::new(alloc, b"x", ROOM, u64::MAX)?;
+    let disk = disk_of(&rt, alloc, b"x", ROOM, u64::MAX);
     for (proof, told) in [
         (CardProof::Kept(EVIDENCE), THERE),
         (CardProof::Audited("finesse.ddp"), MISSING),
     ] {
         let asked = Subcommand::Cards(finesse(TWO_PLAYED, proof));
-        expect_done(&rt, alloc, asked, &disk, (Status::Failed, "", told))?;
+        expect_done(&rt, alloc, asked, &disk, (Status::Failed, "", told));
     }
-    expect_bytes(&rt, disk.bytes(alloc)?.as_slice(), b"x");
-    Ok(())
+    expect_held(&rt, alloc, &disk, b"x");
 }
 
 /// The lines that follow if not all evidence is in the file.
@@ -174,23 +168,16 @@ const WRITING_FILE: &str = "ddfarm: evidence: writing failed
 
 /// A file that takes fewer bytes than the evidence has a beginning of it, and the numbers are printed.
 #[test]
-fn full_files(rt: HostRuntime) -> Result<(), Fail> {
+fn full_files(rt: HostRuntime) {
     let alloc = rt.alloc();
-    let kept = kept_text(&rt, alloc)?;
+    let kept = kept_text(&rt, alloc);
     let asked = Subcommand::Cards(finesse(TWO_PLAYED, CardProof::Kept(EVIDENCE)));
     for room in 0..kept.len() {
-        let disk = Disk::new(alloc, b"", room, u64::MAX)?;
-        expect_done(
-            &rt,
-            alloc,
-            asked,
-            &disk,
-            (Status::Failed, NORTH, WRITING_FILE),
-        )?;
-        let wanted = kept.as_slice().get(..room).ok_or("a longer text")?;
-        expect_bytes(&rt, disk.bytes(alloc)?.as_slice(), wanted);
+        let disk = disk_of(&rt, alloc, b"", room, u64::MAX);
+        let wanted = (Status::Failed, NORTH, WRITING_FILE);
+        expect_done(&rt, alloc, asked, &disk, wanted);
+        expect_held(&rt, alloc, &disk, some(&rt, kept.as_slice().get(..room)));
     }
-    Ok(())
 }
 
 /// A declarer, the suit of the seat at the left, and the tricks that the defenders take in each denomination: all if
@@ -202,55 +189,51 @@ const ROWS: [(&str, &str, [u8; 5]); 4] = [
     ("W", "S", [13, 13, 0, 13, 0]),
 ];
 
+/// Adds a card to a row.
+fn push_card(rt: &impl Abort, text: &mut String, suit: &str, rank: char) {
+    got(rt, write!(text, " {suit}{rank}"));
+}
+
 /// Writes a row: each card of the suit leads to so many tricks.
-fn push_row(
-    text: &mut String,
-    contract: [&str; 2],
-    tricks: u8,
-    suit: &str,
-) -> Result<(), AllocError> {
+fn push_row(rt: &impl Abort, text: &mut String, contract: [&str; 2], tricks: u8, suit: &str) {
     let [declarer, denomination] = contract;
-    write!(text, "{declarer} {denomination}  {tricks}")?;
+    got(rt, write!(text, "{declarer} {denomination}  {tricks}"));
     for rank in "AKQJT98765432".chars() {
-        write!(text, " {suit}{rank}")?;
+        push_card(rt, text, suit, rank);
     }
-    text.push_str("\n")
+    got(rt, text.push_str("\n"));
+}
+
+/// Writes the rows of a declarer.
+fn push_rows(rt: &impl Abort, text: &mut String, declarer: &str, suit: &str, row: [u8; 5]) {
+    for (denomination, tricks) in ["NT", " S", " H", " D", " C"].into_iter().zip(row) {
+        push_row(rt, text, [declarer, denomination], tricks, suit);
+    }
 }
 
 /// The opening leads of the file with boards.
-fn leads_text(alloc: Global) -> Result<String, AllocError> {
-    let mut text = format!(in alloc;
-        "% PBN 2.1\n{BOARD}[OpeningLeads \"Declarer;Denomination\\2R;Leads\"]\n"
-    )?;
+fn leads_text(rt: &impl Abort, alloc: Global) -> String {
+    let title = "[OpeningLeads \"Declarer;Denomination\\2R;Leads\"]\n";
+    let mut text = joined_text(rt, alloc, &["% PBN 2.1\n", BOARD, title]);
     for (declarer, suit, row) in ROWS {
-        for (denomination, tricks) in ["NT", " S", " H", " D", " C"].into_iter().zip(row) {
-            push_row(&mut text, [declarer, denomination], tricks, suit)?;
-        }
+        push_rows(rt, &mut text, declarer, suit, row);
     }
-    text.push_str(NO_DEAL)?;
-    text.push_str("\n")?;
-    Ok(text)
+    joined_text(rt, alloc, &[text.as_str(), NO_DEAL, "\n"])
 }
 
 /// The leads of a file with boards, by one thread and by several.
 #[test]
-fn opening_leads(rt: HostRuntime) -> Result<(), Fail> {
+fn opening_leads(rt: HostRuntime) {
     let alloc = rt.alloc();
-    let disk = Disk::new(alloc, b"", 0, u64::MAX)?;
-    let printed = leads_text(alloc)?;
+    let disk = disk_of(&rt, alloc, b"", 0, u64::MAX);
+    let printed = leads_text(&rt, alloc);
     for solvers in [1, 3] {
         let asked = Subcommand::Leads(LeadsOptions {
             solvers,
             budget: STEPS,
             boards: Some(BOARDS),
         });
-        expect_done(
-            &rt,
-            alloc,
-            asked,
-            &disk,
-            (Status::Done, printed.as_str(), ""),
-        )?;
+        let wanted = (Status::Done, printed.as_str(), "");
+        expect_done(&rt, alloc, asked, &disk, wanted);
     }
-    Ok(())
 }

@@ -1,12 +1,11 @@
 //! How runs end whose last bytes can't go out.
 
-use crate::expect::{ROOM, expect_eq};
-use cards::{Buffer, Bytes, Sink};
+use crate::expect::{ROOM, buffer, expect_bytes, expect_eq, got};
+use cards::{Bytes, Sink};
 use std::alloc::Global;
 use std::io;
 use std::io::BufWriter;
 use std::process::Abort;
-use std::test::Fail;
 use streams::{Streams, WriterSink};
 use subcommands::{Status, close_output};
 
@@ -36,16 +35,15 @@ fn expect_closed<W: io::Write + Drop>(
     writer: W,
     code: u8,
     wanted: (u8, &str),
-) -> Result<(), Fail> {
+) {
     let mut streams = Streams {
         input: Bytes::new(b"", ROOM),
-        output: WriterSink::new(BufWriter::new(alloc, writer)?),
-        errors: Buffer::new(alloc, ROOM, ROOM)?,
+        output: WriterSink::new(got(rt, BufWriter::new(alloc, writer))),
+        errors: buffer(rt, alloc, (ROOM, ROOM)),
     };
     expect_eq(rt, &streams.output.write(b"NS 1\n"), &Ok(5));
     expect_eq(rt, &close_output(code, &mut streams), &wanted.0);
-    expect_eq(rt, &streams.errors.bytes(), &wanted.1.as_bytes());
-    Ok(())
+    expect_bytes(rt, streams.errors.bytes(), wanted.1.as_bytes());
 }
 
 /// How runs end, with which exit status, and with which they end where the last bytes can't go out, and what is told of
@@ -60,13 +58,12 @@ const ENDS: [(Status, u8, u8, &str); 5] = [
 
 /// A run whose last bytes can't go out has failed, and is told so, once.
 #[test]
-fn failed_flush(rt: HostRuntime) -> Result<(), Fail> {
+fn failed_flush(rt: HostRuntime) {
     for &(status, code, ended, told) in &ENDS {
         expect_eq(&rt, &status.code(), &code);
         for &takes_none in &[false, true] {
-            expect_closed(&rt, rt.alloc(), Broken { takes_none }, code, (ended, told))?;
+            expect_closed(&rt, rt.alloc(), Broken { takes_none }, code, (ended, told));
         }
-        expect_closed(&rt, rt.alloc(), Vec::new(rt.alloc()), code, (code, ""))?;
+        expect_closed(&rt, rt.alloc(), Vec::new(rt.alloc()), code, (code, ""));
     }
-    Ok(())
 }

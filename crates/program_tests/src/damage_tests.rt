@@ -1,19 +1,19 @@
 //! A certificate of each version with one byte changed, for each place and each byte, and the beginnings of an answer.
 
-use crate::expect::{NO_RESULT, expect_bytes, expect_eq};
-use cards::{Buffer, Bytes, Seat, Trump};
+use crate::expect::{
+    Memory, NO_RESULT, buffer, expect_bytes, expect_ended, expect_eq, got, joined_bytes, memory,
+    some, text_on,
+};
+use cards::{Bytes, Seat, Trump};
 use certificate_graph::{Graph, TextFault};
 use farm::Means;
 use partition_solver::Partition;
-use std::alloc::{AllocError, Global};
+use std::alloc::Global;
 use std::process::Abort;
 use std::sync::Wait;
-use std::test::Fail;
 use std::thread::Threads;
-use streams::Streams;
 use subcommands::{KeptFiles, NamedFiles, NewFiles, Status, Subcommand, run_subcommand};
 use test_support::idle::{LetsPass, StandsStill};
-use test_support::texts::joined;
 
 /// A finesse: South leads, North covers West's card, and wins two tricks.
 const FINESSE: &[u8] = b"DDC 1
@@ -76,9 +76,9 @@ const PIECES: [(&[u8], u64); 29] = [
 ];
 
 /// The finesse as a certificate of this version.
-fn finesse(alloc: Global, version: u8) -> Result<Vec<u8>, AllocError> {
-    let text = Vec::from_slice(alloc, FINESSE)?;
-    Ok(with_byte(text, VERSION_PLACE, version))
+fn finesse(rt: &impl Abort, alloc: Global, version: u8) -> Vec<u8> {
+    let text = got(rt, Vec::from_slice(alloc, FINESSE));
+    with_byte(text, VERSION_PLACE, version)
 }
 
 /// The text with this byte in this place.
@@ -90,59 +90,64 @@ fn with_byte(mut text: Vec<u8>, place: usize, byte: u8) -> Vec<u8> {
 }
 
 /// The finesse of this version with this byte in this place.
-fn damaged(alloc: Global, version: u8, place: usize, byte: u8) -> Result<Vec<u8>, AllocError> {
-    Ok(with_byte(finesse(alloc, version)?, place, byte))
+fn damaged(rt: &impl Abort, alloc: Global, version: u8, place: usize, byte: u8) -> Vec<u8> {
+    with_byte(finesse(rt, alloc, version), place, byte)
 }
 
-/// Whether the text is that of a graph. The graph is written as it was read.
-fn is_graph(rt: &impl Abort, alloc: Global, text: &[u8]) -> Result<bool, Fail> {
+/// The graph is written as the text.
+fn expect_written(rt: &impl Abort, alloc: Global, graph: &Graph, text: &[u8]) {
+    let mut sink = buffer(rt, alloc, (200, 200));
+    expect_eq(rt, &graph.write(&mut sink), &Ok(()));
+    expect_bytes(rt, sink.bytes(), text);
+}
+
+/// Whether the text is that of a graph. The graph is written as it was read, and memory doesn't run out.
+fn is_graph(rt: &impl Abort, alloc: Global, text: &[u8]) -> bool {
     match Graph::read(alloc, text) {
         Ok(graph) => {
-            let mut sink = Buffer::new(alloc, 200, 200)?;
-            expect_eq(rt, &graph.write(&mut sink), &Ok(()));
-            expect_bytes(rt, sink.bytes(), text);
-            Ok(true)
+            expect_written(rt, alloc, &graph, text);
+            true
         }
-        Err(TextFault::OutOfMemory) => Err(Fail::new("out of memory")),
-        Err(_) => Ok(false),
+        Err(fault) => {
+            expect_eq(rt, &(fault == TextFault::OutOfMemory), &false);
+            false
+        }
     }
 }
 
 /// How many texts of this version with another byte in this place are those of a graph.
-fn graphs_at(rt: &impl Abort, alloc: Global, version: u8, place: usize) -> Result<u64, Fail> {
-    let whole = finesse(alloc, version)?;
+fn graphs_at(rt: &impl Abort, alloc: Global, version: u8, place: usize) -> u64 {
+    let whole = finesse(rt, alloc, version);
     let mut graphs = 0u64;
     for byte in 0..=u8::MAX {
-        let text = damaged(alloc, version, place, byte)?;
-        if text.as_slice() != whole.as_slice() && is_graph(rt, alloc, text.as_slice())? {
+        let text = damaged(rt, alloc, version, place, byte);
+        if text.as_slice() != whole.as_slice() && is_graph(rt, alloc, text.as_slice()) {
             graphs = graphs.saturating_add(1);
         }
     }
-    Ok(graphs)
+    graphs
 }
 
 /// A text with one byte changed is refused, or is that of another graph: 212 are of 40,545.
-fn expect_graphs(rt: &impl Abort, alloc: Global, version: u8) -> Result<(), Fail> {
+fn expect_graphs(rt: &impl Abort, alloc: Global, version: u8) {
     let mut place = 0usize;
     for (piece, wanted) in PIECES {
         let mut graphs = 0u64;
         for byte in piece {
             expect_eq(rt, &FINESSE.get(place), &Some(byte));
-            graphs = graphs.saturating_add(graphs_at(rt, alloc, version, place)?);
+            graphs = graphs.saturating_add(graphs_at(rt, alloc, version, place));
             place = place.saturating_add(1);
         }
         expect_eq(rt, &graphs, &wanted);
     }
     expect_eq(rt, &place, &FINESSE.len());
-    Ok(())
 }
 
 #[test]
-fn texts_with_one_byte_changed(rt: HostRuntime) -> Result<(), Fail> {
+fn texts_with_one_byte_changed(rt: HostRuntime) {
     for version in VERSIONS {
-        expect_graphs(&rt, rt.alloc(), version)?;
+        expect_graphs(&rt, rt.alloc(), version);
     }
-    Ok(())
 }
 
 /// How `check` ends on an answer to East's no-trump where the finesse wins, over these streams, whose input is the
@@ -150,7 +155,7 @@ fn texts_with_one_byte_changed(rt: HostRuntime) -> Result<(), Fail> {
 fn check<R: NamedFiles + KeptFiles + NewFiles + Threads + Wait + Sync>(
     rt: &R,
     alloc: Global,
-    streams: &mut Streams<Bytes<'_>, Buffer, Buffer>,
+    streams: &mut Memory<'_>,
 ) -> Status {
     let asked = Subcommand::Check {
         layout: "N:AQ... 65... 32... K4...",
@@ -165,53 +170,58 @@ fn check<R: NamedFiles + KeptFiles + NewFiles + Threads + Wait + Sync>(
     run_subcommand(rt, alloc, asked, &means, streams)
 }
 
+/// The answer with this in the finesse's place.
+fn answer_with(rt: &impl Abort, alloc: Global, text: &[u8]) -> Vec<u8> {
+    joined_bytes(rt, alloc, &[NONE_FOR_EAST, text])
+}
+
+/// Whether this says that an answer was accepted. Otherwise it refuses it, in one line.
+fn says_accepted(rt: &impl Abort, status: Status, printed: &str) -> bool {
+    if printed.starts_with("refused ") {
+        expect_eq(rt, &status, &Status::Rejected);
+        let end = printed.len().saturating_sub(1);
+        expect_eq(rt, &printed.find('\n'), &Some(end));
+        return false;
+    }
+    expect_eq(rt, &(status, printed), &(Status::Done, "accepted 0\n"));
+    true
+}
+
 /// Whether `check` accepts this in the finesse's place. It says so, or refuses it, in one line.
 fn is_accepted<R: Abort + NamedFiles + KeptFiles + NewFiles + Threads + Wait + Sync>(
     rt: &R,
     alloc: Global,
-    text: Vec<u8>,
-) -> Result<bool, Fail> {
-    let answer = joined(alloc, &[NONE_FOR_EAST, text.as_slice()])?;
-    let mut streams = Streams {
-        input: Bytes::new(answer.as_slice(), 100),
-        output: Buffer::new(alloc, 100, 100)?,
-        errors: Buffer::new(alloc, 100, 100)?,
-    };
+    text: &[u8],
+) -> bool {
+    let answer = answer_with(rt, alloc, text);
+    let input = Bytes::new(answer.as_slice(), 100);
+    let mut streams = memory(rt, alloc, input, (100, 100), (100, 100));
     let status = check(rt, alloc, &mut streams);
     expect_bytes(rt, streams.errors.bytes(), b"");
-    let printed = str::from_utf8(streams.output.bytes())?;
-    let is_refused = printed.starts_with("refused ");
-    if is_refused {
-        expect_eq(rt, &status, &Status::Rejected);
-        expect_eq(
-            rt,
-            &printed.find('\n'),
-            &Some(printed.len().saturating_sub(1)),
-        );
+    says_accepted(rt, status, text_on(rt, &streams.output))
+}
+
+/// Whether this byte in this place, in which another may stand, leaves the answer right.
+fn is_right(place: usize, old: u8, byte: u8) -> bool {
+    if place == VERSION_PLACE {
+        VERSIONS.contains(&byte)
     } else {
-        expect_eq(rt, &(status, printed), &(Status::Done, "accepted 0\n"));
+        byte == old
     }
-    Ok(!is_refused)
 }
 
 /// No byte can be changed but the version: two rounds of the finesse are told with no card, seat or number to spare.
 #[test]
-fn answers_with_one_byte_changed(rt: HostRuntime) -> Result<(), Fail> {
+fn answers_with_one_byte_changed(rt: HostRuntime) {
     for version in VERSIONS {
         for (place, old) in FINESSE.iter().enumerate() {
             for byte in 0..=u8::MAX {
-                let text = damaged(rt.alloc(), version, place, byte)?;
-                let accepted = is_accepted(&rt, rt.alloc(), text)?;
-                let is_right = if place == VERSION_PLACE {
-                    VERSIONS.contains(&byte)
-                } else {
-                    byte == *old
-                };
-                expect_eq(&rt, &accepted, &is_right);
+                let text = damaged(&rt, rt.alloc(), version, place, byte);
+                let accepted = is_accepted(&rt, rt.alloc(), text.as_slice());
+                expect_eq(&rt, &accepted, &is_right(place, *old, byte));
             }
         }
     }
-    Ok(())
 }
 
 /// How `check` ends on the first so many bytes of the answer, what it prints, and what it tells.
@@ -237,34 +247,36 @@ fn end_of_beginning(count: usize) -> (Status, &'static str, &'static str) {
     (Status::Rejected, printed, "")
 }
 
+/// The first so many bytes of the answer end as they should.
+fn expect_beginning<R: Abort + NamedFiles + KeptFiles + NewFiles + Threads + Wait + Sync>(
+    rt: &R,
+    alloc: Global,
+    answer: &[u8],
+    count: usize,
+) {
+    let input = Bytes::new(some(rt, answer.get(..count)), 100);
+    let mut streams = memory(rt, alloc, input, (100, 3), (200, 3));
+    let status = check(rt, alloc, &mut streams);
+    expect_ended(rt, status, &streams, end_of_beginning(count));
+}
+
 /// Each beginning of the answer with the finesse of this version ends as it should.
 fn expect_beginnings<R: Abort + NamedFiles + KeptFiles + NewFiles + Threads + Wait + Sync>(
     rt: &R,
     alloc: Global,
     version: u8,
-) -> Result<(), Fail> {
-    let text = finesse(alloc, version)?;
-    let answer = joined(alloc, &[NONE_FOR_EAST, text.as_slice()])?;
+) {
+    let text = finesse(rt, alloc, version);
+    let answer = answer_with(rt, alloc, text.as_slice());
     expect_eq(rt, &answer.len(), &200);
     for count in 0..=answer.len() {
-        let text = answer.get(..count).ok_or("a shorter answer")?;
-        let mut streams = Streams {
-            input: Bytes::new(text, 100),
-            output: Buffer::new(alloc, 100, 3)?,
-            errors: Buffer::new(alloc, 200, 3)?,
-        };
-        let status = check(rt, alloc, &mut streams);
-        let printed = str::from_utf8(streams.output.bytes())?;
-        let told = str::from_utf8(streams.errors.bytes())?;
-        expect_eq(rt, &(status, printed, told), &end_of_beginning(count));
+        expect_beginning(rt, alloc, answer.as_slice(), count);
     }
-    Ok(())
 }
 
 #[test]
-fn beginnings_of_the_answer(rt: HostRuntime) -> Result<(), Fail> {
+fn beginnings_of_the_answer(rt: HostRuntime) {
     for version in VERSIONS {
-        expect_beginnings(&rt, rt.alloc(), version)?;
+        expect_beginnings(&rt, rt.alloc(), version);
     }
-    Ok(())
 }

@@ -1,17 +1,19 @@
-//! What runs are expected to print, to tell and to end with.
+//! What runs are expected to print, to tell and to end with. A call of these costs the prover next to nothing, an
+//! `assert_eq!` or a `?` a second or more.
 
 use cards::{Buffer, Bytes};
 use certificate_graph::Solver;
 use farm::Means;
+use lease_book::Gate;
 use std::alloc::Global;
 use std::fmt::Debug;
 use std::process::Abort;
 use std::sync::Wait;
-use std::test::Fail;
 use std::thread::Threads;
 use streams::Streams;
 use subcommands::{KeptFiles, NamedFiles, NewFiles, Status, Subcommand, run_subcommand};
 use test_support::idle::{LetsPass, OnlyTables, StandsStill};
+use test_support::texts::joined;
 
 /// Room for all that a run prints.
 pub const ROOM: usize = 8192;
@@ -39,6 +41,19 @@ pub const NO_CARDS: &str = "ddfarm: layout: 6 HandSize
 /// How a run ends, what is on its output, and what is on its error output.
 pub type End<'a> = (Status, &'a str, &'a str);
 
+/// An input and both outputs, over memory.
+pub type Memory<'a> = Streams<Bytes<'a>, Buffer, Buffer>;
+
+/// The value of a call, which has to succeed.
+pub fn got<T, E: Debug>(rt: &impl Abort, value: Result<T, E>) -> T {
+    value.expect(rt, "an error")
+}
+
+/// The value, which has to be there.
+pub fn some<T>(rt: &impl Abort, value: Option<T>) -> T {
+    value.expect(rt, "no value")
+}
+
 /// The value is the one that is wanted.
 pub fn expect_eq<T: PartialEq + Debug>(rt: &impl Abort, got: &T, wanted: &T) {
     assert_eq!(rt; *got, *wanted);
@@ -47,6 +62,20 @@ pub fn expect_eq<T: PartialEq + Debug>(rt: &impl Abort, got: &T, wanted: &T) {
 /// The bytes are those that are wanted.
 pub fn expect_bytes(rt: &impl Abort, got: &[u8], wanted: &[u8]) {
     assert_eq!(rt; got, wanted);
+}
+
+/// The parts in one text.
+pub fn joined_text(rt: &impl Abort, alloc: Global, parts: &[&str]) -> String {
+    let mut text = String::new(alloc);
+    for part in parts {
+        got(rt, text.push_str(part));
+    }
+    text
+}
+
+/// The parts in one text.
+pub fn joined_bytes(rt: &impl Abort, alloc: Global, parts: &[&[u8]]) -> Vec<u8> {
+    got(rt, joined(alloc, parts))
 }
 
 /// A solver and a gate, and a clock that stands still.
@@ -58,17 +87,53 @@ pub fn means<'a, S, G>(solver: &'a S, gate: &'a G) -> Means<'a, S, G, StandsStil
     }
 }
 
-/// A run has ended so.
-pub fn expect_ended<I>(
+/// A buffer with this room, which takes at most so many bytes a call.
+pub fn buffer(rt: &impl Abort, alloc: Global, (room, piece): (usize, usize)) -> Buffer {
+    got(rt, Buffer::new(alloc, room, piece))
+}
+
+/// This input, and outputs with these rooms, which take at most so many bytes a call.
+pub fn memory<'a>(
     rt: &impl Abort,
-    status: Status,
-    streams: &Streams<I, Buffer, Buffer>,
-    wanted: End<'_>,
-) -> Result<(), Fail> {
-    let printed = str::from_utf8(streams.output.bytes())?;
-    let told = str::from_utf8(streams.errors.bytes())?;
+    alloc: Global,
+    input: Bytes<'a>,
+    output: (usize, usize),
+    errors: (usize, usize),
+) -> Memory<'a> {
+    Streams {
+        input,
+        output: buffer(rt, alloc, output),
+        errors: buffer(rt, alloc, errors),
+    }
+}
+
+/// Does a run that asks for no cards.
+pub fn run_on<
+    R: NamedFiles + KeptFiles + NewFiles + Threads + Wait + Sync,
+    S: Solver + Sync,
+    G: Gate + Sync,
+>(
+    rt: &R,
+    alloc: Global,
+    run: Subcommand<'_>,
+    solver: &S,
+    gate: &G,
+    streams: &mut Memory<'_>,
+) -> Status {
+    let solver = OnlyTables { solver };
+    run_subcommand(rt, alloc, run, &means(&solver, gate), streams)
+}
+
+/// What is on an output, as text.
+pub fn text_on<'a>(rt: &impl Abort, output: &'a Buffer) -> &'a str {
+    got(rt, str::from_utf8(output.bytes()))
+}
+
+/// A run has ended so.
+pub fn expect_ended(rt: &impl Abort, status: Status, streams: &Memory<'_>, wanted: End<'_>) {
+    let printed = text_on(rt, &streams.output);
+    let told = text_on(rt, &streams.errors);
     expect_eq(rt, &(status, printed, told), &wanted);
-    Ok(())
 }
 
 /// Does a run that asks for no cards over an input and an output with this much room.
@@ -83,14 +148,8 @@ pub fn expect_run<
     text: &[u8],
     room: usize,
     wanted: End<'_>,
-) -> Result<(), Fail> {
-    let solver = OnlyTables { solver };
-    let means = means(&solver, &LetsPass);
-    let mut streams = Streams {
-        input: Bytes::new(text, 7),
-        output: Buffer::new(alloc, room, 3)?,
-        errors: Buffer::new(alloc, ROOM, 7)?,
-    };
-    let status = run_subcommand(rt, alloc, run, &means, &mut streams);
-    expect_ended(rt, status, &streams, wanted)
+) {
+    let mut streams = memory(rt, alloc, Bytes::new(text, 7), (room, 3), (ROOM, 7));
+    let status = run_on(rt, alloc, run, solver, &LetsPass, &mut streams);
+    expect_ended(rt, status, &streams, wanted);
 }

@@ -1,22 +1,19 @@
 //! Runs with a file of evidence and one of boards, over memory.
 
 use crate::disks::{Disk, System};
-use crate::expect::{End, ROOM, expect_bytes, expect_ended, means};
+use crate::expect::{End, ROOM, expect_bytes, expect_ended, got, memory, run_on};
 use crate::sections::NO_TRUMP;
 use asked::AuditOptions;
-use cards::{Buffer, Bytes, Layout, Seat, Suit, Trump};
+use cards::{Bytes, Layout, Seat, Suit, Trump};
 use certificate_graph::{Bundle, Solver};
 use evidence::read_section;
-use farm::SettingsFault;
 use std::alloc::{AllocError, Global};
 use std::process::Abort;
 use std::sync::Wait;
-use std::test::Fail;
 use std::thread::Threads;
-use streams::Streams;
-use subcommands::{Subcommand, TableOptions, run_subcommand};
+use subcommands::{Subcommand, TableOptions};
 use test_support::four_suits::{BOARD, RUFFS};
-use test_support::idle::{LetsPass, OnlyTables};
+use test_support::idle::LetsPass;
 use test_support::settings::{TABLES, once, tables_by};
 
 /// A solver that finds what is shown of North's spades, and nothing else.
@@ -76,12 +73,23 @@ pub fn audit<'a>(file: &'a str, boards: Option<&'a str>) -> Subcommand<'a> {
 
 /// The tables whose evidence is kept in a file, of the boards of that one or of the input. Each entry is looked for
 /// once.
-pub fn table<'a>(file: &'a str, boards: Option<&'a str>) -> Result<Subcommand<'a>, SettingsFault> {
-    Ok(Subcommand::Table(TableOptions {
+pub fn table<'a>(rt: &impl Abort, file: &'a str, boards: Option<&'a str>) -> Subcommand<'a> {
+    Subcommand::Table(TableOptions {
         boards,
         evidence: Some(file),
-        ..tables_by(once(1, 1, 10_000_000, 1)?)
-    }))
+        ..tables_by(got(rt, once(1, 1, 10_000_000, 1)))
+    })
+}
+
+/// A disk whose file has these bytes, and room for so many more. One of its calls fails.
+pub fn disk_of(rt: &impl Abort, alloc: Global, bytes: &[u8], room: usize, failing: u64) -> Disk {
+    got(rt, Disk::new(alloc, bytes, room, failing))
+}
+
+/// The file of a disk has these bytes.
+pub fn expect_held(rt: &impl Abort, alloc: Global, disk: &Disk, wanted: &[u8]) {
+    let held = got(rt, disk.bytes(alloc));
+    expect_bytes(rt, held.as_slice(), wanted);
 }
 
 /// How the run ends over these devices, and what the file holds then.
@@ -92,26 +100,50 @@ pub fn expect_end<R: Abort + Threads + Wait + Sync>(
     devices: Devices<'_>,
     wanted: End<'_>,
     kept: &[u8],
-) -> Result<(), Fail> {
-    let disk = Disk::new(alloc, devices.file, devices.file_room, devices.file_fails)?;
-    let boards = Disk::new(alloc, BOARD.as_bytes(), 0, devices.boards_fail)?;
+) {
+    let disk = disk_of(
+        rt,
+        alloc,
+        devices.file,
+        devices.file_room,
+        devices.file_fails,
+    );
+    let boards = disk_of(rt, alloc, BOARD.as_bytes(), 0, devices.boards_fail);
     let system = System {
         rt,
         evidence: &disk,
         boards: &boards,
     };
-    let mut streams = Streams {
-        input: Bytes::failing_after(BOARD.as_bytes(), 1, devices.input_fails),
-        output: Buffer::new(alloc, devices.output_room, 3)?,
-        errors: Buffer::new(alloc, ROOM, 7)?,
-    };
-    let solver = OnlyTables {
-        solver: &FindsSpades,
-    };
-    let means = means(&solver, &LetsPass);
-    let status = run_subcommand(&system, alloc, asked, &means, &mut streams);
-    expect_ended(rt, status, &streams, wanted)?;
-    let held = disk.bytes(alloc)?;
-    expect_bytes(rt, held.as_slice(), kept);
-    Ok(())
+    let input = Bytes::failing_after(BOARD.as_bytes(), 1, devices.input_fails);
+    let mut streams = memory(rt, alloc, input, (devices.output_room, 3), (ROOM, 7));
+    let status = run_on(&system, alloc, asked, &FindsSpades, &LetsPass, &mut streams);
+    expect_ended(rt, status, &streams, wanted);
+    expect_held(rt, alloc, &disk, kept);
+}
+
+/// An audit of a file and tables whose evidence is kept in it both end so, and keep nothing.
+pub fn expect_both<R: Abort + Threads + Wait + Sync>(
+    rt: &R,
+    alloc: Global,
+    file: &str,
+    boards: Option<&str>,
+    devices: Devices<'_>,
+    wanted: End<'_>,
+) {
+    expect_end(
+        rt,
+        alloc,
+        audit(file, boards),
+        devices,
+        wanted,
+        devices.file,
+    );
+    expect_end(
+        rt,
+        alloc,
+        table(rt, file, boards),
+        devices,
+        wanted,
+        devices.file,
+    );
 }

@@ -1,15 +1,13 @@
 //! Lines of play by the certificates of answers.
 
-use crate::expect::{CARD_TWICE, End, NO_RESULT, ROOM, expect_run};
+use crate::expect::{CARD_TWICE, End, NO_RESULT, ROOM, expect_run, joined_bytes};
 use cards::{Seat, Trump};
 use std::alloc::Global;
 use std::process::Abort;
 use std::sync::Wait;
-use std::test::Fail;
 use std::thread::Threads;
 use subcommands::{KeptFiles, NamedFiles, NewFiles, Status, Subcommand};
 use test_support::idle::FindsNothing;
-use test_support::texts::joined;
 
 /// The finesse: North covers West's card, and wins two tricks.
 const WINS_TWO: &[u8] = b"DDC 1
@@ -79,21 +77,21 @@ fn expect_followed<R: Abort + NamedFiles + KeptFiles + NewFiles + Threads + Wait
     alloc: Global,
     text: &[u8],
     wanted: End<'_>,
-) -> Result<(), Fail> {
-    expect_run(rt, alloc, BY_EAST, &FindsNothing, text, ROOM, wanted)?;
+) {
+    expect_run(rt, alloc, BY_EAST, &FindsNothing, text, ROOM, wanted);
     if wanted.0 == Status::Done {
-        return Ok(());
+        return;
     }
     let check = Subcommand::Check {
         layout: "N:AQ... 65... 32... K4...",
         declarer: Seat::East,
         trump: Trump::Nt,
     };
-    expect_run(rt, alloc, check, &FindsNothing, text, ROOM, wanted)
+    expect_run(rt, alloc, check, &FindsNothing, text, ROOM, wanted);
 }
 
 #[test]
-fn accepted_and_refused(rt: HostRuntime) -> Result<(), Fail> {
+fn accepted_and_refused(rt: HostRuntime) {
     let alloc = rt.alloc();
     for (front, is_swapped, wanted) in ANSWERS {
         let parts = if is_swapped {
@@ -101,33 +99,31 @@ fn accepted_and_refused(rt: HostRuntime) -> Result<(), Fail> {
         } else {
             [front, NEEDS_NONE, b"\n", WINS_TWO]
         };
-        let text = joined(alloc, &parts)?;
-        expect_followed(&rt, alloc, &text, wanted)?;
+        let text = joined_bytes(&rt, alloc, &parts);
+        expect_followed(&rt, alloc, &text, wanted);
     }
-    Ok(())
 }
 
 /// An output that is full after any number of bytes has a beginning of the text.
 #[test]
-fn full_outputs(rt: HostRuntime) -> Result<(), Fail> {
+fn full_outputs(rt: HostRuntime) {
     let alloc = rt.alloc();
-    let text = joined(alloc, &[b"result 0\n", NEEDS_NONE, b"\n", WINS_TWO])?;
+    let text = joined_bytes(&rt, alloc, &[b"result 0\n", NEEDS_NONE, b"\n", WINS_TWO]);
     for room in 0..LINE.len() {
         let printed = LINE.get(..room).unwrap_or("");
         let wanted = (Status::Failed, printed, "ddfarm: writing failed\n");
-        expect_run(&rt, alloc, BY_EAST, &FindsNothing, &text, room, wanted)?;
+        expect_run(&rt, alloc, BY_EAST, &FindsNothing, &text, room, wanted);
     }
-    Ok(())
 }
 
 /// A layout that is none is refused before anything is read.
 #[test]
-fn no_layout(rt: HostRuntime) -> Result<(), Fail> {
+fn no_layout(rt: HostRuntime) {
     let asked = Subcommand::Line {
         layout: "N:A... A... Q... J...",
         declarer: Seat::East,
         trump: Trump::Nt,
     };
     let wanted = (Status::Refused, "", CARD_TWICE);
-    expect_run(&rt, rt.alloc(), asked, &FindsNothing, b"", ROOM, wanted)
+    expect_run(&rt, rt.alloc(), asked, &FindsNothing, b"", ROOM, wanted);
 }

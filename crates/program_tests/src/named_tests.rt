@@ -1,12 +1,11 @@
 //! Boards of a file that is named, in place of the input: it is not touched, so its first call would fail.
 
 use crate::disks::{BOARDS, EVIDENCE};
-use crate::file_runs::{Devices, SOUND, audit, expect_end, table};
+use crate::expect::joined_bytes;
+use crate::file_runs::{Devices, SOUND, audit, expect_both, expect_end, table};
 use crate::sections::{NO_TRUMP, ONE, TWO};
-use std::test::Fail;
 use subcommands::Status;
 use test_support::four_suits::{BOARD, RUFFS};
-use test_support::texts::joined;
 
 const UNTOUCHED: Devices<'static> = Devices {
     input_fails: 0,
@@ -26,22 +25,21 @@ const UNFOUND: &str =
 
 /// The page is that of the same boards in the input.
 #[test]
-fn same_pages(rt: HostRuntime) -> Result<(), Fail> {
+fn same_pages(rt: HostRuntime) {
     let alloc = rt.alloc();
     let asked = audit(EVIDENCE, Some(BOARDS));
     let wanted = (Status::Incomplete, ONE, UNSHOWN);
-    expect_end(&rt, alloc, asked, UNTOUCHED, wanted, NO_TRUMP)?;
-    let both = joined(alloc, &[NO_TRUMP, RUFFS.as_bytes()])?;
-    let asked = table(EVIDENCE, Some(BOARDS))?;
+    expect_end(&rt, alloc, asked, UNTOUCHED, wanted, NO_TRUMP);
+    let both = joined_bytes(&rt, alloc, &[NO_TRUMP, RUFFS.as_bytes()]);
+    let asked = table(&rt, EVIDENCE, Some(BOARDS));
     let wanted = (Status::Incomplete, TWO, UNFOUND);
-    expect_end(&rt, alloc, asked, UNTOUCHED, wanted, both.as_slice())
+    expect_end(&rt, alloc, asked, UNTOUCHED, wanted, both.as_slice());
 }
 
 /// A file of boards that isn't there is told with its name, before the file with the evidence is opened, of which the
 /// first call would fail, or which isn't there either.
 #[test]
-fn no_boards(rt: HostRuntime) -> Result<(), Fail> {
-    let alloc = rt.alloc();
+fn no_boards(rt: HostRuntime) {
     let devices = Devices {
         file_fails: 0,
         ..UNTOUCHED
@@ -49,30 +47,21 @@ fn no_boards(rt: HostRuntime) -> Result<(), Fail> {
     let told = "ddfarm: boards: cannot open\n  clubs: no such file\n";
     let wanted = (Status::Failed, "", told);
     for file in [EVIDENCE, "club"] {
-        let asked = audit(file, Some("clubs"));
-        expect_end(&rt, alloc, asked, devices, wanted, NO_TRUMP)?;
-        let asked = table(file, Some("clubs"))?;
-        expect_end(&rt, alloc, asked, devices, wanted, NO_TRUMP)?;
+        expect_both(&rt, rt.alloc(), file, Some("clubs"), devices, wanted);
     }
-    Ok(())
 }
 
 /// A file of evidence that isn't there is told with its own name.
 #[test]
-fn no_evidence(rt: HostRuntime) -> Result<(), Fail> {
-    let alloc = rt.alloc();
+fn no_evidence(rt: HostRuntime) {
     let told = "ddfarm: evidence: cannot open\n  club: no such file\n";
     let wanted = (Status::Failed, "", told);
-    let asked = audit("club", Some(BOARDS));
-    expect_end(&rt, alloc, asked, UNTOUCHED, wanted, NO_TRUMP)?;
-    let asked = table("club", Some(BOARDS))?;
-    expect_end(&rt, alloc, asked, UNTOUCHED, wanted, NO_TRUMP)
+    expect_both(&rt, rt.alloc(), "club", Some(BOARDS), UNTOUCHED, wanted);
 }
 
 /// A file of boards that fails when it is opened, or at any later call: nothing is printed or kept.
 #[test]
-fn failing_boards(rt: HostRuntime) -> Result<(), Fail> {
-    let alloc = rt.alloc();
+fn failing_boards(rt: HostRuntime) {
     let opening = "ddfarm: boards: cannot open\n  club.pbn: the system does not open it\n";
     let reading = "ddfarm: boards: reading failed
   the file cannot be read to its end; a folder cannot be read at all
@@ -84,10 +73,6 @@ fn failing_boards(rt: HostRuntime) -> Result<(), Fail> {
         };
         let told = if boards_fail == 0 { opening } else { reading };
         let wanted = (Status::Failed, "", told);
-        let asked = audit(EVIDENCE, Some(BOARDS));
-        expect_end(&rt, alloc, asked, devices, wanted, NO_TRUMP)?;
-        let asked = table(EVIDENCE, Some(BOARDS))?;
-        expect_end(&rt, alloc, asked, devices, wanted, NO_TRUMP)?;
+        expect_both(&rt, rt.alloc(), EVIDENCE, Some(BOARDS), devices, wanted);
     }
-    Ok(())
 }

@@ -1,14 +1,13 @@
 //! Pages with pars. On this deal North and South make seven spades, and nothing that the others can bid costs less: by
 //! Law 77 that is 210 for the tricks, 1000 or 1500 for the grand slam and 300 or 500 for the game.
 
-use crate::expect::{ROOM, expect_run};
-use crate::table_tests::tables;
+use crate::expect::{ROOM, expect_run, joined_text, some};
+use crate::table_tests::table_options;
 use asked::{Page, PageForm, ParTags};
 use partition_solver::Partition;
-use std::alloc::{AllocError, Global};
+use std::alloc::Global;
 use std::process::Abort;
 use std::sync::Wait;
-use std::test::Fail;
 use std::thread::Threads;
 use subcommands::{KeptFiles, NamedFiles, NewFiles, Status, Subcommand, TableOptions};
 use test_support::four_suits::TABLE;
@@ -65,12 +64,11 @@ const GAMES: [(&str, &str); 14] = [
 ];
 
 /// The tables of the input on this page.
-fn tables_on(form: PageForm, par: ParTags) -> Result<Subcommand<'static>, Fail> {
-    let Subcommand::Table(options) = tables(false, 20)? else {
-        return Err(Fail::from("no tables"));
-    };
-    let page = Page { form, par };
-    Ok(Subcommand::Table(TableOptions { page, ..options }))
+fn tables_on(rt: &impl Abort, (form, par): (PageForm, ParTags)) -> Subcommand<'static> {
+    Subcommand::Table(TableOptions {
+        page: Page { form, par },
+        ..table_options(rt, false, 20)
+    })
 }
 
 /// What comes of a text on this page.
@@ -80,76 +78,63 @@ fn expect_page<R: Abort + NamedFiles + KeptFiles + NewFiles + Threads + Wait + S
     page: (PageForm, ParTags),
     text: &[&str],
     wanted: &[&str],
-) -> Result<(), Fail> {
-    let (form, par) = page;
-    let asked = tables_on(form, par)?;
-    let text = written(alloc, text)?;
-    let wanted = written(alloc, wanted)?;
+) {
+    let text = joined_text(rt, alloc, text);
+    let wanted = joined_text(rt, alloc, wanted);
     let end = (Status::Done, wanted.as_str(), "");
-    expect_run(
-        rt,
-        alloc,
-        asked,
-        &Partition::new(),
-        text.as_bytes(),
-        ROOM,
-        end,
-    )
-}
-
-/// The parts in one text.
-fn written(alloc: Global, parts: &[&str]) -> Result<String, AllocError> {
-    let mut text = String::new(alloc);
-    for part in parts {
-        text.push_str(part)?;
-    }
-    Ok(text)
+    let (asked, solver) = (tables_on(rt, page), Partition::new());
+    expect_run(rt, alloc, asked, &solver, text.as_bytes(), ROOM, end);
 }
 
 /// The table of the deal, with the line feed behind it.
-fn table() -> Result<&'static str, Fail> {
-    let (_, table) = TABLE.split_once(DEAL).ok_or("another deal")?;
-    Ok(table.trim_end_matches('\n'))
+fn table(rt: &impl Abort) -> &'static str {
+    let (_, table) = some(rt, TABLE.split_once(DEAL));
+    table.trim_end_matches('\n')
 }
 
 /// Who deals and who is vulnerable stands in tags, or Law 2 says it of the board's number. What was written comes of
 /// itself too.
 #[test]
-fn pars_by_tags_and_numbers(rt: HostRuntime) -> Result<(), Fail> {
+fn pars_by_tags_and_numbers(rt: HostRuntime) {
     let alloc = rt.alloc();
     let page = (PageForm::Whole, ParTags::With);
     for (tags, par) in GAMES {
-        let wanted = [tags, DEAL, par, table()?, "\n"];
-        expect_page(&rt, alloc, page, &[tags, DEAL], &wanted)?;
-        expect_page(&rt, alloc, page, &wanted, &wanted)?;
+        let wanted = [tags, DEAL, par, table(&rt), "\n"];
+        expect_page(&rt, alloc, page, &[tags, DEAL], &wanted);
+        expect_page(&rt, alloc, page, &wanted, &wanted);
     }
-    Ok(())
 }
 
 /// Old pars go with the option, and stay without it.
 #[test]
-fn old_pars(rt: HostRuntime) -> Result<(), Fail> {
+fn old_pars(rt: HostRuntime) {
     let alloc = rt.alloc();
     let tags = "[Board \"1\"]\n";
     let text = [tags, DEAL, OLD];
     let page = (PageForm::Whole, ParTags::With);
-    let wanted = [tags, DEAL, OLD_LEFT, NOT_VULNERABLE, table()?, "\n"];
-    expect_page(&rt, alloc, page, &text, &wanted)?;
+    let wanted = [tags, DEAL, OLD_LEFT, NOT_VULNERABLE, table(&rt), "\n"];
+    expect_page(&rt, alloc, page, &text, &wanted);
     let page = (PageForm::Whole, ParTags::Without);
-    expect_page(&rt, alloc, page, &text, &[tags, DEAL, OLD, table()?, "\n"])
+    expect_page(
+        &rt,
+        alloc,
+        page,
+        &text,
+        &[tags, DEAL, OLD, table(&rt), "\n"],
+    );
 }
 
 /// The tables alone: the par stands before the table, and there is none where the table is incomplete.
 #[test]
-fn tables_alone(rt: HostRuntime) -> Result<(), Fail> {
+fn tables_alone(rt: HostRuntime) {
     let alloc = rt.alloc();
     let head = "% PBN 2.1\n[Board \"1\"]\n";
     let page = (PageForm::Tables, ParTags::With);
-    let wanted = [head, DEAL, NOT_VULNERABLE, table()?, "\n\n"];
-    expect_page(&rt, alloc, page, &[head, DEAL], &wanted)?;
-    let asked = tables_on(PageForm::Tables, ParTags::With)?;
-    let text = written(alloc, &[head, DEAL])?;
-    let wanted = written(alloc, &[head, DEAL, "; table incomplete: 0 of 20\n\n"])?;
+    let wanted = [head, DEAL, NOT_VULNERABLE, table(&rt), "\n\n"];
+    expect_page(&rt, alloc, page, &[head, DEAL], &wanted);
+    let asked = tables_on(&rt, page);
+    let text = joined_text(&rt, alloc, &[head, DEAL]);
+    let wanted = joined_text(&rt, alloc, &[head, DEAL, "; table incomplete: 0 of 20\n\n"]);
     let end = (Status::Incomplete, wanted.as_str(), UNFOUND);
-    expect_run(&rt, alloc, asked, &FindsNothing, text.as_bytes(), ROOM, end)
+    expect_run(&rt, alloc, asked, &FindsNothing, text.as_bytes(), ROOM, end);
 }

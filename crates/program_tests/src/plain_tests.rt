@@ -1,12 +1,9 @@
 //! Lines of `plain`, one after the other on one output.
 
-use crate::expect::expect_eq;
+use crate::expect::{buffer, expect_bytes, expect_eq};
 use answer_subcommands::{AnswerFault, plain_line};
-use cards::{Buffer, Seat, Suit, Trump};
+use cards::{Seat, Suit, Trump};
 use pbn_deals::PbnFault;
-use std::alloc::Global;
-use std::process::Abort;
-use std::test::Fail;
 
 /// Layouts with a leader and a trump, and what comes of each, on one output.
 const LINES: [(&[u8], Seat, Trump, Result<(), AnswerFault>); 4] = [
@@ -37,8 +34,8 @@ const LINES: [(&[u8], Seat, Trump, Result<(), AnswerFault>); 4] = [
 ];
 
 #[test]
-fn plain_lines(rt: HostRuntime) -> Result<(), Fail> {
-    let mut output = Buffer::new(rt.alloc(), 7, 2)?;
+fn plain_lines(rt: HostRuntime) {
+    let mut output = buffer(&rt, rt.alloc(), (7, 2));
     for (layout, leader, trump, wanted) in LINES.as_slice() {
         expect_eq(
             &rt,
@@ -46,6 +43,5 @@ fn plain_lines(rt: HostRuntime) -> Result<(), Fail> {
             wanted,
         );
     }
-    expect_eq(&rt, &output.bytes(), &b"NS 1\nNS".as_slice());
-    Ok(())
+    expect_bytes(&rt, output.bytes(), b"NS 1\nNS");
 }

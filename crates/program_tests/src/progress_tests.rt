@@ -1,6 +1,6 @@
 //! What is told of the work, when, and to whom.
 
-use crate::expect::{ROOM, expect_eq, means};
+use crate::expect::{ROOM, buffer, expect_bytes, expect_eq, got, memory, run_on};
 use crate::table_tests::tables;
 use cards::{Buffer, Bytes, DeviceFault, Seat, Sink, Trump};
 use certificate_graph::Solver;
@@ -13,12 +13,10 @@ use std::process::Abort;
 use std::sync::Wait;
 use std::sync::atomic::AtomicU64;
 use std::sync::atomic::Ordering::SeqCst;
-use std::test::Fail;
 use std::thread;
 use std::thread::Threads;
-use streams::Streams;
-use subcommands::{KeptFiles, NamedFiles, NewFiles, Status, Subcommand, run_subcommand};
-use test_support::idle::{FindsNothing, OnlyTables};
+use subcommands::{KeptFiles, NamedFiles, NewFiles, Status, Subcommand};
+use test_support::idle::FindsNothing;
 
 /// A board with four hands of one suit each.
 pub const BOARD: &[u8] =
@@ -50,15 +48,14 @@ impl CallCounts {
 
     /// What was told, in the order of [`Told`].
     fn told(&self) -> Told {
-        let counts = [
-            &self.begun,
-            &self.solved,
-            &self.graphs,
-            &self.checked,
-            &self.settled,
-            &self.ended,
-        ];
-        counts.map(|count| count.load(SeqCst))
+        [
+            self.begun.load(SeqCst),
+            self.solved.load(SeqCst),
+            self.graphs.load(SeqCst),
+            self.checked.load(SeqCst),
+            self.settled.load(SeqCst),
+            self.ended.load(SeqCst),
+        ]
     }
 }
 
@@ -109,37 +106,24 @@ const TOLD: [(bool, usize, Told, Told); 4] = [
 fn expect_told<
     R: Abort + NamedFiles + KeptFiles + NewFiles + Threads + Wait + Sync,
     S: Solver + Sync,
->(
-    rt: &R,
-    alloc: Global,
-    run: Subcommand<'_>,
-    solver: &S,
-    wanted: (Status, Told),
-) -> Result<(), Fail> {
+>(rt: &R, alloc: Global, run: Subcommand<'_>, solver: &S, wanted: (Status, Told)) {
     let gate = CallCounts::new();
-    let mut streams = Streams {
-        input: Bytes::new(BOARD, 7),
-        output: Buffer::new(alloc, ROOM, ROOM)?,
-        errors: Buffer::new(alloc, ROOM, ROOM)?,
-    };
-    let solver = OnlyTables { solver };
-    let status = run_subcommand(rt, alloc, run, &means(&solver, &gate), &mut streams);
+    let mut streams = memory(rt, alloc, Bytes::new(BOARD, 7), (ROOM, ROOM), (ROOM, ROOM));
+    let status = run_on(rt, alloc, run, solver, &gate, &mut streams);
     expect_eq(rt, &(status, gate.told()), &wanted);
-    Ok(())
 }
 
 /// The gate is told of the work where that is asked for, and of none of it where it isn't.
 #[test]
-fn who_asks_is_told(rt: HostRuntime) -> Result<(), Fail> {
+fn who_asks_is_told(rt: HostRuntime) {
     let alloc = rt.alloc();
     for &(progress, batch, none_found, all_found) in &TOLD {
-        let run = tables(progress, batch)?;
+        let run = tables(&rt, progress, batch);
         let incomplete = (Status::Incomplete, none_found);
-        expect_told(&rt, alloc, run, &FindsNothing, incomplete)?;
+        expect_told(&rt, alloc, run, &FindsNothing, incomplete);
         let done = (Status::Done, all_found);
-        expect_told(&rt, alloc, run, &Partition::new(), done)?;
+        expect_told(&rt, alloc, run, &Partition::new(), done);
     }
-    Ok(())
 }
 
 /// A clock that is set by hand.
@@ -159,27 +143,34 @@ const DEAL: Option<&[u8]> = Some(b"N:A... K... Q... J...");
 
 const OTHER_DEAL: Option<&[u8]> = Some(b"N:2... K... Q... J...");
 
-/// Boards with these deals.
-fn boards_with(alloc: Global, deals: &[Option<&[u8]>]) -> Result<Vec<Board>, Fail> {
-    let mut boards = Vec::new(alloc);
-    for value in deals {
-        let deal = match value {
-            Some(value) => Some(read_layout(value)?),
-            None => None,
-        };
-        boards.push(Board {
-            name: BoardName::new(Vec::new(alloc)),
-            deal,
-        })?;
+/// A board with this deal.
+fn board_with(rt: &impl Abort, alloc: Global, deal: Option<&[u8]>) -> Board {
+    let deal = match deal {
+        Some(deal) => Some(got(rt, read_layout(deal))),
+        None => None,
+    };
+    Board {
+        name: BoardName::new(Vec::new(alloc)),
+        deal,
     }
-    Ok(boards)
 }
 
-/// The work on these boards begins.
-fn begin(alloc: Global, gate: &impl Gate, boards: &[Board]) -> Result<(), Fail> {
-    let firsts = first_boards(alloc, boards)?;
-    gate.before_work(boards, firsts.as_slice());
-    Ok(())
+/// Boards with these deals.
+fn boards_with(rt: &impl Abort, alloc: Global, deals: &[Option<&[u8]>]) -> Vec<Board> {
+    let mut boards = Vec::new(alloc);
+    for deal in deals {
+        got(rt, boards.push(board_with(rt, alloc, *deal)));
+    }
+    boards
+}
+
+/// The work on boards with these deals begins.
+fn begin(rt: &impl Abort, alloc: Global, gate: &impl Gate, deals: &[Option<&[u8]>]) {
+    let boards = boards_with(rt, alloc, deals);
+    let Ok(firsts) = first_boards(alloc, boards.as_slice()) else {
+        panic!(rt; "no memory");
+    };
+    gate.before_work(boards.as_slice(), firsts.as_slice());
 }
 
 /// So many leases are worked on for the board with this number, and each claim has this reply.
@@ -197,24 +188,56 @@ fn check(gate: &impl Gate, count: usize, board: usize, reply: Reply) {
     }
 }
 
-/// Replies by which no result was published.
-const OTHER_REPLIES: [Reply; 8] = [
-    Reply::Given {
-        lease: 1,
-        entry: Entry {
-            board: 0,
-            declarer: Seat::North,
-            trump: Trump::Nt,
-        },
-        deadline: 2,
+/// The second, how many claims are checked in it, the board that they are for, and the reply to each.
+type Step = (u64, usize, usize, Reply);
+
+/// After these steps, of which the first may be in the third second, and the end in this second there are these lines.
+fn expect_lines<R: Abort + Wait>(
+    rt: &R,
+    alloc: Global,
+    deals: &[Option<&[u8]>],
+    steps: &[Step],
+    end: u64,
+    lines: &[u8],
+) {
+    let clock = SetByHand {
+        seconds: AtomicU64::new(3),
+    };
+    let progress = Progress::new(rt, &clock, buffer(rt, alloc, (ROOM, 5)));
+    begin(rt, alloc, &progress, deals);
+    for (second, count, board, reply) in steps {
+        clock.seconds.store(*second, SeqCst);
+        check(&progress, *count, *board, *reply);
+    }
+    clock.seconds.store(end, SeqCst);
+    progress.after_work();
+    expect_bytes(rt, progress.into_sink().bytes(), lines);
+}
+
+const GIVEN: Reply = Reply::Given {
+    lease: 1,
+    entry: Entry {
+        board: 0,
+        declarer: Seat::North,
+        trump: Trump::Nt,
     },
-    Reply::Nothing,
-    Reply::Freed(1),
-    Reply::GaveUp,
-    Reply::UnknownLease,
-    Reply::NotHeld,
-    Reply::OtherEntry,
-    Reply::AlreadyPublished,
+    deadline: 2,
+};
+
+/// In the fourth second no result is published.
+const STEPS: [Step; 12] = [
+    (3, 1, 0, Reply::Published(7)),
+    (4, 1, 0, GIVEN),
+    (4, 1, 0, Reply::Nothing),
+    (4, 1, 0, Reply::Freed(1)),
+    (4, 1, 0, Reply::GaveUp),
+    (4, 1, 0, Reply::UnknownLease),
+    (4, 1, 0, Reply::NotHeld),
+    (4, 1, 0, Reply::OtherEntry),
+    (4, 1, 0, Reply::AlreadyPublished),
+    (5, 17, 0, Reply::Published(0)),
+    (6, 1, 0, Reply::Published(0)),
+    (9, 1, 0, Reply::Published(13)),
 ];
 
 const LINES: &[u8] = b"ddfarm: 2 of 20 results, 0 of 1 boards, 5 s
@@ -226,33 +249,15 @@ ddfarm: 20 of 20 results, 1 of 1 boards, 12 s, 0 tables incomplete
 /// A line is written when a result is published in another second than that of the last line, or of the beginning. No
 /// other reply counts or gives a line.
 #[test]
-fn a_line_a_second_and_one_at_the_end(rt: HostRuntime) -> Result<(), Fail> {
-    let alloc = rt.alloc();
-    let clock = SetByHand {
-        seconds: AtomicU64::new(3),
-    };
-    let progress = Progress::new(&rt, &clock, Buffer::new(alloc, ROOM, 5)?);
-    begin(
-        alloc,
-        &progress,
-        boards_with(alloc, &[DEAL, None])?.as_slice(),
-    )?;
-    check(&progress, 1, 0, Reply::Published(7));
-    clock.seconds.store(4, SeqCst);
-    for reply in OTHER_REPLIES {
-        check(&progress, 1, 0, reply);
-    }
-    clock.seconds.store(5, SeqCst);
-    check(&progress, 17, 0, Reply::Published(0));
-    clock.seconds.store(6, SeqCst);
-    check(&progress, 1, 0, Reply::Published(0));
-    clock.seconds.store(9, SeqCst);
-    check(&progress, 1, 0, Reply::Published(13));
-    clock.seconds.store(12, SeqCst);
-    progress.after_work();
-    expect_eq(&rt, &progress.into_sink().bytes(), &LINES);
-    Ok(())
+fn a_line_a_second_and_one_at_the_end(rt: HostRuntime) {
+    expect_lines(&rt, rt.alloc(), &[DEAL, None], STEPS.as_slice(), 12, LINES);
 }
+
+/// All results of the first deal, and then all of the other.
+const SHARED_STEPS: [Step; 2] = [
+    (4, 20, 0, Reply::Published(0)),
+    (5, 20, 2, Reply::Published(0)),
+];
 
 const SHARED_LINES: &[u8] = b"ddfarm: 2 of 60 results, 0 of 3 boards, 4 s
 ddfarm: 41 of 60 results, 2 of 3 boards, 5 s
@@ -261,22 +266,16 @@ ddfarm: 60 of 60 results, 3 of 3 boards, 6 s, 0 tables incomplete
 
 /// A result counts for each of the boards with its deal, and for no other board.
 #[test]
-fn boards_that_share_a_deal(rt: HostRuntime) -> Result<(), Fail> {
-    let alloc = rt.alloc();
-    let clock = SetByHand {
-        seconds: AtomicU64::new(3),
-    };
-    let progress = Progress::new(&rt, &clock, Buffer::new(alloc, ROOM, 5)?);
-    let boards = boards_with(alloc, &[DEAL, None, OTHER_DEAL, DEAL])?;
-    begin(alloc, &progress, boards.as_slice())?;
-    clock.seconds.store(4, SeqCst);
-    check(&progress, 20, 0, Reply::Published(0));
-    clock.seconds.store(5, SeqCst);
-    check(&progress, 20, 2, Reply::Published(0));
-    clock.seconds.store(6, SeqCst);
-    progress.after_work();
-    expect_eq(&rt, &progress.into_sink().bytes(), &SHARED_LINES);
-    Ok(())
+fn boards_that_share_a_deal(rt: HostRuntime) {
+    let deals = [DEAL, None, OTHER_DEAL, DEAL];
+    expect_lines(
+        &rt,
+        rt.alloc(),
+        &deals,
+        SHARED_STEPS.as_slice(),
+        6,
+        SHARED_LINES,
+    );
 }
 
 /// A clock that goes on by a second each time it is read.
@@ -309,29 +308,29 @@ impl Sink for Slow {
 }
 
 /// A line for each of twenty results, and the last line.
-fn twenty_lines(alloc: Global) -> Result<String, Fail> {
+fn twenty_lines(rt: &impl Abort, alloc: Global) -> String {
     let mut lines = String::new(alloc);
     for count in 1..=20u8 {
         let finished = count / 20;
         let line = format!(in alloc;
-            "ddfarm: {count} of 20 results, {finished} of 1 boards, {count} s"
-        )?;
-        lines.push_str(&line)?;
-        lines.push_str("\n")?;
+            "ddfarm: {count} of 20 results, {finished} of 1 boards, {count} s\n"
+        );
+        got(rt, lines.push_str(&got(rt, line)));
     }
-    lines.push_str("ddfarm: 20 of 20 results, 1 of 1 boards, 21 s, 0 tables incomplete\n")?;
-    Ok(lines)
+    let last = "ddfarm: 20 of 20 results, 1 of 1 boards, 21 s, 0 tables incomplete\n";
+    got(rt, lines.push_str(last));
+    lines
 }
 
 /// Two threads hand ten results each to the gate, one after the other or at once. Each result counts and has its line.
 #[test]
-fn results_of_two_threads(rt: HostRuntime) -> Result<(), Fail> {
+fn results_of_two_threads(rt: HostRuntime) {
     let alloc = rt.alloc();
     let clock = Readings {
         seconds: AtomicU64::new(0),
     };
-    let progress = Progress::new(&rt, &clock, Slow(Buffer::new(alloc, ROOM, 5)?));
-    begin(alloc, &progress, boards_with(alloc, &[DEAL])?.as_slice())?;
+    let progress = Progress::new(&rt, &clock, Slow(buffer(&rt, alloc, (ROOM, 5))));
+    begin(&rt, alloc, &progress, &[DEAL]);
     thread::join(
         &rt,
         || check(&progress, 10, 0, Reply::Published(7)),
@@ -339,7 +338,6 @@ fn results_of_two_threads(rt: HostRuntime) -> Result<(), Fail> {
     );
     progress.after_work();
     let Slow(buffer) = progress.into_sink();
-    let lines = twenty_lines(alloc)?;
-    expect_eq(&rt, &buffer.bytes(), &lines.as_bytes());
-    Ok(())
+    let lines = twenty_lines(&rt, alloc);
+    expect_bytes(&rt, buffer.bytes(), lines.as_bytes());
 }

@@ -1,8 +1,8 @@
 //! What of the settings of tables comes to the solver and to the threads.
 
-use crate::expect::{ROOM, expect_eq, means};
+use crate::expect::{ROOM, expect_eq, got, memory, run_on};
 use crate::progress_tests::BOARD;
-use cards::{Buffer, Bytes, Layout, Seat, Trump};
+use cards::{Bytes, Layout, Seat, Trump};
 use certificate_graph::{Bundle, Solver};
 use farm::Settings;
 use lease_book::Gate;
@@ -12,33 +12,24 @@ use std::process::Abort;
 use std::sync::Wait;
 use std::sync::atomic::Ordering::SeqCst;
 use std::sync::atomic::{AtomicBool, AtomicU64};
-use std::test::Fail;
 use std::thread::Threads;
-use streams::Streams;
-use subcommands::{
-    KeptFiles, NamedFiles, NewFiles, Status, Subcommand, TableOptions, run_subcommand,
-};
-use test_support::idle::{LetsPass, OnlyTables};
-use test_support::settings::tables_by;
+use subcommands::{KeptFiles, NamedFiles, NewFiles, Status, Subcommand, TableOptions};
+use test_support::idle::LetsPass;
+use test_support::settings::{one_of_each, tables_by};
 
-/// Makes the tables of a board, and answers how that ends.
-fn status_of<
+/// Makes the tables of a board, which ends so.
+fn expect_status<
     R: Abort + NamedFiles + KeptFiles + NewFiles + Threads + Wait + Sync,
     S: Solver + Sync,
     G: Gate + Sync,
->(rt: &R, alloc: Global, settings: Settings, solver: &S, gate: &G) -> Result<Status, Fail> {
+>(rt: &R, alloc: Global, settings: Settings, solver: &S, gate: &G, wanted: Status) {
     let run = Subcommand::Table(TableOptions {
         progress: true,
         ..tables_by(settings)
     });
-    let mut streams = Streams {
-        input: Bytes::new(BOARD, 7),
-        output: Buffer::new(alloc, ROOM, ROOM)?,
-        errors: Buffer::new(alloc, ROOM, ROOM)?,
-    };
-    let solver = OnlyTables { solver };
-    let means = means(&solver, gate);
-    Ok(run_subcommand(rt, alloc, run, &means, &mut streams))
+    let mut streams = memory(rt, alloc, Bytes::new(BOARD, 7), (ROOM, ROOM), (ROOM, ROOM));
+    let status = run_on(rt, alloc, run, solver, gate, &mut streams);
+    expect_eq(rt, &status, &wanted);
 }
 
 /// Finds nothing, and adds up what it is asked with: how often it is, for how many declarers, and with how many steps.
@@ -47,6 +38,26 @@ struct Sums {
     asked: AtomicU64,
     declarers: AtomicU64,
     steps: AtomicU64,
+}
+
+impl Sums {
+    /// Nothing was asked yet.
+    fn new() -> Sums {
+        Sums {
+            asked: AtomicU64::new(0),
+            declarers: AtomicU64::new(0),
+            steps: AtomicU64::new(0),
+        }
+    }
+
+    /// The three sums.
+    fn sums(&self) -> [u64; 3] {
+        [
+            self.asked.load(SeqCst),
+            self.declarers.load(SeqCst),
+            self.steps.load(SeqCst),
+        ]
+    }
 }
 
 impl Solver for Sums {
@@ -76,25 +87,15 @@ const SUMS: [(u32, u64, usize, [u64; 3]); 4] = [
 
 /// The solver is asked as the settings say.
 #[test]
-fn what_the_solver_is_asked(rt: HostRuntime) -> Result<(), Fail> {
+fn what_the_solver_is_asked(rt: HostRuntime) {
     for &(tries, budget, batch, wanted) in &SUMS {
-        let solver = Sums {
-            asked: AtomicU64::new(0),
-            declarers: AtomicU64::new(0),
-            steps: AtomicU64::new(0),
-        };
-        let settings = Settings::new()
-            .with_solvers(1)?
-            .with_checkers(1)?
-            .with_tries(tries)?
-            .with_budget(budget)?
-            .with_batch(batch)?;
-        let status = status_of(&rt, rt.alloc(), settings, &solver, &LetsPass)?;
-        expect_eq(&rt, &status, &Status::Incomplete);
-        let sums = [&solver.asked, &solver.declarers, &solver.steps];
-        expect_eq(&rt, &sums.map(|sum| sum.load(SeqCst)), &wanted);
+        let solver = Sums::new();
+        let settings = got(&rt, one_of_each(tries, budget));
+        let settings = got(&rt, settings.with_batch(batch));
+        let ended = Status::Incomplete;
+        expect_status(&rt, rt.alloc(), settings, &solver, &LetsPass, ended);
+        expect_eq(&rt, &solver.sums(), &wanted);
     }
-    Ok(())
 }
 
 /// How often a thread looks whether another has come before it goes on alone.
@@ -157,15 +158,14 @@ impl Gate for TwoOfEach {
 
 /// There are as many solvers and checkers as the settings say.
 #[test]
-fn two_solvers_and_two_checkers(rt: HostRuntime) -> Result<(), Fail> {
+fn two_solvers_and_two_checkers(rt: HostRuntime) {
     let gate = TwoOfEach {
         solvers: Meeting::new(),
         checkers: Meeting::new(),
     };
-    let settings = Settings::new().with_batch(1)?;
-    let status = status_of(&rt, rt.alloc(), settings, &Partition::new(), &gate)?;
-    expect_eq(&rt, &status, &Status::Done);
-    let met = [&gate.solvers.met, &gate.checkers.met];
-    expect_eq(&rt, &met.map(|count| count.load(SeqCst)), &[2, 2]);
-    Ok(())
+    let settings = got(&rt, Settings::new().with_batch(1));
+    let (solver, ended) = (Partition::new(), Status::Done);
+    expect_status(&rt, rt.alloc(), settings, &solver, &gate, ended);
+    expect_eq(&rt, &gate.solvers.met.load(SeqCst), &2);
+    expect_eq(&rt, &gate.checkers.met.load(SeqCst), &2);
 }

@@ -1,20 +1,21 @@
 //! Answers that are found, written and then checked.
 
-use crate::expect::{CARD_TWICE, End, NO_CARDS, NO_LAYOUT, ROOM, expect_eq, expect_run, means};
+use crate::expect::{
+    CARD_TWICE, End, Memory, NO_CARDS, NO_LAYOUT, ROOM, expect_eq, expect_run, got, memory, run_on,
+    some,
+};
 use answer_subcommands::read_answer;
 use arrayvec::ArrayVec;
-use cards::{Buffer, Bytes, Layout, Seat, Side, Suit, Trump};
+use cards::{Bytes, Layout, Seat, Side, Suit, Trump};
 use certificate_graph::{Bundle, Claim, Graph, Solver, Version};
 use partition_solver::Partition;
 use pbn_deals::read_layout;
 use std::alloc::{AllocError, Global};
 use std::process::Abort;
 use std::sync::{Arc, Wait};
-use std::test::Fail;
 use std::thread::Threads;
 use strategies::plain_value;
-use streams::Streams;
-use subcommands::{KeptFiles, NamedFiles, NewFiles, Status, Subcommand, run_subcommand};
+use subcommands::{KeptFiles, NamedFiles, NewFiles, Status, Subcommand};
 use test_support::idle::{FindsNothing, LetsPass};
 
 /// Room for an answer of four cards a hand.
@@ -46,22 +47,41 @@ const TRUMPS: [Trump; 5] = [
 ];
 
 /// The tricks of declarer's side, by the plain search, whose number is proved.
-fn tricks_of(text: &str, declarer: Seat, trump: Trump) -> Result<u8, Fail> {
-    let layout = read_layout(text.as_bytes())?;
-    let tricks = plain_value(&layout, declarer.next(), trump)?;
+fn tricks_of(rt: &impl Abort, text: &str, declarer: Seat, trump: Trump) -> u8 {
+    let layout = got(rt, read_layout(text.as_bytes()));
+    let tricks = got(rt, plain_value(&layout, declarer.next(), trump));
     match declarer.side() {
-        Side::NorthSouth => Ok(tricks),
-        Side::EastWest => Ok((layout.len() as u8).wrapping_sub(tricks)),
+        Side::NorthSouth => tricks,
+        Side::EastWest => (layout.len() as u8).wrapping_sub(tricks),
     }
 }
 
 /// The answer tells this number, and both of its texts are of version 2.
-fn expect_version_two(rt: &impl Abort, answer: &[u8], tricks: u8) -> Result<(), Fail> {
-    let (told, declarers, defenders) = read_answer(answer).ok_or("no answer")?;
+fn expect_version_two(rt: &impl Abort, answer: &[u8], tricks: u8) {
+    let (told, declarers, defenders) = some(rt, read_answer(answer));
     expect_eq(rt, &told, &tricks);
     expect_eq(rt, &declarers.starts_with(b"DDC 2\n"), &true);
     expect_eq(rt, &defenders.starts_with(b"DDC 2\n"), &true);
-    Ok(())
+}
+
+/// What comes of a search for an answer, which finds one.
+fn solved<R: Abort + NamedFiles + KeptFiles + NewFiles + Threads + Wait + Sync>(
+    rt: &R,
+    alloc: Global,
+    layout: &str,
+    declarer: Seat,
+    trump: Trump,
+) -> Memory<'static> {
+    let run = Subcommand::Solve {
+        layout,
+        declarer,
+        trump,
+        budget: STEPS,
+    };
+    let mut streams = memory(rt, alloc, Bytes::new(b"", 7), (ANSWER_ROOM, 300), (ROOM, 7));
+    let status = run_on(rt, alloc, run, &Partition::new(), &LetsPass, &mut streams);
+    expect_eq(rt, &status, &Status::Done);
+    streams
 }
 
 /// An answer is found, of version 2, and `check` accepts it with this number.
@@ -71,52 +91,30 @@ fn expect_accepted<R: Abort + NamedFiles + KeptFiles + NewFiles + Threads + Wait
     layout: &str,
     declarer: Seat,
     trump: Trump,
-) -> Result<(), Fail> {
-    let tricks = tricks_of(layout, declarer, trump)?;
-    let line = format!(in alloc; "accepted {tricks}\n")?;
-    let run = Subcommand::Solve {
-        layout,
-        declarer,
-        trump,
-        budget: STEPS,
-    };
-    let solver = Partition::new();
-    let means = means(&solver, &LetsPass);
-    let mut streams = Streams {
-        input: Bytes::new(b"", 7),
-        output: Buffer::new(alloc, ANSWER_ROOM, 300)?,
-        errors: Buffer::new(alloc, ROOM, 7)?,
-    };
-    let status = run_subcommand(rt, alloc, run, &means, &mut streams);
+) {
+    let tricks = tricks_of(rt, layout, declarer, trump);
+    let streams = solved(rt, alloc, layout, declarer, trump);
     let answer = streams.output.bytes();
-    expect_eq(rt, &status, &Status::Done);
-    expect_version_two(rt, answer, tricks)?;
+    expect_version_two(rt, answer, tricks);
+    let line = got(rt, format!(in alloc; "accepted {tricks}\n"));
     let check = Subcommand::Check {
         layout,
         declarer,
         trump,
     };
-    expect_run(
-        rt,
-        alloc,
-        check,
-        &FindsNothing,
-        answer,
-        ROOM,
-        (Status::Done, line.as_str(), ""),
-    )
+    let end = (Status::Done, line.as_str(), "");
+    expect_run(rt, alloc, check, &FindsNothing, answer, ROOM, end);
 }
 
 #[test]
-fn answers_are_accepted(rt: HostRuntime) -> Result<(), Fail> {
+fn answers_are_accepted(rt: HostRuntime) {
     for &layout in &ENDINGS {
         for &declarer in &Seat::ALL {
             for &trump in &TRUMPS {
-                expect_accepted(&rt, rt.alloc(), layout, declarer, trump)?;
+                expect_accepted(&rt, rt.alloc(), layout, declarer, trump);
             }
         }
     }
-    Ok(())
 }
 
 /// East's contract on the layout without trumps.
@@ -221,22 +219,14 @@ const CLAIMS: [(&str, Option<u8>, End<'static>); 7] = [
 
 /// A solver is trusted for nothing, but that a hand has no fourteenth trick; and it may find nothing in its steps.
 #[test]
-fn unfounded_claims(rt: HostRuntime) -> Result<(), Fail> {
+fn unfounded_claims(rt: HostRuntime) {
     let alloc = rt.alloc();
     for &(layout, tricks, wanted) in &CLAIMS {
         let solver = Claims { tricks };
-        expect_run(&rt, alloc, east(layout, STEPS), &solver, b"", ROOM, wanted)?;
+        expect_run(&rt, alloc, east(layout, STEPS), &solver, b"", ROOM, wanted);
     }
-    let three_steps = east(FINESSE, 3);
-    expect_run(
-        &rt,
-        alloc,
-        three_steps,
-        &Partition::new(),
-        b"",
-        ROOM,
-        NO_ANSWER,
-    )
+    let (run, solver) = (east(FINESSE, 3), Partition::new());
+    expect_run(&rt, alloc, run, &solver, b"", ROOM, NO_ANSWER);
 }
 
 /// Gives these claims for every layout, and certificates without nodes.
@@ -302,11 +292,10 @@ const LISTS: [(&[Claim], End<'static>); 8] = [
 
 /// An answer is the first claim for declarer, and there is none where it names a node that isn't there.
 #[test]
-fn claims_of_others(rt: HostRuntime) -> Result<(), Fail> {
+fn claims_of_others(rt: HostRuntime) {
     let alloc = rt.alloc();
     for &(claims, wanted) in &LISTS {
         let solver = Lists { claims };
-        expect_run(&rt, alloc, east(ACE, STEPS), &solver, b"", ROOM, wanted)?;
+        expect_run(&rt, alloc, east(ACE, STEPS), &solver, b"", ROOM, wanted);
     }
-    Ok(())
 }

@@ -1,10 +1,9 @@
 //! Tables of an input that fails, of a solver that has one proof for all, and what is reported of tables.
 
-use crate::expect::{ROOM, expect_eq, expect_run};
+use crate::expect::{ROOM, buffer, expect_bytes, expect_eq, expect_run, got};
 use arrayvec::ArrayVec;
 use cards::{Buffer, Bytes, Layout, Seat, Trump};
 use certificate_graph::{Bundle, Claim, Graph, Solver};
-use farm::{Settings, SettingsFault};
 use partition_solver::Partition;
 use pbn_deals::PbnFault;
 use std::alloc::{AllocError, Global};
@@ -12,12 +11,11 @@ use std::process::Abort;
 use std::sync::Arc;
 use std::sync::atomic::AtomicU64;
 use std::sync::atomic::Ordering::SeqCst;
-use std::test::Fail;
 use subcommands::{Status, Subcommand, TableOptions};
 use tables::Report;
 use test_support::graphs::{ACE_WINS, NOTHING};
 use test_support::idle::{FindsNothing, StandsStill};
-use test_support::settings::tables_by;
+use test_support::settings::{one_of_each, tables_by};
 use tournaments::{MakeFault, make_single};
 
 const TERM: u64 = 600;
@@ -26,19 +24,18 @@ const TRIES: u32 = 3;
 
 const STEPS: u64 = 10_000_000;
 
-/// The tables of the input, with a solver, a checker and so many leases at a time.
-pub fn tables(progress: bool, batch: usize) -> Result<Subcommand<'static>, SettingsFault> {
-    let settings = Settings::new()
-        .with_solvers(1)?
-        .with_checkers(1)?
-        .with_term(TERM)
-        .with_tries(TRIES)?
-        .with_budget(STEPS)?
-        .with_batch(batch)?;
-    Ok(Subcommand::Table(TableOptions {
+/// The options of the tables of the input, with a solver, a checker and so many leases at a time.
+pub fn table_options(rt: &impl Abort, progress: bool, batch: usize) -> TableOptions<'static> {
+    let settings = got(rt, one_of_each(TRIES, STEPS)).with_term(TERM);
+    TableOptions {
         progress,
-        ..tables_by(settings)
-    }))
+        ..tables_by(got(rt, settings.with_batch(batch)))
+    }
+}
+
+/// The tables of the input by these options.
+pub fn tables(rt: &impl Abort, progress: bool, batch: usize) -> Subcommand<'static> {
+    Subcommand::Table(table_options(rt, progress, batch))
 }
 
 /// A file as a tournament writes it: CR LF, a comment over a blank line, words in small letters, section data with
@@ -93,13 +90,13 @@ fn expect_made(
 
 /// An input that fails at some call, after any number of bytes, or that is refused, leaves the output as it was.
 #[test]
-fn reports(rt: HostRuntime) -> Result<(), Fail> {
+fn reports(rt: HostRuntime) {
     let alloc = rt.alloc();
-    let mut output = Buffer::new(alloc, ROOM, 3)?;
+    let mut output = buffer(&rt, alloc, (ROOM, 3));
     for calls in 0..CR_LF.len() as u64 {
         let torn = Bytes::failing_after(CR_LF, 1, calls);
         expect_made(&rt, alloc, torn, &mut output, Err(MakeFault::Read));
-        expect_eq(&rt, &output.bytes(), &b"".as_slice());
+        expect_bytes(&rt, output.bytes(), b"");
     }
     let report = Report {
         boards: 2,
@@ -108,8 +105,7 @@ fn reports(rt: HostRuntime) -> Result<(), Fail> {
     expect_made(&rt, alloc, Bytes::new(CR_LF, 5), &mut output, Ok(report));
     let refused = MakeFault::Pbn(PbnFault::OpenComment { line: 2 });
     expect_made(&rt, alloc, Bytes::new(b"\n{", 5), &mut output, Err(refused));
-    expect_eq(&rt, &output.bytes(), &OF_CR_LF.as_bytes());
-    Ok(())
+    expect_bytes(&rt, output.bytes(), OF_CR_LF.as_bytes());
 }
 
 /// The graph of a text.
@@ -170,13 +166,12 @@ const REFUSED: &str =
 
 /// A proof for another deal shows no number.
 #[test]
-fn one_proof_for_every_entry(rt: HostRuntime) -> Result<(), Fail> {
+fn one_proof_for_every_entry(rt: HostRuntime) {
     let wanted = (Status::Incomplete, OF_ONE_SUIT_EACH, REFUSED);
     for batch in [1, 20] {
-        let run = tables(false, batch)?;
-        expect_run(&rt, rt.alloc(), run, &OneProof, ONE_SUIT_EACH, ROOM, wanted)?;
+        let run = tables(&rt, false, batch);
+        expect_run(&rt, rt.alloc(), run, &OneProof, ONE_SUIT_EACH, ROOM, wanted);
     }
-    Ok(())
 }
 
 /// A solver that has no memory, or none for North's results.
@@ -215,14 +210,13 @@ use fewer --solvers or give more memory
 
 /// The second line says what helps the searches that found nothing.
 #[test]
-fn searches_without_memory(rt: HostRuntime) -> Result<(), Fail> {
+fn searches_without_memory(rt: HostRuntime) {
     for (for_all, told) in [(true, WITHOUT_MEMORY), (false, NORTH_WITHOUT_MEMORY)] {
         let solver = LacksMemory { for_all };
         let wanted = (Status::Incomplete, OF_ONE_SUIT_EACH, told);
-        let run = tables(false, 1)?;
-        expect_run(&rt, rt.alloc(), run, &solver, ONE_SUIT_EACH, ROOM, wanted)?;
+        let run = tables(&rt, false, 1);
+        expect_run(&rt, rt.alloc(), run, &solver, ONE_SUIT_EACH, ROOM, wanted);
     }
-    Ok(())
 }
 
 /// A solver that finds all results but West's at no-trump. The first search for that runs out of steps, the second out
@@ -268,12 +262,12 @@ const ALL_BUT_ONE: &str = "% PBN 2.1
 
 /// A single search and a single answer have the words for one.
 #[test]
-fn one_search_of_each_end(rt: HostRuntime) -> Result<(), Fail> {
+fn one_search_of_each_end(rt: HostRuntime) {
     let solver = LacksOne {
         solver: Partition::new(),
         searches: AtomicU64::new(0),
     };
     let wanted = (Status::Incomplete, ALL_BUT_ONE, ONE_OF_EACH);
-    let run = tables(false, 1)?;
-    expect_run(&rt, rt.alloc(), run, &solver, ONE_SUIT_EACH, ROOM, wanted)
+    let run = tables(&rt, false, 1);
+    expect_run(&rt, rt.alloc(), run, &solver, ONE_SUIT_EACH, ROOM, wanted);
 }

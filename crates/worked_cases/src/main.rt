@@ -3,6 +3,7 @@
 //! A line of the input that has an answer is passed over: what is printed below a case comes of that case alone.
 #![tactic(auto)]
 
+mod answers;
 mod boards;
 mod cases;
 mod certificates;
@@ -11,6 +12,7 @@ mod requests;
 mod texts;
 mod words;
 
+use answers::Answer;
 use cases::answer_case;
 use std::io;
 
@@ -23,8 +25,9 @@ fn main(rt: HostRuntime) -> io::Result<()> {
         }
         println!(rt; "{text}")?;
         if !text.is_empty() && !text.starts_with("#") {
-            let mut answer = String::new(rt.alloc());
-            answer_case(&rt, rt.alloc(), text, &mut answer)?;
+            let mut answer = Answer::new(rt.alloc());
+            answer_case(&rt, rt.alloc(), text, &mut answer);
+            let answer = answer.text()?;
             println!(rt; "= {answer}")?;
         }
     }

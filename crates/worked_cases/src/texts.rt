@@ -1,7 +1,8 @@
 //! How a case is written: words, fields between bars, and bytes by their names.
 
+use crate::answers::Answer;
 use cards::{Seat, Trump};
-use std::alloc::{AllocError, Global};
+use std::alloc::Global;
 use std::fmt::Display;
 
 /// A word of a text, counted from 0; empty where there is none. A space stands between two words.
@@ -57,78 +58,80 @@ fn digit(byte: u8) -> u8 {
 }
 
 /// Reads one byte more of a field.
-fn read_on(text: &mut Vec<u8>, reading: Reading, byte: u8) -> Result<Reading, AllocError> {
+fn read_on(text: &mut Vec<u8>, reading: Reading, byte: u8, out: &mut Answer) -> Reading {
     let meant = match (reading, byte) {
-        (Reading::Plain, b'\\') => return Ok(Reading::Named),
-        (Reading::Named, b'x') => return Ok(Reading::HighDigit),
-        (Reading::HighDigit, _) => return Ok(Reading::LowDigit(digit(byte))),
+        (Reading::Plain, b'\\') => return Reading::Named,
+        (Reading::Named, b'x') => return Reading::HighDigit,
+        (Reading::HighDigit, _) => return Reading::LowDigit(digit(byte)),
         (Reading::LowDigit(high), _) => high.wrapping_mul(16).wrapping_add(digit(byte)),
         (Reading::Named, b'n') => b'\n',
         (Reading::Named, b'r') => b'\r',
         (Reading::Named, b't') => b'\t',
         _ => byte,
     };
-    text.push(meant)?;
-    Ok(Reading::Plain)
+    out.needs(text.push(meant));
+    Reading::Plain
 }
 
 /// Adds the bytes that a field names.
-fn add_bytes(text: &mut Vec<u8>, field: &str) -> Result<(), AllocError> {
+fn add_bytes(text: &mut Vec<u8>, field: &str, out: &mut Answer) {
     let mut reading = Reading::Plain;
     for byte in field.as_bytes() {
-        reading = read_on(text, reading, *byte)?;
+        reading = read_on(text, reading, *byte, out);
     }
-    Ok(())
 }
 
 /// The bytes that a field names.
-pub fn bytes_of(alloc: Global, field: &str) -> Result<Vec<u8>, AllocError> {
+pub fn bytes_of(alloc: Global, field: &str, out: &mut Answer) -> Vec<u8> {
     let mut text = Vec::new(alloc);
-    add_bytes(&mut text, field)?;
-    Ok(text)
+    add_bytes(&mut text, field, out);
+    text
 }
 
 /// The bytes of the third field, as often as the second says, and then those of the first.
-pub fn repeated(alloc: Global, case: &str) -> Result<Vec<u8>, AllocError> {
+pub fn repeated(alloc: Global, case: &str, out: &mut Answer) -> Vec<u8> {
     let mut text = Vec::new(alloc);
     for _time in 0..number(field(case, 2)) {
-        add_bytes(&mut text, field(case, 3))?;
+        add_bytes(&mut text, field(case, 3), out);
     }
-    add_bytes(&mut text, field(case, 1))?;
-    Ok(text)
+    add_bytes(&mut text, field(case, 1), out);
+    text
+}
+
+/// A copy of these bytes.
+pub fn copy_of(alloc: Global, bytes: &[u8], out: &mut Answer) -> Vec<u8> {
+    let mut copy = Vec::new(alloc);
+    out.needs(copy.extend_from_slice(bytes));
+    copy
 }
 
 /// Names a byte.
-fn say_byte(byte: u8, out: &mut String) -> Result<(), AllocError> {
-    let name = match byte {
-        b'\n' => "\\n",
-        b'\r' => "\\r",
-        b'\t' => "\\t",
-        b'\\' => "\\\\",
-        b'|' => "\\x7C",
-        b' '..=b'~' => return out.push(char::from(byte)),
-        _ => return write!(out, "\\x{byte:02X}"),
-    };
-    out.push_str(name)
+fn say_byte(byte: u8, out: &mut Answer) {
+    match byte {
+        b'\n' => out.say("\\n"),
+        b'\r' => out.say("\\r"),
+        b'\t' => out.say("\\t"),
+        b'\\' => out.say("\\\\"),
+        b'|' => out.say("\\x7C"),
+        b' '..=b'~' => out.spell(char::from(byte)),
+        _ => out.show(format_args!("\\x{byte:02X}")),
+    }
 }
 
 /// Names bytes, and ends their field.
-pub fn say_field(bytes: &[u8], out: &mut String) -> Result<(), AllocError> {
+pub fn say_field(bytes: &[u8], out: &mut Answer) {
     for byte in bytes {
-        say_byte(*byte, out)?;
+        say_byte(*byte, out);
     }
-    out.push_str("|")
+    out.say("|");
 }
 
 /// Says why a text is refused, and the line that the fault names.
-pub fn say_refusal(
-    fault: &impl Display,
-    line: Option<usize>,
-    out: &mut String,
-) -> Result<(), AllocError> {
-    write!(out, "refused {fault}")?;
-    match line {
-        Some(line) => write!(out, " line {line}"),
-        None => Ok(()),
+pub fn say_refusal(fault: &impl Display, line: Option<usize>, out: &mut Answer) {
+    out.say("refused ");
+    out.show(fault);
+    if let Some(line) = line {
+        out.say(" line ");
+        out.show(line);
     }
 }

@@ -1,10 +1,11 @@
 //! Cases on runs of the program, by the words of a command line.
 
+use crate::answers::Answer;
 use crate::texts::{bytes_of, field, number, repeated, say_field, text_of};
 use cards::{Buffer, Bytes, Source};
 use command_line::run_command;
 use farm::Means;
-use std::alloc::{AllocError, Global};
+use std::alloc::Global;
 use std::sync::Wait;
 use std::thread::Threads;
 use streams::Streams;
@@ -20,18 +21,25 @@ const PROCESSORS: usize = 2;
 /// An input, and both outputs.
 type Memory<'a> = Streams<Bytes<'a>, Buffer, Buffer>;
 
-/// An input that gives at most so many bytes a call, and outputs with so much room.
-fn memory(
+/// An input that gives at most so many bytes a call, and outputs with so much room. Nothing where memory ran out.
+fn memory<'a>(
     alloc: Global,
-    text: &[u8],
+    text: &'a [u8],
     piece: usize,
     rooms: [usize; 2],
-) -> Result<Memory<'_>, AllocError> {
-    Ok(Streams {
-        input: Bytes::new(text, piece),
-        output: Buffer::new(alloc, rooms[0], 3)?,
-        errors: Buffer::new(alloc, rooms[1], 3)?,
-    })
+    out: &mut Answer,
+) -> Option<Memory<'a>> {
+    let output = Buffer::new(alloc, rooms[0], 3).ok();
+    let errors = Buffer::new(alloc, rooms[1], 3).ok();
+    if let (Some(output), Some(errors)) = (output, errors) {
+        return Some(Streams {
+            input: Bytes::new(text, piece),
+            output,
+            errors,
+        });
+    }
+    out.fails();
+    None
 }
 
 /// Does what words ask for, with a solver that finds nothing.
@@ -49,18 +57,44 @@ fn run_words<R: NamedFiles + KeptFiles + NewFiles + Threads + Wait + Sync>(
     run_command(rt, alloc, words, PROCESSORS, &means, streams)
 }
 
-/// Says what comes of words: the exit status, and what is on both outputs.
+/// Says the exit status of words, and what is on both outputs.
 fn say_run<R: NamedFiles + KeptFiles + NewFiles + Threads + Wait + Sync>(
     rt: &R,
     alloc: Global,
     words: &[&str],
     streams: &mut Memory<'_>,
-    out: &mut String,
-) -> Result<(), AllocError> {
+    out: &mut Answer,
+) {
     let status = run_words(rt, alloc, words, streams);
-    write!(out, "status {status} |")?;
-    say_field(streams.output.bytes(), out)?;
-    say_field(streams.errors.bytes(), out)
+    out.say("status ");
+    out.show(status);
+    out.say(" |");
+    say_field(streams.output.bytes(), out);
+    say_field(streams.errors.bytes(), out);
+}
+
+/// Says what comes of words over an input: the exit status, and what is on both outputs.
+fn say_run_on<R: NamedFiles + KeptFiles + NewFiles + Threads + Wait + Sync>(
+    rt: &R,
+    alloc: Global,
+    words: &[&str],
+    text: &[u8],
+    out: &mut Answer,
+) {
+    if let Some(mut streams) = memory(alloc, text, 100, [ROOM, ROOM], out) {
+        say_run(rt, alloc, words, &mut streams, out);
+    }
+}
+
+/// The words of a subcommand on the first three fields of a case.
+fn words_for<'a>(subcommand: &'a str, case: &'a str) -> [&'a str; 5] {
+    [
+        "ddfarm",
+        subcommand,
+        field(case, 1),
+        field(case, 2),
+        field(case, 3),
+    ]
 }
 
 /// What `plain` prints of a layout.
@@ -68,17 +102,9 @@ pub fn answer_plain<R: NamedFiles + KeptFiles + NewFiles + Threads + Wait + Sync
     rt: &R,
     alloc: Global,
     case: &str,
-    out: &mut String,
-) -> Result<(), AllocError> {
-    let words = [
-        "ddfarm",
-        "plain",
-        field(case, 1),
-        field(case, 2),
-        field(case, 3),
-    ];
-    let mut streams = memory(alloc, b"", 100, [ROOM, ROOM])?;
-    say_run(rt, alloc, &words, &mut streams, out)
+    out: &mut Answer,
+) {
+    say_run_on(rt, alloc, &words_for("plain", case), b"", out);
 }
 
 /// What `check` or `line` prints of an answer.
@@ -87,18 +113,16 @@ pub fn answer_check<R: NamedFiles + KeptFiles + NewFiles + Threads + Wait + Sync
     alloc: Global,
     subcommand: &str,
     case: &str,
-    out: &mut String,
-) -> Result<(), AllocError> {
-    let text = bytes_of(alloc, field(case, 4))?;
-    let words = [
-        "ddfarm",
-        subcommand,
-        field(case, 1),
-        field(case, 2),
-        field(case, 3),
-    ];
-    let mut streams = memory(alloc, text.as_slice(), 100, [ROOM, ROOM])?;
-    say_run(rt, alloc, &words, &mut streams, out)
+    out: &mut Answer,
+) {
+    let text = bytes_of(alloc, field(case, 4), out);
+    say_run_on(
+        rt,
+        alloc,
+        &words_for(subcommand, case),
+        text.as_slice(),
+        out,
+    );
 }
 
 /// What `table` prints of a PBN text.
@@ -106,20 +130,19 @@ pub fn answer_table<R: NamedFiles + KeptFiles + NewFiles + Threads + Wait + Sync
     rt: &R,
     alloc: Global,
     case: &str,
-    out: &mut String,
-) -> Result<(), AllocError> {
-    let text = repeated(alloc, case)?;
-    let mut streams = memory(alloc, text.as_slice(), 100, [ROOM, ROOM])?;
-    say_run(rt, alloc, &["ddfarm", "table"], &mut streams, out)
+    out: &mut Answer,
+) {
+    let text = repeated(alloc, case, out);
+    say_run_on(rt, alloc, &["ddfarm", "table"], text.as_slice(), out);
 }
 
 /// The words of a line.
-fn words_of(alloc: Global, line: &str) -> Result<Vec<&str>, AllocError> {
+fn words_of<'a>(alloc: Global, line: &'a str, out: &mut Answer) -> Vec<&'a str> {
     let mut words = Vec::new(alloc);
     for word in line.split(';') {
-        words.push(word)?;
+        out.needs(words.push(word));
     }
-    Ok(words)
+    words
 }
 
 /// The room that a field tells, or enough.
@@ -131,39 +154,56 @@ fn room_of(field: &str) -> usize {
     }
 }
 
+/// Says what is left of an input of at most 64 bytes.
+fn say_left(input: &mut Bytes<'_>, out: &mut Answer) {
+    let mut left = [0; 64];
+    if let Ok(count) = input.read(&mut left) {
+        say_field(&left[..count], out);
+    }
+}
+
 /// What comes of the words of a case: the exit status, what is on the output and on the error output, and what is left
 /// of an input of at most 64 bytes.
 pub fn answer_words<R: NamedFiles + KeptFiles + NewFiles + Threads + Wait + Sync>(
     rt: &R,
     alloc: Global,
     case: &str,
-    out: &mut String,
-) -> Result<(), AllocError> {
-    let line = bytes_of(alloc, field(case, 1))?;
-    let words = words_of(alloc, text_of(line.as_slice()))?;
-    let text = bytes_of(alloc, field(case, 2))?;
+    out: &mut Answer,
+) {
+    let line = bytes_of(alloc, field(case, 1), out);
+    let words = words_of(alloc, text_of(line.as_slice()), out);
+    let text = bytes_of(alloc, field(case, 2), out);
     let rooms = [room_of(field(case, 3)), room_of(field(case, 4))];
-    let mut streams = memory(alloc, text.as_slice(), 64, rooms)?;
-    say_run(rt, alloc, words.as_slice(), &mut streams, out)?;
-    let mut left = [0; 64];
-    match streams.input.read(&mut left) {
-        Ok(count) => say_field(&left[..count], out),
-        Err(_) => Ok(()),
+    if let Some(mut streams) = memory(alloc, text.as_slice(), 64, rooms, out) {
+        say_run(rt, alloc, words.as_slice(), &mut streams, out);
+        say_left(&mut streams.input, out);
     }
 }
 
-/// Says whether what is printed begins with the text of a case, or has it.
-fn say_told(printed: &[u8], told: &[u8], out: &mut String) -> Result<(), AllocError> {
+/// Whether what is printed begins with the text of a case, or has it.
+fn comparison(printed: &[u8], told: &[u8]) -> &'static str {
     for start in 0..printed.len() {
         if printed[start..].starts_with(told) {
-            return out.push_str(if start == 0 { "begins so" } else { "has it" });
+            return if start == 0 { "begins so" } else { "has it" };
         }
     }
-    out.push_str(if printed.is_empty() {
+    if printed.is_empty() {
         "empty"
     } else {
         "is another"
-    })
+    }
+}
+
+/// The exit status of the words of a case, over no input. The outputs are in these streams then.
+fn status_of<R: NamedFiles + KeptFiles + NewFiles + Threads + Wait + Sync>(
+    rt: &R,
+    alloc: Global,
+    case: &str,
+    streams: &mut Memory<'_>,
+    out: &mut Answer,
+) -> u8 {
+    let words = words_of(alloc, field(case, 1), out);
+    run_words(rt, alloc, words.as_slice(), streams)
 }
 
 /// Whether what comes of the words of a case is what it tells.
@@ -171,35 +211,37 @@ pub fn answer_told<R: NamedFiles + KeptFiles + NewFiles + Threads + Wait + Sync>
     rt: &R,
     alloc: Global,
     case: &str,
-    out: &mut String,
-) -> Result<(), AllocError> {
-    let words = words_of(alloc, field(case, 1))?;
-    let text = bytes_of(alloc, field(case, 2))?;
+    out: &mut Answer,
+) {
+    let text = bytes_of(alloc, field(case, 2), out);
     let told = text.as_slice();
-    let mut streams = memory(alloc, b"", 1, [ROOM, ROOM])?;
-    let status = run_words(rt, alloc, words.as_slice(), &mut streams);
-    write!(out, "status {status}, output ")?;
-    say_told(streams.output.bytes(), told, out)?;
-    out.push_str(", error output ")?;
-    say_told(streams.errors.bytes(), told, out)
+    if let Some(mut streams) = memory(alloc, b"", 1, [ROOM, ROOM], out) {
+        let status = status_of(rt, alloc, case, &mut streams, out);
+        out.say("status ");
+        out.show(status);
+        out.say(", output ");
+        out.say(comparison(streams.output.bytes(), told));
+        out.say(", error output ");
+        out.say(comparison(streams.errors.bytes(), told));
+    }
 }
 
 /// Says each line of what is printed on an output, if anything is.
-fn say_lines(name: &str, printed: &[u8], out: &mut String) -> Result<(), AllocError> {
+fn say_lines(name: &str, printed: &[u8], out: &mut Answer) {
     if printed.is_empty() {
-        return Ok(());
+        return;
     }
-    write!(out, "\n= {name}")?;
+    out.say("\n= ");
+    out.say(name);
     let text = text_of(printed);
     let lines = text.strip_suffix("\n");
     if lines.is_none() {
-        out.push_str(", whose last line is not ended")?;
+        out.say(", whose last line is not ended");
     }
     for line in lines.unwrap_or(text).split('\n') {
-        out.push_str("\n= |")?;
-        out.push_str(line)?;
+        out.say("\n= |");
+        out.say(line);
     }
-    Ok(())
 }
 
 /// What comes of the words of a case, over no input: the exit status, and the lines on the output and on the error
@@ -208,12 +250,13 @@ pub fn answer_lines<R: NamedFiles + KeptFiles + NewFiles + Threads + Wait + Sync
     rt: &R,
     alloc: Global,
     case: &str,
-    out: &mut String,
-) -> Result<(), AllocError> {
-    let words = words_of(alloc, field(case, 1))?;
-    let mut streams = memory(alloc, b"", 1, [ROOM, ROOM])?;
-    let status = run_words(rt, alloc, words.as_slice(), &mut streams);
-    write!(out, "status {status}")?;
-    say_lines("output", streams.output.bytes(), out)?;
-    say_lines("error output", streams.errors.bytes(), out)
+    out: &mut Answer,
+) {
+    if let Some(mut streams) = memory(alloc, b"", 1, [ROOM, ROOM], out) {
+        let status = status_of(rt, alloc, case, &mut streams, out);
+        out.say("status ");
+        out.show(status);
+        say_lines("output", streams.output.bytes(), out);
+        say_lines("error output", streams.errors.bytes(), out);
+    }
 }

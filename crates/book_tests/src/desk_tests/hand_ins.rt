@@ -3,7 +3,7 @@
 ghost use Rattle.std.specs.Prelude.{◌≡◌};
 ghost use Rattle.lease_desk.specs.Desks.{IsChairOf, number_of};
 
-use super::asking::{Open, ask};
+use super::asking::ask;
 use super::shifts::{Shift, closed_after};
 use crate::expect::expect_eq;
 use crate::lease_tests::certificates::{Answer, EAST_HIGH, NORTH_HIGH, NT};
@@ -16,6 +16,7 @@ use std::process::Abort;
 use std::sync::Wait;
 use std::sync::atomic::{AtomicU64, Ordering};
 use std::test::Fail;
+use test_support::idle::LetsPass;
 
 /// A gate that remembers the leases of which it was told before a check, as the digits of a number.
 #[derive(Drop)]
@@ -111,7 +112,14 @@ fn expect_judged<R: Abort + Wait>(
 
 impl Shift for Digits {
     fn work<R: Abort + Wait>(&self, rt: &R, alloc: Global, desk: &Desk, chair: &mut Chair) {
-        let told = ask(rt, alloc, desk, chair, &Request::Lease { now: 0 }, &Open);
+        let told = ask(
+            rt,
+            alloc,
+            desk,
+            chair,
+            &Request::Lease { now: 0 },
+            &LetsPass,
+        );
         let given = Reply::Given {
             lease: 1,
             entry: entry_on(1),

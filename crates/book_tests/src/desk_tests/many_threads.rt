@@ -4,20 +4,21 @@
 ghost use Rattle.std.specs.Prelude.{◌≡◌};
 ghost use Rattle.lease_desk.specs.Desks.{IsChairOf, number_of};
 
-use super::asking::{Open, ask, asked_by};
+use super::asking::ask;
 use super::drawn_requests::Worker;
 use super::plain_book::PlainBook;
 use super::shifts::{Shift, closed_after};
 use crate::expect::expect_eq;
 use crate::lease_tests::certificates::boards;
-use crate::lease_tests::long_list::{LAYOUTS, kind_of};
+use crate::lease_tests::long_list::{LAYOUTS, asked_by, count_kind, expect_kinds};
 use lease_book::Event;
 use lease_desk::{Chair, Desk};
 use pbn_deals::Board;
-use std::alloc::{AllocError, Global};
+use std::alloc::Global;
 use std::process::Abort;
 use std::sync::Wait;
 use std::test::Fail;
+use test_support::idle::LetsPass;
 
 /// How many chairs there are, and how many calls are made from all of them.
 const DESKS: [(usize, usize); 2] = [(4, 8_000), (8, 16_000)];
@@ -45,7 +46,7 @@ impl Shift for Drawn<'_> {
         let mut worker = Worker::new(alloc, chair.number() as u64 % 64 * 1_001);
         for step in 0..CALLS {
             let request = worker.draw(alloc, step).expect(rt, "memory to draw");
-            let told = ask(rt, alloc, desk, chair, &request, &Open);
+            let told = ask(rt, alloc, desk, chair, &request, &LetsPass);
             let asked = asked_by(alloc, self.boards, &request).expect(rt, "memory to judge");
             expect_eq(rt, &told.event.asked, &asked);
             worker.note(told.event.reply).expect(rt, "memory to note");
@@ -54,36 +55,29 @@ impl Shift for Drawn<'_> {
 }
 
 /// The replies are those of a plain book. Counts them by their kinds.
-fn expect_plain_replies<R: Abort>(
-    rt: &R,
-    alloc: Global,
-    history: &[Event],
-) -> Result<[u64; 10], AllocError> {
+fn expect_plain_replies<R: Abort>(rt: &R, alloc: Global, history: &[Event]) -> [u64; 10] {
     let mut book = PlainBook::new(alloc, &DEALS, TERM, TRIES as u64);
     let mut kinds = [0u64; 10];
     for event in history {
-        expect_eq(rt, &event.reply, &book.reply(event.asked)?);
-        if let Some(count) = kinds.get_mut(kind_of(event.reply)) {
-            *count = count.saturating_add(1);
-        }
+        let reply = book.reply(event.asked).expect(rt, "memory to reply");
+        expect_eq(rt, &event.reply, &reply);
+        count_kind(&mut kinds, event.reply);
     }
-    Ok(kinds)
+    kinds
 }
 
 #[test]
 fn threads_make_one_history(rt: HostRuntime) -> Result<(), Fail> {
     let alloc = rt.alloc();
-    let boards = boards(alloc, &LAYOUTS)?;
+    let boards = boards(&rt, alloc, &LAYOUTS);
     let shift = Drawn {
         boards: boards.as_slice(),
     };
     for (chairs, calls) in DESKS {
         let closed = closed_after(&rt, alloc, (&LAYOUTS, TERM, TRIES), chairs, &shift)?;
-        expect_eq(&rt, &closed.book.history().len(), &calls);
-        let kinds = expect_plain_replies(&rt, alloc, closed.book.history())?;
-        for count in kinds {
-            assert!(rt; count >= 10, "{kinds:?}");
-        }
+        let history = closed.book.history();
+        expect_eq(&rt, &history.len(), &calls);
+        expect_kinds(&rt, &expect_plain_replies(&rt, alloc, history), 10);
     }
     Ok(())
 }

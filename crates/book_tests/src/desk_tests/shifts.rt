@@ -5,11 +5,11 @@ ghost use Rattle.lease_desk.specs.Desks.{IsChairOf, AreChairsOf, number_of};
 
 use super::asking::expect_told_once;
 use crate::lease_tests::certificates::boards;
+use lease_book::BookFault;
 use lease_desk::{Chair, Closed, Desk};
 use std::alloc::Global;
 use std::process::Abort;
 use std::sync::Wait;
-use std::test::Fail;
 use std::thread;
 use std::thread::Threads;
 
@@ -52,11 +52,11 @@ pub fn closed_after<R: Abort + Threads + Wait + Sync, S: Shift>(
     (layouts, term, tries): (&[Option<&str>], u64, u32),
     chairs: usize,
     shift: &S,
-) -> Result<Closed, Fail> {
-    let boards = boards(alloc, layouts)?;
+) -> Result<Closed, BookFault> {
+    let boards = boards(rt, alloc, layouts);
     let (desk, mut chairs) = Desk::open(rt, alloc, boards, term, tries, chairs)?;
     work_side_by_side(rt, alloc, &desk, chairs.as_mut_slice(), shift);
     let closed = desk.close(rt, chairs);
-    expect_told_once(rt, alloc, &closed)?;
+    expect_told_once(rt, alloc, &closed);
     Ok(closed)
 }

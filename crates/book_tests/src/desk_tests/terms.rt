@@ -1,9 +1,8 @@
 //! Terms that make no desk, and a desk without chairs.
 
 use crate::expect::expect_eq;
-use crate::lease_tests::books::{REFUSED, bare_boards};
+use crate::lease_tests::books::{REFUSED, bare_boards, book_fault};
 use crate::lease_tests::certificates::{NORTH_HIGH, boards};
-use lease_book::Book;
 use lease_desk::Desk;
 use std::test::Fail;
 
@@ -11,10 +10,9 @@ use std::test::Fail;
 fn terms_are_refused_as_by_a_book(rt: HostRuntime) -> Result<(), Fail> {
     let alloc = rt.alloc();
     for (count, tries, fault) in REFUSED {
+        expect_eq(&rt, &book_fault(alloc, count, tries)?, &fault);
         let opened = Desk::open(&rt, alloc, bare_boards(alloc, count)?, 10, tries, 3);
-        let book = Book::new(alloc, bare_boards(alloc, count)?, 10, tries);
         expect_eq(&rt, &opened.err(), &fault);
-        expect_eq(&rt, &book.err(), &fault);
     }
     Ok(())
 }
@@ -22,7 +20,8 @@ fn terms_are_refused_as_by_a_book(rt: HostRuntime) -> Result<(), Fail> {
 #[test]
 fn a_desk_without_chairs_has_no_history(rt: HostRuntime) -> Result<(), Fail> {
     let alloc = rt.alloc();
-    let (desk, chairs) = Desk::open(&rt, alloc, boards(alloc, &[Some(NORTH_HIGH)])?, 10, 1, 0)?;
+    let boards = boards(&rt, alloc, &[Some(NORTH_HIGH)]);
+    let (desk, chairs) = Desk::open(&rt, alloc, boards, 10, 1, 0)?;
     expect_eq(&rt, &chairs.len(), &0);
     let closed = desk.close(&rt, chairs);
     expect_eq(&rt, &closed.chairs.len(), &0);

@@ -3,16 +3,17 @@
 ghost use Rattle.lease_desk.specs.Desks.{AreChairsOf};
 ghost use Rattle.std.specs.Prelude.{◌<◌, length};
 
-use super::asking::{Open, ask, expect_replies, expect_told_once};
+use super::asking::{ask, expect_replies, expect_told_once};
 use crate::expect::expect_eq;
 use crate::lease_tests::certificates::{Answer, NORTH_HIGH, NT, SPADES, boards};
 use cards::{Seat, Trump};
-use lease_book::{Reply, Request, replay};
-use lease_desk::{Chair, Desk, Receipt};
+use lease_book::{BookFault, Event, Reply, Request, replay};
+use lease_desk::{Chair, Closed, Desk, Receipt};
 use std::alloc::{AllocError, Global};
 use std::process::Abort;
 use std::sync::Wait;
 use std::test::Fail;
+use test_support::idle::LetsPass;
 
 /// The replies, where a lease has ten moments and an entry two tries.
 const REPLIES: [Reply; 7] = [
@@ -64,7 +65,7 @@ fn take_turns<R: Abort + Wait>(
 {
     for (turn, request) in requests.iter().enumerate() {
         let seat = turn % chairs.len();
-        let told = ask(rt, alloc, desk, &mut chairs[seat], request, &Open);
+        let told = ask(rt, alloc, desk, &mut chairs[seat], request, &LetsPass);
         expect_eq(rt, &told.place, &(turn as u64));
     }
     chairs.reverse();
@@ -88,25 +89,42 @@ fn expect_shares(rt: &impl Abort, chairs: &[Chair]) {
     }
 }
 
-/// Has two chairs take turns, and closes the desk with the second before the first.
-fn take_list<R: Abort + Wait>(rt: &R, alloc: Global) -> Result<(), Fail> {
+/// The requests of the list.
+fn worked_requests(alloc: Global) -> Result<Vec<Request>, AllocError> {
     let mut requests = Vec::new(alloc);
     for place in 0..7 {
         requests.push(worked_request(alloc, place)?)?;
     }
-    let layouts = [Some(NORTH_HIGH)];
-    let (desk, mut chairs) = Desk::open(rt, alloc, boards(alloc, &layouts)?, 10, 2, 2)?;
-    take_turns(rt, alloc, &desk, chairs.as_mut_slice(), requests.as_slice());
-    let closed = desk.close(rt, chairs);
-    let (book, _) = replay(alloc, boards(alloc, &layouts)?, 10, 2, requests.as_slice())?;
-    expect_eq(rt, &closed.book.history(), &book.history());
-    expect_replies(rt, book.history(), &REPLIES);
-    expect_told_once(rt, alloc, &closed)?;
-    expect_shares(rt, closed.chairs.as_slice());
-    Ok(())
+    Ok(requests)
+}
+
+/// Has two chairs take turns, and closes the desk with the second before the first.
+fn take_list<R: Abort + Wait>(
+    rt: &R,
+    alloc: Global,
+    requests: &[Request],
+) -> Result<Closed, BookFault> {
+    let boards = boards(rt, alloc, &[Some(NORTH_HIGH)]);
+    let (desk, mut chairs) = Desk::open(rt, alloc, boards, 10, 2, 2)?;
+    take_turns(rt, alloc, &desk, chairs.as_mut_slice(), requests);
+    Ok(desk.close(rt, chairs))
+}
+
+/// The history is the one of a book to which the list is replayed.
+fn expect_replayed(rt: &impl Abort, alloc: Global, history: &[Event], requests: &[Request]) {
+    let boards = boards(rt, alloc, &[Some(NORTH_HIGH)]);
+    let (book, _) = replay(alloc, boards, 10, 2, requests).expect(rt, "a book");
+    expect_eq(rt, &history, &book.history());
 }
 
 #[test]
 fn two_chairs_take_turns(rt: HostRuntime) -> Result<(), Fail> {
-    take_list(&rt, rt.alloc())
+    let alloc = rt.alloc();
+    let requests = worked_requests(alloc)?;
+    let closed = take_list(&rt, alloc, requests.as_slice())?;
+    expect_replayed(&rt, alloc, closed.book.history(), requests.as_slice());
+    expect_replies(&rt, closed.book.history(), &REPLIES);
+    expect_told_once(&rt, alloc, &closed);
+    expect_shares(&rt, closed.chairs.as_slice());
+    Ok(())
 }

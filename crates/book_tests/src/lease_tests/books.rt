@@ -3,10 +3,10 @@
 use super::certificates::{EAST_HIGH, NORTH_HIGH, NT, boards};
 use crate::expect::{expect, expect_eq};
 use cards::{Seat, Trump};
-use checker::{Texts, judge};
+use checker::{Texts, Verdict, judge};
 use lease_book::{Book, BookFault, Reply, replay};
 use pbn_deals::{Board, BoardName, read_layout};
-use std::alloc::Global;
+use std::alloc::{AllocError, Global};
 use std::process::Abort;
 use std::test::Fail;
 
@@ -33,7 +33,7 @@ const GIVEN: Reply = Reply::Given {
 };
 
 /// So many boards without a deal.
-pub fn bare_boards(alloc: Global, count: u16) -> Result<Vec<Board>, Fail> {
+pub fn bare_boards(alloc: Global, count: u16) -> Result<Vec<Board>, AllocError> {
     let mut boards = Vec::new(alloc);
     for _ in 0..count {
         boards.push(Board {
@@ -53,12 +53,16 @@ pub const REFUSED: [(u16, u32, Option<BookFault>); 5] = [
     (0, 1, None),
 ];
 
+/// Why there is no book of so many boards, with so many tries, if there is none.
+pub fn book_fault(alloc: Global, count: u16, tries: u32) -> Result<Option<BookFault>, AllocError> {
+    Ok(Book::new(alloc, bare_boards(alloc, count)?, 10, tries).err())
+}
+
 #[test]
 fn refused_terms(rt: HostRuntime) -> Result<(), Fail> {
     let alloc = rt.alloc();
     for (count, tries, fault) in REFUSED {
-        let book = Book::new(alloc, bare_boards(alloc, count)?, 10, tries);
-        expect_eq(&rt, &book.err(), &fault);
+        expect_eq(&rt, &book_fault(alloc, count, tries)?, &fault);
         let replayed = replay(alloc, bare_boards(alloc, count)?, 10, tries, &[]);
         expect_eq(&rt, &replayed.err(), &fault);
     }
@@ -93,38 +97,38 @@ const FOREIGN: [(&[Option<&str>], &[Shown], Option<u8>); 2] = [
     ),
 ];
 
+/// The proof by such a text where North has the ace.
+fn proof_by(rt: &impl Abort, alloc: Global, declarer: Seat, text: &str) -> Verdict {
+    let layout = read_layout(NORTH_HIGH.as_bytes()).expect(rt, "a deal");
+    let texts = Texts {
+        declarers: text.as_bytes(),
+        defenders: NOTHING.as_bytes(),
+    };
+    judge(alloc, Some(&layout), declarer, Trump::Nt, 1, texts).expect(rt, "memory to judge")
+}
+
 /// What is shown is settled so under the lease.
 fn expect_settled(
     rt: &impl Abort,
     alloc: Global,
     book: &mut Book,
     (declarer, text, reply): &Shown,
-) -> Result<(), Fail> {
-    let layout = read_layout(NORTH_HIGH.as_bytes())?;
-    let proof = judge(
-        alloc,
-        Some(&layout),
-        *declarer,
-        Trump::Nt,
-        1,
-        Texts {
-            declarers: text.as_bytes(),
-            defenders: NOTHING.as_bytes(),
-        },
-    )?;
+) {
+    let proof = proof_by(rt, alloc, *declarer, text);
     expect(rt, proof.is_ok());
-    expect_eq(rt, &book.settle(1, NT, proof)?, reply);
-    Ok(())
+    let settled = book.settle(1, NT, proof).expect(rt, "memory to settle");
+    expect_eq(rt, &settled, reply);
 }
 
 /// A proof on another deal, or of another declarer, isn't one for the entry.
 #[test]
 fn foreign_proofs(rt: HostRuntime) -> Result<(), Fail> {
     for (layouts, shown, published) in FOREIGN {
-        let mut book = Book::new(rt.alloc(), boards(rt.alloc(), layouts)?, 10, 1)?;
-        expect_eq(&rt, &book.lease(0)?, &GIVEN);
+        let mut book = Book::new(rt.alloc(), boards(&rt, rt.alloc(), layouts), 10, 1)?;
+        let given = book.lease(0).expect(&rt, "memory for a lease");
+        expect_eq(&rt, &given, &GIVEN);
         for shown in shown {
-            expect_settled(&rt, rt.alloc(), &mut book, shown)?;
+            expect_settled(&rt, rt.alloc(), &mut book, shown);
         }
         expect_eq(&rt, &book.published(NT), &published);
     }

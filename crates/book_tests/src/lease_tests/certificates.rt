@@ -4,7 +4,7 @@ use cards::{Seat, Side, Suit, Trump};
 use lease_book::{Entry, GraphText, Request};
 use pbn_deals::{Board, BoardName, read_layout};
 use std::alloc::{AllocError, Global};
-use std::test::Fail;
+use std::process::Abort;
 use test_support::texts::joined;
 
 /// North has the ace.
@@ -26,20 +26,26 @@ pub const SPADES: Entry = Entry {
     ..NT
 };
 
+/// A board with this layout, or without a deal.
+fn board(rt: &impl Abort, alloc: Global, layout: Option<&str>) -> Board {
+    let deal = match layout {
+        Some(text) => Some(read_layout(text.as_bytes()).expect(rt, "a deal")),
+        None => None,
+    };
+    Board {
+        name: BoardName::new(Vec::new(alloc)),
+        deal,
+    }
+}
+
 /// The boards of these layouts, in order; one without a layout has no deal.
-pub fn boards(alloc: Global, layouts: &[Option<&str>]) -> Result<Vec<Board>, Fail> {
+pub fn boards(rt: &impl Abort, alloc: Global, layouts: &[Option<&str>]) -> Vec<Board> {
     let mut boards = Vec::new(alloc);
     for layout in layouts {
-        let deal = match layout {
-            Some(text) => Some(read_layout(text.as_bytes())?),
-            None => None,
-        };
-        boards.push(Board {
-            name: BoardName::new(Vec::new(alloc)),
-            deal,
-        })?;
+        let board = board(rt, alloc, *layout);
+        boards.push(board).expect(rt, "memory for a board");
     }
-    Ok(boards)
+    boards
 }
 
 /// The text of a graph for a side that needs nothing.
@@ -56,10 +62,22 @@ pub fn nothing(alloc: Global, trump: Trump, side: Side) -> Result<Vec<u8>, Alloc
     )
 }
 
-/// The text of a graph that shows the trick of this holder's ace, where this seat leads: the side plays its cards, and
-/// the opponents have one each.
+/// The card of a seat in the trick of this holder's ace: the side plays its cards, and the opponents have one each.
+fn card_of(seat: Seat, holder: Seat) -> &'static [u8] {
+    if seat == holder {
+        b"Sa"
+    } else if seat.side() == holder.side() {
+        b"Sx"
+    } else {
+        b"(Sx"
+    }
+}
+
+/// The text of a graph that shows the trick of this holder's ace, where this seat leads.
 fn ace(alloc: Global, trump: Trump, holder: Seat, leader: Seat) -> Result<Vec<u8>, AllocError> {
-    let mut text = joined(
+    let second = leader.next();
+    let third = second.next();
+    joined(
         alloc,
         &[
             b"DDC 1\ntrump ",
@@ -71,18 +89,13 @@ fn ace(alloc: Global, trump: Trump, holder: Seat, leader: Seat) -> Result<Vec<u8
             b" 1 1.1.1.1/",
             holder.letter().as_bytes(),
             b" 0.0.0.0/ 0.0.0.0/ 0.0.0.0/ ",
+            card_of(leader, holder),
+            card_of(second, holder),
+            card_of(third, holder),
+            card_of(third.next(), holder),
+            b"{}))\n",
         ],
-    )?;
-    let mut seat = leader;
-    for _ in 0..4 {
-        if seat.side() != holder.side() {
-            text.push(b'(')?;
-        }
-        text.extend_from_slice(if seat == holder { b"Sa" } else { b"Sx" })?;
-        seat = seat.next();
-    }
-    text.extend_from_slice(b"{}))\n")?;
-    Ok(text)
+    )
 }
 
 /// A number with the two texts that are to show it.

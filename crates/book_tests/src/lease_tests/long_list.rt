@@ -2,16 +2,15 @@
 //! one that a slow search of the list finds. In two of them boards share their deals.
 
 use super::certificates::{Answer, EAST_HIGH, NORTH_HIGH, boards};
-use super::slow_book::{Ask, DECLARERS, Past, Rules, TRUMPS, entry_of, leased, published, reply};
+use super::slow_book::{DECLARERS, Rules, TRUMPS, entry_of, leased, published, reply};
 use crate::expect::expect_eq;
 use crate::fixed_numbers::next;
 use cards::{OutOfMemory, Seat, Trump};
 use checker::{Texts, Verdict, judge};
-use lease_book::{Book, Entry, GraphText, Reply, Request, replay};
+use lease_book::{Asked, Book, Entry, Event, GraphText, HandedIn, Reply, Request, replay};
 use pbn_deals::Board;
 use std::alloc::{AllocError, Global};
 use std::process::Abort;
-use std::test::Fail;
 
 /// The layouts of the boards; the second has no deal.
 pub const LAYOUTS: [Option<&str>; 3] = [Some(NORTH_HIGH), None, Some(EAST_HIGH)];
@@ -78,7 +77,7 @@ pub fn some_answer(alloc: Global, entry: Entry, number: u64) -> Result<Answer, A
 }
 
 /// The number of a lease: in one of sixteen cases none that was given, in half of the others one of the last twenty.
-fn some_lease(past: &[Past], number: u64) -> u64 {
+fn some_lease(past: &[Event], number: u64) -> u64 {
     let given = leased(past, None);
     let choice = number / 16;
     match number % 16 {
@@ -89,7 +88,7 @@ fn some_lease(past: &[Past], number: u64) -> u64 {
 }
 
 /// The next request of the list, where these went before.
-fn some_request(alloc: Global, past: &[Past], number: u64) -> Result<Request, AllocError> {
+fn some_request(alloc: Global, past: &[Event], number: u64) -> Result<Request, AllocError> {
     let step = past.len() as u64;
     let now = (step / 2 + number / 64 % 40).saturating_sub(20);
     let lease = some_lease(past, number / 4096);
@@ -109,7 +108,7 @@ fn some_request(alloc: Global, past: &[Past], number: u64) -> Result<Request, Al
 }
 
 /// The verdict on what is handed in for an entry, on the deal of its board.
-pub fn verdict_on(
+fn verdict_on(
     alloc: Global,
     boards: &[Board],
     entry: Entry,
@@ -134,29 +133,50 @@ pub fn verdict_on(
     )
 }
 
-/// What the request asks, by the verdict on what it hands in.
-pub fn asked(alloc: Global, boards: &[Board], request: &Request) -> Result<Ask, Fail> {
+/// What was handed in, by the verdict on it.
+fn evidence_of(verdict: Verdict) -> HandedIn {
+    match verdict {
+        Ok(proven) => HandedIn::Shows(proven.shown()),
+        Err(fault) => HandedIn::Faulty(fault),
+    }
+}
+
+/// What the request asks of a book over these boards, by the verdict on what it hands in.
+pub fn asked_by(alloc: Global, boards: &[Board], request: &Request) -> Result<Asked, OutOfMemory> {
     Ok(match request {
-        Request::Lease { now } => Ask::Lease(*now),
-        Request::Expire { now } => Ask::Expire(*now),
-        Request::GiveUp { lease } => Ask::GiveUp(*lease),
+        Request::Lease { now } => Asked::Lease { now: *now },
+        Request::Expire { now } => Asked::Expire { now: *now },
+        Request::GiveUp { lease } => Asked::GiveUp { lease: *lease },
         Request::HandIn {
             lease,
             entry,
             k,
             declarer,
             defenders,
-        } => {
-            match verdict_on(alloc, boards, *entry, *k, declarer, defenders)? {
-                Ok(proven) => Ask::Good(*lease, *entry, proven.shown().k),
-                Err(fault) => Ask::Bad(*lease, *entry, fault),
-            }
-        }
+        } => Asked::HandIn {
+            lease: *lease,
+            entry: *entry,
+            evidence: evidence_of(verdict_on(alloc, boards, *entry, *k, declarer, defenders)?),
+        },
     })
 }
 
+/// What the search has for the next request, where these went before.
+pub fn event_of(
+    rt: &impl Abort,
+    alloc: Global,
+    boards: &[Board],
+    rules: Rules,
+    past: &[Event],
+    request: &Request,
+) -> Event {
+    let asked = asked_by(alloc, boards, request).expect(rt, "memory to judge");
+    let reply = reply(rules, past, &asked);
+    Event { asked, reply }
+}
+
 /// Which of ten kinds of replies it is.
-pub fn kind_of(reply: Reply) -> usize {
+fn kind_of(reply: Reply) -> usize {
     match reply {
         Reply::Given { .. } => 0,
         Reply::Nothing => 1,
@@ -171,9 +191,23 @@ pub fn kind_of(reply: Reply) -> usize {
     }
 }
 
+/// Counts the reply by its kind.
+pub fn count_kind(kinds: &mut [u64; 10], reply: Reply) {
+    if let Some(count) = kinds.get_mut(kind_of(reply)) {
+        *count = count.saturating_add(1);
+    }
+}
+
+/// Each kind of replies was counted so often at least.
+pub fn expect_kinds(rt: &impl Abort, kinds: &[u64; 10], least: u64) {
+    for count in kinds {
+        assert!(rt; *count >= least, "{kinds:?}");
+    }
+}
+
 /// The publications of the book are those that the search finds, for all entries, and for those of a board that isn't
 /// there.
-fn same_publications<R: Abort>(rt: &R, book: &Book, firsts: &[Option<usize>], past: &[Past]) {
+fn same_publications<R: Abort>(rt: &R, book: &Book, firsts: &[Option<usize>], past: &[Event]) {
     for board in 0..=firsts.len() {
         for declarer in DECLARERS {
             for trump in TRUMPS {
@@ -195,15 +229,15 @@ pub fn compare_replay<R: Abort>(
     known: Vec<Board>,
     rules: Rules,
     requests: &[Request],
-    past: &[Past],
-) -> Result<(), Fail> {
-    let (book, replies) = replay(alloc, known, rules.term, rules.tries, requests)?;
+    past: &[Event],
+) {
+    let replayed = replay(alloc, known, rules.term, rules.tries, requests);
+    let (book, replies) = replayed.expect(rt, "a book");
     expect_eq(rt, &replies.len(), &past.len());
     for (reply, event) in replies.iter().zip(past) {
         expect_eq(rt, reply, &event.reply);
     }
     same_publications(rt, &book, rules.firsts, past);
-    Ok(())
 }
 
 /// A list of so many requests. Counts its replies by their kinds.
@@ -213,26 +247,30 @@ fn compare_list<R: Abort>(
     (layouts, firsts): (&[Option<&str>], &[Option<usize>]),
     (seed, count): (u64, usize),
     kinds: &mut [u64; 10],
-) -> Result<(), Fail> {
+) {
     let rules = Rules {
         firsts,
         term: 30,
         tries: 6,
     };
-    let known = boards(alloc, layouts)?;
+    let known = boards(rt, alloc, layouts);
     let mut past = Vec::new(alloc);
     let mut requests = Vec::new(alloc);
     let mut number = seed;
     for _ in 0..count {
         number = next(number);
-        let request = some_request(alloc, past.as_slice(), number)?;
-        let ask = asked(alloc, known.as_slice(), &request)?;
-        let reply = reply(rules, past.as_slice(), ask);
-        if let Some(count) = kinds.get_mut(kind_of(reply)) {
-            *count = count.saturating_add(1);
-        }
-        past.push(Past { ask, reply })?;
-        requests.push(request)?;
+        let request = some_request(alloc, past.as_slice(), number).expect(rt, "memory to draw");
+        let event = event_of(
+            rt,
+            alloc,
+            known.as_slice(),
+            rules,
+            past.as_slice(),
+            &request,
+        );
+        count_kind(kinds, event.reply);
+        past.push(event).expect(rt, "memory for an event");
+        requests.push(request).expect(rt, "memory for a request");
     }
     compare_replay(
         rt,
@@ -241,7 +279,7 @@ fn compare_list<R: Abort>(
         rules,
         requests.as_slice(),
         past.as_slice(),
-    )
+    );
 }
 
 /// The first number of a list, and how many requests it has.
@@ -251,25 +289,19 @@ const LISTS: [(u64, usize); 3] = [(11, 2_000), (22, 800), (33, 800)];
 const SHARED_LISTS: [(u64, usize); 2] = [(44, 800), (55, 800)];
 
 #[test]
-fn replies_are_those_of_a_slow_search(rt: HostRuntime) -> Result<(), Fail> {
+fn replies_are_those_of_a_slow_search(rt: HostRuntime) {
     let mut kinds = [0u64; 10];
     for list in LISTS {
-        compare_list(&rt, rt.alloc(), (&LAYOUTS, &FIRSTS), list, &mut kinds)?;
+        compare_list(&rt, rt.alloc(), (&LAYOUTS, &FIRSTS), list, &mut kinds);
     }
-    for count in kinds {
-        assert!(rt; count >= 20, "{kinds:?}");
-    }
-    Ok(())
+    expect_kinds(&rt, &kinds, 20);
 }
 
 #[test]
-fn replies_where_boards_share_deals(rt: HostRuntime) -> Result<(), Fail> {
+fn replies_where_boards_share_deals(rt: HostRuntime) {
     let mut kinds = [0u64; 10];
     for list in SHARED_LISTS {
-        compare_list(&rt, rt.alloc(), (&SHARED, &SHARED_FIRSTS), list, &mut kinds)?;
+        compare_list(&rt, rt.alloc(), (&SHARED, &SHARED_FIRSTS), list, &mut kinds);
     }
-    for count in kinds {
-        assert!(rt; count >= 5, "{kinds:?}");
-    }
-    Ok(())
+    expect_kinds(&rt, &kinds, 5);
 }

@@ -1,34 +1,7 @@
 //! The replies of a book by a slow search of all that went before, rule by rule.
 
 use cards::{Seat, Suit, Trump};
-use checker::HandFault;
-use lease_book::{Entry, Reply};
-
-/// A request, with the verdict on it where it hands something in.
-#[derive(Clone, Copy)]
-pub enum Ask {
-    Lease(u64),
-    Expire(u64),
-    GiveUp(u64),
-    /// Under this lease, for this entry, texts that show this number.
-    Good(u64, Entry, u8),
-    /// Under this lease, for this entry, texts with this fault.
-    Bad(u64, Entry, HandFault),
-}
-
-/// A request that was replied to.
-#[derive(Clone, Copy)]
-pub struct Past {
-    pub ask: Ask,
-    pub reply: Reply,
-}
-
-/// A lease that is held.
-#[derive(Clone, Copy)]
-struct Held {
-    lease: u64,
-    deadline: u64,
-}
+use lease_book::{Asked, Entry, Event, Grant, HandedIn, Reply};
 
 /// Declarers in the order of entries.
 pub const DECLARERS: [Seat; 4] = [Seat::North, Seat::South, Seat::East, Seat::West];
@@ -43,7 +16,7 @@ pub const TRUMPS: [Trump; 5] = [
 ];
 
 /// The entry that a lease was given for.
-pub fn entry_of(past: &[Past], lease: u64) -> Option<Entry> {
+pub fn entry_of(past: &[Event], lease: u64) -> Option<Entry> {
     for event in past {
         if let Reply::Given {
             lease: given,
@@ -59,18 +32,18 @@ pub fn entry_of(past: &[Past], lease: u64) -> Option<Entry> {
 }
 
 /// Whether an event frees a lease of this entry.
-fn frees(event: &Past, held: Held, entry: Entry) -> bool {
-    match (event.ask, event.reply) {
-        (Ask::Expire(now), _) => held.deadline <= now,
-        (Ask::GiveUp(lease), _) => lease == held.lease,
-        (Ask::Bad(lease, _, _), Reply::BadCertificate(_)) => lease == held.lease,
-        (Ask::Good(_, published, _), Reply::Published(_)) => published == entry,
+fn frees(event: &Event, held: Grant, entry: Entry) -> bool {
+    match (event.asked, event.reply) {
+        (Asked::Expire { now }, _) => held.deadline <= now,
+        (Asked::GiveUp { lease }, _) => lease == held.lease,
+        (Asked::HandIn { lease, .. }, Reply::BadCertificate(_)) => lease == held.lease,
+        (Asked::HandIn { entry: named, .. }, Reply::Published(_)) => named == entry,
         _ => false,
     }
 }
 
 /// The lease of the entry that was given last, if no event after it freed it.
-fn holder_of(past: &[Past], entry: Entry) -> Option<Held> {
+fn holder_of(past: &[Event], entry: Entry) -> Option<Grant> {
     let mut held = None;
     for event in past {
         if let Some(lease) = held
@@ -85,14 +58,18 @@ fn holder_of(past: &[Past], entry: Entry) -> Option<Held> {
         } = event.reply
             && given == entry
         {
-            held = Some(Held { lease, deadline });
+            held = Some(Grant {
+                lease,
+                entry,
+                deadline,
+            });
         }
     }
     held
 }
 
 /// Whether a lease of the entry is held.
-fn is_held(past: &[Past], entry: Entry, lease: u64) -> bool {
+fn is_held(past: &[Event], entry: Entry, lease: u64) -> bool {
     match holder_of(past, entry) {
         Some(holder) => holder.lease == lease,
         None => false,
@@ -117,9 +94,12 @@ fn are_twins(firsts: &[Option<usize>], one: Entry, other: Entry) -> bool {
 }
 
 /// The number that was published for the entry or a twin of it first.
-pub fn published(firsts: &[Option<usize>], past: &[Past], entry: Entry) -> Option<u8> {
+pub fn published(firsts: &[Option<usize>], past: &[Event], entry: Entry) -> Option<u8> {
     for event in past {
-        if let (Ask::Good(_, named, _), Reply::Published(k)) = (event.ask, event.reply)
+        if let (Asked::HandIn { entry: named, .. }, Reply::Published(k)) = (
+            event.asked,
+            event.reply,
+        )
             && are_twins(firsts, entry, named)
         {
             return Some(k);
@@ -138,7 +118,7 @@ fn leases(reply: Reply, of: Option<Entry>) -> bool {
 }
 
 /// How many leases were given that are for the entry, or for any.
-pub fn leased(past: &[Past], of: Option<Entry>) -> u64 {
+pub fn leased(past: &[Event], of: Option<Entry>) -> u64 {
     let mut count = 0u64;
     for event in past {
         if leases(event.reply, of) {
@@ -157,7 +137,7 @@ pub struct Rules<'a> {
 }
 
 /// Whether an entry is open: its board is the first with its deal, and so on.
-fn is_open(rules: Rules, past: &[Past], entry: Entry) -> bool {
+fn is_open(rules: Rules, past: &[Event], entry: Entry) -> bool {
     first_with(rules.firsts, entry.board) == Some(entry.board)
         && leased(past, Some(entry)) < u64::from(rules.tries)
         && published(rules.firsts, past, entry).is_none()
@@ -165,7 +145,7 @@ fn is_open(rules: Rules, past: &[Past], entry: Entry) -> bool {
 }
 
 /// The least open entry.
-fn first_open(rules: Rules, past: &[Past]) -> Option<Entry> {
+fn first_open(rules: Rules, past: &[Event]) -> Option<Entry> {
     for board in 0..rules.firsts.len() {
         for declarer in DECLARERS {
             for trump in TRUMPS {
@@ -184,7 +164,7 @@ fn first_open(rules: Rules, past: &[Past]) -> Option<Entry> {
 }
 
 /// How many of the leases that were given are held and have a deadline of this moment or an earlier one.
-fn past_deadlines(past: &[Past], now: u64) -> u64 {
+fn past_deadlines(past: &[Event], now: u64) -> u64 {
     let mut count = 0u64;
     for event in past {
         if let Reply::Given {
@@ -201,10 +181,10 @@ fn past_deadlines(past: &[Past], now: u64) -> u64 {
     count
 }
 
-/// The reply to a request after all these.
-pub fn reply(rules: Rules, past: &[Past], ask: Ask) -> Reply {
-    match ask {
-        Ask::Lease(now) => match first_open(rules, past) {
+/// The reply to what is asked after all these.
+pub fn reply(rules: Rules, past: &[Event], asked: &Asked) -> Reply {
+    match asked {
+        Asked::Lease { now } => match first_open(rules, past) {
             Some(entry) => Reply::Given {
                 lease: leased(past, None).saturating_add(1),
                 entry,
@@ -212,25 +192,29 @@ pub fn reply(rules: Rules, past: &[Past], ask: Ask) -> Reply {
             },
             None => Reply::Nothing,
         },
-        Ask::Expire(now) => Reply::Freed(past_deadlines(past, now)),
-        Ask::GiveUp(lease) => match entry_of(past, lease) {
+        Asked::Expire { now } => Reply::Freed(past_deadlines(past, *now)),
+        Asked::GiveUp { lease } => match entry_of(past, *lease) {
             None => Reply::UnknownLease,
-            Some(entry) if is_held(past, entry, lease) => Reply::GaveUp,
+            Some(entry) if is_held(past, entry, *lease) => Reply::GaveUp,
             Some(_) => Reply::NotHeld,
         },
-        Ask::Good(lease, entry, k) => counted(rules, past, lease, entry, Reply::Published(k)),
-        Ask::Bad(lease, entry, fault) => {
-            counted(rules, past, lease, entry, Reply::BadCertificate(fault))
-        }
+        Asked::HandIn {
+            lease,
+            entry,
+            evidence,
+        } => match entry_of(past, *lease) {
+            None => Reply::UnknownLease,
+            Some(given) if given != *entry => Reply::OtherEntry,
+            Some(_) if published(rules.firsts, past, *entry).is_some() => Reply::AlreadyPublished,
+            Some(_) => counted(evidence),
+        },
     }
 }
 
-/// The reply to a hand-in that gets this one where it counts.
-fn counted(rules: Rules, past: &[Past], lease: u64, entry: Entry, reply: Reply) -> Reply {
-    match entry_of(past, lease) {
-        None => Reply::UnknownLease,
-        Some(given) if given != entry => Reply::OtherEntry,
-        Some(_) if published(rules.firsts, past, entry).is_some() => Reply::AlreadyPublished,
-        Some(_) => reply,
+/// The reply to a hand-in that counts.
+fn counted(evidence: &HandedIn) -> Reply {
+    match evidence {
+        HandedIn::Shows(shown) => Reply::Published(shown.k),
+        HandedIn::Faulty(fault) => Reply::BadCertificate(*fault),
     }
 }

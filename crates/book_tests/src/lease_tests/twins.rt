@@ -1,8 +1,8 @@
 //! Boards with the same deal: an entry and its twins are leased as one, and have one number.
 
 use super::certificates::{Answer, EAST_HIGH, NORTH_HIGH, NT, SPADES, boards};
-use super::long_list::{asked, compare_replay};
-use super::slow_book::{Past, Rules, reply};
+use super::long_list::{compare_replay, event_of};
+use super::slow_book::Rules;
 use crate::expect::expect_eq;
 use cards::{Seat, Trump};
 use lease_book::{Book, Entry, Reply, Request, replay};
@@ -13,50 +13,62 @@ use std::test::Fail;
 /// North declares no-trump on the second board.
 const NT_AGAIN: Entry = Entry { board: 1, ..NT };
 
-/// The layouts of the boards, which all have the same name, and the number of the first board with the deal of each.
-const FIRSTS: [(Option<&str>, usize); 6] = [
-    (Some(NORTH_HIGH), 0),
-    (None, 1),
-    (Some(EAST_HIGH), 2),
-    (Some(NORTH_HIGH), 0),
-    (None, 4),
-    (Some(EAST_HIGH), 2),
+/// The layouts of the boards, which all have the same name.
+const LAYOUTS: [Option<&str>; 6] = [
+    Some(NORTH_HIGH),
+    None,
+    Some(EAST_HIGH),
+    Some(NORTH_HIGH),
+    None,
+    Some(EAST_HIGH),
 ];
+
+/// The number of the first board with the deal of each, and the number of one that isn't there.
+const FIRSTS: [usize; 7] = [0, 1, 2, 0, 4, 2, 6];
 
 /// A twin is told by the layouts alone. An entry of a board without a deal, or of one that isn't there, is told as it
 /// is.
 #[test]
 fn least_twins(rt: HostRuntime) -> Result<(), Fail> {
-    let layouts = FIRSTS.map(|(layout, _)| layout);
-    let book = Book::new(rt.alloc(), boards(rt.alloc(), &layouts)?, 10, 1)?;
-    for (board, (_, first)) in FIRSTS.iter().enumerate() {
+    let known = boards(&rt, rt.alloc(), &LAYOUTS);
+    let book = Book::new(rt.alloc(), known, 10, 1)?;
+    for (board, first) in FIRSTS.iter().enumerate() {
         let twin = book.twin(Entry { board, ..SPADES });
-        expect_eq(
-            &rt,
-            &twin,
-            &Entry {
-                board: *first,
-                ..SPADES
-            },
-        );
+        let wanted = Entry {
+            board: *first,
+            ..SPADES
+        };
+        expect_eq(&rt, &twin, &wanted);
     }
-    let beyond = Entry { board: 6, ..SPADES };
-    expect_eq(&rt, &book.twin(beyond), &beyond);
     Ok(())
 }
 
-/// Twenty leases of the first board, none of its twin, and two hand-ins under the first lease.
-fn requests(rt: &HostRuntime) -> Result<Vec<Request>, Fail> {
-    let alloc = rt.alloc();
+/// Adds a request.
+pub fn add(rt: &impl Abort, requests: &mut Vec<Request>, request: Request) {
+    requests.push(request).expect(rt, "memory for a request");
+}
+
+/// So many requests for leases.
+pub fn leases(rt: &impl Abort, alloc: Global, count: usize) -> Vec<Request> {
     let mut requests = Vec::new(alloc);
-    for _lease in 0..21 {
-        requests.push(Request::Lease { now: 0 })?;
+    for _lease in 0..count {
+        add(rt, &mut requests, Request::Lease { now: 0 });
     }
+    requests
+}
+
+/// Twenty leases of the first board, none of its twin, and two hand-ins under the first lease.
+fn requests(rt: &impl Abort, alloc: Global) -> Vec<Request> {
+    let mut requests = leases(rt, alloc, 21);
     for named in [NT_AGAIN, NT] {
-        let answer = Answer::of(alloc, Seat::North, Seat::North, Trump::Nt)?;
-        requests.push(answer.hand_in(1, named))?;
+        let answer = Answer::of(alloc, Seat::North, Seat::North, Trump::Nt);
+        add(
+            rt,
+            &mut requests,
+            answer.expect(rt, "memory for an answer").hand_in(1, named),
+        );
     }
-    Ok(requests)
+    requests
 }
 
 /// Whether it is a lease of the first board.
@@ -69,17 +81,18 @@ fn is_of_first_board(reply: &Reply) -> bool {
 
 #[test]
 fn two_equal_boards(rt: HostRuntime) -> Result<(), Fail> {
-    let known = boards(rt.alloc(), &[Some(NORTH_HIGH), Some(NORTH_HIGH)])?;
-    let (book, replies) = replay(rt.alloc(), known, 10, 1, requests(&rt)?.as_slice())?;
-    let leases = replies
-        .iter()
-        .filter(|reply| is_of_first_board(reply))
-        .count();
+    let requests = requests(&rt, rt.alloc());
+    let known = boards(&rt, rt.alloc(), &[Some(NORTH_HIGH), Some(NORTH_HIGH)]);
+    let (book, replies) = replay(rt.alloc(), known, 10, 1, requests.as_slice())?;
+    let mut leases = 0usize;
+    for reply in replies.iter() {
+        if is_of_first_board(reply) {
+            leases = leases.wrapping_add(1);
+        }
+    }
     expect_eq(&rt, &leases, &20);
     let last = [Reply::Nothing, Reply::OtherEntry, Reply::Published(1)];
-    for (reply, wanted) in replies.iter().skip(20).zip(&last) {
-        expect_eq(&rt, reply, wanted);
-    }
+    expect_eq(&rt, &replies.get(20..), &Some(last.as_slice()));
     for entry in [NT, NT_AGAIN] {
         expect_eq(&rt, &book.published(entry), &Some(1));
     }
@@ -95,56 +108,57 @@ const HAND_INS: [(u64, Entry, bool); 5] = [
     (2, SPADES, true),
 ];
 
-/// Two leases, and then the hand-ins in the order that has this number, of 120.
-fn in_order(alloc: Global, order: usize) -> Result<Vec<Request>, AllocError> {
-    let mut requests = Vec::new(alloc);
-    for _lease in 0..2 {
-        requests.push(Request::Lease { now: 0 })?;
+/// The request that hands in for this entry under this lease what is right, or lacks a text.
+fn hand_in(
+    alloc: Global,
+    (lease, entry, is_right): (u64, Entry, bool),
+) -> Result<Request, AllocError> {
+    let mut answer = Answer::of(alloc, Seat::North, entry.declarer, entry.trump)?;
+    if !is_right {
+        answer.defenders.clear();
     }
-    let mut left = Vec::from_slice(alloc, &HAND_INS)?;
+    Ok(answer.hand_in(lease, entry))
+}
+
+/// Two leases, and then the hand-ins in the order that has this number, of 120.
+fn in_order(rt: &impl Abort, alloc: Global, order: usize) -> Vec<Request> {
+    let mut requests = leases(rt, alloc, 2);
+    let mut left = Vec::from_slice(alloc, &HAND_INS).expect(rt, "memory for a list");
     let mut number = order;
     for _ in 0..HAND_INS.len() {
         let size = left.len();
         if size == 0 {
             break;
         }
-        let (lease, entry, is_right) = left.remove(number % size);
+        let next = left.remove(number % size);
         number /= size;
-        let mut answer = Answer::of(alloc, Seat::North, entry.declarer, entry.trump)?;
-        if !is_right {
-            answer.defenders.clear();
-        }
-        requests.push(answer.hand_in(lease, entry))?;
+        let request = hand_in(alloc, next).expect(rt, "memory for an answer");
+        add(rt, &mut requests, request);
     }
-    Ok(requests)
+    requests
+}
+
+/// The requests are replied to, and published, as the search has it.
+fn expect_as_searched(rt: &impl Abort, alloc: Global, rules: Rules, requests: &[Request]) {
+    let known = boards(rt, alloc, &[Some(NORTH_HIGH), Some(NORTH_HIGH)]);
+    let mut past = Vec::new(alloc);
+    for request in requests {
+        let event = event_of(rt, alloc, known.as_slice(), rules, past.as_slice(), request);
+        past.push(event).expect(rt, "memory for an event");
+    }
+    compare_replay(rt, alloc, known, rules, requests, past.as_slice());
 }
 
 #[test]
-fn hand_ins_in_every_order(rt: HostRuntime) -> Result<(), Fail> {
-    let alloc = rt.alloc();
+fn hand_ins_in_every_order(rt: HostRuntime) {
     let rules = Rules {
         firsts: &[Some(0), Some(0)],
         term: 10,
         tries: 1,
     };
     for order in 0..120 {
-        let known = boards(alloc, &[Some(NORTH_HIGH), Some(NORTH_HIGH)])?;
-        let requests = in_order(alloc, order)?;
+        let requests = in_order(&rt, rt.alloc(), order);
         expect_eq(&rt, &requests.len(), &7);
-        let mut past = Vec::new(alloc);
-        for request in requests.as_slice() {
-            let ask = asked(alloc, known.as_slice(), request)?;
-            let reply = reply(rules, past.as_slice(), ask);
-            past.push(Past { ask, reply })?;
-        }
-        compare_replay(
-            &rt,
-            alloc,
-            known,
-            rules,
-            requests.as_slice(),
-            past.as_slice(),
-        )?;
+        expect_as_searched(&rt, rt.alloc(), rules, requests.as_slice());
     }
-    Ok(())
 }

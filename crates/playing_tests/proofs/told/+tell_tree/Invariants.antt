@@ -1,4 +1,4 @@
 use Rattle.playing_tests.proofs.told.+tell_tree.Given as goal
 
 abbrev pub decreases-tell_tree : goal.decreases-tell_tree
-decreases-tell_tree l = l.left
+decreases-tell_tree g l = l.left
