@@ -96,7 +96,8 @@ fn sheet_of(
     Ok(TestSheet { boards, results })
 }
 
-/// What is written of the sheet where there is so much room, in pieces of so many bytes, and what is reported.
+/// The sheet is written and reported like this by a sink with this room, which takes at most `greatest_piece` bytes a
+/// call.
 fn expect_written(
     rt: &impl Abort,
     alloc: Global,

@@ -75,7 +75,7 @@ pub(crate) fn incomplete(alloc: Global, line: &[u8]) -> Result<Vec<u8>, AllocErr
     joined(alloc, &[b"% PBN 2.1\n", ONE_SUIT_EACH, line, b"\n"])
 }
 
-/// What is made by the solver, with so many tries an entry, and how many calls the book had. A call of `make_single`
+/// What is made by the solver, with `tries` tries an entry, and how many calls the book had. A call of `make_single`
 /// itself carries its promises to the end of the caller.
 fn made_by<S: Solver>(
     alloc: Global,

@@ -113,7 +113,7 @@ pub fn tail_of<'a, R: Wait + Abort>(rt: &R, disk: &'a Disk<'a, R>) -> Tail<Open<
     got(rt, open(disk, NAME)).tail
 }
 
-/// The solver claims so many tricks for North in no-trump.
+/// The solver claims this number of tricks for North in no-trump.
 pub fn expect_tricks<S: Solver>(
     rt: &impl Abort,
     alloc: Global,

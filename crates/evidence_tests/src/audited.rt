@@ -71,8 +71,8 @@ fn shown_in(book: &Book) -> Shown {
     }
 }
 
-/// What this evidence shows, whose bytes come in pieces of at most so many, and what is passed over. Nothing where the
-/// audit fails.
+/// What this evidence shows, whose bytes come in pieces of at most `greatest_piece`, and what is passed over. Nothing
+/// where the audit fails.
 fn audit_to<R: Threads + Sync>(
     rt: &R,
     alloc: Global,

@@ -33,8 +33,8 @@ fn disk_of<'a, R: Abort + Wait>(rt: &'a R, alloc: Global, text: &[u8]) -> Disk<'
     Disk::new(rt, got(rt, Vec::from_slice(alloc, text)), usize::MAX)
 }
 
-/// Opens a file with this text, which has to have this other text then. So many sections and so many damaged pieces are
-/// read of it.
+/// A file with this text has the text `after` when it was opened. `parts` says how many sections and how many damaged
+/// pieces are read of it.
 fn expect_opened<R: Abort + Wait>(
     rt: &R,
     alloc: Global,

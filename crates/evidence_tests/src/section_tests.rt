@@ -38,7 +38,7 @@ fn claims_in(rt: &impl Abort, alloc: Global, text: &str) -> Option<usize> {
     Some(bundle.claims.len())
 }
 
-/// The text of these parts has so many claims, or is no section's.
+/// The text of these parts has `count` claims, or is no section's.
 fn expect_claims(rt: &impl Abort, alloc: Global, parts: [&str; 4], count: Option<usize>) {
     let text = text_of(rt, alloc, parts);
     expect_eq(rt, &claims_in(rt, alloc, text.as_str()), &count);

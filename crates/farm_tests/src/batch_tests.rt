@@ -157,7 +157,7 @@ fn said_board_by_board(rt: &impl Abort, alloc: Global, budget: u64) -> Vec<Call>
     said
 }
 
-/// What is asked in a run over two boards, in batches of so many, and what its leases say.
+/// What is asked in a run over two boards, in batches of `batch` entries, and what its leases say.
 fn asked_and_said<R: Threads + Wait + Abort + Sync>(
     rt: &R,
     alloc: Global,
@@ -227,7 +227,7 @@ const ROUND: [&str; 4] = [
     "N:K... Q... J... A...",
 ];
 
-/// So many solvers are each asked for the declarers of a denomination together.
+/// With `solvers` solvers each is asked for the declarers of a denomination together.
 fn expect_whole<R: Threads + Wait + Abort + Clock + Sync>(rt: &R, alloc: Global, solvers: usize) {
     let nothing = FindsNothing;
     let solver = Remembers::new(rt, alloc, &nothing);

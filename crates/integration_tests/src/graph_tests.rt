@@ -9,7 +9,7 @@ use patterns::Pattern;
 use std::alloc::Global;
 use std::process::Abort;
 
-/// The graph is written so, in pieces of so many bytes.
+/// The graph is written as this text, in pieces of `piece` bytes.
 fn expect_written(rt: &impl Abort, alloc: Global, graph: &Graph, piece: usize, text: &[u8]) {
     let mut sink = got(rt, Buffer::new(alloc, 200, piece));
     expect_eq(rt, &graph.write(&mut sink), &Ok(()));
@@ -39,7 +39,7 @@ fn written_as_built(rt: HostRuntime) {
     }
 }
 
-/// A sink with so much room gets the beginning of the text, and a fault.
+/// A sink with too little room gets the beginning of the text, and a fault.
 #[test]
 fn written_in_part(rt: HostRuntime) {
     let graph = got(&rt, Graph::read(rt.alloc(), FINESSE));

@@ -52,7 +52,7 @@ fn depths_in(suit: u32, depth: u16) -> u16 {
     depth.wrapping_shl(suit.wrapping_mul(4))
 }
 
-/// A record that names so many of these owners of each suit.
+/// A record that names as many of these owners of each suit as `depths` says.
 fn record_of(owners: Owners, depths: u16, need: u8, card: u8) -> Record {
     Record::new(owners.near, || owners.deep, depths, need, card)
 }
@@ -159,7 +159,7 @@ fn each_suit_to_its_depth(rt: HostRuntime) {
     }
 }
 
-/// A record is found as long as a card of a suit that another seat owns is not among its first ones, so many.
+/// A record is found if the card of this suit that another seat owns is not among the first `depth` cards.
 fn expect_depth(rt: &impl Abort, records: &Records, suit: u32, depth: u32) {
     let list = list_of(rt, records, 0, NorthSouth);
     for place in 0..13 {
@@ -342,7 +342,7 @@ fn of_owners(leader: usize, owners: u64) -> Record {
     record_of(owners_in(suit, owners, 0), depths_in(suit, 4), 1, 0)
 }
 
-/// How many of so many records that name different owners are found in the list of a leader.
+/// How many of `count` records that name different owners are found in the list of a leader.
 fn found_of(records: &Records, leader: usize, count: u64) -> u64 {
     let Some(list) = records.list(records.shape(ONE_EACH), leader, NorthSouth) else {
         return 0;
@@ -359,7 +359,7 @@ fn found_of(records: &Records, leader: usize, count: u64) -> u64 {
     found_count
 }
 
-/// Adds the records of a leader that are not there, up to so many.
+/// Adds the records of a leader that are not there, up to `count` in all.
 fn add_up_to(rt: &impl Abort, records: &mut Records, leader: usize, count: u64) {
     for owners in found_of(records, leader, count)..count {
         add(rt, records, leader, NorthSouth, of_owners(leader, owners));

@@ -21,8 +21,8 @@ const ENDED: &str = "N 1 1.1.1.1/N 0.0.0.0/ 0.0.0.0/ 0.0.0.0/ {}\n";
 /// North plays a card that nobody has.
 const OTHER_CARD: &str = "N 1 1.1.1.1/N 0.0.0.0/ 0.0.0.0/ 0.0.0.0/ Sb(SxSx(Sx{}))\n";
 
-/// The line of a node of a graph of so many nodes, of which one ends at once and so many of the last ones play another
-/// card.
+/// The line of a node of a graph of `count` nodes, of which node `ended` ends at once and the last `others` play
+/// another card.
 fn line_of(number: u32, count: u32, ended: u32, others: u32) -> &'static str {
     if number == ended {
         ENDED

@@ -31,7 +31,8 @@ pub fn play<I: Source + Drop, O: Sink>(
     (ended.end, ended.playing.history().len())
 }
 
-/// A dialogue with this input, and with so much room for its output, ends so after so many cards, and this is written.
+/// A dialogue with this input, and with this room for its output, ends as wanted, after the wanted number of cards, and
+/// this is written.
 fn expect_dialogue(
     rt: &impl Abort,
     alloc: Global,

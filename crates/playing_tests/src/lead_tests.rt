@@ -88,7 +88,7 @@ impl CardSolver for FindsNone {
 /// What [`make_leads`] reports, and what it writes.
 type Made<'a> = (Result<LeadReport, LeadFault>, &'a [u8]);
 
-/// The leads of a text are made so with a sink that has so much room.
+/// The leads of a text are made as wanted with a sink that has this room.
 fn expect_made<R: Threads + Sync + Abort, S: CardSolver + Sync>(
     rt: &R,
     alloc: Global,

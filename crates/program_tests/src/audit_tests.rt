@@ -33,7 +33,7 @@ const UNSHOWN: &str = "ddfarm: note: 1 table is incomplete: the evidence does no
   table --evidence searches the rest and adds it to the file
 ";
 
-/// What is told of it after so many searches that found nothing.
+/// What is told of it after `steps` searches that found nothing.
 fn searched(rt: &impl Abort, alloc: Global, steps: u8) -> String {
     let told = format!(in alloc;
         "ddfarm: note: 1 table is incomplete: {steps} searches ran out of steps, 0 out of memory, \
@@ -117,7 +117,7 @@ fn full_outputs(rt: HostRuntime) {
 
 const DAMAGED: &str = "ddfarm: evidence: 1 section is damaged, at byte 0\n";
 
-/// A file with a line that has no end, on a disk that has no room behind so many bytes of these: the damage is told
+/// A file with a line that has no end, on a disk that has no room behind the first `length` bytes: the damage is told
 /// first, the tables are printed, and the file has what there was room for.
 fn expect_full<R: Abort + Threads + Wait + Sync>(
     rt: &R,
@@ -224,7 +224,7 @@ fn expect_failing_audits<R: Abort + Threads + Wait + Sync>(rt: &R, alloc: Global
     }
 }
 
-/// What is told after so many searches that found nothing, if there were any, and of the fault.
+/// What is told after `steps` searches that found nothing, if there were any, and of the fault.
 fn told_of(rt: &impl Abort, alloc: Global, steps: u8, fault: &str) -> String {
     if steps == 0 {
         return joined_text(rt, alloc, &[fault]);

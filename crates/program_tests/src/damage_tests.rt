@@ -247,7 +247,7 @@ fn end_of_beginning(count: usize) -> (Status, &'static str, &'static str) {
     (Status::Rejected, printed, "")
 }
 
-/// The first so many bytes of the answer end as they should.
+/// A run on the first `count` bytes of the answer ends as it should.
 fn expect_beginning<R: Abort + NamedFiles + KeptFiles + NewFiles + Threads + Wait + Sync>(
     rt: &R,
     alloc: Global,

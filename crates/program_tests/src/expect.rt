@@ -87,12 +87,12 @@ pub fn means<'a, S, G>(solver: &'a S, gate: &'a G) -> Means<'a, S, G, StandsStil
     }
 }
 
-/// A buffer with this room, which takes at most so many bytes a call.
+/// A buffer with this room, which takes at most `piece` bytes a call.
 pub fn buffer(rt: &impl Abort, alloc: Global, (room, piece): (usize, usize)) -> Buffer {
     got(rt, Buffer::new(alloc, room, piece))
 }
 
-/// This input, and outputs with these rooms, which take at most so many bytes a call.
+/// This input, and outputs: each pair is the room and how many bytes a call takes at most.
 pub fn memory<'a>(
     rt: &impl Abort,
     alloc: Global,

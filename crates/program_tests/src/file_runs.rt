@@ -81,7 +81,7 @@ pub fn table<'a>(rt: &impl Abort, file: &'a str, boards: Option<&'a str>) -> Sub
     })
 }
 
-/// A disk whose file has these bytes, and room for so many more. One of its calls fails.
+/// A disk whose file has these bytes, and room for `room` more. One of its calls fails.
 pub fn disk_of(rt: &impl Abort, alloc: Global, bytes: &[u8], room: usize, failing: u64) -> Disk {
     got(rt, Disk::new(alloc, bytes, room, failing))
 }

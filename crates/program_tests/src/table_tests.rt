@@ -24,7 +24,7 @@ const TRIES: u32 = 3;
 
 const STEPS: u64 = 10_000_000;
 
-/// The options of the tables of the input, with a solver, a checker and so many leases at a time.
+/// The options of the tables of the input, with a solver, a checker and `batch` leases at a time.
 pub fn table_options(rt: &impl Abort, progress: bool, batch: usize) -> TableOptions<'static> {
     let settings = got(rt, one_of_each(TRIES, STEPS)).with_term(TERM);
     TableOptions {

@@ -43,7 +43,7 @@ fn say_proven(proven: &Proven, layout: Option<Layout>, out: &mut Answer) {
     }
 }
 
-/// Says the verdict on two texts, for a contract on a layout and so many tricks.
+/// Says the verdict on two texts, for a contract on a layout and `k` tricks.
 fn say_verdict(
     alloc: Global,
     layout: Option<Layout>,

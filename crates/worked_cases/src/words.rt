@@ -21,7 +21,7 @@ const PROCESSORS: usize = 2;
 /// An input, and both outputs.
 type Memory<'a> = Streams<Bytes<'a>, Buffer, Buffer>;
 
-/// An input that gives at most so many bytes a call, and outputs with so much room. Nothing where memory ran out.
+/// An input that gives at most `piece` bytes a call, and outputs with these rooms. Nothing where memory ran out.
 fn memory<'a>(
     alloc: Global,
     text: &'a [u8],

@@ -53,7 +53,7 @@ pub const REFUSED: [(u16, u32, Option<BookFault>); 5] = [
     (0, 1, None),
 ];
 
-/// Why there is no book of so many boards, with so many tries, if there is none.
+/// Why there is no book of `count` boards with `tries` tries, if there is none.
 pub fn book_fault(alloc: Global, count: u16, tries: u32) -> Result<Option<BookFault>, AllocError> {
     Ok(Book::new(alloc, bare_boards(alloc, count)?, 10, tries).err())
 }

@@ -48,7 +48,7 @@ pub fn add(rt: &impl Abort, requests: &mut Vec<Request>, request: Request) {
     requests.push(request).expect(rt, "memory for a request");
 }
 
-/// So many requests for leases.
+/// Requests for `count` leases.
 pub fn leases(rt: &impl Abort, alloc: Global, count: usize) -> Vec<Request> {
     let mut requests = Vec::new(alloc);
     for _lease in 0..count {
