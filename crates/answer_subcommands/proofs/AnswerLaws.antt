@@ -5,7 +5,7 @@ use Rattle.std.proofs.lemmas.List.{length-take-le, get_or-take}
 use Rattle.std.proofs.lemmas.Option.{slice_get-get_or, slice_get_within, get_or_from_slice_get}
 use Rattle.std.proofs.lemmas.Fmt.{decimal_digit}
 use Rattle.std.specs.Fmt.{decimal}
-use Rattle.tables.proofs.NumberLemmas.{decimal_two}
+use Rattle.cards.proofs.NumberLemmas.{decimal_two}
 use Rattle.answer_subcommands.specs.Answers.{number_line, IsEmptyLine, IsCut}
 
 taken_get : (body : List ℕ) (place at : ℕ) → at < place → place < length body → slice_get (take place body) at ≡ slice_get body at

@@ -1,7 +1,7 @@
 -- The line that says why evidence of cards is refused.
 use Rattle.std.specs.Prelude.{ℕ, List, [], ◌∷◌, ◌++◌, codes}
 use Rattle.checker.specs.FaultWords.{node_fault_text, step_fault_text}
-use Rattle.play_dialogues.specs.CardTexts.{card_text}
+use Rattle.cards.specs.CardTexts.{card_text}
 use Rattle.card_values.specs.declared.faults.AfterFault.{AfterFault}
 use Rattle.card_values.specs.declared.faults.AfterFault.TheVariants.{RootMissing, RootNeedless, RootTrump, RootSide}
 use Rattle.card_values.specs.declared.faults.AfterFault.TheVariants.{RootForm, RootLead, RootNeed, RootPattern}

@@ -2,14 +2,13 @@
 
 ghost use Rattle.std.specs.Prelude.{◌++◌, ◌∷◌, codes};
 ghost use Rattle.cards.specs.Devices.{Writes};
-ghost use Rattle.play_dialogues.specs.CardTexts.{card_text};
+ghost use Rattle.cards.specs.CardTexts.{card_text};
 ghost use Rattle.answer_subcommands.specs.CardRefusals.{after_fault_text, card_refusal_line, refusal_text};
 
 use crate::card_audits::EvidenceRefusal;
 use crate::verdict_lines::{write_node_fault, write_numbered};
 use card_values::{AfterFault, CardFault};
-use cards::{Card, DeviceFault, Sink, write_all};
-use play_dialogues::write_card;
+use cards::{Card, DeviceFault, Sink, write_all, write_card};
 
 /// Writes why a side is not shown to win its tricks after a card.
 fn write_after_fault<S: Sink>(fault: AfterFault, output: &mut S) -> Result<(), DeviceFault>

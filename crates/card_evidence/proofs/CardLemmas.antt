@@ -10,7 +10,7 @@ use Rattle.cards.specs.declared.pack.Rank.{Rank}
 use Rattle.cards.specs.declared.pack.Rank.TheVariants.{Two, Three, Four, Five, Six, Seven, Eight, Nine, Ten, Jack, Queen, King, Ace}
 use Rattle.cards.specs.declared.pack.Card.{Card}
 use Rattle.cards.specs.Pack.{suit_letter, rank_letter, card_of}
-use Rattle.play_dialogues.specs.CardTexts.{card_text, cards_text}
+use Rattle.cards.specs.CardTexts.{card_text, cards_text}
 use Rattle.pbn_deals.specs.Reading.{Lacks}
 use Rattle.evidence.proofs.WordLemmas.{decimal-lacks}
 use Rattle.certificate_graph.proofs.OneSpelling.{heads, tails, one_suit}

@@ -5,7 +5,7 @@ use Rattle.std.specs.List.{AllByRecursion}
 use Rattle.std.specs.Fmt.{decimal}
 use Rattle.std.proofs.lemmas.List.{append_cancel_left}
 use Rattle.cards.specs.declared.pack.Card.{Card}
-use Rattle.play_dialogues.specs.CardTexts.{card_text}
+use Rattle.cards.specs.CardTexts.{card_text}
 use Rattle.certificate_graph.specs.declared.nodes.Node.{Node}
 use Rattle.certificate_graph.specs.declared.card_claims.CardClaim.{CardClaim}
 use Rattle.certificate_graph.specs.Graphs.{greatest_count}

@@ -4,7 +4,7 @@ use Rattle.std.specs.Fmt.{decimal}
 use Rattle.std.proofs.lemmas.List.{take_all}
 use Rattle.cards.specs.declared.pack.Card.{Card}
 use Rattle.play_rules.specs.Position.{Position}
-use Rattle.play_dialogues.specs.CardTexts.{cards_text}
+use Rattle.cards.specs.CardTexts.{cards_text}
 use Rattle.certificate_graph.specs.declared.nodes.Node.{Node}
 use Rattle.certificate_graph.specs.declared.card_claims.CardClaim.{CardClaim}
 use Rattle.certificate_graph.specs.Texts.{trump_text}

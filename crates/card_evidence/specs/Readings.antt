@@ -3,7 +3,7 @@ use Rattle.std.specs.Prelude.{◌≡◌, ◌≢◌, ℕ, ◌+◌, ◌≤◌, Lis
 use Rattle.std.proofs.Common.{Bor}
 use Rattle.std.specs.List.{AllByRecursion}
 use Rattle.cards.specs.declared.pack.Card.{Card}
-use Rattle.play_dialogues.specs.CardTexts.{cards_text}
+use Rattle.cards.specs.CardTexts.{cards_text}
 use Rattle.pbn_deals.specs.Reading.{Lacks}
 use Rattle.certificate_graph.specs.declared.card_claims.CardClaim.{CardClaim}
 use Rattle.card_evidence.specs.Sections.{CardSectionShape, IsKeptClaim}

@@ -6,7 +6,7 @@ use Rattle.cards.specs.declared.seats.Seat.{Seat}
 use Rattle.cards.specs.declared.pack.Card.{Card}
 use Rattle.cards.specs.Seats.{seat_letter}
 use Rattle.play_rules.specs.Position.{Position}
-use Rattle.play_dialogues.specs.CardTexts.{card_text, cards_text}
+use Rattle.cards.specs.CardTexts.{card_text, cards_text}
 use Rattle.certificate_graph.specs.declared.nodes.Node.{Node}
 use Rattle.certificate_graph.specs.declared.card_claims.CardClaim.{CardClaim}
 use Rattle.certificate_graph.specs.Texts.{trump_text, node_text}

@@ -2,14 +2,13 @@
 
 ghost use Rattle.std.specs.Prelude.{◌≡◌, ◌≢◌, ◌≤◌, ◌++◌, length, List, MatchOption, ⊤};
 ghost use Rattle.cards.specs.declared.pack.Card.{Card};
-ghost use Rattle.play_dialogues.specs.CardTexts.{card_text};
+ghost use Rattle.cards.specs.CardTexts.{card_text};
 ghost use Rattle.card_evidence.specs.SectionTexts.{played_word};
 ghost use Rattle.card_evidence.specs.Readings.{ReadsForm, AddsOrLacksCards};
 
 use arrayvec::ArrayVec;
-use cards::Card;
+use cards::{Card, rank_of, suit_of};
 use certificate_graph::after_prefix;
-use play_dialogues::{rank_of, suit_of};
 
 /// Returns the card at the beginning of the text, and the rest of the text.
 pub(crate) fn read_card(text: &[u8]) -> Option<(Card, &[u8])>

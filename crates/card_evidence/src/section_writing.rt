@@ -4,7 +4,7 @@ ghost use Rattle.std.specs.Prelude.{◌++◌, []};
 ghost use Rattle.std.specs.List.{AllByRecursion};
 ghost use Rattle.std.specs.Option.{option_copied};
 ghost use Rattle.cards.specs.Devices.{Writes};
-ghost use Rattle.play_dialogues.specs.CardTexts.{card_text};
+ghost use Rattle.cards.specs.CardTexts.{card_text};
 ghost use Rattle.evidence.specs.SectionTexts.{deal_line};
 ghost use Rattle.card_evidence.specs.Sections.{IsBegun, IsKeptClaim};
 ghost use Rattle.card_evidence.specs.SectionTexts.{title, leader_line, played_line, trick_text, claim_line, begun_text};
@@ -12,11 +12,10 @@ ghost use Rattle.card_evidence.specs.SectionTexts.{claim_text, claims_text, coun
 
 use crate::sections::CardSection;
 use card_values::TrickInProgress;
-use cards::{Card, DeviceFault, Layout, Seat, Sink, write_all, write_number};
+use cards::{Card, DeviceFault, Layout, Seat, Sink, write_all, write_cards, write_number};
 use certificate_graph::{CardClaim, Node};
 use evidence::{write_count, write_counted, write_graphs, write_seat, write_trump};
 use pbn_deals::write_layout;
-use play_dialogues::write_cards;
 
 /// Writes the title and the line of the deal.
 fn write_deal<S: Sink>(sink: &mut S, layout: &Layout) -> Result<(), DeviceFault>

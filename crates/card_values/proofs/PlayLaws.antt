@@ -6,7 +6,7 @@ use Rattle.cards.specs.declared.pack.Card.{Card}
 use Rattle.cards.specs.Deal.{Deal}
 use Rattle.play_rules.specs.Legal.{CanPlay, IsUnfinished}
 use Rattle.play_rules.specs.Position.{Position, with_card}
-use Rattle.certificate_play.proofs.PromiseLaws.{reached_on}
+use Rattle.play_rules.proofs.PositionLaws.{reached_on}
 use Rattle.card_values.specs.Tricks.{IsKept}
 
 pub kept_on : (position next : Position) (layout : Deal) (leader : Seat) (trump : Trump) (played more : List Card) (card : Card) → IsKept position layout leader trump played → length played < 3 →

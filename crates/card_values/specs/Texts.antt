@@ -4,7 +4,7 @@ use Rattle.std.specs.Prelude.{ℕ, List, [], ◌∷◌, ◌++◌, codes, flat_ma
 use Rattle.std.specs.List.{list_any}
 use Rattle.cards.specs.Seats.{seat_letter}
 use Rattle.play_rules.specs.Legal.{seat_to_play}
-use Rattle.play_dialogues.specs.CardTexts.{card_text}
+use Rattle.cards.specs.CardTexts.{card_text}
 use Rattle.card_values.specs.declared.values.CardValue.{CardValue}
 use Rattle.card_values.specs.CardValues.{ShownValues}
 

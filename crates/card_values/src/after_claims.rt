@@ -10,9 +10,8 @@ use crate::faults::AfterFault;
 use arrayvec::ArrayVec;
 use cards::{Card, Layout, Seat, Side, Trump};
 use certificate_graph::{Graph, Node};
-use certificate_play::pat_card_of;
 use checker::{CheckedGraph, check_begun};
-use pattern_step::PatCard;
+use pattern_step::{PatCard, pat_card_of};
 use play_rules::holders;
 
 /// The claim that a side wins `need` tricks of a layout after these cards, the first cards of its first trick.

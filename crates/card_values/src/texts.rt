@@ -7,8 +7,7 @@ ghost use Rattle.card_values.specs.Texts.{is_worth, card_if_worth, cards_worth, 
 ghost use Rattle.card_values.specs.Texts.{group_of, group_if_any, groups_text, values_text};
 
 use crate::values::{CardValue, CardValues};
-use cards::{DeviceFault, Sink, write_all, write_number};
-use play_dialogues::write_card;
+use cards::{DeviceFault, Sink, write_all, write_card, write_number};
 
 /// The numbers of tricks, the most first.
 const FALLING: [u8; 14] = [13, 12, 11, 10, 9, 8, 7, 6, 5, 4, 3, 2, 1, 0];

@@ -1,4 +1,5 @@
 pub mod DeviceLemmas
+pub mod NumberLemmas
 pub mod WriteLemmas
 pub mod PackLaws
 pub mod HandLaws

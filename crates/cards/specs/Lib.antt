@@ -1,4 +1,5 @@
 pub mod Pack
+pub mod CardTexts
 pub mod Seats
 pub mod Deal
 pub mod Hands

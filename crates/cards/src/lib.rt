@@ -6,6 +6,7 @@
 //! each with a count of its failed calls, and their forms over memory.
 #![tactic(auto)]
 
+mod card_texts;
 mod devices;
 mod faults;
 mod layouts;
@@ -16,6 +17,7 @@ mod pack;
 mod seats;
 mod suits;
 
+pub use card_texts::{rank_of, suit_of, write_card, write_cards};
 pub use devices::{DeviceFault, Sink, Source, write_all};
 pub use faults::OutOfMemory;
 pub use layouts::{Layout, LayoutFault, holder_by_words};

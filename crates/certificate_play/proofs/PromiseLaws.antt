@@ -8,8 +8,8 @@ use Rattle.cards.specs.Deal.{Deal, holder_of, size_of}
 use Rattle.play_rules.specs.History.{Opening, trick_of, leader_after, tricks_of}
 use Rattle.play_rules.specs.Left.{left_of}
 use Rattle.play_rules.specs.Legal.{CanPlay, IsUnfinished, seat_to_play}
-use Rattle.play_rules.specs.Position.{Position, IsReached, AreLegalCards, with_card}
-use Rattle.play_rules.proofs.PositionLaws.{IsLegalHistory-push}
+use Rattle.play_rules.specs.Position.{Position, IsReached, AreLegalCards}
+use Rattle.play_rules.proofs.PositionLaws.{reached_on}
 use Rattle.play_rules.proofs.HistoryLaws.{trick_of-append, leader_after-append, tricks_of-append}
 use Rattle.play_rules.proofs.LeftLaws.{left_of-append, left_of-played, left_of-unplayed}
 use Rattle.strategies.specs.Strategies.{IsTurnOf}
@@ -114,14 +114,6 @@ kept_on promise step card (Some next) kept on =
       enough = omega (arith, kept.enough, on.enough, tricks);
       by_node = on.by_node;
     }
-
--- ---- the position after a card
-pub reached_on : (position : Position) (card : Card) → IsReached position → IsUnfinished position.opening position.history → CanPlay position.opening position.history card → IsReached (with_card position card)
-reached_on position card reached more can = record {
-  layout = reached.layout;
-  legal = IsLegalHistory-push position.opening position.history card reached.legal can;
-  within = omega (arith, length-append position.history (card ∷ []), more);
-}
 
 -- some legal card is listed while cards are still to be played
 pub some_listed : (position : Position) (cards : List Card) → IsReached position → IsUnfinished position.opening position.history → AreLegalCards position cards → 0 < length cards

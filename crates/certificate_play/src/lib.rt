@@ -18,4 +18,3 @@ mod trick_ends;
 pub use lines::line;
 pub use playing::Playing;
 pub use sides::{Sides, begin_both};
-pub use stand_ins::pat_card_of;

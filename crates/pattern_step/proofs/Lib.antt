@@ -8,3 +8,4 @@ pub mod PlaceLaws
 pub mod TopPlaces
 pub mod TrickBitLaws
 pub mod RunLaws
+mod StandInLaws

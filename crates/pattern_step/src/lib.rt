@@ -10,6 +10,7 @@ mod legal_cards;
 mod legality;
 mod pat_cards;
 mod seat_sets;
+mod stand_ins;
 mod trick_rests;
 mod trick_winners;
 
@@ -18,5 +19,6 @@ pub use legal_cards::legal;
 pub use legality::{are_legal, is_legal};
 pub use pat_cards::PatCard;
 pub use seat_sets::SeatSet;
+pub use stand_ins::{pat_card_of, stands_for};
 pub use trick_rests::rest;
 pub use trick_winners::winners;

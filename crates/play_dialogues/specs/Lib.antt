@@ -1,6 +1,5 @@
 pub mod Words
 pub mod Lines
-pub mod CardTexts
 pub mod Texts
 pub mod PlayText
 pub mod Trails

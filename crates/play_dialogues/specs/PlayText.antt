@@ -10,7 +10,7 @@ use Rattle.cards.specs.declared.pack.Card.{Card}
 use Rattle.cards.specs.Seats.{next_of, seat_letter, side_of, other_side}
 use Rattle.play_rules.specs.Winners.{winner_of}
 use Rattle.play_rules.specs.History.{trick_made, leader_after, tricks_of}
-use Rattle.play_dialogues.specs.CardTexts.{cards_text}
+use Rattle.cards.specs.CardTexts.{cards_text}
 
 -- the seat that wins the four cards of a trick, after a blank; nothing for a trick that is not whole
 abbrev pub winner_text : Trump → Seat → List Card → List ℕ

@@ -18,7 +18,7 @@ use Rattle.play_rules.specs.History.{trick_of, leader_after, tricks_of}
 use Rattle.play_rules.specs.Left.{left_of}
 use Rattle.play_rules.specs.Position.{turn_of}
 use Rattle.certificate_play.specs.Promises.{Promise}
-use Rattle.play_dialogues.specs.CardTexts.{card_text, cards_text}
+use Rattle.cards.specs.CardTexts.{card_text, cards_text}
 use Rattle.play_dialogues.specs.declared.words.Refusal.{Refusal}
 use Rattle.play_dialogues.specs.declared.words.Refusal.TheVariants.{NoCard, NotHeld, MustFollow, Several, NothingBack}
 

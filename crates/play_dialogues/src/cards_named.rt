@@ -1,53 +1,11 @@
 //! The names of cards.
 
-ghost use Rattle.std.specs.Prelude.{◌≡◌, ◌∷◌, [], ◌++◌, MatchOption};
-ghost use Rattle.std.specs.Prelude.{List, ℕ};
-ghost use Rattle.cards.specs.declared.suits.Suit.{Suit};
+ghost use Rattle.std.specs.Prelude.{MatchOption};
 ghost use Rattle.cards.specs.declared.pack.Rank.{Rank};
 ghost use Rattle.cards.specs.declared.pack.Card.{Card};
-ghost use Rattle.cards.specs.Pack.{suit_letter, rank_letter};
 ghost use Rattle.play_dialogues.specs.Words.{NamesRank, NamesCard, NamesBySuit, NamesByRank};
 
-use cards::{Card, Rank, Suit};
-
-/// Returns the suit with this letter.
-pub fn suit_of(letter: u8) -> Option<Suit>
-    ensures { MatchOption result
-        ((suit : Suit) → suit_letter suit ≡ letter ∷ [] → ⊥)
-        (λ suit. suit_letter suit ≡ letter ∷ []) }
-{
-    match letter {
-        b'S' => Some(Suit::Spades),
-        b'H' => Some(Suit::Hearts),
-        b'D' => Some(Suit::Diamonds),
-        b'C' => Some(Suit::Clubs),
-        _ => None,
-    }
-}
-
-/// Returns the rank with this letter. A ten is `T`.
-pub fn rank_of(letter: u8) -> Option<Rank>
-    ensures { MatchOption result
-        ((rank : Rank) → rank_letter rank ≡ letter ∷ [] → ⊥)
-        (λ rank. rank_letter rank ≡ letter ∷ []) }
-{
-    match letter {
-        b'2' => Some(Rank::Two),
-        b'3' => Some(Rank::Three),
-        b'4' => Some(Rank::Four),
-        b'5' => Some(Rank::Five),
-        b'6' => Some(Rank::Six),
-        b'7' => Some(Rank::Seven),
-        b'8' => Some(Rank::Eight),
-        b'9' => Some(Rank::Nine),
-        b'T' => Some(Rank::Ten),
-        b'J' => Some(Rank::Jack),
-        b'Q' => Some(Rank::Queen),
-        b'K' => Some(Rank::King),
-        b'A' => Some(Rank::Ace),
-        _ => None,
-    }
-}
+use cards::{Card, Rank, rank_of, suit_of};
 
 /// The rank that these letters name.
 fn rank_named(letters: &[u8]) -> Option<Rank>

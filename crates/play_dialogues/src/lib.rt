@@ -22,7 +22,5 @@ mod turns;
 mod words;
 
 pub use card_words::read_card;
-pub use cards_named::{rank_of, suit_of};
 pub use dialogues::{End, Ended, play_dialogue};
 pub use plays::write_play;
-pub use tricks::{write_card, write_cards};

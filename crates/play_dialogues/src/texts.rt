@@ -7,7 +7,7 @@ ghost use Rattle.play_rules.specs.History.{leader_after};
 ghost use Rattle.play_rules.specs.Position.{turn_of};
 ghost use Rattle.play_dialogues.specs.Texts.{left_in, held_letter, suit_text, hand_line, hands_text, trick_line};
 ghost use Rattle.play_dialogues.specs.Texts.{tricks_in, score_line, promise_line, played_line, played_text};
-ghost use Rattle.play_dialogues.specs.CardTexts.{cards_text};
+ghost use Rattle.cards.specs.CardTexts.{cards_text};
 
 use cards::{Card, Rank, Seat, Side, Suit};
 use certificate_play::Playing;

@@ -5,9 +5,8 @@ ghost use Rattle.cards.specs.Devices.{Writes};
 ghost use Rattle.cards.specs.Seats.{seat_letter};
 ghost use Rattle.play_rules.specs.History.{leader_after};
 ghost use Rattle.play_dialogues.specs.PlayText.{winner_text, play_trick_line};
-ghost use Rattle.play_dialogues.specs.CardTexts.{card_text, cards_text};
 
-use cards::{Card, DeviceFault, Seat, Sink, Trump, write_all, write_number};
+use cards::{Card, DeviceFault, Seat, Sink, Trump, write_all, write_cards, write_number};
 use play_rules::winner;
 
 /// Writes the line of a trick with this number.
@@ -45,25 +44,6 @@ fn write_seat<S: Sink>(seat: Seat, output: &mut S) -> Result<(), DeviceFault>
 {
     write_all(output, b" ")?;
     write_all(output, seat.letter().as_bytes())
-}
-
-/// Writes the cards, each after a blank. If the sink fails, it has got a beginning of them.
-pub fn write_cards<S: Sink>(cards: &[Card], output: &mut S) -> Result<(), DeviceFault>
-    ensures { Writes (S.state output.old) (S.state output.new) (cards_text cards.now) result }
-{
-    for card in cards {
-        write_card(*card, output)?;
-    }
-    Ok(())
-}
-
-/// Writes a blank and the letters of the card. After a fault of the sink a beginning of them has gone out.
-pub fn write_card<S: Sink>(card: Card, output: &mut S) -> Result<(), DeviceFault>
-    ensures { Writes (S.state output.old) (S.state output.new) (32 ∷ card_text card) result }
-{
-    write_all(output, b" ")?;
-    write_all(output, card.suit.letter().as_bytes())?;
-    write_all(output, card.rank.letter().as_bytes())
 }
 
 /// Writes who has won the trick, and nothing where it is not whole.

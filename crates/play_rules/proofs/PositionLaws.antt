@@ -200,3 +200,11 @@ Summarizes-won_north_south position s card first second third winner kept more c
 pub Summarizes-won_east_west : (position : Position) (s : Summary) (card first second third : Card) (winner : Seat) → Summarizes position s → IsUnfinished position.opening position.history → CanPlay position.opening position.history card → s.trick ≡ first ∷ second ∷ third ∷ [] → winner ≡ winner_of position.opening.trump s.trick_leader (trick_made first second third card) → side_of winner ≡ EastWest → Summarizes (with_card position card) (record { left = without s.left card; trick = []; trick_leader = winner; player = winner; north_south = s.north_south; east_west = s.east_west + 1 })
 Summarizes-won_east_west position s card first second third winner kept more can full won side =
     rw add-zero at (rw side at (Summarizes-ends position s card first second third winner kept more can full won))
+
+-- ---- the position after a card
+pub reached_on : (position : Position) (card : Card) → IsReached position → IsUnfinished position.opening position.history → CanPlay position.opening position.history card → IsReached (with_card position card)
+reached_on position card reached more can = record {
+  layout = reached.layout;
+  legal = IsLegalHistory-push position.opening position.history card reached.legal can;
+  within = omega (arith, length-append position.history (card ∷ []), more);
+}

@@ -1,12 +1,9 @@
 -- Numbers below a hundred, right in two places.
 use Rattle.std.proofs.Common.{◌≡◌, ℕ, ◌+◌, ◌/◌, ◌%◌, ◌<◌, ◌≤◌, [], ◌∷◌, ◌++◌, take, drop, sym, ◌∙◌, ap, arith}
 use Rattle.std.specs.Fmt.{decimal}
-use Rattle.std.proofs.lemmas.Fmt.{decimal_digit, decimal_step}
+use Rattle.std.proofs.lemmas.Fmt.{decimal_digit}
+use Rattle.cards.proofs.NumberLemmas.{decimal_two}
 use Rattle.tables.specs.TablesText.{right_in_two}
-
-pub decimal_two : (n : ℕ) → 10 ≤ n → n < 100 → decimal n ≡ (48 + n / 10) ∷ (48 + n % 10) ∷ []
-decimal_two n low high =
-    decimal_step n low (omega arith) ∙ ap (λ front. front ++ ((48 + n % 10) ∷ [])) (decimal_digit (n / 10) (omega arith))
 
 pub two_places_small : (n : ℕ) → n < 10 → 32 ∷ (48 + n % 10) ∷ [] ≡ right_in_two (decimal n)
 two_places_small n h =

@@ -3,7 +3,7 @@ use Rattle.std.proofs.Common.{ℕ, zero, suc, ◌≤◌, List, sym, subst, arith
 use Rattle.std.specs.Prelude.{codes}
 use Rattle.std.specs.Fmt.{decimal}
 use Rattle.std.proofs.lemmas.Fmt.{decimal_digit}
-use Rattle.tables.proofs.NumberLemmas.{decimal_two}
+use Rattle.cards.proofs.NumberLemmas.{decimal_two}
 
 -- what holds of each number and its digits
 pub for_small : (P : ℕ → List ℕ → Type 0) → P 0 (codes "0") → P 1 (codes "1") → P 2 (codes "2") → P 3 (codes "3") → P 4 (codes "4") → P 5 (codes "5") → P 6 (codes "6") → P 7 (codes "7") → P 8 (codes "8") → P 9 (codes "9") → P 10 (codes "10") → P 11 (codes "11") → P 12 (codes "12") → P 13 (codes "13") → P 14 (codes "14") → P 15 (codes "15") → P 16 (codes "16") → P 17 (codes "17") → P 18 (codes "18") → P 19 (codes "19") → P 20 (codes "20") → (n : ℕ) → n ≤ 20 → P n (decimal n)

@@ -1,7 +1,7 @@
 use Rattle.std.proofs.Common.{◌∷◌}
 use Rattle.std.specs.Prelude.{string_bytes}
 use Rattle.cards.specs.declared.pack.Card.{Card}
-use Rattle.play_dialogues.specs.CardTexts.{card_text}
+use Rattle.cards.specs.CardTexts.{card_text}
 use Rattle.play_dialogues.proofs.TextLaws.{pieces_done}
 use Rattle.play_dialogues.proofs.texts.push_cards.Goals as goal
 

@@ -1,7 +1,7 @@
 -- The cards so far were added.
 use Rattle.std.proofs.Common.{◌≡◌, ◌++◌, take}
 use Rattle.std.specs.Prelude.{string_bytes}
-use Rattle.play_dialogues.specs.CardTexts.{cards_text}
+use Rattle.cards.specs.CardTexts.{cards_text}
 use Rattle.play_dialogues.proofs.texts.push_cards.Given as goal
 
 abbrev pub invariant-loop-card : goal.invariant-loop-card

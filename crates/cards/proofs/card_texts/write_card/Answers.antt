@@ -1,5 +1,5 @@
 use Rattle.cards.proofs.WriteLemmas.{AddsBeginning-stop, AddsBeginning-then, Writes-then, Writes-err}
-use Rattle.play_dialogues.proofs.tricks.write_card.Goals as goal
+use Rattle.cards.proofs.card_texts.write_card.Goals as goal
 
 pub returns-in_err-write_all-2 : goal.returns-in_err-write_all-2
 returns-in_err-write_all-2 g c =

@@ -4,8 +4,8 @@ use Rattle.cards.specs.declared.suits.Suit.TheVariants.{Spades}
 use Rattle.cards.specs.declared.pack.Rank.TheVariants.{Two}
 use Rattle.cards.specs.Pack.{card_of}
 use Rattle.cards.proofs.WriteLemmas.{AddsBeginning-piece, Writes-err}
-use Rattle.play_dialogues.specs.CardTexts.{card_text}
-use Rattle.play_dialogues.proofs.tricks.write_cards.Goals as goal
+use Rattle.cards.specs.CardTexts.{card_text}
+use Rattle.cards.proofs.card_texts.write_cards.Goals as goal
 
 pub returns-in_err-write_card : goal.returns-in_err-write_card
 returns-in_err-write_card g c =

@@ -1,7 +1,7 @@
 use Rattle.std.proofs.Common.{◌<◌, arith}
-use Rattle.certificate_play.proofs.StandInLaws.{counted_more}
-use Rattle.certificate_play.proofs.stand_ins.place_in_suit.Goals as goal
-use Rattle.certificate_play.proofs.stand_ins.place_in_suit.Goals.{then-is_some, else-is_some}
+use Rattle.pattern_step.proofs.StandInLaws.{counted_more}
+use Rattle.pattern_step.proofs.stand_ins.place_in_suit.Goals as goal
+use Rattle.pattern_step.proofs.stand_ins.place_in_suit.Goals.{then-is_some, else-is_some}
 
 pub loop-place-preserved : goal.loop-place-preserved
 loop-place-preserved c =

@@ -2,8 +2,8 @@
 use Rattle.std.proofs.Common.{◌∷◌, take}
 use Rattle.std.specs.List.{flat_map}
 use Rattle.cards.specs.Devices.{Adds}
-use Rattle.play_dialogues.specs.CardTexts.{card_text}
-use Rattle.play_dialogues.proofs.tricks.write_cards.Given as goal
+use Rattle.cards.specs.CardTexts.{card_text}
+use Rattle.cards.proofs.card_texts.write_cards.Given as goal
 
 abbrev pub invariant-loop-card : goal.invariant-loop-card
 invariant-loop-card g l =
