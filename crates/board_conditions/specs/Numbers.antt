@@ -5,8 +5,8 @@ use Rattle.std.specs.List.{list_all, slice_get}
 use Rattle.std.specs.Str.Parse.{digits_value}
 use Rattle.cards.specs.declared.seats.Seat.{Seat}
 use Rattle.cards.specs.declared.seats.Seat.TheVariants.{North, East, South, West}
-use Rattle.scoring.specs.declared.vulnerable_sides.VulnerableSides.{VulnerableSides}
-use Rattle.scoring.specs.declared.vulnerable_sides.VulnerableSides.TheVariants.{Neither, NorthSouth, EastWest, Both}
+use Rattle.par.specs.declared.vulnerable_sides.VulnerableSides.{VulnerableSides}
+use Rattle.par.specs.declared.vulnerable_sides.VulnerableSides.TheVariants.{Neither, NorthSouth, EastWest, Both}
 
 -- the number that a board's name is in decimal digits; 0, which no board has, if the name is none
 abbrev pub number_of : List ℕ → ℕ

@@ -10,7 +10,7 @@ ghost use Rattle.board_conditions.specs.Games.{settled};
 use crate::numbers::{dealer_of, vulnerability_of};
 use crate::words::{dealer_said, vulnerability_said};
 use cards::Seat;
-use scoring::VulnerableSides;
+use par::VulnerableSides;
 
 /// The conditions under which a board is played, as far as they are known.
 #[derive(Clone, Copy, Debug, PartialEq, Eq)]

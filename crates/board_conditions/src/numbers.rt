@@ -4,7 +4,7 @@ ghost use Rattle.std.specs.Prelude.{◌≡◌, ◌≤◌};
 ghost use Rattle.board_conditions.specs.Numbers.{number_of, in_cycle, in_turn, dealers, vulnerabilities};
 
 use cards::Seat;
-use scoring::VulnerableSides;
+use par::VulnerableSides;
 
 /// How many boards there are before dealer and vulnerability come again in the same order.
 const CYCLE: u16 = 16;

@@ -4,7 +4,7 @@ ghost use Rattle.std.specs.Prelude.{◌≡◌};
 ghost use Rattle.board_conditions.specs.Words.{dealer_said, vulnerability_said};
 
 use cards::Seat;
-use scoring::VulnerableSides;
+use par::VulnerableSides;
 
 /// The seat that a Dealer value names (PBN 2.1, 3.4.9).
 pub(crate) fn dealer_said(value: &[u8]) -> Option<Seat>

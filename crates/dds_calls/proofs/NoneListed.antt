@@ -4,7 +4,7 @@ use Rattle.std.specs.Prelude.{Contains}
 use Rattle.std.proofs.lemmas.List.Elements.{Contains-get_or}
 use Rattle.cards.specs.declared.seats.Seat.{Seat}
 use Rattle.cards.specs.declared.suits.Trump.{Trump}
-use Rattle.scoring.specs.declared.vulnerable_sides.VulnerableSides.{VulnerableSides}
+use Rattle.par.specs.declared.vulnerable_sides.VulnerableSides.{VulnerableSides}
 use Rattle.par.specs.declared.contracts.Contract.{Contract}
 use Rattle.par.specs.declared.contracts.ParContract.{ParContract}
 use Rattle.par.specs.FinalScores.{final_score}

@@ -6,11 +6,11 @@ use Rattle.cards.specs.declared.seats.Side.TheVariants.{NorthSouth, EastWest}
 use Rattle.cards.specs.declared.suits.Trump.{Trump}
 use Rattle.cards.specs.Seats.{seat_number}
 use Rattle.cards.specs.Orders.{trump_number}
-use Rattle.scoring.specs.declared.vulnerable_sides.VulnerableSides.{VulnerableSides}
-use Rattle.scoring.specs.declared.vulnerable_sides.VulnerableSides.TheVariants as sides
-use Rattle.scoring.specs.declared.scores.ContractResult.{ContractResult}
-use Rattle.scoring.specs.declared.scores.ContractResult.TheVariants.{Made, Down}
-use Rattle.scoring.specs.Bids.{level_number}
+use Rattle.par.specs.declared.vulnerable_sides.VulnerableSides.{VulnerableSides}
+use Rattle.par.specs.declared.vulnerable_sides.VulnerableSides.TheVariants as sides
+use Rattle.par.specs.declared.scores.ContractResult.{ContractResult}
+use Rattle.par.specs.declared.scores.ContractResult.TheVariants.{Made, Down}
+use Rattle.par.specs.Bids.{level_number}
 use Rattle.par.specs.declared.contracts.Declarers.{Declarers}
 use Rattle.par.specs.declared.contracts.Declarers.TheVariants.{Either, Only}
 use Rattle.par.specs.declared.contracts.ParContract.{ParContract}

@@ -14,8 +14,7 @@ ghost use Rattle.dds_calls.specs.Pars.{vulnerable_number};
 use crate::codes::{NO_FAULT, UNKNOWN_FAULT};
 use crate::seats::seat_of;
 use cards::{Seat, Side, Suit, Trump};
-use par::{Declarers, ParContract, Tricks, par_contracts, par_of};
-use scoring::{ContractResult, VulnerableSides};
+use par::{ContractResult, Declarers, ParContract, Tricks, VulnerableSides, par_contracts, par_of};
 
 /// A table of tricks. It has the shape of DDS's `ddTableResults`.
 #[repr(C)]

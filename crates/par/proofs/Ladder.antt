@@ -6,9 +6,9 @@ use Rattle.std.specs.Int.{int_min, int_max}
 use Rattle.cards.specs.declared.seats.Side.{Side}
 use Rattle.cards.specs.declared.seats.Side.TheVariants.{NorthSouth, EastWest}
 use Rattle.cards.specs.Seats.{other_side}
-use Rattle.scoring.specs.declared.bids.Bid.{Bid}
-use Rattle.scoring.specs.Bids.{bid_number, Supersedes}
-use Rattle.scoring.proofs.BidLaws.{bid_at, bid_number-bid_at, bid_number-below, one_bid, in_order}
+use Rattle.par.specs.declared.bids.Bid.{Bid}
+use Rattle.par.specs.Bids.{bid_number, Supersedes}
+use Rattle.par.proofs.BidLaws.{bid_at, bid_number-bid_at, bid_number-below, one_bid, in_order}
 use Rattle.par.specs.declared.contracts.Contract.{Contract}
 use Rattle.par.proofs.IntLaws.{min-left, min-right, max-left, max-right, max-one, le-trans, le-refl, neg-le}
 

@@ -7,3 +7,5 @@ pub mod StepLaws
 pub mod ListLaws
 pub mod TextLaws
 pub mod TextBytes
+pub mod ScoreLaws
+pub mod BidLaws

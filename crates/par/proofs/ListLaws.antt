@@ -16,13 +16,13 @@ use Rattle.cards.specs.declared.suits.Trump.TheVariants as trump
 use Rattle.cards.specs.declared.seats.Side.{Side}
 use Rattle.cards.specs.declared.seats.Side.TheVariants.{NorthSouth, EastWest}
 use Rattle.cards.specs.Seats.{side_number}
-use Rattle.scoring.specs.declared.bids.Bid.{Bid}
-use Rattle.scoring.specs.declared.bids.Level.{Level}
-use Rattle.scoring.specs.declared.bids.Level.TheVariants.{One}
-use Rattle.scoring.specs.Bids.{bid_number, level_number, rank_of}
-use Rattle.scoring.proofs.BidLaws.{one_bid, one_level, in_order, bid_number-below, rank-below, denomination_at, denomination_at-rank}
+use Rattle.par.specs.declared.bids.Bid.{Bid}
+use Rattle.par.specs.declared.bids.Level.{Level}
+use Rattle.par.specs.declared.bids.Level.TheVariants.{One}
+use Rattle.par.specs.Bids.{bid_number, level_number, rank_of}
+use Rattle.par.proofs.BidLaws.{one_bid, one_level, in_order, bid_number-below, rank-below, denomination_at, denomination_at-rank}
 use Rattle.cards.specs.declared.seats.Seat.{Seat}
-use Rattle.scoring.specs.declared.vulnerable_sides.VulnerableSides.{VulnerableSides}
+use Rattle.par.specs.declared.vulnerable_sides.VulnerableSides.{VulnerableSides}
 use Rattle.par.specs.declared.contracts.Contract.{Contract}
 use Rattle.par.specs.declared.contracts.ParContract.{ParContract}
 use Rattle.par.specs.FinalScores.{final_score}

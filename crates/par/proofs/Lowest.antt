@@ -7,11 +7,11 @@ use Rattle.cards.specs.declared.seats.Seat.{Seat}
 use Rattle.cards.specs.declared.seats.Side.{Side}
 use Rattle.cards.specs.declared.seats.Side.TheVariants.{NorthSouth, EastWest}
 use Rattle.cards.specs.declared.suits.Trump.{Trump}
-use Rattle.scoring.specs.Scores.{score, tricks_bid}
-use Rattle.scoring.proofs.ScoreLaws.{made, failing}
-use Rattle.scoring.specs.declared.vulnerable_sides.VulnerableSides.{VulnerableSides}
+use Rattle.par.specs.Scores.{score, tricks_bid}
+use Rattle.par.proofs.ScoreLaws.{made, failing}
+use Rattle.par.specs.declared.vulnerable_sides.VulnerableSides.{VulnerableSides}
 use Rattle.par.specs.declared.contracts.Contract.{Contract}
-use Rattle.scoring.specs.VulnerableSides.{vulnerability_of}
+use Rattle.par.specs.VulnerableSides.{vulnerability_of}
 use Rattle.par.specs.FinalScores.{gain_by, final_score, final_outcome, final_doubling, most_tricks}
 use Rattle.par.specs.Laws.{NoneAtZero}
 

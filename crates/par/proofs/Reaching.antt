@@ -7,9 +7,9 @@ use Rattle.cards.specs.declared.seats.Side.TheVariants.{NorthSouth, EastWest}
 use Rattle.cards.specs.declared.seats.Seat.{Seat}
 use Rattle.cards.specs.declared.suits.Trump.{Trump}
 use Rattle.cards.specs.Seats.{other_side, side_of}
-use Rattle.scoring.specs.declared.bids.Bid.{Bid}
+use Rattle.par.specs.declared.bids.Bid.{Bid}
 use Rattle.par.specs.declared.contracts.Contract.{Contract}
-use Rattle.scoring.specs.declared.vulnerable_sides.VulnerableSides.{VulnerableSides}
+use Rattle.par.specs.declared.vulnerable_sides.VulnerableSides.{VulnerableSides}
 use Rattle.par.specs.FinalScores.{gain_of, final_score}
 use Rattle.par.specs.Auctions.{Call, GoesOn, IsAuction, contract_after, FollowsAfter, CanReach}
 use Rattle.par.specs.Par.{IsPar}

@@ -6,9 +6,9 @@ use Rattle.std.proofs.lemmas.Int.{to_z-of_z, fits_signed_from_abs}
 use Rattle.cards.specs.declared.seats.Side.{Side}
 use Rattle.cards.specs.declared.seats.Side.TheVariants.{NorthSouth, EastWest}
 use Rattle.cards.specs.Seats.{other_side}
-use Rattle.scoring.specs.declared.bids.Bid.{Bid}
-use Rattle.scoring.specs.Bids.{bid_number}
-use Rattle.scoring.proofs.BidLaws.{bid_number-bid_at, one_bid}
+use Rattle.par.specs.declared.bids.Bid.{Bid}
+use Rattle.par.specs.Bids.{bid_number}
+use Rattle.par.proofs.BidLaws.{bid_number-bid_at, one_bid}
 use Rattle.par.specs.declared.contracts.Contract.{Contract}
 use Rattle.par.specs.FinalScores.{gain_by}
 use Rattle.par.proofs.Ladder.{rung, best, best-zero, best-suc}

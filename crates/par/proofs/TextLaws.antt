@@ -4,9 +4,9 @@ use Rattle.std.proofs.lemmas.List.{take_all}
 use Rattle.std.specs.List.{flat_map}
 use Rattle.cards.specs.declared.seats.Side.TheVariants.{NorthSouth}
 use Rattle.cards.specs.declared.suits.Trump.TheVariants as trump
-use Rattle.scoring.specs.declared.bids.Level.TheVariants.{One}
-use Rattle.scoring.specs.declared.scores.Doubling.TheVariants.{Undoubled}
-use Rattle.scoring.specs.declared.scores.ContractResult.TheVariants.{Made}
+use Rattle.par.specs.declared.bids.Level.TheVariants.{One}
+use Rattle.par.specs.declared.scores.Doubling.TheVariants.{Undoubled}
+use Rattle.par.specs.declared.scores.ContractResult.TheVariants.{Made}
 use Rattle.par.specs.declared.contracts.Declarers.TheVariants.{Either}
 use Rattle.par.specs.declared.contracts.ParContract.{ParContract}
 use Rattle.par.specs.Texts.{contract_text, next_text, contracts_text}

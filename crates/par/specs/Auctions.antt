@@ -3,8 +3,8 @@
 use Rattle.std.specs.Prelude.{◌≡◌, List, [], ◌∷◌, Option, None, Some, IfSome, ℤ, ◌≤ℤ◌}
 use Rattle.cards.specs.declared.seats.Side.{Side}
 use Rattle.cards.specs.Seats.{other_side}
-use Rattle.scoring.specs.declared.bids.Bid.{Bid}
-use Rattle.scoring.specs.Bids.{Supersedes}
+use Rattle.par.specs.declared.bids.Bid.{Bid}
+use Rattle.par.specs.Bids.{Supersedes}
 use Rattle.par.specs.declared.contracts.Contract.{Contract}
 use Rattle.par.specs.FinalScores.{gain_of}
 

@@ -7,14 +7,14 @@ use Rattle.cards.specs.declared.seats.Side.{Side}
 use Rattle.cards.specs.declared.seats.Side.TheVariants.{NorthSouth, EastWest}
 use Rattle.cards.specs.declared.suits.Trump.{Trump}
 use Rattle.cards.specs.Seats.{is_same_side}
-use Rattle.scoring.specs.declared.scores.Doubling.{Doubling}
-use Rattle.scoring.specs.declared.scores.Doubling.TheVariants.{Undoubled, Doubled}
-use Rattle.scoring.specs.declared.scores.ContractResult.{ContractResult}
-use Rattle.scoring.specs.declared.scores.ContractResult.TheVariants.{Made, Down}
-use Rattle.scoring.specs.Scores.{outcome_of, score}
-use Rattle.scoring.specs.declared.vulnerable_sides.VulnerableSides.{VulnerableSides}
+use Rattle.par.specs.declared.scores.Doubling.{Doubling}
+use Rattle.par.specs.declared.scores.Doubling.TheVariants.{Undoubled, Doubled}
+use Rattle.par.specs.declared.scores.ContractResult.{ContractResult}
+use Rattle.par.specs.declared.scores.ContractResult.TheVariants.{Made, Down}
+use Rattle.par.specs.Scores.{outcome_of, score}
+use Rattle.par.specs.declared.vulnerable_sides.VulnerableSides.{VulnerableSides}
 use Rattle.par.specs.declared.contracts.Contract.{Contract}
-use Rattle.scoring.specs.VulnerableSides.{vulnerability_of}
+use Rattle.par.specs.VulnerableSides.{vulnerability_of}
 
 -- the two hands of a side
 abbrev pub first_hand : Side → Seat

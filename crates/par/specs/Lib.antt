@@ -1,3 +1,6 @@
+pub mod Bids
+pub mod Scores
+pub mod VulnerableSides
 pub mod Boards
 pub mod FinalScores
 pub mod Auctions

@@ -6,10 +6,10 @@ use Rattle.cards.specs.declared.seats.Side.{Side}
 use Rattle.cards.specs.declared.seats.Side.TheVariants.{NorthSouth, EastWest}
 use Rattle.cards.specs.declared.suits.Trump.{Trump}
 use Rattle.cards.specs.Seats.{other_side}
-use Rattle.scoring.specs.declared.bids.Bid.{Bid}
-use Rattle.scoring.specs.declared.bids.Level.{Level}
-use Rattle.scoring.specs.Bids.{Supersedes, level_number}
-use Rattle.scoring.specs.declared.vulnerable_sides.VulnerableSides.{VulnerableSides}
+use Rattle.par.specs.declared.bids.Bid.{Bid}
+use Rattle.par.specs.declared.bids.Level.{Level}
+use Rattle.par.specs.Bids.{Supersedes, level_number}
+use Rattle.par.specs.declared.vulnerable_sides.VulnerableSides.{VulnerableSides}
 use Rattle.par.specs.declared.contracts.Contract.{Contract}
 use Rattle.par.specs.declared.contracts.Declarers.{Declarers}
 use Rattle.par.specs.declared.contracts.Declarers.TheVariants.{Either, Only}

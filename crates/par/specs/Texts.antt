@@ -6,12 +6,12 @@ use Rattle.cards.specs.declared.seats.Side.{Side}
 use Rattle.cards.specs.declared.seats.Side.TheVariants.{NorthSouth, EastWest}
 use Rattle.cards.specs.Seats.{seat_letter, side_letters}
 use Rattle.cards.specs.Pack.{trump_letters}
-use Rattle.scoring.specs.declared.bids.Bid.{Bid}
-use Rattle.scoring.specs.declared.scores.Doubling.{Doubling}
-use Rattle.scoring.specs.declared.scores.Doubling.TheVariants.{Undoubled, Doubled}
-use Rattle.scoring.specs.declared.scores.ContractResult.{ContractResult}
-use Rattle.scoring.specs.declared.scores.ContractResult.TheVariants.{Made, Down}
-use Rattle.scoring.specs.Bids.{level_number}
+use Rattle.par.specs.declared.bids.Bid.{Bid}
+use Rattle.par.specs.declared.scores.Doubling.{Doubling}
+use Rattle.par.specs.declared.scores.Doubling.TheVariants.{Undoubled, Doubled}
+use Rattle.par.specs.declared.scores.ContractResult.{ContractResult}
+use Rattle.par.specs.declared.scores.ContractResult.TheVariants.{Made, Down}
+use Rattle.par.specs.Bids.{level_number}
 use Rattle.par.specs.declared.contracts.Declarers.{Declarers}
 use Rattle.par.specs.declared.contracts.Declarers.TheVariants.{Either, Only}
 use Rattle.par.specs.declared.contracts.ParContract.{ParContract}

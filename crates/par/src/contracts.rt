@@ -1,7 +1,8 @@
 //! Contracts of a side, and the par contracts.
 
+use crate::bids::{Bid, Level};
+use crate::scores::{ContractResult, Doubling};
 use cards::{Seat, Side, Trump};
-use scoring::{Bid, ContractResult, Doubling, Level};
 
 /// A contract: the last bid, and the side that made it.
 #[derive(Clone, Copy, Debug, PartialEq, Eq)]

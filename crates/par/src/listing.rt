@@ -2,18 +2,19 @@
 
 ghost use Rattle.std.specs.Prelude.{◌≡◌, ◌+◌, ◌-◌, ◌*◌, ◌<◌, Some, MatchBool};
 ghost use Rattle.cards.specs.Seats.{side_number};
-ghost use Rattle.scoring.specs.Bids.{bid_number};
+ghost use Rattle.par.specs.Bids.{bid_number};
 ghost use Rattle.par.specs.Boards.{tricks_in};
 ghost use Rattle.par.specs.FinalScores.{final_score, gain_of};
 ghost use Rattle.par.specs.ParContracts.{IsUnbeaten, Stands, StandsLower, IsParContract, AreParContracts};
 ghost use Rattle.par.specs.ParContracts.{declarers_of, as_printed};
 
+use crate::bids::{Bid, Level};
 use crate::boards::Tricks;
 use crate::contracts::{Contract, Declarers, ParContract};
 use crate::values::{final_doubling, final_outcome, final_score, hands};
+use crate::vulnerable_sides::VulnerableSides;
 use arrayvec::ArrayVec;
 use cards::{Side, Trump};
-use scoring::{Bid, Level, VulnerableSides};
 
 /// The par contracts of a board with this par, the highest bid first. Of two contracts with one bid the contract of
 /// North and South comes first. There are at most ten: one for each side and denomination.

@@ -7,9 +7,10 @@ ghost use Rattle.cards.specs.Devices.{Writes};
 ghost use Rattle.par.specs.Texts.{gaining_side, score_text, declarers_text, bid_text, doubling_text, outcome_text};
 ghost use Rattle.par.specs.Texts.{contract_text, next_text, contracts_text};
 
+use crate::bids::Bid;
 use crate::contracts::{Declarers, ParContract};
+use crate::scores::{ContractResult, Doubling};
 use cards::{DeviceFault, Side, Sink, write_all, write_number};
-use scoring::{Bid, ContractResult, Doubling};
 
 /// Writes the side that gains and what it gains, as `EW 110`; `NS 0` if par is 0. After a fault the sink has taken a
 /// beginning of the text. Takes no memory.

@@ -8,10 +8,12 @@ ghost use Rattle.par.specs.FinalScores.{first_hand, second_hand, most_tricks, fi
 ghost use Rattle.par.specs.FinalScores.{final_score, gain_by};
 ghost use Rattle.par.specs.Par.{IsPar};
 
+use crate::bids::Bid;
 use crate::boards::Tricks;
 use crate::contracts::Contract;
+use crate::scores::{ContractResult, Doubling, outcome_of, score_of};
+use crate::vulnerable_sides::VulnerableSides;
 use cards::{Seat, Side, Trump};
-use scoring::{Bid, ContractResult, Doubling, VulnerableSides, outcome_of, score_of};
 
 /// The two hands of a side.
 pub(crate) fn hands(side: Side) -> (Seat, Seat)

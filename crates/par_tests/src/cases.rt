@@ -2,8 +2,10 @@
 
 use crate::conditions::{answer_conditions, answer_first};
 use cards::{Buffer, DeviceFault, Seat, Trump, write_all};
-use par::{ParContract, Tricks, par_contracts, par_of, write_contracts, write_score};
-use scoring::{Bid, Doubling, Level, Vulnerability, VulnerableSides, score_of};
+use par::{
+    Bid, Doubling, Level, ParContract, Tricks, Vulnerability, VulnerableSides, par_contracts,
+    par_of, score_of, write_contracts, write_score,
+};
 use std::alloc::{AllocError, Global};
 
 /// Room for the texts of a board.

@@ -1,8 +1,8 @@
 //! What a text says of the conditions of its boards.
 
 use board_conditions::{Conditions, first_conditions, read_conditions};
+use par::VulnerableSides;
 use pbn_deals::read_boards;
-use scoring::VulnerableSides;
 use std::alloc::{AllocError, Global};
 
 /// Adds dealer and vulnerability of each board of a text.

@@ -10,7 +10,7 @@ use Rattle.cards.specs.declared.suits.Trump.{Trump}
 use Rattle.cards.specs.declared.suits.Trump.TheVariants as trump
 use Rattle.cards.specs.Seats.{seat_letter}
 use Rattle.cards.specs.Deal.{Deal}
-use Rattle.scoring.specs.declared.vulnerable_sides.VulnerableSides.{VulnerableSides}
+use Rattle.par.specs.declared.vulnerable_sides.VulnerableSides.{VulnerableSides}
 use Rattle.pbn_deals.specs.declared.boards.Board.{Board}
 use Rattle.board_conditions.specs.declared.conditions.Conditions.{Conditions}
 use Rattle.board_conditions.specs.Titles.{TitleValues}

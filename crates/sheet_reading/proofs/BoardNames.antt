@@ -5,7 +5,7 @@ use Rattle.std.specs.Fmt.{decimal}
 use Rattle.cards.specs.declared.seats.Seat.{Seat}
 use Rattle.cards.specs.declared.seats.Seat.TheVariants.{North, East, South, West}
 use Rattle.cards.specs.Deal.{Deal}
-use Rattle.scoring.specs.declared.vulnerable_sides.VulnerableSides.{VulnerableSides}
+use Rattle.par.specs.declared.vulnerable_sides.VulnerableSides.{VulnerableSides}
 use Rattle.board_conditions.specs.declared.conditions.Conditions.{Conditions}
 use Rattle.tables.specs.declared.pars.BoardPar.{BoardPar}
 use Rattle.tables.specs.declared.pars.BoardPar.TheVariants.{Known, NoDealer, NoVulnerability}

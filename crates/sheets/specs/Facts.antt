@@ -3,11 +3,11 @@ use Rattle.std.specs.Prelude.{ℕ, Bool, true, false, List, [], ◌++◌, codes,
 use Rattle.cards.specs.declared.seats.Seat.{Seat}
 use Rattle.cards.specs.declared.seats.Seat.TheVariants.{North, East, South, West}
 use Rattle.cards.specs.Seats.{seat_letter, side_of, is_same_seat}
-use Rattle.scoring.specs.declared.scores.Vulnerability.{Vulnerability}
-use Rattle.scoring.specs.declared.scores.Vulnerability.TheVariants.{NotVulnerable, Vulnerable}
-use Rattle.scoring.specs.declared.vulnerable_sides.VulnerableSides.{VulnerableSides}
-use Rattle.scoring.specs.declared.vulnerable_sides.VulnerableSides.TheVariants as sides
-use Rattle.scoring.specs.VulnerableSides.{vulnerability_of}
+use Rattle.par.specs.declared.scores.Vulnerability.{Vulnerability}
+use Rattle.par.specs.declared.scores.Vulnerability.TheVariants.{NotVulnerable, Vulnerable}
+use Rattle.par.specs.declared.vulnerable_sides.VulnerableSides.{VulnerableSides}
+use Rattle.par.specs.declared.vulnerable_sides.VulnerableSides.TheVariants as sides
+use Rattle.par.specs.VulnerableSides.{vulnerability_of}
 use Rattle.board_conditions.specs.declared.conditions.Conditions.{Conditions}
 use Rattle.html.specs.Templates.{filled}
 use Rattle.sheets.specs.declared.templates.TheConstants.{FACTS, DEALER, VULNERABLE, COMPASS}

@@ -11,7 +11,7 @@ use crate::templates::{
 use crate::values::{write_with, write_with_seat};
 use board_conditions::Conditions;
 use cards::{DeviceFault, Seat, Sink, write_all};
-use scoring::{Vulnerability, VulnerableSides};
+use par::{Vulnerability, VulnerableSides};
 
 /// Writes who deals, if that is known.
 fn write_dealer<S: Sink>(sink: &mut S, dealer: Option<Seat>) -> Result<(), DeviceFault>

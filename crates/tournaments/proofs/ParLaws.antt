@@ -10,13 +10,13 @@ use Rattle.cards.specs.declared.suits.Suit.TheVariants.{Spades, Hearts, Diamonds
 use Rattle.cards.specs.declared.suits.Trump.{Trump}
 use Rattle.cards.specs.declared.suits.Trump.TheVariants as trump
 use Rattle.cards.specs.Orders.{trump_number}
-use Rattle.scoring.specs.declared.bids.Bid.{Bid}
-use Rattle.scoring.specs.declared.bids.Level.{Level}
-use Rattle.scoring.specs.declared.bids.Level.TheVariants.{One, Two, Three, Four, Five, Six, Seven}
-use Rattle.scoring.specs.Bids.{level_number}
-use Rattle.scoring.specs.declared.scores.ContractResult.TheVariants.{Made, Down}
-use Rattle.scoring.specs.Scores.{tricks_bid, outcome_of}
-use Rattle.scoring.specs.declared.vulnerable_sides.VulnerableSides.{VulnerableSides}
+use Rattle.par.specs.declared.bids.Bid.{Bid}
+use Rattle.par.specs.declared.bids.Level.{Level}
+use Rattle.par.specs.declared.bids.Level.TheVariants.{One, Two, Three, Four, Five, Six, Seven}
+use Rattle.par.specs.Bids.{level_number}
+use Rattle.par.specs.declared.scores.ContractResult.TheVariants.{Made, Down}
+use Rattle.par.specs.Scores.{tricks_bid, outcome_of}
+use Rattle.par.specs.declared.vulnerable_sides.VulnerableSides.{VulnerableSides}
 use Rattle.par.specs.declared.contracts.Contract.{Contract}
 use Rattle.par.specs.declared.contracts.ParContract.{ParContract}
 use Rattle.par.specs.FinalScores.{first_hand, second_hand, most_tricks}

@@ -6,12 +6,12 @@ use Rattle.std.proofs.lemmas.Bool.{cases_eq}
 use Rattle.cards.specs.declared.seats.Side.{Side}
 use Rattle.cards.specs.declared.seats.Side.TheVariants.{NorthSouth, EastWest}
 use Rattle.cards.specs.Seats.{other_side, side_of}
-use Rattle.scoring.specs.declared.bids.Level.{Level}
-use Rattle.scoring.specs.declared.bids.Level.TheVariants.{One}
-use Rattle.scoring.specs.declared.bids.Bid.{Bid}
-use Rattle.scoring.specs.Bids.{level_number, Supersedes}
-use Rattle.scoring.specs.Scores.{score}
-use Rattle.scoring.proofs.BidLaws.{levels, level_number-in_place, level-above, level-below, one_level}
+use Rattle.par.specs.declared.bids.Level.{Level}
+use Rattle.par.specs.declared.bids.Level.TheVariants.{One}
+use Rattle.par.specs.declared.bids.Bid.{Bid}
+use Rattle.par.specs.Bids.{level_number, Supersedes}
+use Rattle.par.specs.Scores.{score}
+use Rattle.par.proofs.BidLaws.{levels, level_number-in_place, level-above, level-below, one_level}
 use Rattle.par.specs.declared.contracts.Contract.{Contract}
 use Rattle.par.specs.FinalScores.{gain_by, gain_of, final_score}
 use Rattle.par.specs.ParContracts.{Stands, IsParContract, at_level}

@@ -5,7 +5,7 @@ use Rattle.std.proofs.lemmas.Int.{ints}
 use Rattle.cards.specs.declared.seats.Side.{Side}
 use Rattle.cards.specs.declared.seats.Side.TheVariants.{NorthSouth, EastWest}
 use Rattle.cards.specs.Seats.{other_side, side_of}
-use Rattle.scoring.specs.declared.bids.Bid.{Bid}
+use Rattle.par.specs.declared.bids.Bid.{Bid}
 use Rattle.par.specs.declared.contracts.Contract.{Contract}
 use Rattle.par.specs.FinalScores.{gain_by, gain_of, final_score}
 use Rattle.par.specs.Auctions.{Call, MayBeBid, GoesOn, IsAuction, contract_after, Strategy, IsLawful, FollowsAfter, CanReach}

@@ -1,8 +1,8 @@
 use Rattle.std.proofs.Common.{◌≡◌, ◌∙◌, subst, arith}
 use Rattle.std.specs.Prelude.{◌≤ℤ◌, ◌<ℤ◌, Some}
 use Rattle.std.proofs.lemmas.Int.{ints}
-use Rattle.scoring.specs.Bids.{bid_number, Supersedes}
-use Rattle.scoring.proofs.BidLaws.{in_order, bid_number-below}
+use Rattle.par.specs.Bids.{bid_number, Supersedes}
+use Rattle.par.proofs.BidLaws.{in_order, bid_number-below}
 use Rattle.cards.specs.Seats.{other_side}
 use Rattle.par.specs.Boards.{tricks_in}
 use Rattle.par.specs.FinalScores.{final_score, gain_of}

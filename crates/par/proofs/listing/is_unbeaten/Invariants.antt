@@ -1,8 +1,8 @@
 -- No higher bid so far is better.
 use Rattle.std.proofs.Common.{◌<◌}
 use Rattle.std.specs.Prelude.{◌≤ℤ◌}
-use Rattle.scoring.specs.declared.bids.Bid.{Bid}
-use Rattle.scoring.specs.Bids.{bid_number}
+use Rattle.par.specs.declared.bids.Bid.{Bid}
+use Rattle.par.specs.Bids.{bid_number}
 use Rattle.par.specs.Boards.{tricks_in}
 use Rattle.par.specs.FinalScores.{final_score}
 use Rattle.par.proofs.listing.is_unbeaten.Given as goal

@@ -1,7 +1,7 @@
 -- No contract stands at a level so far.
 use Rattle.std.proofs.Common.{◌<◌}
-use Rattle.scoring.specs.declared.bids.Level.{Level}
-use Rattle.scoring.specs.Bids.{level_number}
+use Rattle.par.specs.declared.bids.Level.{Level}
+use Rattle.par.specs.Bids.{level_number}
 use Rattle.par.specs.Boards.{tricks_in}
 use Rattle.par.specs.FinalScores.{final_score}
 use Rattle.par.specs.ParContracts.{Stands, at_level}

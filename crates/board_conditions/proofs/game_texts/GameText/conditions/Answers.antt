@@ -1,7 +1,7 @@
 use Rattle.std.proofs.Common.{◌≡◌, [], codes, Option, unwrap_or, sym, ◌∙◌, ap}
 use Rattle.std.specs.Option.{option_copied}
 use Rattle.cards.specs.declared.seats.Seat.{Seat}
-use Rattle.scoring.specs.declared.vulnerable_sides.VulnerableSides.{VulnerableSides}
+use Rattle.par.specs.declared.vulnerable_sides.VulnerableSides.{VulnerableSides}
 use Rattle.board_conditions.specs.Games.{value_in, name_in, settled}
 use Rattle.board_conditions.specs.Numbers.{number_of, dealers, vulnerabilities, in_cycle, in_turn}
 use Rattle.board_conditions.specs.Words.{dealer_said, vulnerability_said}

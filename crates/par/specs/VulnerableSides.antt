@@ -1,10 +1,10 @@
 -- Which sides are vulnerable on a board (Law 2).
 use Rattle.cards.specs.declared.seats.Side.{Side}
 use Rattle.cards.specs.declared.seats.Side.TheVariants as side
-use Rattle.scoring.specs.declared.scores.Vulnerability.{Vulnerability}
-use Rattle.scoring.specs.declared.scores.Vulnerability.TheVariants.{NotVulnerable, Vulnerable}
-use Rattle.scoring.specs.declared.vulnerable_sides.VulnerableSides.{VulnerableSides}
-use Rattle.scoring.specs.declared.vulnerable_sides.VulnerableSides.TheVariants.{Neither, NorthSouth, EastWest, Both}
+use Rattle.par.specs.declared.scores.Vulnerability.{Vulnerability}
+use Rattle.par.specs.declared.scores.Vulnerability.TheVariants.{NotVulnerable, Vulnerable}
+use Rattle.par.specs.declared.vulnerable_sides.VulnerableSides.{VulnerableSides}
+use Rattle.par.specs.declared.vulnerable_sides.VulnerableSides.TheVariants.{Neither, NorthSouth, EastWest, Both}
 
 -- whether the side is vulnerable
 abbrev pub vulnerability_of : VulnerableSides → Side → Vulnerability

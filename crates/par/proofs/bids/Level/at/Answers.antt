@@ -1,6 +1,6 @@
 use Rattle.std.proofs.Common.{◌≡◌, suc, ◌-◌, ◌∙◌, arith}
-use Rattle.scoring.proofs.BidLaws.{level_number-in_place}
-use Rattle.scoring.proofs.bids.Level.at.Goals as goal
+use Rattle.par.proofs.BidLaws.{level_number-in_place}
+use Rattle.par.proofs.bids.Level.at.Goals as goal
 
 pub returns : goal.returns
 returns c =

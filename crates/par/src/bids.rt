@@ -1,7 +1,7 @@
 //! Bids and their order (Law 18).
 
 ghost use Rattle.std.specs.Prelude.{◌≡◌, ◌<◌, ◌≤◌};
-ghost use Rattle.scoring.specs.Bids.{bid_number, level_number, rank_of};
+ghost use Rattle.par.specs.Bids.{bid_number, level_number, rank_of};
 
 use cards::{Suit, Trump};
 

@@ -1,6 +1,6 @@
 use Rattle.std.proofs.Common.{◌∙◌, sym, arith}
-use Rattle.scoring.proofs.ScoreLaws.{undoubled, undoubled_vulnerable, doubled_few, doubled_many, doubled_vulnerable}
-use Rattle.scoring.proofs.scores.lost.Goals as goal
+use Rattle.par.proofs.ScoreLaws.{undoubled, undoubled_vulnerable, doubled_few, doubled_many, doubled_vulnerable}
+use Rattle.par.proofs.scores.lost.Goals as goal
 
 pub returns-in-Undoubled-NotVulnerable-clause-points : goal.returns-in-Undoubled-NotVulnerable-clause-points
 returns-in-Undoubled-NotVulnerable-clause-points c =

@@ -2,12 +2,12 @@
 use Rattle.std.proofs.Common.{◌≡◌, ℕ, zero, suc, ◌+◌, ◌-◌, ◌*◌, ◌<◌, ◌≤◌, pos, neg_ℤ, ◌<ℤ◌, inl, inr, ltb, refl, arith, lt-ltb, le-ltb}
 use Rattle.std.proofs.lemmas.Bool.{cases_Bool}
 use Rattle.std.proofs.lemmas.Int.{ints}
-use Rattle.scoring.specs.declared.scores.Vulnerability.{Vulnerability}
-use Rattle.scoring.specs.declared.scores.Doubling.{Doubling}
-use Rattle.scoring.specs.declared.scores.Vulnerability.TheVariants.{NotVulnerable, Vulnerable}
-use Rattle.scoring.specs.declared.scores.Doubling.TheVariants.{Undoubled, Doubled}
-use Rattle.scoring.specs.Scores.{undertrick_penalty, penalty, tricks_bid, trick_score, game_or_part_score, made_score}
-use Rattle.scoring.specs.Laws.{MadeContractsGain, FailingContractsLose}
+use Rattle.par.specs.declared.scores.Vulnerability.{Vulnerability}
+use Rattle.par.specs.declared.scores.Doubling.{Doubling}
+use Rattle.par.specs.declared.scores.Vulnerability.TheVariants.{NotVulnerable, Vulnerable}
+use Rattle.par.specs.declared.scores.Doubling.TheVariants.{Undoubled, Doubled}
+use Rattle.par.specs.Scores.{undertrick_penalty, penalty, tricks_bid, trick_score, game_or_part_score, made_score}
+use Rattle.par.specs.Laws.{MadeContractsGain, FailingContractsLose}
 
 pub undoubled : (under : ℕ) → penalty Undoubled NotVulnerable under ≡ 50 * under
 undoubled zero = refl

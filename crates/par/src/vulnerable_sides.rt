@@ -1,7 +1,7 @@
 //! Which sides are vulnerable on a board (Law 2).
 
 ghost use Rattle.std.specs.Prelude.{◌≡◌};
-ghost use Rattle.scoring.specs.VulnerableSides.{vulnerability_of};
+ghost use Rattle.par.specs.VulnerableSides.{vulnerability_of};
 
 use crate::scores::Vulnerability;
 use cards::Side;

@@ -4,16 +4,16 @@ use Rattle.std.specs.Prelude.{ℕ, zero, suc, ◌+◌, ◌-◌, ◌*◌, if◌th
 use Rattle.cards.specs.declared.suits.Suit.TheVariants.{Spades, Hearts, Diamonds, Clubs}
 use Rattle.cards.specs.declared.suits.Trump.{Trump}
 use Rattle.cards.specs.declared.suits.Trump.TheVariants as trump
-use Rattle.scoring.specs.declared.bids.Level.{Level}
-use Rattle.scoring.specs.declared.bids.Level.TheVariants.{Six, Seven}
-use Rattle.scoring.specs.declared.bids.Bid.{Bid}
-use Rattle.scoring.specs.declared.scores.Vulnerability.{Vulnerability}
-use Rattle.scoring.specs.declared.scores.Vulnerability.TheVariants.{NotVulnerable, Vulnerable}
-use Rattle.scoring.specs.declared.scores.Doubling.{Doubling}
-use Rattle.scoring.specs.declared.scores.Doubling.TheVariants.{Undoubled, Doubled}
-use Rattle.scoring.specs.declared.scores.ContractResult.{ContractResult}
-use Rattle.scoring.specs.declared.scores.ContractResult.TheVariants.{Made, Down}
-use Rattle.scoring.specs.Bids.{level_number}
+use Rattle.par.specs.declared.bids.Level.{Level}
+use Rattle.par.specs.declared.bids.Level.TheVariants.{Six, Seven}
+use Rattle.par.specs.declared.bids.Bid.{Bid}
+use Rattle.par.specs.declared.scores.Vulnerability.{Vulnerability}
+use Rattle.par.specs.declared.scores.Vulnerability.TheVariants.{NotVulnerable, Vulnerable}
+use Rattle.par.specs.declared.scores.Doubling.{Doubling}
+use Rattle.par.specs.declared.scores.Doubling.TheVariants.{Undoubled, Doubled}
+use Rattle.par.specs.declared.scores.ContractResult.{ContractResult}
+use Rattle.par.specs.declared.scores.ContractResult.TheVariants.{Made, Down}
+use Rattle.par.specs.Bids.{level_number}
 
 -- ---- the outcome
 -- how many tricks the bid says that declarer will take

@@ -1,6 +1,6 @@
 //! Laws about bids and scores. Each is a function that does nothing: its contract is the law.
 
-ghost use Rattle.scoring.specs.Laws.{AreInOrder, HaveNumbers, MadeContractsGain, FailingContractsLose};
+ghost use Rattle.par.specs.Laws.{AreInOrder, HaveNumbers, MadeContractsGain, FailingContractsLose};
 
 /// A bid supersedes exactly the bids with lower numbers, and each number belongs to one bid.
 pub fn bids_are_in_order()

@@ -3,9 +3,9 @@ use Rattle.std.specs.Prelude.{◌≡◌, ℕ, ◌+◌, ◌-◌, ◌*◌, ◌<◌
 use Rattle.cards.specs.declared.suits.Suit.TheVariants.{Spades, Hearts, Diamonds, Clubs}
 use Rattle.cards.specs.declared.suits.Trump.{Trump}
 use Rattle.cards.specs.declared.suits.Trump.TheVariants as trump
-use Rattle.scoring.specs.declared.bids.Level.{Level}
-use Rattle.scoring.specs.declared.bids.Level.TheVariants.{One, Two, Three, Four, Five, Six, Seven}
-use Rattle.scoring.specs.declared.bids.Bid.{Bid}
+use Rattle.par.specs.declared.bids.Level.{Level}
+use Rattle.par.specs.declared.bids.Level.TheVariants.{One, Two, Three, Four, Five, Six, Seven}
+use Rattle.par.specs.declared.bids.Bid.{Bid}
 
 -- the number of odd tricks, tricks in excess of six (Law 18A)
 abbrev pub level_number : Level → ℕ

@@ -1,5 +1,5 @@
-use Rattle.scoring.proofs.BidLaws.{in_order, one_bid}
-use Rattle.scoring.proofs.laws.bids_are_in_order.Goals as goal
+use Rattle.par.proofs.BidLaws.{in_order, one_bid}
+use Rattle.par.proofs.laws.bids_are_in_order.Goals as goal
 
 pub returns-clause-order : goal.returns-clause-order
 returns-clause-order c = in_order

@@ -4,11 +4,11 @@ use Rattle.std.proofs.lemmas.Bool.{cases_lt}
 use Rattle.cards.specs.declared.suits.Suit.TheVariants.{Spades, Hearts, Diamonds, Clubs}
 use Rattle.cards.specs.declared.suits.Trump.{Trump}
 use Rattle.cards.specs.declared.suits.Trump.TheVariants as trump
-use Rattle.scoring.specs.declared.bids.Level.{Level}
-use Rattle.scoring.specs.declared.bids.Level.TheVariants.{One, Two, Three, Four, Five, Six, Seven}
-use Rattle.scoring.specs.declared.bids.Bid.{Bid}
-use Rattle.scoring.specs.Bids.{level_number, rank_of, bid_number}
-use Rattle.scoring.specs.Laws.{AreInOrder, HaveNumbers}
+use Rattle.par.specs.declared.bids.Level.{Level}
+use Rattle.par.specs.declared.bids.Level.TheVariants.{One, Two, Three, Four, Five, Six, Seven}
+use Rattle.par.specs.declared.bids.Bid.{Bid}
+use Rattle.par.specs.Bids.{level_number, rank_of, bid_number}
+use Rattle.par.specs.Laws.{AreInOrder, HaveNumbers}
 
 pub level-above : (level : Level) → 1 ≤ level_number level
 level-above One = omega arith

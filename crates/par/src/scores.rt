@@ -1,9 +1,9 @@
 //! The score of a contract (Law 77).
 
 ghost use Rattle.std.specs.Prelude.{◌≡◌, ◌*◌, ◌<◌, ◌≤◌, ◌^◌, unsigned_abs};
-ghost use Rattle.scoring.specs.Scores.{outcome_of, trick_value, first_trick_more, trick_score};
-ghost use Rattle.scoring.specs.Scores.{game_or_part_score, slam_premium, overtrick_value, penalty};
-ghost use Rattle.scoring.specs.Scores.{made_score, score};
+ghost use Rattle.par.specs.Scores.{outcome_of, trick_value, first_trick_more, trick_score};
+ghost use Rattle.par.specs.Scores.{game_or_part_score, slam_premium, overtrick_value, penalty};
+ghost use Rattle.par.specs.Scores.{made_score, score};
 
 use crate::bids::{Bid, Level};
 use cards::{Suit, Trump};

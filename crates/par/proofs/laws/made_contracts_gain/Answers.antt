@@ -1,5 +1,5 @@
-use Rattle.scoring.proofs.ScoreLaws.{made, failing}
-use Rattle.scoring.proofs.laws.made_contracts_gain.Goals as goal
+use Rattle.par.proofs.ScoreLaws.{made, failing}
+use Rattle.par.proofs.laws.made_contracts_gain.Goals as goal
 
 pub returns-clause-made : goal.returns-clause-made
 returns-clause-made c = made

@@ -1,2 +1,0 @@
-pub mod ScoreLaws
-pub mod BidLaws

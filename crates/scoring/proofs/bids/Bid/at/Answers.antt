@@ -1,5 +1,0 @@
-use Rattle.scoring.proofs.BidLaws.{bid_number-bid_at}
-use Rattle.scoring.proofs.bids.Bid.at.Goals as goal
-
-pub returns : goal.returns
-returns c = bid_number-bid_at c.args.number c.requires

@@ -1,4 +1,0 @@
-pub mod Bids
-pub mod Scores
-pub mod VulnerableSides
-pub mod Laws
