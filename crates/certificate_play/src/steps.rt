@@ -9,12 +9,12 @@ ghost use Rattle.certificate_play.specs.OwnCards.{IsLastWith};
 ghost use Rattle.certificate_play.specs.Steps.{opening_of, IsByNode, IsWayOf, IsChosen, IsKeptIn, promise_of};
 
 use crate::branches::below_answer;
-use crate::stand_ins::{last_stood_for, pat_card_of};
+use crate::stand_ins::last_stood_for;
 use crate::trick_ends::next_trick;
 use arrayvec::ArrayVec;
 use cards::{Card, Seat};
 use certificate_graph::{Graph, Node, Place, PlaceView};
-use pattern_step::PatCard;
+use pattern_step::{PatCard, pat_card_of};
 
 /// A trick that is played by a node: the place of its tree, and what was played.
 #[derive(Drop)]
