@@ -9,15 +9,15 @@ use crate::lease_tests::twins::{add, leases};
 use arrayvec::ArrayVec;
 use cards::{Buffer, Bytes, Layout, Seat, Side, Trump};
 use certificate_graph::{Bundle, Claim, Solver};
-use lease_book::Request;
 use partition_solver::Partition;
+use plain_runs::{Request, make_single, replay_tables};
 use std::alloc::{AllocError, Global};
 use std::process::Abort;
 use std::test::Fail;
 use tables::Report;
 use test_support::idle::{FindsNothing, StandsStill};
 use test_support::texts::joined;
-use tournaments::{MakeFault, make_single, replay_tables};
+use tournaments::MakeFault;
 
 /// A solver that gives the answer for North in no-trump, whatever it is asked.
 #[derive(Drop)]

@@ -14,10 +14,5 @@ pub mod HolderLaws
 pub mod NamedLaws
 pub mod PublicationLaws
 pub mod TruthLaws
-pub mod VerdictLaws
-pub mod PlaceLaws
-pub mod FirstGoodLaws
-pub mod ReplayLaws
-pub mod FreeLaws
 pub mod IdleLaws
 pub mod SettlingLaws

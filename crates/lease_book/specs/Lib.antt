@@ -6,13 +6,9 @@ pub mod Histories
 pub mod Replies
 pub mod Slots
 pub mod Books
-pub mod BookResults
 pub mod Keeping
-pub mod GoodHandIns
 pub mod Laws
 pub mod TrueHistories
-pub mod Requests
-pub mod Replays
 pub mod ReplyTexts
 pub mod BookFaults
 pub mod Settling

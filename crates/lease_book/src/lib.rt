@@ -2,7 +2,7 @@
 //!
 //! A [`Book`] gives out leases of entries, and keeps the history of all that it was asked and what it replied. Each
 //! reply is the one that the history before it names (`specs/Histories.antt`), and a published number is that of a
-//! proof on the board's deal. [`write_tables`] writes the tables of the boards with the published numbers.
+//! proof on the board's deal.
 #![tactic(auto)]
 
 mod boards;
@@ -13,10 +13,7 @@ mod events;
 mod faults;
 mod gates;
 mod holders;
-mod replays;
 mod replies;
-mod requests;
-mod sheets;
 mod slots;
 mod true_histories;
 
@@ -27,7 +24,4 @@ pub use entries::{ENTRIES, Entry};
 pub use events::{Asked, Event, Grant, HandedIn, Reply};
 pub use faults::BookFault;
 pub use gates::Gate;
-pub use replays::replay;
-pub use requests::{GraphText, Request};
-pub use sheets::write_tables;
 pub use true_histories::is_true_history;

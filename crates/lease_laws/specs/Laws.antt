@@ -13,10 +13,10 @@ use Rattle.lease_book.specs.declared.events.Event.{Event}
 use Rattle.lease_book.specs.Entries.{place_of}
 use Rattle.lease_book.specs.Twins.{deal_of, IsLeastTwin, IsTwin, twin_of}
 use Rattle.lease_laws.specs.Twins.{deal_count}
+use Rattle.lease_laws.specs.GoodHandIns.{first_good}
 use Rattle.lease_book.specs.Histories.{Terms, given_in, grant_of, held_after, is_for_place}
 use Rattle.lease_book.specs.Histories.{published_in, times_leased}
 use Rattle.lease_book.specs.Replies.{IsReply, IsLegal}
-use Rattle.lease_book.specs.GoodHandIns.{first_good}
 use Rattle.lease_book.specs.Done.{holder_in}
 use Rattle.lease_book.specs.Settling.{is_settled, AreSettledOnce}
 use Rattle.lease_book.specs.Laws.{published_for}

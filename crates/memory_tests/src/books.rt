@@ -3,8 +3,9 @@
 use crate::outcomes::{Outcome, Told};
 use crate::spending::Spending;
 use cards::{Seat, Suit, Trump};
-use lease_book::{Book, BookFault, Entry, GraphText, Reply, Request, replay};
+use lease_book::{Book, BookFault, Entry, Reply};
 use pbn_deals::{Board, BoardName, read_layout};
+use plain_runs::{GraphText, Request, replay};
 use std::alloc::{AllocError, Global};
 use test_support::deals::ACE;
 use test_support::graphs::{ACE_WINS, NOTHING};

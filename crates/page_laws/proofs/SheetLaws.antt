@@ -7,7 +7,7 @@ use Rattle.pbn_deals.proofs.PrintableBoards.{boards_are_printable}
 use Rattle.lease_book.specs.declared.events.Event.{Event}
 use Rattle.lease_book.specs.Histories.{deal_of}
 use Rattle.lease_book.specs.TrueHistories.{AreValues}
-use Rattle.lease_book.specs.BookResults.{book_results}
+use Rattle.tournaments.specs.BookResults.{book_results}
 use Rattle.tables.specs.TablesText.{Printed, printed_with}
 use Rattle.text_laws.specs.ReadBack.{AreTricks}
 use Rattle.text_laws.specs.PageReading.{Section}

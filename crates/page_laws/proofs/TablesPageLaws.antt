@@ -21,7 +21,7 @@ use Rattle.lease_book.specs.declared.events.Event.{Event}
 use Rattle.lease_book.specs.Histories.{deal_of, published_in}
 use Rattle.lease_book.proofs.TwinLaws.{board_with}
 use Rattle.lease_book.specs.TrueHistories.{AreValues}
-use Rattle.lease_book.specs.BookResults.{book_results}
+use Rattle.tournaments.specs.BookResults.{book_results}
 use Rattle.tables.specs.declared.pars.BoardPar.{BoardPar}
 use Rattle.tables.specs.ParText.{IsSmallPar}
 use Rattle.tables.specs.TablesText.{printed_with}

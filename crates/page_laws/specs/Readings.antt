@@ -9,7 +9,7 @@ use Rattle.cards.specs.Devices.{Device}
 use Rattle.pbn_deals.specs.Reading.{TextAnswers}
 use Rattle.streams.specs.RunStreams.{Devices}
 use Rattle.lease_book.specs.Books.{Ledger}
-use Rattle.lease_book.specs.BookResults.{book_results}
+use Rattle.tournaments.specs.BookResults.{book_results}
 use Rattle.lease_book.specs.TrueHistories.{IsTrueHistory}
 use Rattle.tables.specs.declared.sheets.Report.{Report}
 use Rattle.tables.specs.declared.sheets.Renews.{Renews}

@@ -1,10 +1,10 @@
 -- How the tables of a whole list of requests are read.
 use Rattle.std.specs.Prelude.{ℕ, List, []}
 use Rattle.cards.specs.Devices.{Device}
-use Rattle.lease_book.specs.declared.requests.Request.{Request}
+use Rattle.plain_runs.specs.declared.requests.Request.{Request}
 use Rattle.tables.specs.declared.sheets.Report.{Report}
 use Rattle.tournaments.specs.Pages.{history_text}
-use Rattle.tournaments.specs.Replaying.{FillsFromRequests}
+use Rattle.plain_runs.specs.Replaying.{FillsFromRequests}
 use Rattle.page_laws.specs.TablesPages.{IsReadOnce}
 
 -- the tables that are written of a whole list of requests are read as a page of tables

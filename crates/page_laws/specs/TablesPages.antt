@@ -9,7 +9,7 @@ use Rattle.strategies.specs.Values.{IsValue}
 use Rattle.lease_book.specs.declared.events.Event.{Event}
 use Rattle.lease_book.specs.Histories.{Terms}
 use Rattle.lease_book.specs.TrueHistories.{IsTrueHistory}
-use Rattle.lease_book.specs.BookResults.{book_results}
+use Rattle.tournaments.specs.BookResults.{book_results}
 use Rattle.tables.specs.TablesText.{printed_with}
 use Rattle.text_laws.specs.PageReading.{Row, Table, Rows, Incomplete, Block, page_in}
 use Rattle.text_laws.specs.WrittenOnce.{SayBoards}

@@ -7,7 +7,7 @@ use Rattle.pbn_deals.specs.Reading.{TextAnswers}
 use Rattle.lease_book.specs.declared.events.Event.{Event}
 use Rattle.lease_book.specs.Histories.{Terms}
 use Rattle.lease_book.specs.TrueHistories.{AreValues, IsTrueHistory}
-use Rattle.lease_book.specs.BookResults.{book_results}
+use Rattle.tournaments.specs.BookResults.{book_results}
 use Rattle.tables.specs.declared.sheets.Renews.{Renews}
 use Rattle.tables.specs.TablesText.{printed_with}
 use Rattle.tournaments.specs.Pages.{Pars, AreSmallPars}

@@ -14,7 +14,7 @@ ghost use Rattle.page_laws.specs.ReplayedTables.{ReplayedTablesAreRead};
 /// in their order, and nothing else. A block has the board's name, its deal, and twenty rows, one for each declarer and
 /// denomination, with the double-dummy values of that deal; or it says how many of the twenty numbers are known.
 ///
-/// [`make_single`](tournaments::make_single), [`replay_tables`](tournaments::replay_tables) and `make_tables` of
+/// [`make_single`](plain_runs::make_single), [`replay_tables`](plain_runs::replay_tables) and `make_tables` of
 /// `subcommands` write such a page. On `Ok` their clauses give the text, the terms and the history.
 pub fn tables_are_read()
     ensures { TablesAreRead }
@@ -47,7 +47,7 @@ pub fn made_pages_are_read()
     ensures { MadePagesAreRead }
 {}
 
-/// [`replay_tables`](tournaments::replay_tables) writes a page of tables that is read so.
+/// [`replay_tables`](plain_runs::replay_tables) writes a page of tables that is read so.
 pub fn replayed_tables_are_read()
     ensures { ReplayedTablesAreRead }
 {}

@@ -6,6 +6,7 @@ use cards::{Buffer, Bytes, Layout, Seat, Trump};
 use certificate_graph::{Bundle, Claim, Graph, Solver};
 use partition_solver::Partition;
 use pbn_deals::PbnFault;
+use plain_runs::make_single;
 use std::alloc::{AllocError, Global};
 use std::process::Abort;
 use std::sync::Arc;
@@ -16,7 +17,7 @@ use tables::Report;
 use test_support::graphs::{ACE_WINS, NOTHING};
 use test_support::idle::{FindsNothing, StandsStill};
 use test_support::settings::{one_of_each, tables_by};
-use tournaments::{MakeFault, make_single};
+use tournaments::MakeFault;
 
 const TERM: u64 = 600;
 

@@ -1,4 +1,3 @@
-pub mod WorkLaws
 pub mod CompleteCounts
 pub mod PutLaws
 pub mod ParLaws

@@ -9,15 +9,10 @@ use Rattle.lease_book.specs.declared.events.Event.{Event}
 use Rattle.lease_book.specs.Books.{Ledger}
 use Rattle.lease_book.specs.Histories.{Terms}
 use Rattle.tables.specs.declared.sheets.Report.{Report}
-use Rattle.lease_book.specs.BookResults.{book_results}
+use Rattle.tournaments.specs.BookResults.{book_results}
 use Rattle.tables.specs.TablesText.{printed_with, complete_count}
 use Rattle.tournaments.specs.declared.faults.MakeFault.{MakeFault}
 use Rattle.tournaments.specs.declared.faults.MakeFault.TheVariants.{OutOfMemory, Read, Pbn, NoThread, Write}
-use Rattle.lease_book.specs.TrueHistories.{IsTrueHistory, IsGivenOut}
-use Rattle.lease_book.specs.Done.{IsDone}
-use Rattle.certificate_graph.specs.Solvers.{MayFind}
-use Rattle.tournaments.specs.Asking.{AreWorkedOn}
-use Rattle.lease_book.specs.Moments.{MayTell, AreTimed}
 
 -- a fact about the history of a run, over the terms of its book
 abbrev pub RunFact : Type 1
@@ -37,16 +32,6 @@ pub record HasBoards (old new : Device) (boards : List Board) : Type 0 where
 pub record AreReported (boards : List Board) (events : List Event) (report : Report) : Type 0 where
   pub boards_are : report.boards ≡ length boards
   pub complete_are : report.complete ≡ complete_count boards (printed_with [] (book_results boards events))
-
--- A whole run over the boards: a true history in which all entries were given out, until each was done. The solver's
--- answer for each lease was handed in, and the clock told the moments.
-pub record IsWholeRun (may_find : MayFind) (may_tell : MayTell) (budget : ℕ) (terms : Terms) (events : List Event)
-    : Type 0 where
-  pub history : IsTrueHistory terms events
-  pub given_out : IsGivenOut events
-  pub done : IsDone terms events
-  pub worked_on : AreWorkedOn may_find budget terms.boards events
-  pub timed : AreTimed may_tell events
 
 -- The source was read to its end. The book is over the boards of its text, with this term and these tries, after such a
 -- run. The sink has got such a page, with the numbers that the book's history publishes.

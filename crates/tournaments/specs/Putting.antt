@@ -7,7 +7,7 @@ use Rattle.asked.specs.declared.subcommands.ParTags.{ParTags}
 use Rattle.asked.specs.declared.subcommands.ParTags.TheVariants.{Without, With}
 use Rattle.cards.specs.Devices.{Device, Adds, AddsBeginning}
 use Rattle.lease_book.specs.Books.{Ledger}
-use Rattle.lease_book.specs.BookResults.{book_results}
+use Rattle.tournaments.specs.BookResults.{book_results}
 use Rattle.tables.specs.declared.sheets.Report.{Report}
 use Rattle.tables.specs.declared.sheets.Renews.{Renews}
 use Rattle.tables.specs.declared.sheets.Renews.TheVariants.{Tables, TablesAndPars}

@@ -4,7 +4,7 @@ use Rattle.pbn_deals.specs.declared.boards.Board.{Board}
 use Rattle.board_conditions.specs.Games.{HasConditions}
 use Rattle.board_conditions.specs.Titles.{HasTitles, HasFirstTitles}
 use Rattle.lease_book.specs.declared.events.Event.{Event}
-use Rattle.lease_book.specs.BookResults.{book_results}
+use Rattle.tournaments.specs.BookResults.{book_results}
 use Rattle.tables.specs.TablesText.{printed_with}
 use Rattle.sheets.specs.Markup.{Shown, page_of}
 use Rattle.tournaments.specs.Pages.{Pars}

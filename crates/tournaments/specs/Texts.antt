@@ -1,13 +1,8 @@
--- The boards of a text, and a book that has answered a list of requests.
+-- The boards of a text.
 use Rattle.std.specs.Prelude.{ℕ, List, Result, Ok, Err, ⊤}
 use Rattle.std.proofs.Common.{Vec, Global}
 use Rattle.pbn_deals.specs.declared.boards.Board.{Board}
 use Rattle.pbn_deals.specs.Reading.{TextAnswers}
-use Rattle.lease_book.specs.declared.events.Reply.{Reply}
-use Rattle.lease_book.specs.declared.requests.Request.{Request}
-use Rattle.lease_book.specs.Histories.{Terms}
-use Rattle.lease_book.specs.Books.{Ledger}
-use Rattle.lease_book.specs.Replays.{IsReplayed}
 use Rattle.tournaments.specs.declared.faults.MakeFault.{MakeFault}
 use Rattle.tournaments.specs.declared.faults.MakeFault.TheVariants.{OutOfMemory, Read, Pbn, NoThread, Write}
 
@@ -19,7 +14,3 @@ TakesBoards text (Err Read) = ⊥
 TakesBoards text (Err (Pbn fault)) = TextAnswers text (Err fault)
 TakesBoards text (Err NoThread) = ⊥
 TakesBoards text (Err Write) = ⊥
-
--- the book has answered these requests
-abbrev pub IsReplayedBook : Terms → List Request → Ledger → Type 0
-IsReplayedBook terms requests book = (replies : List Reply) × IsReplayed terms requests book replies

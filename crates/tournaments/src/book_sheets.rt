@@ -1,7 +1,7 @@
 //! A book as a sheet with the pars of its boards.
 
 ghost use Rattle.std.specs.Prelude.{◌≡◌};
-ghost use Rattle.lease_book.specs.BookResults.{book_results};
+ghost use Rattle.tournaments.specs.BookResults.{book_results};
 ghost use Rattle.tables.specs.TablesText.{printed_with};
 ghost use Rattle.tournaments.specs.Pages.{AreSmallPars};
 
@@ -13,7 +13,7 @@ use tables::{BoardPar, Renews, Sheet};
 
 /// A book as a sheet with these pars, one for each board; without any, no par is printed.
 #[derive(Drop)]
-pub(crate) struct BookSheet<'a> {
+pub struct BookSheet<'a> {
     book: &'a Book,
     renews: Renews,
     pars: &'a [Option<BoardPar>],
@@ -31,7 +31,8 @@ impl<'a> Model for BookSheet<'a> {
 }
 
 impl<'a> BookSheet<'a> {
-    pub(crate) fn new(book: &'a Book, renews: Renews, pars: &'a [Option<BoardPar>]) -> BookSheet<'a>
+    /// A sheet of this book.
+    pub fn new(book: &'a Book, renews: Renews, pars: &'a [Option<BoardPar>]) -> BookSheet<'a>
         requires { AreSmallPars pars.now }
         ensures { result ≡ record { book = book.entry.now; renews = renews; pars = pars.entry.now } }
     {

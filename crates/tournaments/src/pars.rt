@@ -3,7 +3,7 @@
 ghost use Rattle.std.specs.Prelude.{◌≡◌, ◌≤◌, false, IfOk, IfErr, IfSome, MatchOption};
 ghost use Rattle.cards.specs.declared.seats.Seat.{Seat};
 ghost use Rattle.cards.specs.declared.suits.Trump.{Trump};
-ghost use Rattle.lease_book.specs.BookResults.{book_results};
+ghost use Rattle.tournaments.specs.BookResults.{book_results};
 ghost use Rattle.par.specs.Boards.{tricks_in};
 ghost use Rattle.tables.specs.ParText.{IsSmallPar};
 ghost use Rattle.tables.specs.TablesText.{is_complete};

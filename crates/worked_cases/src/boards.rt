@@ -6,11 +6,12 @@ use cards::{Buffer, Bytes};
 use certificate_graph::Solver;
 use lease_book::Book;
 use pbn_deals::{Board, read_boards, read_layout};
+use plain_runs::make_single;
 use std::alloc::{AllocError, Global};
-use tables::Report;
+use tables::{Renews, Report};
 use test_support::idle::StandsStill;
 use text_laws::one_is_written;
-use tournaments::{MakeFault, make_single, take_boards};
+use tournaments::{BookSheet, MakeFault, take_boards};
 use whole_texts::write_whole;
 
 /// Room for the tables of a case.
@@ -100,7 +101,8 @@ fn say_whole(alloc: Global, text: &[u8], book: &Book, sink: &mut Buffer, out: &m
         return out.say("no boards");
     };
     one_is_written();
-    match write_whole(text, book, sink) {
+    let sheet = BookSheet::new(book, Renews::Tables, &[]);
+    match write_whole(text, &sheet, sink) {
         Ok(report) => {
             say_report(report, out);
             out.say(" |");

@@ -5,8 +5,9 @@ use crate::replies::{say_history, say_published, say_reply};
 use crate::texts::{copy_of, field, number, seat, trump, word};
 use cards::{Layout, OutOfMemory};
 use checker::{Texts, judge};
-use lease_book::{Book, Entry, GraphText, Reply, Request, replay};
+use lease_book::{Book, Entry, Reply};
 use pbn_deals::{Board, BoardName, read_layout};
+use plain_runs::{GraphText, Request, replay};
 use std::alloc::Global;
 
 /// North's ace takes the trick that East leads to.

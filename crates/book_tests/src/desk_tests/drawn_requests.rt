@@ -3,7 +3,8 @@
 
 use crate::fixed_numbers::next;
 use crate::lease_tests::long_list::{pick, some_answer, some_entry};
-use lease_book::{Entry, Reply, Request};
+use lease_book::{Entry, Reply};
+use plain_runs::Request;
 use std::alloc::{AllocError, Global};
 
 /// What is wrong with answers, as `some_answer` has it: all but a text that is cut. The sixth is right at times.

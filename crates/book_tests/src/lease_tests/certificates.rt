@@ -1,8 +1,9 @@
 //! Boards of one card a hand, all of a suit, and the certificates of their entries.
 
 use cards::{Seat, Side, Suit, Trump};
-use lease_book::{Entry, GraphText, Request};
+use lease_book::Entry;
 use pbn_deals::{Board, BoardName, read_layout};
+use plain_runs::{GraphText, Request};
 use std::alloc::{AllocError, Global};
 use std::process::Abort;
 use test_support::texts::joined;

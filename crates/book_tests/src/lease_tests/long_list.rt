@@ -7,8 +7,9 @@ use crate::expect::expect_eq;
 use crate::fixed_numbers::next;
 use cards::{OutOfMemory, Seat, Trump};
 use checker::{Texts, Verdict, judge};
-use lease_book::{Asked, Book, Entry, Event, GraphText, HandedIn, Reply, Request, replay};
+use lease_book::{Asked, Book, Entry, Event, HandedIn, Reply};
 use pbn_deals::Board;
+use plain_runs::{GraphText, Request, replay};
 use std::alloc::{AllocError, Global};
 use std::process::Abort;
 

@@ -1,4 +1,4 @@
-use Rattle.lease_book.proofs.PublicationLaws.{publishes_first_good}
+use Rattle.lease_laws.proofs.PublicationLaws.{publishes_first_good}
 use Rattle.lease_laws.proofs.books.publishes_first_good.Goals as goal
 
 pub returns : goal.returns

@@ -1,7 +1,7 @@
 -- The boards so far have their pars.
 use Rattle.std.proofs.Common.{take}
 use Rattle.std.specs.List.{enumerate_from}
-use Rattle.lease_book.specs.BookResults.{book_results}
+use Rattle.tournaments.specs.BookResults.{book_results}
 use Rattle.tournaments.specs.Pages.{AreSmallPars}
 use Rattle.tournaments.proofs.ParLaws.{AreParsSoFar}
 use Rattle.tournaments.proofs.pars.board_pars.Given as goal

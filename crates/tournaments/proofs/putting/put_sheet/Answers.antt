@@ -4,7 +4,7 @@ use Rattle.board_conditions.specs.declared.conditions.Conditions.{Conditions}
 use Rattle.board_conditions.specs.declared.titles.Titles.{Titles}
 use Rattle.board_conditions.specs.Games.{HasConditions}
 use Rattle.board_conditions.specs.Titles.{HasTitles, titles_said}
-use Rattle.lease_book.specs.BookResults.{book_results}
+use Rattle.tournaments.specs.BookResults.{book_results}
 use Rattle.tables.specs.TablesText.{printed_with}
 use Rattle.sheets.specs.Markup.{Shown, page_of}
 use Rattle.tournaments.specs.SheetPages.{IsShown}

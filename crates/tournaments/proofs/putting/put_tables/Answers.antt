@@ -1,6 +1,6 @@
 -- What is written is the page of the boards.
 use Rattle.std.proofs.Common.{◌∙◌, refl}
-use Rattle.lease_book.specs.BookResults.{book_results}
+use Rattle.tournaments.specs.BookResults.{book_results}
 use Rattle.tournaments.specs.Pages.{history_text}
 use Rattle.tournaments.proofs.CompleteCounts.{complete_alike}
 use Rattle.tournaments.proofs.putting.put_tables.Goals as goal

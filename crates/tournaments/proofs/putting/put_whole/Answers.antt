@@ -1,6 +1,6 @@
 -- One page is written of the text, whose boards were read.
 use Rattle.std.proofs.Common.{◌∙◌}
-use Rattle.lease_book.specs.BookResults.{book_results}
+use Rattle.tournaments.specs.BookResults.{book_results}
 use Rattle.tables.specs.TablesText.{printed_with}
 use Rattle.whole_texts.proofs.SomeTexts.{some_text}
 use Rattle.tournaments.proofs.CompleteCounts.{complete_alike}
