@@ -12,12 +12,12 @@ use Rattle.lease_book.specs.declared.events.Reply.{Reply}
 use Rattle.lease_book.specs.declared.events.Reply.TheVariants.{Nothing, OtherEntry, AlreadyPublished}
 use Rattle.lease_book.specs.declared.events.Event.{Event}
 use Rattle.lease_book.specs.Entries.{place_of, is_same_entry}
-use Rattle.lease_book.specs.Twins.{deal_of, are_twins, IsLeastTwin, first_board, is_first, twin_of}
+use Rattle.lease_book.specs.Twins.{deal_of, are_twins, first_board, is_first, twin_of}
 use Rattle.lease_book.specs.Histories.{Terms, given_in, grant_of, held_after, is_numbered, is_for_place, number_for, published_when, published_in, times_leased}
 use Rattle.lease_book.specs.Replies.{IsReply, IsLegal, is_evidence_for, evidence_reply, hand_in_reply}
 use Rattle.lease_book.specs.Keeping.{is_in_place, published_by, published_at, AreProvenAsNamed, AreProven}
 use Rattle.lease_book.proofs.EntryLaws.{same_entry}
-use Rattle.lease_book.proofs.TwinLaws.{some_deal, first_has, first_is_first, twin_itself, least_itself, only_twin}
+use Rattle.lease_book.proofs.TwinLaws.{some_deal, first_has, first_is_first, twin_itself, only_twin}
 use Rattle.lease_book.proofs.HistoryLaws.{published_push, legal_push}
 use Rattle.lease_book.proofs.HeldLaws.{find_among}
 use Rattle.lease_book.proofs.LegalLaws.{carried, firsts, times_few}
@@ -78,11 +78,6 @@ published_own terms events entry legal first =
 pub proven_for : (terms : Terms) (events : List Event) → IsLegal terms events → AreProvenAsNamed terms events → AreProven terms events
 proven_for terms events legal proven entry deal k h has =
     proven (twin_of terms.boards entry) deal k (sym (published_is terms events entry legal) ∙ h) (first_has terms.boards entry.board deal has)
-
--- ---- leases of least twins
-pub leases_least : (terms : Terms) (events : List Event) (lease : ℕ) (grant : Grant) → IsLegal terms events → grant_of events lease ≡ Some grant → IsLeastTwin terms.boards grant.entry grant.entry
-leases_least terms events lease grant legal given =
-    least_itself terms.boards grant.entry (firsts terms events legal grant (find_among (is_numbered lease) (given_in events) grant given).0)
 
 -- ---- where nothing is open
 -- what an entry on a first board lacks that is not open

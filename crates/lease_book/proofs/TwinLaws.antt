@@ -1,5 +1,5 @@
 -- The first board with a deal, and the least of an entry's twins.
-use Rattle.std.proofs.Common.{◌≡◌, ℕ, zero, suc, ◌+◌, ◌<◌, ◌≤◌, Bool, true, false, not, cond, ◌&&◌, List, [], ◌∷◌, length, Option, None, Some, slice_get, is_some, refl, sym, ◌∙◌, ap, subst, ⊎_elim, arith}
+use Rattle.std.proofs.Common.{◌≡◌, ℕ, zero, suc, ◌+◌, ◌<◌, ◌≤◌, Bool, true, false, not, cond, ◌&&◌, List, [], ◌∷◌, length, Option, None, Some, slice_get, is_some, refl, sym, ◌∙◌, ap, ⊎_elim, arith}
 use Rattle.std.specs.Prelude.{nat_eq}
 use Rattle.std.specs.List.{position_or_len}
 use Rattle.std.proofs.lemmas.Bool.{both_ways, cases_lt, and_parts, and_from, and_left, eqb-true, eq-eqb}
@@ -141,7 +141,7 @@ same_twins boards one other h =
     let of : Option Deal → ℕ → Entry → Bool = λ o n entry. are_equal_deals o (deal_of boards entry.board) && nat_eq n (contract_place entry.declarer entry.trump) in
     ap (λ o. of o (contract_place one.declarer one.trump)) (both.one_has ∙ sym both.other_has) ∙ ap (of (deal_of boards other.board)) both.contract
 
-least_of : (boards : List Board) (entry : Entry) (deal : Deal) → deal_of boards entry.board ≡ Some deal → IsLeastTwin boards entry (twin_of boards entry)
+pub least_of : (boards : List Board) (entry : Entry) (deal : Deal) → deal_of boards entry.board ≡ Some deal → IsLeastTwin boards entry (twin_of boards entry)
 least_of boards entry deal has =
     record {
       is_twin = twins_of boards entry (twin_of boards entry) deal has (first_has boards entry.board deal has) refl;
@@ -162,11 +162,6 @@ least_twin boards entry = go (deal_of boards entry.board) refl
 -- an entry of a first board is its own least twin
 pub twin_itself : (boards : List Board) (entry : Entry) → is_first boards entry.board ≡ true → twin_of boards entry ≡ entry
 twin_itself boards entry first = ap (λ (board : ℕ). record { board = board; declarer = entry.declarer; trump = entry.trump }) (first_itself boards entry.board first)
-
-pub least_itself : (boards : List Board) (entry : Entry) → is_first boards entry.board ≡ true → IsLeastTwin boards entry entry
-least_itself boards entry first =
-    let deal = first_deal boards entry.board first in
-    subst (λ (twin : Entry). IsLeastTwin boards entry twin) (twin_itself boards entry first) (least_of boards entry deal.0 deal.1)
 
 -- of the entries of first boards only the least twin is a twin
 pub only_twin : (boards : List Board) (entry named : Entry) → is_first boards named.board ≡ true → are_twins boards entry named ≡ nat_eq (place_of named) (place_of (twin_of boards entry))

@@ -1,5 +1,5 @@
 -- What holds of every legal history.
-use Rattle.std.proofs.Common.{◌≡◌, ℕ, zero, suc, ◌+◌, ◌*◌, ◌/◌, ◌<◌, ◌≤◌, ◌≢◌, Bool, true, false, not, cond, List, [], ◌∷◌, length, count_by, refl, sym, ◌∙◌, ap, ◌⊎◌, inl, inr, ⊎_elim, arith}
+use Rattle.std.proofs.Common.{◌≡◌, ℕ, zero, suc, ◌+◌, ◌*◌, ◌/◌, ◌<◌, ◌≤◌, ◌≢◌, Bool, true, false, not, cond, List, [], ◌∷◌, length, count_by, Some, refl, sym, ◌∙◌, ap, subst, ◌⊎◌, inl, inr, ⊎_elim, arith}
 use Rattle.std.specs.List.{filter}
 use Rattle.std.proofs.Math.Nat.{mul-suc}
 use Rattle.std.proofs.lemmas.Bool.{both_ways, cases_eq, eqb-true, eq-eqb, not-true, false_from_ne_true}
@@ -13,14 +13,15 @@ use Rattle.lease_book.specs.declared.events.Reply.{Reply}
 use Rattle.lease_book.specs.declared.events.Reply.TheVariants.{Given, Nothing}
 use Rattle.lease_book.specs.declared.events.Event.{Event}
 use Rattle.lease_book.specs.Entries.{place_of}
-use Rattle.lease_book.specs.Twins.{is_first}
+use Rattle.lease_book.specs.Twins.{IsLeastTwin, is_first}
 use Rattle.lease_laws.specs.Twins.{deals_before, deal_count}
-use Rattle.lease_book.specs.Histories.{Terms, given_in, is_for_place, is_open}
+use Rattle.lease_book.specs.Histories.{Terms, given_in, grant_of, is_numbered, is_for_place, is_open}
 use Rattle.lease_book.specs.Replies.{IsLeaseReply, IsReply, IsLegal}
 use Rattle.lease_book.specs.Keeping.{Among}
 use Rattle.lease_book.proofs.EntryLaws.{same_entry, board_of, contract_below}
+use Rattle.lease_book.proofs.HeldLaws.{find_among}
 use Rattle.lease_book.proofs.LegalLaws.{firsts, times_few}
-use Rattle.lease_book.proofs.TwinLaws.{first_there}
+use Rattle.lease_book.proofs.TwinLaws.{first_deal, first_there, least_of, twin_itself}
 
 -- ---- one reply
 given_same : (lease lease' : ℕ) (entry entry' : Entry) (deadline deadline' : ℕ) → lease ≡ lease' → entry ≡ entry' → deadline ≡ deadline' → Given lease entry deadline ≡ Given lease' entry' deadline'
@@ -45,6 +46,18 @@ one_reply terms before (Expire now) one other h g = h ∙ sym g
 one_reply terms before (GiveUp lease) one other h g = h ∙ sym g
 one_reply terms before (HandIn lease entry evidence) one other h g = h ∙ sym g
 
+-- ---- leases of least twins
+-- an entry of a first board is its own least twin
+least_itself : (boards : List Board) (entry : Entry) → is_first boards entry.board ≡ true → IsLeastTwin boards entry entry
+least_itself boards entry first =
+    let deal = first_deal boards entry.board first in
+    subst (λ (twin : Entry). IsLeastTwin boards entry twin) (twin_itself boards entry first) (least_of boards entry deal.0 deal.1)
+
+pub leases_least : (terms : Terms) (events : List Event) (lease : ℕ) (grant : Grant) → IsLegal terms events → grant_of events lease ≡ Some grant → IsLeastTwin terms.boards grant.entry grant.entry
+leases_least terms events lease grant legal given =
+    least_itself terms.boards grant.entry (firsts terms events legal grant (find_among (is_numbered lease) (given_in events) grant given).0)
+
+-- ---- few leases
 passes_filter : (test : Grant → Bool) (grants : List Grant) (grant : Grant) → Among grant (filter test grants) → Among grant grants × (test grant ≡ true)
 passes_filter test [] grant m = elim m [ ]
 passes_filter test (first ∷ rest) grant m = go (test first) refl (passes_filter test rest grant) m

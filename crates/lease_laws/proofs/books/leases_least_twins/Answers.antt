@@ -1,4 +1,4 @@
-use Rattle.lease_book.proofs.NamedLaws.{leases_least}
+use Rattle.lease_laws.proofs.LegalLaws.{leases_least}
 use Rattle.lease_laws.proofs.books.leases_least_twins.Goals as goal
 
 pub returns : goal.returns
