@@ -1,9 +1,7 @@
--- Which settings there are, and the number and the name of a fault.
-use Rattle.std.specs.Prelude.{◌≡◌, ℕ, List, ◌∷◌, ◌++◌, codes, Result, Ok, Err}
-use Rattle.std.specs.Fmt.{decimal}
+-- Which settings there are.
+use Rattle.std.specs.Prelude.{◌≡◌, ℕ, Result, Ok, Err}
 use Rattle.asked.specs.declared.settings.Settings.{Settings}
 use Rattle.asked.specs.declared.settings.SettingsFault.{SettingsFault}
-use Rattle.asked.specs.declared.settings.SettingsFault.TheVariants.{Solvers, Checkers, Tries, Budget, Batch}
 use Rattle.std.specs.Str.Parse.{digits_value}
 use Rattle.asked.specs.Options.{OptionNumbers, solvers_option, checkers_option, term_option, tries_option}
 use Rattle.asked.specs.Options.{budget_option, batch_option}
@@ -43,21 +41,3 @@ IsDefault option number = digits_value 10 option.default ≡ number
 abbrev pub Sets : Type 0 → Numbers → SettingsFault → Result Settings SettingsFault → Type 0
 Sets InRange numbers fault (Ok settings) = InRange × (numbers_in settings ≡ numbers)
 Sets InRange numbers fault (Err told) = (InRange → ⊥) × (told ≡ fault)
-
-abbrev pub fault_number : SettingsFault → ℕ
-fault_number Solvers = 1
-fault_number Checkers = 2
-fault_number Tries = 3
-fault_number Budget = 4
-fault_number Batch = 5
-
-abbrev pub fault_name : SettingsFault → List ℕ
-fault_name Solvers = codes "Solvers"
-fault_name Checkers = codes "Checkers"
-fault_name Tries = codes "Tries"
-fault_name Budget = codes "Budget"
-fault_name Batch = codes "Batch"
-
--- the number and the name, as in `3 Tries`
-abbrev pub fault_text : SettingsFault → List ℕ
-fault_text fault = decimal (fault_number fault) ++ 32 ∷ fault_name fault

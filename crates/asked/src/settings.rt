@@ -4,8 +4,6 @@ ghost use Rattle.std.specs.Prelude.{◌<◌};
 ghost use Rattle.asked.specs.Options.{IsIn, batch_option, checkers_option, solvers_option, tries_option};
 
 use crate::options;
-use std::error::Error;
-use std::fmt;
 
 /// How tables are made. What it holds is within its bounds.
 #[derive(Clone, Copy, Debug, PartialEq, Eq)]
@@ -129,47 +127,3 @@ pub enum SettingsFault {
     /// The entries leased at a time.
     Batch,
 }
-
-impl SettingsFault {
-    ghost use Rattle.std.specs.Prelude.{◌≡◌};
-    ghost use Rattle.asked.specs.Settings.{fault_name, fault_number};
-
-    /// The printed number.
-    pub fn number(&self) -> u8
-        ensures { result ≡ fault_number self.now }
-    {
-        match self {
-            SettingsFault::Solvers => 1,
-            SettingsFault::Checkers => 2,
-            SettingsFault::Tries => 3,
-            SettingsFault::Budget => 4,
-            SettingsFault::Batch => 5,
-        }
-    }
-
-    /// The printed name.
-    pub fn name(&self) -> &'static str
-        ensures { result.now ≡ fault_name self.now }
-    {
-        match self {
-            SettingsFault::Solvers => "Solvers",
-            SettingsFault::Checkers => "Checkers",
-            SettingsFault::Tries => "Tries",
-            SettingsFault::Budget => "Budget",
-            SettingsFault::Batch => "Batch",
-        }
-    }
-}
-
-impl fmt::Display for SettingsFault {
-    ghost use Rattle.std.specs.Prelude.{Some};
-    ghost use Rattle.asked.specs.Settings.{fault_text};
-
-    ghost output = { λ fault. Some (fault_text fault) };
-
-    fn fmt<W: fmt::Write>(&self, f: &mut fmt::Formatter<W>) -> fmt::Result {
-        write!(f, "{} {}", self.number(), self.name())
-    }
-}
-
-impl Error for SettingsFault {}

@@ -64,19 +64,3 @@ fn bounds_of_settings(rt: HostRuntime) {
     }
     expect_eq(&rt, &settings.with_term(u64::MAX).term, &u64::MAX);
 }
-
-/// The printed number and name of each fault.
-const FAULTS: [(SettingsFault, u8, &str); 5] = [
-    (SettingsFault::Solvers, 1, "Solvers"),
-    (SettingsFault::Checkers, 2, "Checkers"),
-    (SettingsFault::Tries, 3, "Tries"),
-    (SettingsFault::Budget, 4, "Budget"),
-    (SettingsFault::Batch, 5, "Batch"),
-];
-
-#[test]
-fn faults_of_settings(rt: HostRuntime) {
-    for (fault, number, name) in FAULTS {
-        expect_eq(&rt, &(fault.number(), fault.name()), &(number, name));
-    }
-}

@@ -10,7 +10,6 @@ pub mod Keeping
 pub mod Laws
 pub mod TrueHistories
 pub mod ReplyTexts
-pub mod BookFaults
 pub mod Settling
 pub mod Moments
 pub mod Done
