@@ -37,7 +37,8 @@ impl Desk {
             return Err(OutOfMemory);
         }
         let told = attend(rt, &self.ends, &mut chair.pass, chair.number, asking)?;
-        chair.receipts.push_reserved(told.copy());
+        let kept = &told;
+        chair.receipts.push_reserved(*kept);
         Ok(told)
     }
 

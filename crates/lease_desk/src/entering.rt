@@ -30,7 +30,7 @@ fn enter(message: &mut Message, number: usize, asking: Asking) -> Result<Receipt
     message.makers.push_reserved(number);
     Ok(Receipt {
         place: place as u64,
-        event: message.book.history()[place].copy(),
+        event: message.book.history()[place],
     })
 }
 
