@@ -83,7 +83,7 @@ fn write_after_part<S: Sink>(fault: PartFault, output: &mut S) -> Result<(), Dev
 {
     match fault {
         PartFault::Node(fault) => write_node_fault(fault, output),
-        _ => write_all(output, b""),
+        _ => Ok(()),
     }
 }
 
@@ -115,7 +115,7 @@ fn write_after_text<S: Sink>(line: Option<usize>, output: &mut S) -> Result<(), 
     ensures { Writes (S.state output.old) (S.state output.new) (after_text line) result }
 {
     let Some(line) = line else {
-        return write_all(output, b"");
+        return Ok(());
     };
     write_all(output, b" line ")?;
     write_number(output, line as u64)
