@@ -65,20 +65,9 @@ Prints IsText verdict sink sink' (Ok status) =
 Prints IsText verdict sink sink' (Err Write) = (text : List ℕ) × IsText verdict text × AddsBeginning sink sink' text
 Prints IsText verdict sink sink' (Err _) = ⊥
 
--- What was answered for the text of an answer, and what the sink has got: a text of the verdict.
-abbrev pub AnswersText : TextFact → List ℕ → Deal → Seat → Trump → Device → Device → Result Status AnswerFault → Type 0
-AnswersText IsText text deal declarer trump sink sink' (Ok status) =
-    (verdict : Result Shown HandFault) × IsVerdictOf text deal declarer trump verdict
-    × Prints IsText verdict sink sink' (Ok status)
-AnswersText IsText text deal declarer trump sink sink' (Err Write) =
-    (verdict : Result Shown HandFault) × IsVerdictOf text deal declarer trump verdict
-    × Prints IsText verdict sink sink' (Err Write)
-AnswersText IsText text deal declarer trump sink sink' (Err fault) =
-    LacksVerdict text fault × (sink' ≡ sink)
-
--- The same of what a source gives. Bytes that spell no layout leave the source as it was. Where the source failed or
--- memory ran out, the bytes that were read are the first of the source. With all refusals but that of the sink nothing
--- was written.
+-- What was answered for the answer that a source gives, and what the sink has got: a text of the verdict. Bytes that
+-- spell no layout leave the source as it was. Where the source failed or memory ran out, the bytes that were read are
+-- the first of the source. With all refusals but that of the sink nothing was written.
 abbrev pub AnswersSource : TextFact → List ℕ → Seat → Trump → Devices → Devices → Result Status AnswerFault
     → Type 0
 AnswersSource IsText value declarer trump old new (Ok status) =

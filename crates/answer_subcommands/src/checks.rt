@@ -2,18 +2,17 @@
 
 ghost use Rattle.std.specs.Prelude.{◌≡◌};
 ghost use Rattle.streams.specs.RunStreams.{devices};
-ghost use Rattle.answer_subcommands.specs.Checks.{ChecksAnswer, IsVerdictLine, Prints, ReadsVerdict};
+ghost use Rattle.answer_subcommands.specs.Checks.{ChecksAnswer, IsVerdictLine, Prints};
 ghost use Rattle.answer_subcommands.specs.VerdictLines.{verdict_status};
 
 use crate::faults::{AnswerFault, write_failed};
-use crate::judging::judge_answer;
+use crate::judging::judge_input;
 use crate::statuses::Status;
 use crate::verdict_lines::write_verdict;
-use cards::{Layout, Seat, Sink, Source, Trump};
+use cards::{Seat, Sink, Source, Trump};
 use checker::Verdict;
 use pbn_deals::read_layout;
 use std::alloc::Global;
-use streams::read_all;
 
 /// Reads an answer to its end, checks that its certificates show its number of tricks for the layout that the bytes
 /// spell, and writes the verdict. A number that it writes as accepted is the double-dummy value.
@@ -31,25 +30,14 @@ pub fn check_answer<I: Source, O: Sink>(
     ensures { ChecksAnswer value.now declarer trump (devices (I.state input.old) (O.state output.old))
         (devices (I.state input.new) (O.state output.new)) result }
 {
-    let layout = read_layout(value).map_err(AnswerFault::Layout)?;
-    let verdict = read_verdict(alloc, input, &layout, declarer, trump)?;
-    print_verdict(verdict, output)
-}
-
-/// Reads an answer to its end: the verdict on it.
-fn read_verdict<I: Source>(
-    alloc: Global,
-    input: &mut I,
-    layout: &Layout,
-    declarer: Seat,
-    trump: Trump,
-) -> Result<Verdict, AnswerFault>
-    ensures { ReadsVerdict layout.now declarer trump (I.state input.old) (I.state input.new) result }
-{
-    let text = read_all(alloc, input)?;
-    match judge_answer(alloc, text.as_slice(), layout, declarer, trump)? {
-        Ok(accepted) => Ok(Ok(accepted.proven)),
-        Err(fault) => Ok(Err(fault)),
+    let layout = match read_layout(value) {
+        Ok(layout) => layout,
+        Err(fault) => return Err(AnswerFault::Layout(fault)),
+    };
+    match judge_input(alloc, input, &layout, declarer, trump) {
+        Ok(Ok(accepted)) => print_verdict(Ok(accepted.proven), output),
+        Ok(Err(fault)) => print_verdict(Err(fault), output),
+        Err(fault) => Err(fault),
     }
 }
 

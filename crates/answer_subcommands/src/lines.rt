@@ -6,22 +6,21 @@ ghost use Rattle.certificate_play.specs.Sides.{AreBegun};
 ghost use Rattle.checker.specs.Judging.{IsAccepted};
 ghost use Rattle.play_dialogues.specs.PlayText.{play_text};
 ghost use Rattle.streams.specs.RunStreams.{devices};
-ghost use Rattle.answer_subcommands.specs.Checks.{AnswersText, Prints};
+ghost use Rattle.answer_subcommands.specs.Checks.{Prints};
 ghost use Rattle.answer_subcommands.specs.Lines.{FollowsAnswer, IsLineOf, IsLineText};
 ghost use Rattle.answer_subcommands.specs.VerdictLines.{verdict_line};
 
 use crate::faults::{AnswerFault, write_failed};
-use crate::judging::judge_answer;
+use crate::judging::judge_input;
 use crate::statuses::Status;
 use crate::verdict_lines::write_verdict;
 use arrayvec::ArrayVec;
-use cards::{Card, DeviceFault, Layout, Seat, Sink, Source, Trump};
+use cards::{Card, DeviceFault, Seat, Sink, Source, Trump};
 use certificate_play::{Playing, Sides, line};
 use checker::{Accepted, HandFault, Proven};
 use pbn_deals::read_layout;
 use play_dialogues::write_play;
 use std::alloc::Global;
-use streams::read_all;
 
 /// Reads an answer to its end, checks it as [`check_answer`](crate::check_answer) does, and writes the verdict; behind
 /// one that accepts, a line of play in which each side has just the tricks that were shown for it.
@@ -39,26 +38,14 @@ pub fn follow_answer<I: Source, O: Sink>(
     ensures { FollowsAnswer value.now declarer trump (devices (I.state input.old) (O.state output.old))
         (devices (I.state input.new) (O.state output.new)) result }
 {
-    let layout = read_layout(value).map_err(AnswerFault::Layout)?;
-    let text = read_all(alloc, input)?;
-    follow_text(alloc, text.as_slice(), &layout, declarer, trump, output)
-}
-
-/// The same of the text of an answer.
-fn follow_text<O: Sink>(
-    alloc: Global,
-    text: &[u8],
-    layout: &Layout,
-    declarer: Seat,
-    trump: Trump,
-    output: &mut O,
-) -> Result<Status, AnswerFault>
-    ensures { AnswersText IsLineText text.now layout.now declarer trump (O.state output.old) (O.state output.new)
-        result }
-{
-    match judge_answer(alloc, text, layout, declarer, trump)? {
-        Ok(accepted) => follow(&accepted, output),
-        Err(fault) => refuse(fault, output),
+    let layout = match read_layout(value) {
+        Ok(layout) => layout,
+        Err(fault) => return Err(AnswerFault::Layout(fault)),
+    };
+    match judge_input(alloc, input, &layout, declarer, trump) {
+        Ok(Ok(accepted)) => follow(&accepted, output),
+        Ok(Err(fault)) => refuse(fault, output),
+        Err(fault) => Err(fault),
     }
 }
 

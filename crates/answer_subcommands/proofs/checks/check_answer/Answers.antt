@@ -1,16 +1,17 @@
-use Rattle.std.proofs.Common.{rules, Ok}
-use Rattle.pbn_deals.specs.LayoutValue.{SaysLayout}
+use Rattle.std.proofs.Common.{rules}
 use Rattle.answer_subcommands.specs.Checks.{IsVerdictLine}
 use Rattle.answer_subcommands.proofs.CheckLemmas.{AnswersSource-printed}
 use Rattle.answer_subcommands.proofs.checks.check_answer.Goals as goal
 
-pub returns-in_err-layout : goal.returns-in_err-layout
-returns-in_err-layout g c = search rules
+pub returns-in-Ok-Ok : goal.returns-in-Ok-Ok
+returns-in-Ok-Ok g c =
+    let judged = rw c.in-Ok-Ok.field-0-is at c.in-Ok-Ok.ensures in
+    AnswersSource-printed IsVerdictLine c.args.value.now _ _ _ _ _ _ _ (c.in-Ok.layout, c.in-Ok.ensures, judged.0) c.print_verdict.result c.print_verdict.ensures
 
-pub returns-in_err-verdict : goal.returns-in_err-verdict
-returns-in_err-verdict g c = search rules
+pub returns-in-Ok-Err : goal.returns-in-Ok-Err
+returns-in-Ok-Err g c =
+    let judged = rw c.in-Ok-Err.field-0-is at c.in-Ok-Err.ensures in
+    AnswersSource-printed IsVerdictLine c.args.value.now _ _ _ _ _ _ _ (c.in-Ok.layout, c.in-Ok.ensures, judged) c.print_verdict-in-Ok-Err.result c.print_verdict-in-Ok-Err.ensures
 
-pub returns : goal.returns
-returns g c =
-    let spelt : SaysLayout c.args.value.now (Ok c.in_ok-layout.layout) = search rules in
-    AnswersSource-printed IsVerdictLine c.args.value.now _ _ _ _ _ _ _ (c.in_ok-layout.layout, spelt, c.in_ok-verdict.ensures) c.print_verdict.result c.print_verdict.ensures
+pub returns-in-Err-judge_input : goal.returns-in-Err-judge_input
+returns-in-Err-judge_input g c = search rules

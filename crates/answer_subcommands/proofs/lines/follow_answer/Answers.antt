@@ -1,11 +1,17 @@
-use Rattle.std.proofs.Common.{rules, Ok}
-use Rattle.pbn_deals.specs.LayoutValue.{SaysLayout}
+use Rattle.std.proofs.Common.{rules}
 use Rattle.answer_subcommands.specs.Lines.{IsLineText}
-use Rattle.answer_subcommands.proofs.CheckLemmas.{AnswersSource-text}
+use Rattle.answer_subcommands.proofs.CheckLemmas.{AnswersSource-printed}
 use Rattle.answer_subcommands.proofs.lines.follow_answer.Goals as goal
 
-pub returns : goal.returns
-returns g c =
-    let spelt : SaysLayout c.args.value.now (Ok c.in_ok-layout.layout) = search rules in
-    let answers = rw c.as_slice.ensures.value at c.follow_text.ensures in
-    AnswersSource-text IsLineText c.args.value.now c.in_ok-text.text.items c.in_ok-layout.layout c.args.declarer c.args.trump _ _ _ _ spelt c.in_ok-text.ensures.all c.follow_text.result answers
+pub returns-in-Ok-Ok : goal.returns-in-Ok-Ok
+returns-in-Ok-Ok g c =
+    let judged = rw c.in-Ok-Ok.field-0-is at c.in-Ok-Ok.ensures in
+    AnswersSource-printed IsLineText c.args.value.now _ _ _ _ _ _ _ (c.in-Ok.layout, c.in-Ok.ensures, judged.0) c.follow.result c.follow.ensures
+
+pub returns-in-Ok-Err : goal.returns-in-Ok-Err
+returns-in-Ok-Err g c =
+    let judged = rw c.in-Ok-Err.field-0-is at c.in-Ok-Err.ensures in
+    AnswersSource-printed IsLineText c.args.value.now _ _ _ _ _ _ _ (c.in-Ok.layout, c.in-Ok.ensures, judged) c.refuse.result c.refuse.ensures
+
+pub returns-in-Err-judge_input : goal.returns-in-Err-judge_input
+returns-in-Err-judge_input g c = search rules

@@ -1,6 +1,6 @@
 use Rattle.std.proofs.Common.{rules}
 use Rattle.streams.proofs.ReadLaws.{Loses-all}
-use Rattle.answer_subcommands.proofs.checks.read_verdict.Goals as goal
+use Rattle.answer_subcommands.proofs.judging.judge_input.Goals as goal
 
 pub returns-in_err-text : goal.returns-in_err-text
 returns-in_err-text g c = search rules
