@@ -96,15 +96,6 @@ pub struct Event {
     pub reply: Reply,
 }
 
-impl Event {
-    /// An equal event. Takes no memory.
-    pub fn copy(&self) -> Event
-        ensures { result ≡ self.now }
-    {
-        *self
-    }
-}
-
 /// Makes room for an event.
 pub(crate) fn make_room(events: &mut Vec<Event>) -> Result<(), OutOfMemory>
     ensures events { events.new.items ≡ events.old.items }
