@@ -1,34 +1,15 @@
--- What is printed of a fault, and the line that the fault of a text names.
+-- What is printed of the fault of a text, and the line that it names.
 use Rattle.std.specs.Prelude.{ℕ, List, ◌∷◌, ◌++◌, codes, Option, Some, None}
 use Rattle.std.specs.Fmt.{decimal}
-use Rattle.certificate_graph.specs.declared.faults.GraphFault.{GraphFault}
-use Rattle.certificate_graph.specs.declared.faults.GraphFault.TheVariants as graph
 use Rattle.certificate_graph.specs.declared.faults.TextFault.{TextFault}
 use Rattle.certificate_graph.specs.declared.faults.TextFault.TheVariants.{Head, NodeForm, BadPattern, ChildNumber}
 use Rattle.certificate_graph.specs.declared.faults.TextFault.TheVariants.{Count}
 use Rattle.certificate_graph.specs.declared.faults.TextFault.TheVariants.{TooLarge, OutOfMemory}
 
--- a number, a blank and a name, as in `2 Need`
+-- a number, a blank and a name, as in `2 NodeForm`
 abbrev pub numbered : ℕ → List ℕ → List ℕ
 numbered number name = decimal number ++ 32 ∷ name
 
--- ---- nodes that make no graph
-abbrev pub graph_fault_number : GraphFault → ℕ
-graph_fault_number graph.TooLarge = 1
-graph_fault_number graph.Need = 2
-graph_fault_number graph.TreeForm = 3
-graph_fault_number graph.ChildNumber = 4
-
-abbrev pub graph_fault_name : GraphFault → List ℕ
-graph_fault_name graph.TooLarge = codes "TooLarge"
-graph_fault_name graph.Need = codes "Need"
-graph_fault_name graph.TreeForm = codes "TreeForm"
-graph_fault_name graph.ChildNumber = codes "ChildNumber"
-
-abbrev pub graph_fault_text : GraphFault → List ℕ
-graph_fault_text fault = numbered (graph_fault_number fault) (graph_fault_name fault)
-
--- ---- texts of no graph
 abbrev pub fault_number : TextFault → ℕ
 fault_number (Head line) = 1
 fault_number (NodeForm line) = 2

@@ -1,7 +1,6 @@
 //! Why nodes make no graph, and why a text is that of none.
 
 ghost use Rattle.std.specs.Prelude.{◌≡◌, Some};
-ghost use Rattle.certificate_graph.specs.FaultWords.{graph_fault_number, graph_fault_name, graph_fault_text};
 ghost use Rattle.certificate_graph.specs.FaultWords.{fault_number, fault_name, fault_line, fault_text};
 
 use std::error::Error;
@@ -20,42 +19,6 @@ pub enum GraphFault {
     /// A leaf names a node that is not there.
     ChildNumber,
 }
-
-impl GraphFault {
-    /// The printed number.
-    pub fn number(&self) -> u8
-        ensures { result ≡ graph_fault_number self.now }
-    {
-        match self {
-            GraphFault::TooLarge => 1,
-            GraphFault::Need => 2,
-            GraphFault::TreeForm => 3,
-            GraphFault::ChildNumber => 4,
-        }
-    }
-
-    /// The printed name.
-    pub fn name(&self) -> &'static str
-        ensures { result.now ≡ graph_fault_name self.now }
-    {
-        match self {
-            GraphFault::TooLarge => "TooLarge",
-            GraphFault::Need => "Need",
-            GraphFault::TreeForm => "TreeForm",
-            GraphFault::ChildNumber => "ChildNumber",
-        }
-    }
-}
-
-impl fmt::Display for GraphFault {
-    ghost output = { λ fault. Some (graph_fault_text fault) };
-
-    fn fmt<W: fmt::Write>(&self, f: &mut fmt::Formatter<W>) -> fmt::Result {
-        write!(f, "{} {}", self.number(), self.name())
-    }
-}
-
-impl Error for GraphFault {}
 
 /// Why a text is not one of a graph. Each fault but that memory ran out names its line, counted from 1.
 #[derive(Clone, Copy, Debug, PartialEq, Eq)]
