@@ -48,7 +48,7 @@ GivesUp lease before after = (reply : Reply) × Hears (GiveUp lease) reply befor
 -- a claim was handed in
 abbrev pub HandsIn : Terms → CheckedClaim → List Receipt → List Receipt → Type 0
 HandsIn terms claim before after =
-    (told : Receipt) × IsHandedIn terms before after claim.task.lease claim.task.entry claim.claimed told
+    (told : Receipt) × IsHandedIn terms claim.task.lease claim.task.entry claim.claimed before after told
 
 -- claims were handed in, one after another, and no other request was made
 abbrev pub AreHandedIn : Terms → List CheckedClaim → List Receipt → List Receipt → Type 0

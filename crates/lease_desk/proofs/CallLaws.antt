@@ -28,7 +28,7 @@ use Rattle.lease_desk.specs.Desks.{IsNamed, IsTold}
 use Rattle.lease_desk.specs.Entries.{IsAttended}
 use Rattle.lease_desk.specs.HandIns.{IsValueOf, IsHandedIn}
 
-pub told_by : (v w : View) (opening : SeenMessage) (number : ℕ) (before after : List Receipt) (asked : Asked) (told : Receipt) → v ≡ sitter (Some opening) number before → after ≡ before ++ told ∷ [] → IsAttended v w asked told → IsTold opening.book.terms before after asked told
+pub told_by : (v w : View) (opening : SeenMessage) (number : ℕ) (before after : List Receipt) (asked : Asked) (told : Receipt) → v ≡ sitter (Some opening) number before → after ≡ before ++ told ∷ [] → IsAttended v w asked told → IsTold opening.book.terms asked before after told
 told_by v w opening number before after asked told knows added attended = record {
   asked_is = attended.asked_is;
   named = subst (λ (l : List Receipt). IsNamed opening.book.terms l asked told) (ap (λ (u : View). u.receipts) knows) (attended.named opening (ap (λ (u : View). u.opening) knows));
@@ -66,7 +66,7 @@ value_in terms entry claimed k (Some deal) (Ok shown) on judged proven is =
     record { deal = deal; on = on; proven = subst IsProven (judged.0 ∙ ap of tricks) proven }
 
 pub handed : (terms : Terms) (before after : List Receipt) (lease : ℕ) (entry : Entry) (claimed : Claimed) (verdict : Result Shown HandFault) (result : Result Receipt OutOfMemory) → IsVerdictOn (deal_of terms.boards entry.board) entry claimed verdict → IfOk verdict IsProven
-    → IfOk result (IsTold terms before after (HandIn lease entry (evidence_of verdict))) → IfOk result (IsHandedIn terms before after lease entry claimed)
+    → IfOk result (IsTold terms (HandIn lease entry (evidence_of verdict)) before after) → IfOk result (IsHandedIn terms lease entry claimed before after)
 handed terms before after lease entry claimed verdict (Err refused) judged proven told = tt
 handed terms before after lease entry claimed verdict (Ok receipt) judged proven told = record {
   verdict = verdict;

@@ -1,8 +1,9 @@
 -- What the desk promises.
 use Rattle.std.specs.Prelude.{◌≡◌, ℕ, ◌<◌, ◌≤◌, List, [], ◌∷◌, ◌++◌, All, Option, Some, length, map, count_by, sum_by}
-use Rattle.std.specs.Prelude.{nat_eq}
+use Rattle.std.specs.Prelude.{nat_eq, Result, IfOk, OnErr}
 use Rattle.crossbeam_channel.specs.Claims.{view, IsSeatAt}
 use Rattle.crossbeam_channel.specs.Ends.{sends_on}
+use Rattle.cards.specs.declared.faults.OutOfMemory.{OutOfMemory}
 use Rattle.lease_book.specs.declared.events.Asked.{Asked}
 use Rattle.lease_book.specs.declared.events.Event.{Event}
 use Rattle.lease_book.specs.Histories.{Terms}
@@ -81,11 +82,21 @@ pub record IsNamed (terms : Terms) (before : List Receipt) (asked : Asked) (told
   pub reply_is : IsReply terms earlier asked told.event.reply
 
 -- What a call tells its chair: its own request with the reply, in a place after all that the chair was told before.
-pub record IsTold (terms : Terms) (before after : List Receipt) (asked : Asked) (told : Receipt) : Type 0 where
+pub record IsTold (terms : Terms) (asked : Asked) (before after : List Receipt) (told : Receipt) : Type 0 where
   pub asked_is : told.event.asked ≡ asked
   pub named : IsNamed terms before asked told
   pub receipts : after ≡ before ++ told ∷ []
   pub later : All (IsBefore told.place) before
+
+-- What comes of a call from a chair. The chair stays one of the desk's, under its number. The call tells it so, or
+-- memory ran out and it was told nothing.
+pub record EndsCall (desk : Desk) (Tells : List Receipt → List Receipt → Receipt → Type 0) (old new : Chair)
+    (answer : Result Receipt OutOfMemory)
+    : Type 0 where
+  pub chair : IsChairOf desk new
+  pub number : number_of new ≡ number_of old
+  pub ok : IfOk answer (Tells (receipts_in old) (receipts_in new))
+  pub err : OnErr answer (receipts_in new ≡ receipts_in old)
 
 -- how many receipts the chairs have
 abbrev pub receipts_count : List Chair → ℕ

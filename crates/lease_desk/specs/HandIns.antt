@@ -20,10 +20,10 @@ pub record IsValueOf (terms : Terms) (entry : Entry) (k : ℕ) : Type 0 where
   pub proven : IsProven (record { layout = deal; declarer = entry.declarer; trump = entry.trump; k = k })
 
 -- The verdict on the claim was handed in under the lease. A number that the reply publishes is the entry's value.
-pub record IsHandedIn (terms : Terms) (before after : List Receipt) (lease : ℕ) (entry : Entry) (claimed : Claimed)
+pub record IsHandedIn (terms : Terms) (lease : ℕ) (entry : Entry) (claimed : Claimed) (before after : List Receipt)
     (told : Receipt)
     : Type 0 where
   pub verdict : Result Shown HandFault
   pub judged : IsVerdictOn (deal_of terms.boards entry.board) entry claimed verdict
-  pub told_is : IsTold terms before after (HandIn lease entry (evidence_of verdict)) told
+  pub told_is : IsTold terms (HandIn lease entry (evidence_of verdict)) before after told
   pub published : (k : ℕ) → told.event.reply ≡ Published k → IsValueOf terms entry k

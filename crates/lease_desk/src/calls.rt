@@ -1,9 +1,8 @@
 //! The calls at the desk.
 
-ghost use Rattle.std.specs.Prelude.{◌≡◌, IfOk, OnErr};
 ghost use Rattle.lease_book.specs.declared.events.Asked.TheVariants.{Lease, Expire, GiveUp};
 ghost use Rattle.lease_desk.specs.Askings.{asked_of};
-ghost use Rattle.lease_desk.specs.Desks.{IsChairOf, IsTold, terms_of, number_of, receipts_in};
+ghost use Rattle.lease_desk.specs.Desks.{EndsCall, IsChairOf, IsTold, terms_of};
 ghost use Rattle.lease_desk.specs.HandIns.{IsHandedIn};
 
 use crate::announcing::announce;
@@ -26,12 +25,8 @@ impl Desk {
         chair: &mut Chair,
         asking: Asking,
     ) -> Result<Receipt, OutOfMemory>
-        requires chair { IsChairOf self.now chair.old }
-        ensures chair { IsChairOf self.now chair.new }
-        ensures number { number_of chair.new ≡ number_of chair.old }
-        ensures ok { IfOk result (IsTold (terms_of self.now) (receipts_in chair.old) (receipts_in chair.new)
-            (asked_of asking)) }
-        ensures err { OnErr result (receipts_in chair.new ≡ receipts_in chair.old) }
+        requires { IsChairOf self.now chair.old }
+        ensures { EndsCall self.now (IsTold (terms_of self.now) (asked_of asking)) chair.old chair.new result }
     {
         if chair.receipts.reserve(1).is_err() {
             return Err(OutOfMemory);
@@ -49,12 +44,8 @@ impl Desk {
         chair: &mut Chair,
         now: u64,
     ) -> Result<Receipt, OutOfMemory>
-        requires chair { IsChairOf self.now chair.old }
-        ensures chair { IsChairOf self.now chair.new }
-        ensures number { number_of chair.new ≡ number_of chair.old }
-        ensures ok { IfOk result (IsTold (terms_of self.now) (receipts_in chair.old) (receipts_in chair.new)
-            (Lease now)) }
-        ensures err { OnErr result (receipts_in chair.new ≡ receipts_in chair.old) }
+        requires { IsChairOf self.now chair.old }
+        ensures { EndsCall self.now (IsTold (terms_of self.now) (Lease now)) chair.old chair.new result }
     {
         self.call(rt, chair, Asking::Lease { now })
     }
@@ -66,12 +57,8 @@ impl Desk {
         chair: &mut Chair,
         now: u64,
     ) -> Result<Receipt, OutOfMemory>
-        requires chair { IsChairOf self.now chair.old }
-        ensures chair { IsChairOf self.now chair.new }
-        ensures number { number_of chair.new ≡ number_of chair.old }
-        ensures ok { IfOk result (IsTold (terms_of self.now) (receipts_in chair.old) (receipts_in chair.new)
-            (Expire now)) }
-        ensures err { OnErr result (receipts_in chair.new ≡ receipts_in chair.old) }
+        requires { IsChairOf self.now chair.old }
+        ensures { EndsCall self.now (IsTold (terms_of self.now) (Expire now)) chair.old chair.new result }
     {
         self.call(rt, chair, Asking::Expire { now })
     }
@@ -83,12 +70,8 @@ impl Desk {
         chair: &mut Chair,
         lease: u64,
     ) -> Result<Receipt, OutOfMemory>
-        requires chair { IsChairOf self.now chair.old }
-        ensures chair { IsChairOf self.now chair.new }
-        ensures number { number_of chair.new ≡ number_of chair.old }
-        ensures ok { IfOk result (IsTold (terms_of self.now) (receipts_in chair.old) (receipts_in chair.new)
-            (GiveUp lease)) }
-        ensures err { OnErr result (receipts_in chair.new ≡ receipts_in chair.old) }
+        requires { IsChairOf self.now chair.old }
+        ensures { EndsCall self.now (IsTold (terms_of self.now) (GiveUp lease)) chair.old chair.new result }
     {
         self.call(rt, chair, Asking::GiveUp { lease })
     }
@@ -104,12 +87,9 @@ impl Desk {
         claimed: &Claimed,
         gate: &G,
     ) -> Result<Receipt, OutOfMemory>
-        requires chair { IsChairOf self.now chair.old }
-        ensures chair { IsChairOf self.now chair.new }
-        ensures number { number_of chair.new ≡ number_of chair.old }
-        ensures ok { IfOk result (IsHandedIn (terms_of self.now) (receipts_in chair.old)
-            (receipts_in chair.new) lease entry claimed.now) }
-        ensures err { OnErr result (receipts_in chair.new ≡ receipts_in chair.old) }
+        requires { IsChairOf self.now chair.old }
+        ensures { EndsCall self.now (IsHandedIn (terms_of self.now) lease entry claimed.now) chair.old chair.new
+            result }
     {
         let check = announce(gate, lease);
         let verdict = verdict_on(self.boards.as_slice(), entry, claimed, check);

@@ -38,7 +38,12 @@ pub fn pat_card_of(deal: &[Option<Seat>; 52], pattern: &Pattern, card: Card) -> 
 }
 
 /// Whether the pattern card stands for the card, where these seats hold the cards of the layout, each by its number.
-pub fn stands_for(deal: &[Option<Seat>; 52], pattern: &Pattern, pat_card: PatCard, card: Card) -> bool
+pub fn stands_for(
+    deal: &[Option<Seat>; 52],
+    pattern: &Pattern,
+    pat_card: PatCard,
+    card: Card,
+) -> bool
     ensures { IsTrue result ↔ StandsFor pattern.now deal.now pat_card card }
 {
     let place = place_in_suit(deal, card);
