@@ -1,5 +1,5 @@
 """A second reader of PBN texts, to compare `ddfarm table` with. It was written from the rules of docs/FORMATS.md alone,
-without a look at ddfarm's. The fixed words of second lines are those of the definitions in `subcommands`.
+without a look at ddfarm's. The fixed words of second lines are those of the definitions in `board_subcommands`.
 
 predict(text) answers the exit status, the standard output and the standard error of `ddfarm table` on the text, if each
 entry is searched once and no search finds a result.

@@ -10,7 +10,6 @@ use crate::faults::AuditFault;
 use crate::firsts::FirstProofs;
 use crate::publishing::publish_firsts;
 use crate::reading::read_firsts;
-use asked::Page;
 use cards::{Sink, Source};
 use evidence::{Damage, Sections};
 use lease_book::{Book, is_true_history};
@@ -19,7 +18,7 @@ use std::alloc::Global;
 use std::thread::Threads;
 use streams::{InputFault, read_all};
 use tables::Report;
-use tournaments::{MakeFault, open_book, put_page, take_boards};
+use tournaments::{MakeFault, Page, open_book, put_page, take_boards};
 
 /// A book over the boards, in which what the evidence shows is published, and what was passed over.
 fn audit_boards<R: Threads + Sync, E: Source>(

@@ -5,18 +5,18 @@ use Rattle.clap.specs.declared.error.kind.ErrorKind.TheVariants as kinds
 use Rattle.cards.specs.Devices.{Device}
 use Rattle.streams.specs.RunStreams.{RunDevices}
 use Rattle.lease_book.specs.Moments.{MayTell}
-use Rattle.arguments.specs.CommandLine.{AreLetters}
-use Rattle.arguments.specs.Words.{AskFor, HasNone}
-use Rattle.arguments.specs.declared.command.Letters.{Letters}
-use Rattle.subcommands.specs.declared.faults.RunFault.TheVariants.{OutOfMemory}
-use Rattle.answer_subcommands.specs.declared.statuses.Status.{Status}
-use Rattle.answer_subcommands.specs.declared.statuses.Status.TheVariants.{Failed, Refused}
-use Rattle.asked.specs.declared.subcommands.Subcommand.{Subcommand}
-use Rattle.subcommands.specs.Explanations.{told_text}
-use Rattle.answer_subcommands.specs.Statuses.{status_code}
-use Rattle.subcommands.specs.Statuses.{IsTold}
-use Rattle.subcommands.specs.KeptFiles.{MayOpen}
-use Rattle.subcommands.specs.Runs.{MaySolve, Shows, RunsSubcommand}
+use Rattle.command_words.specs.Rules.{AreLetters}
+use Rattle.command_line.specs.Words.{AskFor, HasNone}
+use Rattle.command_words.specs.declared.commands.Letters.{Letters}
+use Rattle.command_line.specs.declared.faults.ProgramFault.TheVariants.{OutOfMemory}
+use Rattle.run_ends.specs.declared.statuses.Status.{Status}
+use Rattle.run_ends.specs.declared.statuses.Status.TheVariants.{Failed, Refused}
+use Rattle.command_line.specs.declared.subcommands.Subcommand.{Subcommand}
+use Rattle.command_line.specs.Faults.{told}
+use Rattle.run_ends.specs.Statuses.{status_code}
+use Rattle.run_ends.specs.Telling.{IsTold}
+use Rattle.command_line.specs.Outputs.{EndsStreams, Shows}
+use Rattle.command_line.specs.Runs.{MayOpen, MaySolve, RunsSubcommand}
 
 -- help or the version is asked for
 abbrev pub IsAsked : ErrorKind → Type 0
@@ -38,7 +38,7 @@ AreLinesOf said lines = AreLines lines × IfSome said (λ bytes. IsInLines bytes
 -- nothing is read or written, and that memory ran out is told
 abbrev pub TellsNoMemory : RunDevices → RunDevices → Status → Type 0
 TellsNoMemory old new status =
-    (status ≡ Failed) × (new.both ≡ old.both) × IsTold old.errors new.errors (told_text None OutOfMemory)
+    (status ≡ Failed) × (new.both ≡ old.both) × IsTold old.errors new.errors (told OutOfMemory)
 
 -- the lines of help are written, unless memory ran out for them
 abbrev pub ShowsHelp : Option (List ℕ) → RunDevices → RunDevices → Status → Type 0
@@ -80,3 +80,12 @@ pub data MeetsWords (may_solve : MaySolve) (may_tell : MayTell) (may_open : MayO
 -- the exit status is the number of the status that the run ends with
 abbrev pub ExitsBy : (Status → Type 0) → ℕ → Type 0
 ExitsBy Ends code = (status : Status) × Ends status × (code ≡ status_code status)
+
+-- what a run of the program does, by what it does for its words: that, and then the output is flushed and closed
+pub record RunsProgram (Meets : RunDevices → RunDevices → Status → Type 0) (old new : RunDevices)
+    (below : Option (List ℕ)) (ended : ℕ)
+    : Type 0 where
+  pub between : RunDevices
+  pub code : ℕ
+  pub meets : ExitsBy (Meets old between) code
+  pub closes : EndsStreams between new below code ended

@@ -1,122 +1,20 @@
-//! What is done for the words of a command line.
+//! The command line of the program: what its words ask for, what is done for them, and how the run ends.
 //!
 //! [`run_command`] works over any input, output and error output, so that tests can run it over memory.
 #![tactic(auto)]
 
-ghost use Rattle.std.specs.Prelude.{IfSome, map, option_map};
-ghost use Rattle.streams.specs.RunStreams.{devices_of};
-ghost use Rattle.command_line.specs.Commands.{AreLinesOf, EndsWords, ExitsBy, MeetsWords, ShowsHelp};
-ghost use Rattle.command_line.specs.Commands.{TellsRefusal};
+mod commands;
+mod faults;
+mod matching;
+mod outputs;
+mod run_commands;
+mod running;
+mod subcommands;
+mod words;
 
-use arguments::parse_arguments;
-use cards::{Sink, Source, write_all};
-use certificate_graph::{CardSolver, Solver};
-use clap::error::ErrorKind;
-use farm::{Clock, Means};
-use lease_book::Gate;
-use std::alloc::Global;
-use std::convert::AsStr;
-use std::fmt::Display;
-use std::sync::Wait;
-use std::thread::Threads;
-use streams::Streams;
-use subcommands::{KeptFiles, NamedFiles, NewFiles, RunFault, Status, run_subcommand, show, tell};
-
-/// What is told of refused words where there is no memory for more.
-const REFUSED: &str = "ddfarm: the command line is refused\n";
-
-/// Does what the words ask for, the first of them being the program's name, and answers the exit status. If the words
-/// don't say how many solvers or checkers, there are as many as the processors given, 64 at most.
-///
-/// What can't be done is told on the error output, with nothing on the output but what `play` has written, and the
-/// beginning that a failed output has taken; so is what was passed over of evidence, or couldn't be kept, behind a page
-/// that was written. Else the error output is as it was. Where the error output fails, nobody is left to be told.
-pub fn run_command<
-    'a,
-    S: AsStr,
-    P: Solver + CardSolver + Sync,
-    G: Gate + Sync,
-    C: Clock + Sync,
-    I: Source,
-    O: Sink,
-    E: Sink,
-    R: Threads + Wait + Sync + NamedFiles + KeptFiles + NewFiles,
->(
-    rt: &R,
-    alloc: Global,
-    words: &'a [S],
-    processors: usize,
-    means: &Means<'_, P, G, C>,
-    streams: &mut Streams<I, O, E>,
-) -> u8
-    ensures { ExitsBy (MeetsWords
-        (record { answers = P.may_find means.now.solver.now; cards = P.may_find_cards means.now.solver.now })
-        (C.may_tell means.now.clock.now)
-        (record { to_read = R.may_open rt.now; to_keep = R.may_keep rt.now; to_make = R.may_make rt.now })
-        (map S.text words.entry.now) processors
-        (devices_of I.state O.state E.state streams.old) (devices_of I.state O.state E.state streams.new)) result }
-{
-    match parse_arguments(alloc, words, processors) {
-        Ok(asked) => run_subcommand(rt, alloc, asked, means, streams).code(),
-        Err(error) => {
-            let kind = error.kind();
-            tell_words(alloc, kind, error, streams).code()
-        }
-    }
-}
-
-/// Writes the help that was asked for, or tells why the words are refused, by what is said of an error of this kind.
-fn tell_words<D: Display + Drop, I: Source, O: Sink, E: Sink>(
-    alloc: Global,
-    kind: ErrorKind,
-    said: D,
-    streams: &mut Streams<I, O, E>,
-) -> Status
-    ensures { EndsWords (D.output said) (devices_of I.state O.state E.state streams.old)
-        (devices_of I.state O.state E.state streams.new) kind result }
-{
-    match kind {
-        ErrorKind::OutOfMemory => tell(RunFault::OutOfMemory, &mut streams.errors),
-        ErrorKind::DisplayHelp | ErrorKind::DisplayVersion => {
-            show_help(lines_of(alloc, said), streams)
-        }
-        _ => tell_refusal(lines_of(alloc, said), &mut streams.errors),
-    }
-}
-
-/// Writes the lines of the help that was asked for, if there was memory for them.
-fn show_help<I: Source, O: Sink, E: Sink>(
-    lines: Option<String>,
-    streams: &mut Streams<I, O, E>,
-) -> Status
-    ensures { ShowsHelp (option_map (λ text. text.bytes.items) lines)
-        (devices_of I.state O.state E.state streams.old) (devices_of I.state O.state E.state streams.new) result }
-{
-    match lines {
-        Some(text) => show(text.as_bytes(), streams),
-        None => tell(RunFault::OutOfMemory, &mut streams.errors),
-    }
-}
-
-/// Tells the lines of why the words are refused, or, if there was no memory for them, that they are.
-fn tell_refusal<E: Sink>(lines: Option<String>, errors: &mut E) -> Status
-    ensures { TellsRefusal (option_map (λ text. text.bytes.items) lines) (E.state errors.old)
-        (E.state errors.new) result }
-{
-    let _ = match lines {
-        Some(text) => write_all(errors, text.as_bytes()),
-        None => write_all(errors, REFUSED.as_bytes()),
-    };
-    Status::Refused
-}
-
-/// What is said of the words, in whole lines; `None` where there is no memory for it.
-fn lines_of<D: Display + Drop>(alloc: Global, said: D) -> Option<String>
-    ensures { IfSome result (λ text. AreLinesOf (D.output said) text.bytes.items) }
-{
-    let mut text = format!(in alloc; "{said}").ok()?;
-    if !text.as_str().ends_with("\n") {
-        text.push_str("\n").ok()?;
-    }
-    Some(text)
-}
+pub use faults::ProgramFault;
+pub use outputs::{close_output, room_for, show};
+pub use run_commands::{run_command, run_program};
+pub use running::run_subcommand;
+pub use subcommands::Subcommand;
+pub use words::parse_arguments;

@@ -1,21 +1,18 @@
 //! Double-dummy results of bridge deals, from the command line.
 //!
-//! `main` gives `run_command` the words and the streams of the process, and flushes the output at the end.
+//! `main` gives `run_program` what was read of the words of the process, and its streams.
 #![tactic(auto)]
 
-use command_line::run_command;
+use command_line::{ProgramFault, parse_arguments, room_for, run_program};
 use farm::{Clock, Means};
 use partition_solver::Partition;
 use progress::Progress;
+use run_ends::tell;
 use std::io::{BufWriter, ErrorKind};
 use std::process::ExitCode;
 use std::thread::{Threads, available_parallelism};
 use std::time::Instant;
 use streams::{ReaderSource, Streams, WriterSink};
-use subcommands::{RunFault, close_output, tell};
-
-/// How many bytes of the output are held back at the most.
-const ROOM: usize = 8192;
 
 /// Whole seconds since the program's start.
 #[derive(Drop)]
@@ -38,21 +35,13 @@ impl Clock for Seconds<'_> {
 }
 
 /// The words that the process was started with.
-fn words_of_process(rt: &HostRuntime) -> Result<Vec<String>, RunFault> {
+fn words_of_process(rt: &HostRuntime) -> Result<Vec<String>, ProgramFault> {
     match std::env::args(rt) {
-        Ok(words) => words.collect(rt.alloc()).map_err(|_| RunFault::OutOfMemory),
-        Err(error) if error.kind() == ErrorKind::InvalidData => Err(RunFault::NotText),
-        Err(_) => Err(RunFault::OutOfMemory),
-    }
-}
-
-/// How many bytes of the output may be held back: none where `play` asks for cards, since each text has to be there
-/// before a line is read.
-fn room_for(words: &[String]) -> usize {
-    if words.len() > 1 && words[1].as_str() == "play" {
-        0
-    } else {
-        ROOM
+        Ok(words) => words
+            .collect(rt.alloc())
+            .map_err(|_| ProgramFault::OutOfMemory),
+        Err(error) if error.kind() == ErrorKind::InvalidData => Err(ProgramFault::NotText),
+        Err(_) => Err(ProgramFault::OutOfMemory),
     }
 }
 
@@ -72,11 +61,11 @@ fn main(rt: HostRuntime) -> ExitCode {
     let mut errors = WriterSink::new(rt.stderr());
     let words = match words_of_process(&rt) {
         Ok(words) => words,
-        Err(fault) => return ExitCode::from(tell(fault, &mut errors).code()),
+        Err(fault) => return ExitCode::from(tell(fault, None, &mut errors).code()),
     };
-    let room = room_for(words.as_slice());
-    let Ok(buffered) = BufWriter::with_capacity(rt.alloc(), room, rt.stdout()) else {
-        return ExitCode::from(tell(RunFault::OutOfMemory, &mut errors).code());
+    let read = parse_arguments(rt.alloc(), words.as_slice(), processors(&rt));
+    let Ok(buffered) = BufWriter::with_capacity(rt.alloc(), room_for(&read), rt.stdout()) else {
+        return ExitCode::from(tell(ProgramFault::OutOfMemory, None, &mut errors).code());
     };
     let progress = Progress::new(&rt, &clock, WriterSink::new(rt.stderr()));
     let means = Means {
@@ -89,13 +78,5 @@ fn main(rt: HostRuntime) -> ExitCode {
         output: WriterSink::new(buffered),
         errors,
     };
-    let status = run_command(
-        &rt,
-        rt.alloc(),
-        words.as_slice(),
-        processors(&rt),
-        &means,
-        &mut streams,
-    );
-    ExitCode::from(close_output(status, &mut streams))
+    ExitCode::from(run_program(&rt, rt.alloc(), read, &means, &mut streams))
 }

@@ -6,7 +6,7 @@ use Rattle.std.proofs.lemmas.List.{append_cancel_left, length-append}
 use Rattle.std.proofs.lemmas.Option.{slice_get-get_or}
 use Rattle.std.proofs.lemmas.Bool.{cases_lt}
 use Rattle.certificate_graph.proofs.OneSpelling.{tails, one_number}
-use Rattle.answer_subcommands.specs.Answers.{result_text, number_line, IsEmptyLine, IsCut, IsUncut}
+use Rattle.deal_subcommands.specs.Answers.{result_text, number_line, IsEmptyLine, IsCut, IsUncut}
 use Rattle.evidence_laws.specs.Answers.{HasOneAnswer}
 
 -- ---- the first line

@@ -6,7 +6,7 @@ use Rattle.std.proofs.lemmas.Bool.{cases_lt}
 use Rattle.std.proofs.lemmas.Option.{slice_get_within}
 use Rattle.certificate_graph.specs.Texts.{graph_text}
 use Rattle.evidence.proofs.GraphLines.{Plain, Lines, no_line, line, IsOther, graph_lines}
-use Rattle.answer_subcommands.specs.Answers.{IsEmptyLine, HasNoEmptyLine, IsCut}
+use Rattle.deal_subcommands.specs.Answers.{IsEmptyLine, HasNoEmptyLine, IsCut}
 use Rattle.evidence_laws.specs.Solves.{AnswersAreReadBack}
 
 -- ---- what lines have

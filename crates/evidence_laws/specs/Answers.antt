@@ -1,6 +1,6 @@
 -- A text is one answer.
 use Rattle.std.specs.Prelude.{◌≡◌, ℕ, ◌-◌, List}
-use Rattle.answer_subcommands.specs.Answers.{IsAnswer, LacksResult}
+use Rattle.deal_subcommands.specs.Answers.{IsAnswer, LacksResult}
 
 -- a text is one answer at most, and none where its first line is that of no result
 pub record HasOneAnswer : Type 0 where

@@ -2,8 +2,8 @@
 use Rattle.std.specs.Prelude.{ℕ, ◌≤◌}
 use Rattle.certificate_graph.specs.Graphs.{GraphShape, IsGraph}
 use Rattle.certificate_graph.specs.Texts.{graph_text}
-use Rattle.answer_subcommands.specs.Answers.{IsAnswer}
-use Rattle.answer_subcommands.specs.Solves.{answer_text}
+use Rattle.deal_subcommands.specs.Answers.{IsAnswer}
+use Rattle.deal_subcommands.specs.Solve.Runs.{answer_text}
 
 -- such a text is cut into the number and the two texts that it was made of
 abbrev pub AnswersAreReadBack : Type 0

@@ -8,7 +8,7 @@ pub fn text_is_one_answer()
     ensures { HasOneAnswer }
 {}
 
-/// [`read_answer`](answer_subcommands::read_answer) cuts what `solve` writes into the same number and the same texts.
+/// [`read_answer`](deal_subcommands::read_answer) cuts what `solve` writes into the same number and the same texts.
 pub fn answers_are_read_back()
     ensures { AnswersAreReadBack }
 {}

@@ -9,7 +9,7 @@ use lease_book::{Book, Entry};
 use std::alloc::Global;
 use std::process::Abort;
 use std::thread::Threads;
-use test_support::settings::TABLES;
+use tournaments::{Page, PageForm, ParTags};
 
 /// Room for two tables.
 const ROOM: usize = 1000;
@@ -82,7 +82,11 @@ fn audit_to<R: Threads + Sync>(
 ) -> Option<(Shown, Damage)> {
     let mut input = Bytes::new(BOARDS.as_bytes(), ROOM);
     let mut sections = Sections::new(alloc, Bytes::new(evidence, greatest_piece));
-    match audit_tables(rt, alloc, TABLES, &mut input, &mut sections, output) {
+    let page = Page {
+        form: PageForm::Tables,
+        par: ParTags::Without,
+    };
+    match audit_tables(rt, alloc, page, &mut input, &mut sections, output) {
         Ok((_, book, damage)) => Some((shown_in(&book), damage)),
         Err(_) => None,
     }

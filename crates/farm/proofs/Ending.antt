@@ -12,7 +12,7 @@ use Rattle.farm_relay.specs.Relays.{IsPutterOf, IsTakerOf, put_by, taken_by}
 use Rattle.farm_relay.proofs.RelayLaws.{still_putter, still_taker}
 use Rattle.farm_threads.specs.Beside.{AreBeside}
 use Rattle.farm.specs.declared.crews.Crew.{Crew}
-use Rattle.asked.specs.declared.settings.Settings.{Settings}
+use Rattle.farm.specs.declared.settings.Settings.{Settings}
 use Rattle.farm.specs.declared.tasks.Group.{Group}
 use Rattle.farm.specs.declared.tasks.FoundBundle.{FoundBundle}
 use Rattle.farm.specs.declared.tasks.CheckedClaim.{CheckedClaim}

@@ -4,7 +4,7 @@ use denote.Ref.{NamedLft}
 use denote.Struct.Declared.{shape}
 use denote.Param.Send.{IsSync, sendable, recorded_sync, struct_sync, shr_sync}
 use Rattle.cards.proofs.layouts.Layout.TheSendSync as layout
-use Rattle.asked.proofs.settings.Settings.TheSendSync as settings
+use Rattle.farm.proofs.settings.Settings.TheSendSync as settings
 use Rattle.lease_desk.proofs.Sharing.{desk_sync}
 use Rattle.farm.specs.contracts.crews.Crew as crew
 use Rattle.farm.proofs.means.Means.TheSendSync as means

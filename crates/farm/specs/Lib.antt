@@ -9,3 +9,5 @@ pub mod Findings
 pub mod Posts
 pub mod Relaying
 pub mod Running
+pub mod Ranges
+pub mod Settings

@@ -1,7 +1,7 @@
 -- The relays of a run, and the messages that went through them.
 use Rattle.std.specs.Prelude.{◌≡◌, true, List}
 use Rattle.farm_relay.specs.Relays.{IsOpened, AreAllOf, IsNothingLost, AreMarksPut, is_ended}
-use Rattle.asked.specs.declared.settings.Settings.{Settings}
+use Rattle.farm.specs.declared.settings.Settings.{Settings}
 use Rattle.farm.specs.declared.tasks.Group.{Group}
 use Rattle.farm.specs.declared.tasks.FoundBundle.{FoundBundle}
 use Rattle.farm.specs.declared.tasks.CheckedClaim.{CheckedClaim}

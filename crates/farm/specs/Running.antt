@@ -13,7 +13,7 @@ use Rattle.farm.specs.declared.posts.ClerkPost.{ClerkPost}
 use Rattle.farm.specs.declared.posts.Posts.{Posts}
 use Rattle.farm.specs.declared.relays.RelayEnds.{RelayEnds}
 use Rattle.farm.specs.declared.relays.Relays.{Relays}
-use Rattle.asked.specs.declared.settings.Settings.{Settings}
+use Rattle.farm.specs.declared.settings.Settings.{Settings}
 use Rattle.farm.specs.declared.started.Started.{Started}
 use Rattle.lease_book.specs.Moments.{MayTell}
 use Rattle.farm.specs.Working.{IsOnDuty}

@@ -4,7 +4,7 @@ use Rattle.pbn_deals.specs.declared.boards.Board.{Board}
 use Rattle.lease_book.specs.declared.events.Event.{Event}
 use Rattle.lease_book.specs.Histories.{Terms}
 use Rattle.lease_book.specs.Books.{Ledger}
-use Rattle.asked.specs.declared.settings.Settings.{Settings}
+use Rattle.farm.specs.declared.settings.Settings.{Settings}
 use Rattle.lease_book.specs.Moments.{MayTell, AreTimed}
 use Rattle.lease_book.specs.TrueHistories.{IsTrueHistory, IsGivenOut}
 use Rattle.lease_book.specs.Done.{IsDone}

@@ -1,8 +1,8 @@
 //! The things that all threads of a round share.
 
 use crate::means::Means;
+use crate::settings::Settings;
 use crate::turns::Turns;
-use asked::Settings;
 use cards::Layout;
 use lease_desk::Desk;
 use std::alloc::Global;

@@ -25,14 +25,15 @@ mod relays;
 mod requests;
 mod rounds;
 mod running;
+mod settings;
 mod solving;
 mod started;
 mod tasks;
 mod telling;
 mod turns;
 
-pub use asked::{Settings, SettingsFault};
 pub use faults::FarmFault;
 pub use lease_book::Clock;
 pub use means::Means;
 pub use rounds::{resume_farm, run_farm};
+pub use settings::{MOST_ENTRIES, MOST_THREADS, MOST_TRIES, Settings, SettingsFault};

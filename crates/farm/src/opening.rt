@@ -5,7 +5,7 @@ ghost use Rattle.farm.specs.Faults.{IsFaultOf};
 ghost use Rattle.farm.specs.Runs.{terms_for};
 
 use crate::faults::FarmFault;
-use asked::Settings;
+use crate::settings::Settings;
 use cards::Layout;
 use lease_book::{Book, BookFault};
 use pbn_deals::Board;

@@ -3,8 +3,8 @@
 ghost use Rattle.std.specs.Prelude.{OnOk, IfOk};
 ghost use Rattle.farm.specs.Relaying.{AreOpened, AreAllEndsOf, IsRelayed, AreAllMarksPut};
 
+use crate::settings::Settings;
 use crate::tasks::{CheckedClaim, FoundBundle, Group};
-use asked::Settings;
 use cards::OutOfMemory;
 use farm_relay::{Putter, Relay, Taker};
 use std::alloc::Global;

@@ -13,8 +13,8 @@ use crate::leftovers::take_back_all;
 use crate::means::Means;
 use crate::opening::{deals_of, open_book};
 use crate::running::work_round;
+use crate::settings::Settings;
 use crate::telling::tell_published;
-use asked::Settings;
 use cards::Layout;
 use certificate_graph::Solver;
 use lease_book::{Book, Clock, Gate, first_boards, is_true_history};
@@ -50,8 +50,8 @@ fn work_through<S: Solver + Sync, G: Gate + Sync, C: Clock + Sync, R: Threads + 
 /// Has threads work through a book, whatever its history. Returns the book when no lease is held and each entry whose
 /// board has a deal has a number, or was leased as often as it may be.
 ///
-/// The threads work in rounds, whose sizes are in [`Settings`]. In a round solvers lease entries until none is open,
-/// and their answers are checked and handed in. When all threads have ended, nothing is on its way any more. Leases
+/// The threads work in rounds, whose sizes are in [`Settings`]. In a round the lender leases entries until none is open,
+/// and the solvers' answers are checked and handed in. When all threads have ended, nothing is on its way any more. Leases
 /// that were left behind are given up, and another round begins if an entry is open, such as one whose claim was
 /// refused at the end.
 ///

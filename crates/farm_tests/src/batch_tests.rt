@@ -11,6 +11,7 @@ use farm::{Means, Settings, SettingsFault};
 use lease_book::{Book, Reply};
 use partition_solver::Partition;
 use pbn_deals::read_layout;
+use settings_support::once;
 use std::alloc::Global;
 use std::process::Abort;
 use std::sync::Wait;
@@ -18,7 +19,6 @@ use std::thread::Threads;
 use std::time::Clock;
 use test_support::deals::{ACE, FOUR_SUITS};
 use test_support::idle::{FindsNothing, LetsPass, StandsStill};
-use test_support::settings::once;
 
 /// What comes of a batch on one board, with one solver, checker and clerk.
 #[derive(Clone, Copy)]

@@ -6,9 +6,9 @@ use crate::flawed::{Change, FindsSome, Flawed, Graphs};
 use crate::runs::{BUDGET, quiet_book};
 use crate::tallies::{leases_given_up, tally_of};
 use partition_solver::Partition;
+use settings_support::once;
 use std::test::Fail;
 use test_support::deals::ACE;
-use test_support::settings::once;
 
 /// What is done to the graphs, and to the claims, how many entries are leased at a time, and how many of twenty are
 /// published, given up, and refused.

@@ -7,10 +7,10 @@ use crate::sharing::CountsHolders;
 use crate::solvers::FindsTheAce;
 use crate::tallies::{hand_ins_of, tally_of};
 use farm::Means;
+use settings_support::once;
 use std::test::Fail;
 use test_support::deals::ACE;
 use test_support::idle::StandsStill;
-use test_support::settings::once;
 
 /// One clerk's claims, of which one is published and the others are refused: each is told once with its reply, in the
 /// order of the history.

@@ -6,8 +6,8 @@ use crate::runs::{BUDGET, book_of};
 use crate::tallies::{NONE, TableTally, tally_of};
 use farm::{Means, Settings, SettingsFault};
 use partition_solver::Partition;
+use settings_support::once;
 use test_support::deals::ACE;
-use test_support::settings::once;
 
 /// Settings by which all entries of a board are leased at a time, and an entry twice.
 fn twice() -> Result<Settings, SettingsFault> {

@@ -10,13 +10,13 @@ use cards::{Seat, Side, Suit, Trump};
 use farm::{Means, resume_farm};
 use lease_book::{Book, Entry, Reply};
 use partition_solver::Partition;
+use settings_support::once;
 use std::alloc::Global;
 use std::process::Abort;
 use std::sync::Wait;
 use std::thread::Threads;
 use test_support::deals::ACE;
 use test_support::idle::{FindsNothing, StandsStill};
-use test_support::settings::once;
 
 /// The side that has the ace on the board of this deal, and on that of the same cards one seat further on.
 const WINNERS: [Side; 2] = [Side::NorthSouth, Side::EastWest];

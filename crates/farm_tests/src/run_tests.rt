@@ -8,6 +8,7 @@ use certificate_graph::Solver;
 use farm::{FarmFault, Means, Settings, SettingsFault, run_farm};
 use lease_book::{Asked, Book, BookFault, Entry, Reply};
 use partition_solver::Partition;
+use settings_support::once;
 use std::alloc::Global;
 use std::process::Abort;
 use std::sync::Wait;
@@ -15,7 +16,6 @@ use std::test::Fail;
 use std::thread::Threads;
 use test_support::deals::FOUR_SUITS;
 use test_support::idle::{FindsNothing, LetsPass, StandsStill};
-use test_support::settings::once;
 
 /// How many entries are lent at a time: one, or all of a board.
 const BATCHES: [usize; 2] = [1, 20];

@@ -6,8 +6,8 @@ use crate::stacks::{DEPTH, NeedsStack};
 use crate::tallies::published_in;
 use cards::{Side, Suit, Trump};
 use lease_book::Entry;
+use settings_support::once;
 use std::test::Fail;
-use test_support::settings::once;
 
 /// The first deal of `examples/club.pbn`.
 const DEALT: &str = "N:Q64.QJ7.K9.AK954 98.43.A7653.QJ83 T73.T92.QT842.72 AKJ52.AK865.J.T6";

@@ -7,6 +7,7 @@ use crate::solvers::{FindsTheAce, NT};
 use crate::tallies::{published_in, tally_of};
 use farm::{Means, Settings, SettingsFault};
 use lease_book::{Asked, Book, Reply};
+use settings_support::once;
 use std::alloc::Global;
 use std::process::Abort;
 use std::sync::Wait;
@@ -14,7 +15,6 @@ use std::test::Fail;
 use std::thread::Threads;
 use test_support::deals::ACE;
 use test_support::idle::{FindsNothing, StandsStill};
-use test_support::settings::once;
 
 /// Who works side by side, how many solvers and checkers there are, and how many entries are leased at a time.
 const PAIRS: [(Pair, usize, usize, usize); 4] = [

@@ -3,14 +3,13 @@
 use crate::outcomes::{Outcome, Told};
 use crate::spending::Spending;
 use crate::texts::SHEET_END;
-use asked::{Page, PageForm, ParTags};
 use audits::{AuditFault, audit_tables};
 use cards::{Buffer, Bytes};
 use evidence::Sections;
 use std::alloc::{AllocError, Global};
 use std::thread::Threads;
 use test_support::four_suits::{BOARD, RUFFS};
-use tournaments::MakeFault;
+use tournaments::{MakeFault, Page, PageForm, ParTags};
 
 /// How many bytes there is room for: more than the sheet has.
 const SHEET: usize = 10_000;

@@ -7,6 +7,7 @@ use certificate_graph::{Bundle, Claim, Graph, Solver, Version};
 use farm::{FarmFault, Means, Settings, run_farm};
 use lease_book::{Asked, Book, Entry, Gate, Reply};
 use pbn_deals::{Board, BoardName, read_layout};
+use settings_support::one_of_each;
 use std::alloc::{AllocError, Global};
 use std::sync::atomic::Ordering::SeqCst;
 use std::sync::atomic::{AtomicBool, AtomicU64};
@@ -15,7 +16,6 @@ use std::thread;
 use std::thread::Threads;
 use std::time::{Clock, Duration};
 use test_support::idle::StandsStill;
-use test_support::settings::one_of_each;
 
 /// Four deals of one card each.
 const DEALS: [&[u8]; 4] = [

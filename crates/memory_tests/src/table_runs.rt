@@ -3,19 +3,19 @@
 use crate::outcomes::{Outcome, Told};
 use crate::spending::Spending;
 use crate::texts::HEAD;
+use board_subcommands::table::{TableOptions, make_tables};
 use cards::{Buffer, Bytes, Seat, Side, Suit, Trump};
 use farm::{Means, Settings};
 use lease_book::{Book, Entry};
 use partition_solver::Partition;
+use settings_support::one_of_each;
 use std::alloc::{AllocError, Global};
 use std::sync::Wait;
 use std::thread::Threads;
-use subcommands::make_tables;
 use tables::Report;
 use test_support::four_suits::{BOARD, TABLE};
 use test_support::idle::{LetsPass, StandsStill};
-use test_support::settings::{one_of_each, tables_by};
-use tournaments::MakeFault;
+use tournaments::{MakeFault, Page, PageForm, ParTags};
 
 /// How many steps the search has.
 const BUDGET: u64 = 10_000_000;
@@ -109,7 +109,17 @@ fn made<R: Threads + Wait + Sync>(
         gate: &LetsPass,
         clock: &StandsStill,
     };
-    make_tables(rt, alloc, tables_by(settings), &means, source, sink)
+    let options = TableOptions {
+        settings,
+        progress: false,
+        page: Page {
+            form: PageForm::Tables,
+            par: ParTags::Without,
+        },
+        boards: None,
+        evidence: None,
+    };
+    make_tables(rt, alloc, options, &means, source, sink)
 }
 
 /// `make_tables` with a solver and a checker on the four hands of one suit each.

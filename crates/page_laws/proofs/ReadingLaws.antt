@@ -2,11 +2,11 @@
 use Rattle.std.proofs.Common.{ℕ, List, [], Ok, Err, sym, subst}
 use Rattle.std.specs.Prelude.{IfSome, Option}
 use Rattle.std.proofs.lemmas.List.Elements.{All-nil}
-use Rattle.asked.specs.declared.subcommands.Page.{Page}
-use Rattle.asked.specs.declared.subcommands.PageForm.{PageForm}
-use Rattle.asked.specs.declared.subcommands.PageForm.TheVariants as form
-use Rattle.asked.specs.declared.subcommands.ParTags.{ParTags}
-use Rattle.asked.specs.declared.subcommands.ParTags.TheVariants.{Without, With}
+use Rattle.tournaments.specs.declared.pages.Page.{Page}
+use Rattle.tournaments.specs.declared.pages.PageForm.{PageForm}
+use Rattle.tournaments.specs.declared.pages.PageForm.TheVariants as form
+use Rattle.tournaments.specs.declared.pages.ParTags.{ParTags}
+use Rattle.tournaments.specs.declared.pages.ParTags.TheVariants.{Without, With}
 use Rattle.pbn_deals.specs.Reading.{TextAnswers}
 use Rattle.lease_book.specs.declared.events.Event.{Event}
 use Rattle.lease_book.specs.Histories.{Terms}

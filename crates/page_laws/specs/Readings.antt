@@ -1,10 +1,10 @@
 -- How each page that is put is read.
 use Rattle.std.specs.Prelude.{ℕ, List, [], Result, Ok}
-use Rattle.asked.specs.declared.subcommands.Page.{Page}
-use Rattle.asked.specs.declared.subcommands.PageForm.{PageForm}
-use Rattle.asked.specs.declared.subcommands.PageForm.TheVariants as form
-use Rattle.asked.specs.declared.subcommands.ParTags.{ParTags}
-use Rattle.asked.specs.declared.subcommands.ParTags.TheVariants.{Without, With}
+use Rattle.tournaments.specs.declared.pages.Page.{Page}
+use Rattle.tournaments.specs.declared.pages.PageForm.{PageForm}
+use Rattle.tournaments.specs.declared.pages.PageForm.TheVariants as form
+use Rattle.tournaments.specs.declared.pages.ParTags.{ParTags}
+use Rattle.tournaments.specs.declared.pages.ParTags.TheVariants.{Without, With}
 use Rattle.cards.specs.Devices.{Device}
 use Rattle.pbn_deals.specs.Reading.{TextAnswers}
 use Rattle.streams.specs.RunStreams.{Devices}

@@ -15,7 +15,7 @@ ghost use Rattle.page_laws.specs.ReplayedTables.{ReplayedTablesAreRead};
 /// denomination, with the double-dummy values of that deal; or it says how many of the twenty numbers are known.
 ///
 /// [`make_single`](plain_runs::make_single), [`replay_tables`](plain_runs::replay_tables) and `make_tables` of
-/// `subcommands` write such a page. On `Ok` their clauses give the text, the terms and the history.
+/// `board_subcommands` write such a page. On `Ok` their clauses give the text, the terms and the history.
 pub fn tables_are_read()
     ensures { TablesAreRead }
 {}

@@ -9,14 +9,13 @@ ghost use Rattle.tournaments.specs.Making.{MakesPage};
 ghost use Rattle.tournaments.specs.Pages.{AreTables};
 
 use crate::working::work_through;
-use asked::{Page, PageForm, ParTags};
 use cards::{Sink, Source};
 use certificate_graph::Solver;
 use lease_book::{Book, Clock, is_true_history};
 use std::alloc::Global;
 use streams::read_all;
 use tables::Report;
-use tournaments::{MakeFault, open_book, put_page, take_boards};
+use tournaments::{MakeFault, Page, PageForm, ParTags, open_book, put_page, take_boards};
 
 /// Reads the boards of a PBN text to its end, has the solver work on each entry in turn, as often as `tries` says, with
 /// a budget of the solver's steps, and writes the tables. Returns the report and the book of the run.

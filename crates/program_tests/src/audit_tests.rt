@@ -4,11 +4,11 @@ use crate::disks::EVIDENCE;
 use crate::expect::{End, got, joined_bytes, joined_text, some};
 use crate::file_runs::{Devices, SOUND, audit, expect_both, expect_end, table};
 use crate::sections::{NO_TRUMP, ONE, TWO};
+use run_ends::Status;
 use std::alloc::Global;
 use std::process::Abort;
 use std::sync::Wait;
 use std::thread::Threads;
-use subcommands::Status;
 use test_support::four_suits::{BOARD, RUFFS};
 
 const READING: &str = "ddfarm: reading failed\n";

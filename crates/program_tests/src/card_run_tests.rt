@@ -4,14 +4,16 @@ use crate::disks::{BOARDS, Disk, EVIDENCE, System};
 use crate::expect::{End, ROOM, expect_ended, got, joined_text, means, memory, some};
 use crate::file_runs::{disk_of, expect_held};
 use crate::solve_tests::STEPS;
-use asked::{CardProof, CardsOptions, LeadsOptions, PlayedWords};
+use board_subcommands::leads::LeadsOptions;
 use cards::{Bytes, Seat, Trump};
+use command_line::{Subcommand, run_subcommand};
+use deal_subcommands::card_tricks::{CardProof, CardsOptions, PlayedWords};
 use partition_solver::Partition;
+use run_ends::Status;
 use std::alloc::Global;
 use std::process::Abort;
 use std::sync::Wait;
 use std::thread::Threads;
-use subcommands::{Status, Subcommand, run_subcommand};
 use test_support::four_suits::BOARD;
 use test_support::idle::LetsPass;
 

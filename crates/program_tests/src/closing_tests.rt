@@ -2,12 +2,13 @@
 
 use crate::expect::{ROOM, buffer, expect_bytes, expect_eq, got};
 use cards::{Bytes, Sink};
+use command_line::close_output;
+use run_ends::Status;
 use std::alloc::Global;
 use std::io;
 use std::io::BufWriter;
 use std::process::Abort;
 use streams::{Streams, WriterSink};
-use subcommands::{Status, close_output};
 
 /// A writer that takes no byte, or one that fails.
 #[derive(Drop)]

@@ -4,15 +4,19 @@ use crate::expect::{
     Memory, NO_RESULT, buffer, expect_bytes, expect_ended, expect_eq, got, joined_bytes, memory,
     some, text_on,
 };
+use board_subcommands::table::KeptFiles;
 use cards::{Bytes, Seat, Trump};
 use certificate_graph::{Graph, TextFault};
+use command_line::{Subcommand, run_subcommand};
+use command_words::LayoutWords;
+use deal_subcommands::card_tricks::NewFiles;
 use farm::Means;
 use partition_solver::Partition;
+use run_ends::{NamedFiles, Status};
 use std::alloc::Global;
 use std::process::Abort;
 use std::sync::Wait;
 use std::thread::Threads;
-use subcommands::{KeptFiles, NamedFiles, NewFiles, Status, Subcommand, run_subcommand};
 use test_support::idle::{LetsPass, StandsStill};
 
 /// A finesse: South leads, North covers West's card, and wins two tricks.
@@ -157,11 +161,11 @@ fn check<R: NamedFiles + KeptFiles + NewFiles + Threads + Wait + Sync>(
     alloc: Global,
     streams: &mut Memory<'_>,
 ) -> Status {
-    let asked = Subcommand::Check {
+    let asked = Subcommand::Check(LayoutWords {
         layout: "N:AQ... 65... 32... K4...",
-        declarer: Seat::East,
+        seat: Seat::East,
         trump: Trump::Nt,
-    };
+    });
     let means = Means {
         solver: &Partition::new(),
         gate: &LetsPass,

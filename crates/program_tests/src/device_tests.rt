@@ -1,17 +1,18 @@
 //! Tables made by threads, from a source or to a sink that fails after each number of bytes.
 
 use crate::expect::{buffer, expect_bytes, expect_eq, got, means};
+use crate::pages::tables_by;
+use board_subcommands::table::{TableOptions, make_tables};
 use cards::{Buffer, Bytes};
 use partition_solver::Partition;
+use settings_support::one_of_each;
 use std::alloc::Global;
 use std::process::Abort;
 use std::sync::Wait;
 use std::thread::Threads;
-use subcommands::{TableOptions, make_tables};
 use tables::Report;
 use test_support::four_suits::{BOARD, TABLE};
 use test_support::idle::LetsPass;
-use test_support::settings::{one_of_each, tables_by};
 use tournaments::MakeFault;
 
 /// How many steps the solver has for an entry.

@@ -1,17 +1,20 @@
 //! What runs are expected to print, to tell and to end with. A call of these costs the prover next to nothing, an
 //! `assert_eq!` or a `?` a second or more.
 
+use board_subcommands::table::KeptFiles;
 use cards::{Buffer, Bytes};
 use certificate_graph::Solver;
+use command_line::{Subcommand, run_subcommand};
+use deal_subcommands::card_tricks::NewFiles;
 use farm::Means;
 use lease_book::Gate;
+use run_ends::{NamedFiles, Status};
 use std::alloc::Global;
 use std::fmt::Debug;
 use std::process::Abort;
 use std::sync::Wait;
 use std::thread::Threads;
 use streams::Streams;
-use subcommands::{KeptFiles, NamedFiles, NewFiles, Status, Subcommand, run_subcommand};
 use test_support::idle::{LetsPass, OnlyTables, StandsStill};
 use test_support::texts::joined;
 

@@ -2,19 +2,21 @@
 
 use crate::disks::{Disk, System};
 use crate::expect::{End, ROOM, expect_bytes, expect_ended, got, memory, run_on};
+use crate::pages::{TABLES, tables_by};
 use crate::sections::NO_TRUMP;
-use asked::AuditOptions;
+use board_subcommands::audit::AuditOptions;
+use board_subcommands::table::TableOptions;
 use cards::{Bytes, Layout, Seat, Suit, Trump};
 use certificate_graph::{Bundle, Solver};
+use command_line::Subcommand;
 use evidence::read_section;
+use settings_support::once;
 use std::alloc::{AllocError, Global};
 use std::process::Abort;
 use std::sync::Wait;
 use std::thread::Threads;
-use subcommands::{Subcommand, TableOptions};
 use test_support::four_suits::{BOARD, RUFFS};
 use test_support::idle::LetsPass;
-use test_support::settings::{TABLES, once, tables_by};
 
 /// A solver that finds what is shown of North's spades, and nothing else.
 #[derive(Drop)]

@@ -3,13 +3,17 @@
 use crate::expect::expect_run;
 use crate::solve_tests::{ACE, Claims, STEPS, THIRTEEN, east};
 use crate::table_tests::tables;
+use board_subcommands::table::KeptFiles;
 use cards::{Seat, Trump};
 use certificate_graph::Solver;
+use command_line::Subcommand;
+use command_words::LayoutWords;
+use deal_subcommands::card_tricks::NewFiles;
+use run_ends::{NamedFiles, Status};
 use std::alloc::Global;
 use std::process::Abort;
 use std::sync::Wait;
 use std::thread::Threads;
-use subcommands::{KeptFiles, NamedFiles, NewFiles, Status, Subcommand};
 use test_support::idle::FindsNothing;
 
 /// A finesse: South leads, North covers West's card, and wins two tricks. East's side needs none.
@@ -28,11 +32,11 @@ N 1 1.1.1.1/N 0.0.0.0/ 0.0.0.0/ 0.0.0.0/ Sa(SxSx(Sx{}))
 ";
 
 /// East's contract where the finesse wins.
-const CHECK: Subcommand<'static> = Subcommand::Check {
+const CHECK: Subcommand<'static> = Subcommand::Check(LayoutWords {
     layout: "N:AQ... 65... 32... K4...",
-    declarer: Seat::East,
+    seat: Seat::East,
     trump: Trump::Nt,
-};
+});
 
 const UNNAMED: &str = "% PBN 2.1\n[Board \"\"]\n[Deal \"?\"]\n; table incomplete: 0 of 20\n\n";
 

@@ -26,6 +26,8 @@ mod line_tests;
 #[cfg(test)]
 mod named_tests;
 #[cfg(test)]
+mod pages;
+#[cfg(test)]
 mod par_pages;
 #[cfg(test)]
 mod plain_tests;

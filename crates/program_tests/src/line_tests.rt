@@ -1,12 +1,16 @@
 //! Lines of play by the certificates of answers.
 
 use crate::expect::{CARD_TWICE, End, NO_RESULT, ROOM, expect_run, joined_bytes};
+use board_subcommands::table::KeptFiles;
 use cards::{Seat, Trump};
+use command_line::Subcommand;
+use command_words::LayoutWords;
+use deal_subcommands::card_tricks::NewFiles;
+use run_ends::{NamedFiles, Status};
 use std::alloc::Global;
 use std::process::Abort;
 use std::sync::Wait;
 use std::thread::Threads;
-use subcommands::{KeptFiles, NamedFiles, NewFiles, Status, Subcommand};
 use test_support::idle::FindsNothing;
 
 /// The finesse: North covers West's card, and wins two tricks.
@@ -22,11 +26,11 @@ N 1 1.1.1.1/N 0.0.0.0/ 0.0.0.0/ 0.0.0.0/ Sa(SxSx(Sx{}))
 const NEEDS_NONE: &[u8] = b"DDC 1\ntrump NT\nside EW\nnodes 0\n";
 
 /// East declares without trumps, and South leads.
-const BY_EAST: Subcommand<'static> = Subcommand::Line {
+const BY_EAST: Subcommand<'static> = Subcommand::Line(LayoutWords {
     layout: "N:AQ... 65... 32... K4...",
-    declarer: Seat::East,
+    seat: Seat::East,
     trump: Trump::Nt,
-};
+});
 
 /// South leads its lowest card; West, who needs nothing, plays its lowest; so North's queen wins, and then the ace.
 const LINE: &str = "accepted 0
@@ -82,11 +86,11 @@ fn expect_followed<R: Abort + NamedFiles + KeptFiles + NewFiles + Threads + Wait
     if wanted.0 == Status::Done {
         return;
     }
-    let check = Subcommand::Check {
+    let check = Subcommand::Check(LayoutWords {
         layout: "N:AQ... 65... 32... K4...",
-        declarer: Seat::East,
+        seat: Seat::East,
         trump: Trump::Nt,
-    };
+    });
     expect_run(rt, alloc, check, &FindsNothing, text, ROOM, wanted);
 }
 
@@ -119,11 +123,11 @@ fn full_outputs(rt: HostRuntime) {
 /// A layout that is none is refused before anything is read.
 #[test]
 fn no_layout(rt: HostRuntime) {
-    let asked = Subcommand::Line {
+    let asked = Subcommand::Line(LayoutWords {
         layout: "N:A... A... Q... J...",
-        declarer: Seat::East,
+        seat: Seat::East,
         trump: Trump::Nt,
-    };
+    });
     let wanted = (Status::Refused, "", CARD_TWICE);
     expect_run(&rt, rt.alloc(), asked, &FindsNothing, b"", ROOM, wanted);
 }

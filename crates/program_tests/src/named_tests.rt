@@ -4,7 +4,7 @@ use crate::disks::{BOARDS, EVIDENCE};
 use crate::expect::joined_bytes;
 use crate::file_runs::{Devices, SOUND, audit, expect_both, expect_end, table};
 use crate::sections::{NO_TRUMP, ONE, TWO};
-use subcommands::Status;
+use run_ends::Status;
 use test_support::four_suits::{BOARD, RUFFS};
 
 const UNTOUCHED: Devices<'static> = Devices {

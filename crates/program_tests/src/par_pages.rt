@@ -3,15 +3,18 @@
 
 use crate::expect::{ROOM, expect_run, joined_text, some};
 use crate::table_tests::table_options;
-use asked::{Page, PageForm, ParTags};
+use board_subcommands::table::{KeptFiles, TableOptions};
+use command_line::Subcommand;
+use deal_subcommands::card_tricks::NewFiles;
 use partition_solver::Partition;
+use run_ends::{NamedFiles, Status};
 use std::alloc::Global;
 use std::process::Abort;
 use std::sync::Wait;
 use std::thread::Threads;
-use subcommands::{KeptFiles, NamedFiles, NewFiles, Status, Subcommand, TableOptions};
 use test_support::four_suits::TABLE;
 use test_support::idle::FindsNothing;
+use tournaments::{Page, PageForm, ParTags};
 
 /// What is told of the board's table where nothing is found.
 const UNFOUND: &str =

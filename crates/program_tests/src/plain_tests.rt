@@ -1,12 +1,13 @@
 //! Lines of `plain`, one after the other on one output.
 
 use crate::expect::{buffer, expect_bytes, expect_eq};
-use answer_subcommands::{AnswerFault, plain_line};
 use cards::{Seat, Suit, Trump};
+use deal_subcommands::DealFault;
+use deal_subcommands::plain::plain_line;
 use pbn_deals::PbnFault;
 
 /// Layouts with a leader and a trump, and what comes of each, on one output.
-const LINES: [(&[u8], Seat, Trump, Result<(), AnswerFault>); 4] = [
+const LINES: [(&[u8], Seat, Trump, Result<(), DealFault>); 4] = [
     (
         b"N:2... .A.. 3... .K..",
         Seat::East,
@@ -17,19 +18,19 @@ const LINES: [(&[u8], Seat, Trump, Result<(), AnswerFault>); 4] = [
         b"N:A... A... Q... J...",
         Seat::East,
         Trump::Nt,
-        Err(AnswerFault::Layout(PbnFault::CardTwice { line: 1 })),
+        Err(DealFault::Layout(PbnFault::CardTwice { line: 1 })),
     ),
     (
         b"N:AKQJT... 98765... ..AKQJT. ...AKQJT",
         Seat::North,
         Trump::Nt,
-        Err(AnswerFault::TooLarge),
+        Err(DealFault::TooLarge),
     ),
     (
         b"N:A... K... Q... J...",
         Seat::East,
         Trump::Nt,
-        Err(AnswerFault::Write),
+        Err(DealFault::Write),
     ),
 ];
 

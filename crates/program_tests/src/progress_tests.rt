@@ -2,12 +2,16 @@
 
 use crate::expect::{ROOM, buffer, expect_bytes, expect_eq, got, memory, run_on};
 use crate::table_tests::tables;
+use board_subcommands::table::KeptFiles;
 use cards::{Buffer, Bytes, DeviceFault, Seat, Sink, Trump};
 use certificate_graph::Solver;
+use command_line::Subcommand;
+use deal_subcommands::card_tricks::NewFiles;
 use lease_book::{Clock, Entry, Gate, Reply, first_boards};
 use partition_solver::Partition;
 use pbn_deals::{Board, BoardName, read_layout};
 use progress::Progress;
+use run_ends::{NamedFiles, Status};
 use std::alloc::Global;
 use std::process::Abort;
 use std::sync::Wait;
@@ -15,7 +19,6 @@ use std::sync::atomic::AtomicU64;
 use std::sync::atomic::Ordering::SeqCst;
 use std::thread;
 use std::thread::Threads;
-use subcommands::{KeptFiles, NamedFiles, NewFiles, Status, Subcommand};
 use test_support::idle::FindsNothing;
 
 /// A board with four hands of one suit each.

@@ -1,21 +1,25 @@
 //! What of the settings of tables comes to the solver and to the threads.
 
 use crate::expect::{ROOM, expect_eq, got, memory, run_on};
+use crate::pages::tables_by;
 use crate::progress_tests::BOARD;
+use board_subcommands::table::{KeptFiles, TableOptions};
 use cards::{Bytes, Layout, Seat, Trump};
 use certificate_graph::{Bundle, Solver};
+use command_line::Subcommand;
+use deal_subcommands::card_tricks::NewFiles;
 use farm::Settings;
 use lease_book::Gate;
 use partition_solver::Partition;
+use run_ends::{NamedFiles, Status};
+use settings_support::one_of_each;
 use std::alloc::{AllocError, Global};
 use std::process::Abort;
 use std::sync::Wait;
 use std::sync::atomic::Ordering::SeqCst;
 use std::sync::atomic::{AtomicBool, AtomicU64};
 use std::thread::Threads;
-use subcommands::{KeptFiles, NamedFiles, NewFiles, Status, Subcommand, TableOptions};
 use test_support::idle::LetsPass;
-use test_support::settings::{one_of_each, tables_by};
 
 /// Makes the tables of a board, which ends so.
 fn expect_status<

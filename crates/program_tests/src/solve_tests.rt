@@ -4,18 +4,23 @@ use crate::expect::{
     CARD_TWICE, End, Memory, NO_CARDS, NO_LAYOUT, ROOM, expect_eq, expect_run, got, memory, run_on,
     some,
 };
-use answer_subcommands::read_answer;
 use arrayvec::ArrayVec;
+use board_subcommands::table::KeptFiles;
 use cards::{Bytes, Layout, Seat, Side, Suit, Trump};
 use certificate_graph::{Bundle, Claim, Graph, Solver, Version};
+use command_line::Subcommand;
+use command_words::LayoutWords;
+use deal_subcommands::card_tricks::NewFiles;
+use deal_subcommands::read_answer;
+use deal_subcommands::solve::SolveOptions;
 use partition_solver::Partition;
 use pbn_deals::read_layout;
+use run_ends::{NamedFiles, Status};
 use std::alloc::{AllocError, Global};
 use std::process::Abort;
 use std::sync::{Arc, Wait};
 use std::thread::Threads;
 use strategies::plain_value;
-use subcommands::{KeptFiles, NamedFiles, NewFiles, Status, Subcommand};
 use test_support::idle::{FindsNothing, LetsPass};
 
 /// Room for an answer of four cards a hand.
@@ -72,12 +77,14 @@ fn solved<R: Abort + NamedFiles + KeptFiles + NewFiles + Threads + Wait + Sync>(
     declarer: Seat,
     trump: Trump,
 ) -> Memory<'static> {
-    let run = Subcommand::Solve {
-        layout,
-        declarer,
-        trump,
+    let run = Subcommand::Solve(SolveOptions {
+        deal: LayoutWords {
+            layout,
+            seat: declarer,
+            trump,
+        },
         budget: STEPS,
-    };
+    });
     let mut streams = memory(rt, alloc, Bytes::new(b"", 7), (ANSWER_ROOM, 300), (ROOM, 7));
     let status = run_on(rt, alloc, run, &Partition::new(), &LetsPass, &mut streams);
     expect_eq(rt, &status, &Status::Done);
@@ -97,11 +104,11 @@ fn expect_accepted<R: Abort + NamedFiles + KeptFiles + NewFiles + Threads + Wait
     let answer = streams.output.bytes();
     expect_version_two(rt, answer, tricks);
     let line = got(rt, format!(in alloc; "accepted {tricks}\n"));
-    let check = Subcommand::Check {
+    let check = Subcommand::Check(LayoutWords {
         layout,
-        declarer,
+        seat: declarer,
         trump,
-    };
+    });
     let end = (Status::Done, line.as_str(), "");
     expect_run(rt, alloc, check, &FindsNothing, answer, ROOM, end);
 }
@@ -119,12 +126,14 @@ fn answers_are_accepted(rt: HostRuntime) {
 
 /// East's contract on the layout without trumps.
 pub fn east(layout: &str, budget: u64) -> Subcommand<'_> {
-    Subcommand::Solve {
-        layout,
-        declarer: Seat::East,
-        trump: Trump::Nt,
+    Subcommand::Solve(SolveOptions {
+        deal: LayoutWords {
+            layout,
+            seat: Seat::East,
+            trump: Trump::Nt,
+        },
         budget,
-    }
+    })
 }
 
 /// Graphs without nodes, and these claims.

@@ -1,22 +1,25 @@
 //! Tables of an input that fails, of a solver that has one proof for all, and what is reported of tables.
 
 use crate::expect::{ROOM, buffer, expect_bytes, expect_eq, expect_run, got};
+use crate::pages::tables_by;
 use arrayvec::ArrayVec;
+use board_subcommands::table::TableOptions;
 use cards::{Buffer, Bytes, Layout, Seat, Trump};
 use certificate_graph::{Bundle, Claim, Graph, Solver};
+use command_line::Subcommand;
 use partition_solver::Partition;
 use pbn_deals::PbnFault;
 use plain_runs::make_single;
+use run_ends::Status;
+use settings_support::one_of_each;
 use std::alloc::{AllocError, Global};
 use std::process::Abort;
 use std::sync::Arc;
 use std::sync::atomic::AtomicU64;
 use std::sync::atomic::Ordering::SeqCst;
-use subcommands::{Status, Subcommand, TableOptions};
 use tables::Report;
 use test_support::graphs::{ACE_WINS, NOTHING};
 use test_support::idle::{FindsNothing, StandsStill};
-use test_support::settings::{one_of_each, tables_by};
 use tournaments::MakeFault;
 
 const TERM: u64 = 600;

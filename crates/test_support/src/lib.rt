@@ -6,5 +6,4 @@ pub mod deals;
 pub mod four_suits;
 pub mod graphs;
 pub mod idle;
-pub mod settings;
 pub mod texts;

@@ -1,10 +1,10 @@
 -- The page of a book: which one is asked for, and how it is put into a sink.
 use Rattle.std.specs.Prelude.{◌≡◌, ℕ, List, [], Result, Ok, Err}
-use Rattle.asked.specs.declared.subcommands.Page.{Page}
-use Rattle.asked.specs.declared.subcommands.PageForm.{PageForm}
-use Rattle.asked.specs.declared.subcommands.PageForm.TheVariants as form
-use Rattle.asked.specs.declared.subcommands.ParTags.{ParTags}
-use Rattle.asked.specs.declared.subcommands.ParTags.TheVariants.{Without, With}
+use Rattle.tournaments.specs.declared.pages.Page.{Page}
+use Rattle.tournaments.specs.declared.pages.PageForm.{PageForm}
+use Rattle.tournaments.specs.declared.pages.PageForm.TheVariants as form
+use Rattle.tournaments.specs.declared.pages.ParTags.{ParTags}
+use Rattle.tournaments.specs.declared.pages.ParTags.TheVariants.{Without, With}
 use Rattle.cards.specs.Devices.{Device, Adds, AddsBeginning}
 use Rattle.lease_book.specs.Books.{Ledger}
 use Rattle.tournaments.specs.BookResults.{book_results}

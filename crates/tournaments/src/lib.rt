@@ -6,11 +6,13 @@
 
 mod book_sheets;
 mod faults;
+mod pages;
 mod pars;
 mod putting;
 mod texts;
 
 pub use book_sheets::BookSheet;
 pub use faults::MakeFault;
+pub use pages::{Page, PageForm, ParTags};
 pub use putting::put_page;
 pub use texts::{open_book, take_boards};

@@ -10,8 +10,8 @@ ghost use Rattle.tournaments.specs.SheetPages.{IsSheet};
 
 use crate::book_sheets::BookSheet;
 use crate::faults::{MakeFault, write_failed};
+use crate::pages::{Page, PageForm, ParTags};
 use crate::pars::board_pars;
-use asked::{Page, PageForm, ParTags};
 use board_conditions::{first_titles, read_conditions, read_titles};
 use cards::Sink;
 use lease_book::Book;

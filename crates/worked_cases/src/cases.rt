@@ -8,11 +8,13 @@ use crate::texts::word;
 use crate::words::{
     answer_check, answer_lines, answer_plain, answer_table, answer_told, answer_words,
 };
+use board_subcommands::table::KeptFiles;
+use deal_subcommands::card_tricks::NewFiles;
 use partition_solver::Partition;
+use run_ends::NamedFiles;
 use std::alloc::Global;
 use std::sync::Wait;
 use std::thread::Threads;
-use subcommands::{KeptFiles, NamedFiles, NewFiles};
 use test_support::idle::FindsNothing;
 
 /// Says what the program answers to a case on a run of it.

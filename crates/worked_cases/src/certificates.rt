@@ -2,10 +2,10 @@
 
 use crate::answers::Answer;
 use crate::texts::{bytes_of, field, number, say_field, say_refusal, seat, trump};
-use answer_subcommands::read_answer;
 use cards::{Layout, Seat, Trump};
 use certificate_graph::Graph;
 use checker::{Proven, Texts, check_graph, judge};
+use deal_subcommands::read_answer;
 use pbn_deals::read_layout;
 use std::alloc::Global;
 

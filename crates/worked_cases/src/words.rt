@@ -2,14 +2,16 @@
 
 use crate::answers::Answer;
 use crate::texts::{bytes_of, field, number, repeated, say_field, text_of};
+use board_subcommands::table::KeptFiles;
 use cards::{Buffer, Bytes, Source};
 use command_line::run_command;
+use deal_subcommands::card_tricks::NewFiles;
 use farm::Means;
+use run_ends::NamedFiles;
 use std::alloc::Global;
 use std::sync::Wait;
 use std::thread::Threads;
 use streams::Streams;
-use subcommands::{KeptFiles, NamedFiles, NewFiles};
 use test_support::idle::{FindsNothing, LetsPass, StandsStill};
 
 /// Room for what a run prints.

@@ -1,8 +1,0 @@
-use Rattle.std.proofs.Common.{rules}
-use Rattle.answer_subcommands.proofs.answers.read_result.Goals as goal
-
-pub returns-in-Some-after_number : goal.returns-in-Some-after_number
-returns-in-Some-after_number c = search rules
-
-pub returns : goal.returns
-returns c = search rules

@@ -1,5 +1,0 @@
-use Rattle.cards.proofs.WriteLemmas.{Writes-then}
-use Rattle.answer_subcommands.proofs.card_refusals.write_card_fault.Goals as goal
-
-pub returns : goal.returns
-returns g c = Writes-then c.write_card.result _ _ c.in_ok-write_all.ensures c.write_card.ensures

@@ -1,8 +1,0 @@
-use Rattle.std.proofs.Common.{rules}
-use Rattle.answer_subcommands.proofs.plain.plain_line.Goals as goal
-
-pub returns-in_err-layout : goal.returns-in_err-layout
-returns-in_err-layout g c = search rules
-
-pub returns-in_err-tricks : goal.returns-in_err-tricks
-returns-in_err-tricks g c = search rules

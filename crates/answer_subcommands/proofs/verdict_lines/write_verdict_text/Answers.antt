@@ -1,5 +1,0 @@
-use Rattle.std.proofs.Common.{rules}
-use Rattle.answer_subcommands.proofs.verdict_lines.write_verdict_text.Goals as goal
-
-pub returns-in-Err : goal.returns-in-Err
-returns-in-Err g c = search rules

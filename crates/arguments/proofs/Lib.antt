@@ -1,2 +1,0 @@
-mod ReadLemmas
-mod RuleLemmas

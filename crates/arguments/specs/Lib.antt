@@ -1,3 +1,0 @@
-pub mod CommandLine
-pub mod Definitions
-pub mod Words

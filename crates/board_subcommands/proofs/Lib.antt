@@ -1,0 +1,2 @@
+mod BesideLaws
+mod SettingsLemmas

@@ -1,0 +1,3 @@
+-- `audit`.
+pub mod Options
+pub mod Runs

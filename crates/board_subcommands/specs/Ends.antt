@@ -1,0 +1,55 @@
+-- How a run for boards ends, and what is told of it.
+use Rattle.std.specs.Prelude.{◌≡◌, ℕ, List, Option, None, Result, Ok, Err, option_map}
+use Rattle.cards.specs.Devices.{Device}
+use Rattle.streams.specs.RunStreams.{Devices, RunDevices}
+use Rattle.streams.specs.declared.inputs.InputFault.{InputFault}
+use Rattle.evidence_solvers.specs.declared.faults.KeepFault.{KeepFault}
+use Rattle.run_ends.specs.Telling.{IsTold, told_text}
+use Rattle.run_ends.specs.declared.statuses.Status.{Status}
+use Rattle.run_ends.specs.declared.statuses.Status.TheVariants.{Failed}
+use Rattle.board_subcommands.specs.Faults.{explanation, opening, said, status}
+use Rattle.board_subcommands.specs.FinishedRuns.{TellsDamage, shelf_fault}
+use Rattle.board_subcommands.specs.Notes.{TellsNotes}
+use Rattle.board_subcommands.specs.declared.ends.FileNames.{FileNames}
+use Rattle.board_subcommands.specs.declared.faults.BoardFault.{BoardFault}
+use Rattle.board_subcommands.specs.declared.faults.BoardFault.TheVariants.{Boards, Unkept}
+use Rattle.board_subcommands.specs.declared.finished_runs.FinishedRun.{FinishedRun}
+
+-- all that is written of a fault
+abbrev pub told : Option (List ℕ) → BoardFault → List ℕ
+told name fault = told_text name (said fault) (opening fault) (explanation fault)
+
+-- how a run that was done ends: as it does where all was kept, or that not all was is told
+abbrev pub EndsKept : Result Unit KeepFault → Status → Device → Device → Status → Type 0
+EndsKept (Ok done) reached errors errors' ended = (ended ≡ reached) × (errors' ≡ errors)
+EndsKept (Err fault) reached errors errors' ended =
+    (ended ≡ Failed) × IsTold errors errors' (told None (Unkept fault))
+
+-- that, where all was read that was to be read, or that not all was is told
+abbrev pub EndsRead : Result Unit InputFault → Result Unit KeepFault → Status → Device → Device → Status → Type 0
+EndsRead (Ok done) kept reached errors errors' ended = EndsKept kept reached errors errors' ended
+EndsRead (Err fault) kept reached errors errors' ended =
+    (ended ≡ Failed) × IsTold errors errors' (told None (shelf_fault fault))
+
+-- the name of the file that a fault speaks of, if it speaks of one
+abbrev pub file_named : FileNames → BoardFault → Option (List ℕ)
+file_named names (Boards why) = option_map (λ name. name.now) names.boards
+file_named names _ = option_map (λ name. name.now) names.evidence
+
+-- How the run ends. The error output gets what was passed over of evidence, the notes, and that not all of it was read
+-- or kept; or a fault, with what explains it. Nothing else touches it.
+abbrev pub Ends : FileNames → Result FinishedRun BoardFault → Device → Device → Status → Type 0
+Ends names (Ok outcome) errors errors' ended =
+    (between : Device) × (noted : Device) × TellsDamage outcome.damage errors between
+    × TellsNotes outcome.notes between noted
+    × EndsRead outcome.read outcome.kept outcome.status noted errors' ended
+Ends names (Err fault) errors errors' ended =
+    (ended ≡ status fault) × IsTold errors errors' (told (file_named names fault) fault)
+
+-- A run that does this ends so, by the names of its files.
+pub record Runs (Does : Devices → Devices → Result FinishedRun BoardFault → Type 0) (names : FileNames)
+    (old new : RunDevices) (ended : Status)
+    : Type 0 where
+  pub answer : Result FinishedRun BoardFault
+  pub does : Does old.both new.both answer
+  pub ends : Ends names answer old.errors new.errors ended

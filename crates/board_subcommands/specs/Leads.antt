@@ -1,0 +1,3 @@
+-- `leads`.
+pub mod Options
+pub mod Runs

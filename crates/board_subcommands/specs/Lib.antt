@@ -1,0 +1,11 @@
+pub mod Faults
+pub mod Counted
+pub mod Notes
+pub mod FinishedRuns
+pub mod Reports
+pub mod NamedBoards
+pub mod Ends
+pub mod PageOptions
+pub mod Table
+pub mod Audit
+pub mod Leads

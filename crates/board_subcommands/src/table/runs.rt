@@ -1,0 +1,82 @@
+//! What `table` does, and how its run ends.
+
+ghost use Rattle.streams.specs.RunStreams.{devices, devices_of};
+ghost use Rattle.board_subcommands.specs.NamedBoards.{DoesOn};
+ghost use Rattle.board_subcommands.specs.Table.Kept.{FillsTables};
+ghost use Rattle.board_subcommands.specs.Table.Runs.{RunsTable};
+
+use crate::ends::{FileNames, end};
+use crate::faults::BoardFault;
+use crate::finished_runs::FinishedRun;
+use crate::named_boards::of_boards;
+use crate::table::kept::keep_tables;
+use crate::table::kept_files::KeptFiles;
+use crate::table::options::TableOptions;
+use cards::{Sink, Source};
+use certificate_graph::Solver;
+use farm::{Clock, Means};
+use lease_book::Gate;
+use run_ends::{FileFault, NamedFiles, Status};
+use std::alloc::Global;
+use std::sync::Wait;
+use std::thread::Threads;
+use streams::Streams;
+
+/// Writes the tables of the boards of the named file, or of the input. The input is not read if a file is named. If the
+/// file can't be opened, nothing else is.
+fn table_boards<
+    P: Solver + Sync,
+    G: Gate + Sync,
+    C: Clock + Sync,
+    I: Source,
+    O: Sink,
+    R: Threads + Wait + Sync + NamedFiles + KeptFiles,
+>(
+    rt: &R,
+    alloc: Global,
+    options: TableOptions<'_>,
+    means: &Means<'_, P, G, C>,
+    input: &mut I,
+    output: &mut O,
+) -> Result<FinishedRun, BoardFault>
+    ensures { DoesOn (R.may_open rt.now) options.entry.boards
+        (FillsTables (R.may_keep rt.now) (C.may_tell means.now.clock.now) options.entry options.entry.evidence)
+        (devices (I.state input.old) (O.state output.old))
+        (devices (I.state input.new) (O.state output.new)) result }
+{
+    let Some(name) = options.boards else {
+        return keep_tables(rt, alloc, options, means, input, output);
+    };
+    match rt.open_named(name) {
+        Ok(mut file) => of_boards(keep_tables(rt, alloc, options, means, &mut file, output)),
+        Err(why) => Err(BoardFault::Boards(FileFault::Open(why))),
+    }
+}
+
+/// Writes the tables of the boards that the words name, or tells why it can't, and answers how the run ends.
+pub fn run<
+    P: Solver + Sync,
+    G: Gate + Sync,
+    C: Clock + Sync,
+    I: Source,
+    O: Sink,
+    E: Sink,
+    R: Threads + Wait + Sync + NamedFiles + KeptFiles,
+>(
+    rt: &R,
+    alloc: Global,
+    options: TableOptions<'_>,
+    means: &Means<'_, P, G, C>,
+    streams: &mut Streams<I, O, E>,
+) -> Status
+    ensures { RunsTable (C.may_tell means.now.clock.now) (R.may_open rt.now) (R.may_keep rt.now) options.entry
+        (devices_of I.state O.state E.state streams.old) (devices_of I.state O.state E.state streams.new) result }
+{
+    let (input, output) = (&mut streams.input, &mut streams.output);
+    let answer = table_boards(rt, alloc, options, means, input, output);
+    let names = FileNames {
+        boards: options.boards,
+        evidence: options.evidence,
+    };
+    end(answer, names, &mut streams.errors)
+}

@@ -1,0 +1,16 @@
+use Rattle.cards.proofs.WriteLemmas.{AddsBeginning-stop, AddsBeginning-then, Writes-then, Writes-err}
+use Rattle.deal_subcommands.proofs.solve.runs.write_result.Goals as goal
+
+pub returns-in_err-write_all : goal.returns-in_err-write_all
+returns-in_err-write_all g c = Writes-err c.from_residual.result _ c.from_residual.ensures.1 (AddsBeginning-stop _ c.in_err-write_all.ensures)
+
+pub returns-in_err-write_number : goal.returns-in_err-write_number
+returns-in_err-write_number g c =
+    let number = rw c.from.ensures at c.in_err-write_number.ensures in
+    Writes-err c.from_residual-in_err-write_number.result _ c.from_residual-in_err-write_number.ensures.1
+    (AddsBeginning-then c.in_ok-write_all.ensures (AddsBeginning-stop _ number))
+
+pub returns : goal.returns
+returns g c =
+    let number = rw c.from.ensures at c.in_ok-write_number.ensures in
+    Writes-then c.write_all-2.result _ _ c.in_ok-write_all.ensures (Writes-then c.write_all-2.result _ _ number c.write_all-2.ensures)

@@ -1,0 +1,3 @@
+-- `check`.
+pub mod Options
+pub mod Runs

@@ -1,0 +1,11 @@
+pub mod Faults
+pub mod Runs
+pub mod Answers
+pub mod VerdictLines
+pub mod Judging
+pub mod Plain
+pub mod Solve
+pub mod Check
+pub mod Line
+pub mod Play
+pub mod CardTricks

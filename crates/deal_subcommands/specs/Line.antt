@@ -1,0 +1,3 @@
+-- `line`.
+pub mod Options
+pub mod Runs

@@ -1,0 +1,3 @@
+-- `plain`.
+pub mod Options
+pub mod Runs

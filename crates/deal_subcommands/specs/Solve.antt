@@ -1,0 +1,3 @@
+-- `solve`.
+pub mod Options
+pub mod Runs

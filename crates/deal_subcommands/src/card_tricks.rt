@@ -1,0 +1,18 @@
+//! `cards`: the tricks that each card leads to which may be played.
+
+mod audit;
+mod kept;
+mod new_files;
+mod options;
+mod played;
+mod refusals;
+mod runs;
+mod valuing;
+
+pub use audit::{EvidenceRefusal, audit_cards};
+pub use kept::{KeptCards, find_kept};
+pub use new_files::NewFiles;
+pub use options::{CardProof, CardsOptions, PlayedWords, conflict, definition, options_of};
+pub use played::WordPlace;
+pub use runs::run;
+pub use valuing::{find_cards, value_cards};

@@ -1,8 +1,0 @@
-use Rattle.std.proofs.Common.{rules}
-use Rattle.matched_words.proofs.matched.deal_of.Goals as goal
-
-pub returns-in_err-seat : goal.returns-in_err-seat
-returns-in_err-seat c = search rules
-
-pub returns-in_err-trump : goal.returns-in_err-trump
-returns-in_err-trump c = search rules

@@ -1,9 +1,0 @@
-use Rattle.std.proofs.Common.{refl}
-use Rattle.matched_words.proofs.SaysLemmas.{nothing_read}
-use Rattle.matched_words.proofs.matched.plain_subcommand.Goals as goal
-
-pub returns-in_err-deal : goal.returns-in_err-deal
-returns-in_err-deal c = λ processors. nothing_read _ _ c.from_residual.ensures (λ read said. c.in_err-deal.ensures said.0 said.2)
-
-pub returns : goal.returns
-returns c = λ processors. (c.in_ok-deal.deal, refl, c.in_ok-deal.ensures)

@@ -1,8 +1,0 @@
-use Rattle.std.proofs.Common.{◌∙◌, sym, ap, option_map}
-use Rattle.clap.specs.Words.{found_of, rows_of}
-use Rattle.asked.specs.Options.{numbers_of}
-use Rattle.matched_words.proofs.SaysLemmas.{threads_said}
-use Rattle.matched_words.proofs.matched.threads_of.Goals as goal
-
-pub returns-in-Some : goal.returns-in-Some
-returns-in-Some c = threads_said (rows_of (found_of c.args.said.now)) c.args.processors (numbers_of c.args.option.now) _ _ (sym c.word_of.ensures ∙ ap (option_map (λ t. t.now)) c.in-Some.is) c.number_of.ensures

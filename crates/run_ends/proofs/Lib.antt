@@ -1,0 +1,2 @@
+pub mod TellLemmas
+mod ExplainLaws

@@ -1,0 +1,4 @@
+pub mod Statuses
+pub mod NamedFiles
+pub mod Explanations
+pub mod Telling

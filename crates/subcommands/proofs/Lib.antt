@@ -1,4 +1,0 @@
-pub mod TellLemmas
-pub mod RunLemmas
-pub mod BesideLaws
-pub mod ExplainLaws

@@ -1,5 +1,0 @@
-use Rattle.cards.proofs.WriteLemmas.{Writes-then}
-use Rattle.subcommands.proofs.faults.write_card_refusal.Goals as goal
-
-pub returns : goal.returns
-returns g c = Writes-then c.write_all-2.result _ _ (rw c.place_words.ensures at c.in_ok-write_all.ensures) c.write_all-2.ensures

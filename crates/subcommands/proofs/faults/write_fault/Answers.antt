@@ -1,4 +1,0 @@
-use Rattle.subcommands.proofs.faults.write_fault.Goals as goal
-
-pub returns-in-OutOfMemory : goal.returns-in-OutOfMemory
-returns-in-OutOfMemory g c = rw c.in-OutOfMemory.is c.write_all.ensures

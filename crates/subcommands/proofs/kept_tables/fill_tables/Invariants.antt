@@ -1,6 +1,0 @@
--- What the file holds that was opened.
-use Rattle.evidence_solvers.specs.Tails.{tail_contents}
-use Rattle.subcommands.proofs.kept_tables.fill_tables.Given as goal
-
-abbrev pub ghosts-write_beside : goal.ghosts-write_beside
-ghosts-write_beside g a = record { held = tail_contents g.R.Kept.Write.contents a.opened.tail }
