@@ -12,7 +12,7 @@ use Rattle.lease_book.specs.declared.events.Event.{Event}
 use Rattle.lease_book.specs.Books.{Ledger}
 use Rattle.lease_book.specs.Histories.{Terms}
 use Rattle.lease_book.specs.TrueHistories.{IsTrueHistory}
-use Rattle.tables.specs.declared.sheets.Report.{Report}
+use Rattle.tables.specs.declared.results.Report.{Report}
 use Rattle.tournaments.specs.declared.faults.MakeFault.TheVariants.{OutOfMemory, Read, Pbn, NoThread, Write}
 use Rattle.tournaments.specs.Making.{PageFact, HasBoards, FillsPage, BeginsPage}
 use Rattle.evidence.specs.declared.parts.Part.{Part}

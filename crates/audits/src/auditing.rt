@@ -21,7 +21,7 @@ use tables::Report;
 use tournaments::{MakeFault, Page, open_book, put_page, take_boards};
 
 /// A book over the boards, in which what the evidence shows is published, and what was passed over.
-fn audit_boards<R: Threads + Sync, E: Source>(
+fn audited_book<R: Threads + Sync, E: Source>(
     rt: &R,
     alloc: Global,
     boards: Vec<Board>,
@@ -62,7 +62,7 @@ fn audit_text<R: Threads + Sync, I: Source, E: Source>(
         Ok(boards) => boards,
         Err(fault) => return Err(AuditFault::Page(fault)),
     };
-    match audit_boards(rt, alloc, boards, evidence) {
+    match audited_book(rt, alloc, boards, evidence) {
         Ok((book, damage)) => Ok((text, book, damage)),
         Err(InputFault::OutOfMemory) => Err(AuditFault::Page(MakeFault::OutOfMemory)),
         Err(InputFault::Read) => Err(AuditFault::Evidence),

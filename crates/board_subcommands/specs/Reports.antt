@@ -7,7 +7,7 @@ use Rattle.pbn_deals.specs.declared.boards.Board.{Board}
 use Rattle.lease_book.specs.declared.events.Event.{Event}
 use Rattle.lease_book.specs.declared.events.Reply.{Reply}
 use Rattle.lease_book.specs.declared.events.Reply.TheVariants.{BadCertificate}
-use Rattle.tables.specs.declared.sheets.Report.{Report}
+use Rattle.tables.specs.declared.results.Report.{Report}
 use Rattle.board_subcommands.specs.declared.notes.Searches.{Searches}
 use Rattle.board_subcommands.specs.declared.notes.Lacking.{Lacking}
 use Rattle.board_subcommands.specs.declared.notes.Lacking.TheVariants.{Nothing, Searched, Unshown}

@@ -127,7 +127,7 @@ fn write_searched<E: Sink>(
 ) -> Result<(), DeviceFault>
     ensures { Writes (E.state errors.old) (E.state errors.new) (searched_text tables searches) result }
 {
-    write_tables(tables, errors)?;
+    write_table_count(tables, errors)?;
     write_counts(searches, errors)?;
     write_advice(searches, errors)
 }
@@ -188,7 +188,7 @@ fn write_if<E: Sink>(holds: bool, text: &[u8], errors: &mut E) -> Result<(), Dev
 fn write_unshown<E: Sink>(tables: u64, errors: &mut E) -> Result<(), DeviceFault>
     ensures { Writes (E.state errors.old) (E.state errors.new) (unshown_text tables) result }
 {
-    write_tables(tables, errors)?;
+    write_table_count(tables, errors)?;
     write_all(
         errors,
         b"the evidence does not show all results\n  table --evidence searches the rest and adds it to the file\n",
@@ -196,7 +196,7 @@ fn write_unshown<E: Sink>(tables: u64, errors: &mut E) -> Result<(), DeviceFault
 }
 
 /// Writes how many tables are incomplete, as the beginning of a note.
-fn write_tables<E: Sink>(tables: u64, errors: &mut E) -> Result<(), DeviceFault>
+fn write_table_count<E: Sink>(tables: u64, errors: &mut E) -> Result<(), DeviceFault>
     ensures { Writes (E.state errors.old) (E.state errors.new) (counted_tables tables) result }
 {
     write_all(errors, b"ddfarm: note: ")?;

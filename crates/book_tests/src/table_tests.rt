@@ -9,7 +9,7 @@ use pbn_deals::{Board, BoardName, read_layout};
 use std::alloc::{AllocError, Global};
 use std::process::Abort;
 use std::test::Fail;
-use tables::{BoardPar, Renews, Report, Sheet, write_sheet};
+use tables::{BoardPar, Renews, Report, Results, write_tables};
 use test_support::four_suits::TABLE;
 use test_support::texts::joined;
 
@@ -27,7 +27,7 @@ const RESULTS: &[u8; 20] = &[
 
 /// Boards that all have these results, in the order of [`RESULTS`], and no others.
 #[derive(Drop)]
-struct TestSheet {
+struct TestResults {
     boards: Vec<Board>,
     results: &'static [u8],
 }
@@ -43,21 +43,21 @@ fn number_of(trump: Trump) -> usize
     }
 }
 
-impl Sheet for TestSheet {
+impl Results for TestResults {
     ghost use Rattle.std.specs.Prelude.{◌+◌, ◌*◌, min, None};
     ghost use Rattle.std.specs.List.{slice_get};
     ghost use Rattle.std.specs.Option.{option_map};
-    ghost use Rattle.tables.specs.declared.sheets.Renews.TheVariants as renews;
+    ghost use Rattle.tables.specs.declared.results.Renews.TheVariants as renews;
     ghost use Rattle.cards.specs.Orders.{trump_number};
     ghost use Rattle.cards.specs.Seats.{seat_number};
 
-    ghost boards_of = { λ sheet. sheet.boards.items };
+    ghost boards_of = { λ given. given.boards.items };
 
-    ghost renews_of = { λ sheet. renews.Tables };
+    ghost renews_of = { λ given. renews.Tables };
 
-    ghost printed_of = { λ sheet board. record {
+    ghost printed_of = { λ given board. record {
       results = λ declarer trump. option_map (λ tricks. min tricks 13)
-          (slice_get sheet.results.now (5 * seat_number declarer + trump_number trump));
+          (slice_get given.results.now (5 * seat_number declarer + trump_number trump));
       par = None;
     } };
 
@@ -81,33 +81,33 @@ impl Sheet for TestSheet {
     }
 }
 
-/// A sheet of one board.
-fn sheet_of(
+/// Results of one board.
+fn given_results(
     alloc: Global,
     name: &[u8],
     deal: Option<Layout>,
     results: &'static [u8],
-) -> Result<TestSheet, AllocError> {
+) -> Result<TestResults, AllocError> {
     let mut boards = Vec::new(alloc);
     boards.push(Board {
         name: BoardName::new(Vec::from_slice(alloc, name)?),
         deal,
     })?;
-    Ok(TestSheet { boards, results })
+    Ok(TestResults { boards, results })
 }
 
-/// The sheet is written and reported like this by a sink with this room, which takes at most `greatest_piece` bytes a
-/// call.
+/// The given results are written and reported like this by a sink with this room, which takes at most `greatest_piece`
+/// bytes a call.
 fn expect_written(
     rt: &impl Abort,
     alloc: Global,
-    sheet: &TestSheet,
+    given: &TestResults,
     (room, greatest_piece): (usize, usize),
     wanted: &Result<Report, DeviceFault>,
     text: &[u8],
 ) {
     let mut sink = Buffer::new(alloc, room, greatest_piece).expect(rt, "memory for a sink");
-    expect_eq(rt, &write_sheet(sheet, &mut sink), wanted);
+    expect_eq(rt, &write_tables(given, &mut sink), wanted);
     expect_bytes(rt, sink.bytes(), text);
 }
 
@@ -116,7 +116,7 @@ fn expect_written(
 fn a_complete_table(rt: HostRuntime) -> Result<(), Fail> {
     let alloc = rt.alloc();
     let deal = read_layout(ONE_SUIT_EACH)?;
-    let sheet = sheet_of(alloc, b"1", Some(deal), RESULTS)?;
+    let given = given_results(alloc, b"1", Some(deal), RESULTS)?;
     expect_eq(&rt, &TABLE.len(), &320);
     let complete = Ok(Report {
         boards: 1,
@@ -124,11 +124,11 @@ fn a_complete_table(rt: HostRuntime) -> Result<(), Fail> {
     });
     for greatest_piece in [1, 7, 1000] {
         let device = (400, greatest_piece);
-        expect_written(&rt, alloc, &sheet, device, &complete, TABLE.as_bytes());
+        expect_written(&rt, alloc, &given, device, &complete, TABLE.as_bytes());
     }
     for room in 0..TABLE.len() {
         let written = &TABLE.as_bytes()[..room];
-        expect_written(&rt, alloc, &sheet, (room, 7), &Err(DeviceFault), written);
+        expect_written(&rt, alloc, &given, (room, 7), &Err(DeviceFault), written);
     }
     Ok(())
 }
@@ -169,9 +169,9 @@ fn incomplete_tables(rt: HostRuntime) {
     let head = b"% PBN 2.1\n[Board \"N\xE9 \\ ;\"]\n[Deal \"?\"]\n";
     for (count, line) in INCOMPLETE {
         let results = RESULTS.get(..count).expect(&rt, "so many results");
-        let sheet = sheet_of(alloc, b"N\xE9 \\ ;", None, results).expect(&rt, "memory");
+        let given = given_results(alloc, b"N\xE9 \\ ;", None, results).expect(&rt, "memory");
         let text = joined(alloc, &[head, line, b"\n"]).expect(&rt, "memory for a text");
-        expect_written(&rt, alloc, &sheet, (400, 50), &none_of(1), text.as_slice());
+        expect_written(&rt, alloc, &given, (400, 50), &none_of(1), text.as_slice());
     }
 }
 
@@ -180,14 +180,14 @@ fn incomplete_tables(rt: HostRuntime) {
 fn two_boards_and_none(rt: HostRuntime) -> Result<(), Fail> {
     let alloc = rt.alloc();
     let ending = read_layout(b"w:K.Q.. A.2.. .43.. ..J.9")?;
-    let mut sheet = sheet_of(alloc, b"b", Some(ending), &RESULTS[..2])?;
+    let mut given = given_results(alloc, b"b", Some(ending), &RESULTS[..2])?;
     let second = Board {
         name: BoardName::new(Vec::new(alloc)),
         deal: None,
     };
-    sheet.boards.push(second).expect(&rt, "memory for a board");
-    expect_written(&rt, alloc, &sheet, (400, 300), &none_of(2), TWO_BOARDS);
-    let empty = TestSheet {
+    given.boards.push(second).expect(&rt, "memory for a board");
+    expect_written(&rt, alloc, &given, (400, 300), &none_of(2), TWO_BOARDS);
+    let empty = TestResults {
         boards: Vec::new(alloc),
         results: RESULTS,
     };

@@ -7,9 +7,9 @@ ghost use Rattle.farm.specs.Requests.{WasGiven, AreGiven, Continues};
 ghost use Rattle.farm.specs.Flows.{Moves, of_task, of_tasks};
 
 use crate::crews::Crew;
+use crate::lease_lock::LeaseGuard;
 use crate::requests::next_task;
 use crate::tasks::{Task, Tasks};
-use crate::turns::Turn;
 use cards::OutOfMemory;
 use lease_book::Clock;
 use lease_desk::Chair;
@@ -21,7 +21,7 @@ pub(crate) fn lease_batch<S, G, C: Clock, R: Wait>(
     crew: &Crew<'_, S, G, C>,
     chair: &mut Chair,
     first: Task,
-    turn: &Turn<'_>,
+    guard: &LeaseGuard<'_>,
 ) -> Result<Tasks, OutOfMemory>
     requires duty { IsOnDuty C.may_tell crew.now chair.old }
     requires given { WasGiven (receipts_in chair.old) first }
@@ -36,7 +36,7 @@ pub(crate) fn lease_batch<S, G, C: Clock, R: Wait>(
     let mut batch = Tasks::new();
     batch.push(first);
     for _more in 1..crew.settings.batch {
-        let Some(task) = next_task(rt, crew, chair, turn)? else {
+        let Some(task) = next_task(rt, crew, chair, guard)? else {
             return Ok(batch);
         };
         batch.push(task);

@@ -1,8 +1,8 @@
 //! The things that all threads of a round share.
 
+use crate::lease_lock::LeaseLock;
 use crate::means::Means;
 use crate::settings::Settings;
-use crate::turns::Turns;
 use cards::Layout;
 use lease_desk::Desk;
 use std::alloc::Global;
@@ -15,7 +15,7 @@ pub(crate) struct Crew<'a, S, G, C> {
     pub(crate) deals: &'a [Option<Layout>],
     pub(crate) settings: Settings,
     pub(crate) means: Means<'a, S, G, C>,
-    pub(crate) turns: &'a Turns,
+    pub(crate) lease_lock: &'a LeaseLock,
 }
 
 impl<S, G, C> Drop for Crew<'_, S, G, C> {
@@ -26,7 +26,7 @@ impl<S, G, C> Drop for Crew<'_, S, G, C> {
             deals: _,
             settings: _,
             means: _,
-            turns: _,
+            lease_lock: _,
         } = self;
     }
 }

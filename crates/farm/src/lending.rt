@@ -85,10 +85,10 @@ pub(crate) fn lend_all<S, G, C: Clock, R: Wait>(
     ensures idle { OnOk result (EndsIdle (receipts_in post.new.chair)) }
 {
     for _batch in rt.forever() {
-        let turn = crew.turns.wait(rt);
-        if let Some(first) = next_task(rt, crew, &mut post.chair, &turn)? {
-            let batch = lease_batch(rt, crew, &mut post.chair, first, &turn)?;
-            drop(turn);
+        let guard = crew.lease_lock.lock(rt);
+        if let Some(first) = next_task(rt, crew, &mut post.chair, &guard)? {
+            let batch = lease_batch(rt, crew, &mut post.chair, first, &guard)?;
+            drop(guard);
             lend_batch(rt, crew, post, batch)?;
         } else if !frees_a_lease(rt, crew, &mut post.chair)? {
             return Ok(());

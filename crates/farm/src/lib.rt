@@ -15,6 +15,7 @@ mod duties;
 mod faults;
 mod groups;
 mod halts;
+mod lease_lock;
 mod leftovers;
 mod lending;
 mod manning;
@@ -30,7 +31,6 @@ mod solving;
 mod started;
 mod tasks;
 mod telling;
-mod turns;
 
 pub use faults::FarmFault;
 pub use lease_book::Clock;

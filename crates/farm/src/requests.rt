@@ -7,8 +7,8 @@ ghost use Rattle.farm.specs.Requests.{IsNextTask, FreesLeases, GivesUp, Continue
 ghost use Rattle.farm.specs.Flows.{Moves, of_tasks};
 
 use crate::crews::Crew;
+use crate::lease_lock::LeaseGuard;
 use crate::tasks::{Task, Tasks};
-use crate::turns::Turn;
 use cards::OutOfMemory;
 use lease_book::{Clock, Reply};
 use lease_desk::Chair;
@@ -19,7 +19,7 @@ pub(crate) fn next_task<S, G, C: Clock, R: Wait>(
     rt: &R,
     crew: &Crew<'_, S, G, C>,
     chair: &mut Chair,
-    _turn: &Turn<'_>,
+    _guard: &LeaseGuard<'_>,
 ) -> Result<Option<Task>, OutOfMemory>
     requires { IsOnDuty C.may_tell crew.now chair.old }
     ensures stays { StaysOnDuty C.may_tell crew.now chair.old chair.new }
@@ -64,7 +64,7 @@ pub(crate) fn give_up<S, G, C: Clock, R: Wait>(
     Ok(())
 }
 
-/// Gives leases up, in one turn.
+/// Gives leases up, under the lock.
 pub(crate) fn give_up_all<S, G, C: Clock, R: Wait>(
     rt: &R,
     crew: &Crew<'_, S, G, C>,
@@ -77,7 +77,7 @@ pub(crate) fn give_up_all<S, G, C: Clock, R: Wait>(
         Moves weight (receipts_in chair.old) (receipts_in chair.new) (of_tasks weight tasks.now.items) 0) }
     ensures receipts { OnOk result (Continues (receipts_in chair.old) (receipts_in chair.new)) }
 {
-    let _turn = crew.turns.wait(rt);
+    let _guard = crew.lease_lock.lock(rt);
     let tasks = tasks.as_slice();
     for task in tasks.iter() {
         give_up(rt, crew, chair, task.lease)?;

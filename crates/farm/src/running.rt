@@ -7,12 +7,12 @@ ghost use Rattle.farm.specs.Running.{MayBegin, AreOpenedPosts, HaveEnded, HaveWo
 
 use crate::crews::Crew;
 use crate::halts::Halt;
+use crate::lease_lock::LeaseLock;
 use crate::means::Means;
 use crate::posts::{CheckerPost, ClerkPost, LenderPost, Posts, SolverPost};
 use crate::relays::Relays;
 use crate::settings::Settings;
 use crate::started::{Started, end_all, join_all, start_all};
-use crate::turns::Turns;
 use cards::Layout;
 use certificate_graph::Solver;
 use farm_threads::Work;
@@ -177,14 +177,14 @@ pub(crate) fn work_round<
 {
     let count = settings.solvers + settings.checkers + 1;
     let (desk, chairs) = Desk::over(rt, alloc, book, count)?;
-    let turns = Turns::new();
+    let lease_lock = LeaseLock::new();
     let crew = Crew {
         alloc,
         desk: &desk,
         deals,
         settings,
         means: *means,
-        turns: &turns,
+        lease_lock: &lease_lock,
     };
     let chairs = work_all(rt, &crew, chairs)?;
     drop(crew);

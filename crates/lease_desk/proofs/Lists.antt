@@ -29,7 +29,7 @@ module _ {A : Type 0} where
   below (x ∷ xs) zero b e = omega arith
   below (x ∷ xs) (suc j) b e = let k = below xs j b e in omega arith
 
-  -- what holds of each pass, once one of them is changed
+  -- what holds of each token, once one of them is changed
   pub each_set : (F : ℕ → A → Type 0) (l : List A) (i : ℕ) (a : A) → ((j : ℕ) (b : A) → j ≢ i → get_elem? l j ≡ some b → F j b) → F i a → (j : ℕ) (b : A) → get_elem? (set l i a) j ≡ some b → F j b
   each_set F l i a others mine j b e = ⊎_elim (λ (t : (j ≡ i) × (a ≡ b)). subst (λ (y : ℕ × A). F y.0 y.1) (λ k. (sym t.0 k, t.1 k)) mine) (λ (t : (j ≢ i) × (get_elem? l j ≡ some b)). others j b t.0 t.1) (at_set l i j a b e)
 

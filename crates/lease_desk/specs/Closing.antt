@@ -4,7 +4,7 @@ use Rattle.crossbeam_channel.specs.Claims.{view, IsSeatAt}
 use Rattle.crossbeam_channel.specs.Ends.{sends_on}
 use Rattle.lease_book.specs.Books.{Ledger}
 use Rattle.lease_desk.specs.declared.views.SeenMessage.{SeenMessage}
-use Rattle.lease_desk.specs.declared.views.Hand.TheVariants.{Empty}
+use Rattle.lease_desk.specs.declared.views.Custody.TheVariants.{Empty}
 use Rattle.lease_desk.specs.declared.ends.DeskEnds.{DeskEnds}
 use Rattle.lease_desk.specs.declared.chairs.Chair.{Chair}
 use Rattle.lease_desk.specs.Views.{receipts_on, history_on}
@@ -16,12 +16,12 @@ pub record AreSeatedAt (ends : DeskEnds) (chairs : List Chair) : Type 0 where
   pub opening : Option SeenMessage
   pub each : All (IsChairAt ends opening) chairs
 
--- the chair's pass is one of this channel, has nothing in hand, and knows what the chair keeps
+-- the chair's token is one of this channel, has nothing in hand, and knows what the chair keeps
 pub record IsSitting (ends : DeskEnds) (chair : Chair) : Type 0 where
-  pub seat : IsSeatAt (sends_on ends.sender) chair.pass
-  pub hand : (view chair.pass).hand ≡ Empty
-  pub number : (view chair.pass).number ≡ Some chair.number
-  pub receipts : (view chair.pass).receipts ≡ chair.receipts.items
+  pub seat : IsSeatAt (sends_on ends.sender) chair.token
+  pub custody : (view chair.token).custody ≡ Empty
+  pub number : (view chair.token).number ≡ Some chair.number
+  pub receipts : (view chair.token).receipts ≡ chair.receipts.items
 
 -- the chair's receipts are those on the last page
 abbrev pub IsCompared : SeenMessage → Chair → Type 0

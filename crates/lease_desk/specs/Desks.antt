@@ -44,10 +44,10 @@ opening_of desk =
       chairs = desk.chairs;
     }
 
--- the chair's pass is one of this channel, and knows the opening and what the chair keeps
+-- the chair's token is one of this channel, and knows the opening and what the chair keeps
 pub record IsChairAt (ends : DeskEnds) (opening : Option SeenMessage) (chair : Chair) : Type 0 where
-  pub seat : IsSeatAt (sends_on ends.sender) chair.pass
-  pub knows : view chair.pass ≡ sitter opening chair.number chair.receipts.items
+  pub seat : IsSeatAt (sends_on ends.sender) chair.token
+  pub knows : view chair.token ≡ sitter opening chair.number chair.receipts.items
 
 -- the chair came with the desk
 abbrev pub IsChairOf : Desk → Chair → Type 0

@@ -1,4 +1,4 @@
--- How an event gets onto a page, and what a call leaves in a pass.
+-- How an event gets onto a page, and what a call leaves in a token.
 use Rattle.std.specs.Prelude.{◌≡◌, ℕ, [], ◌∷◌, ◌++◌, All, Some, length}
 use Rattle.lease_book.specs.declared.events.Asked.{Asked}
 use Rattle.lease_book.specs.Replies.{IsReply, IsLegal}
@@ -24,11 +24,11 @@ with_receipt v told = record {
   receipts = v.receipts ++ told ∷ [];
   made = v.made;
   opening = v.opening;
-  hand = v.hand;
+  custody = v.custody;
   told = v.told;
 }
 
--- what a call leaves in a chair's pass
+-- what a call leaves in a chair's token
 pub record IsAttended (v w : View) (asked : Asked) (told : Receipt) : Type 0 where
   pub asked_is : told.event.asked ≡ asked
   pub named : (opening : SeenMessage) → v.opening ≡ Some opening → IsNamed opening.book.terms v.receipts asked told

@@ -1,7 +1,7 @@
 pub mod Receipts
 pub mod Views
 pub mod Rule
-pub mod Seats
+pub mod Steps
 pub mod Askings
 pub mod Desks
 pub mod Entries

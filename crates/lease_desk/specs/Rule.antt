@@ -5,15 +5,15 @@ use mathlib.Core.Option.{some}
 use lib.ListN.{get_elem?}
 use Rattle.lease_desk.specs.declared.messages.Message.{Message}
 use Rattle.lease_desk.specs.declared.views.SeenMessage.{SeenMessage}
-use Rattle.lease_desk.specs.declared.views.Hand.{Hand}
-use Rattle.lease_desk.specs.declared.views.Hand.TheVariants.{Empty, Holds}
+use Rattle.lease_desk.specs.declared.views.Custody.{Custody}
+use Rattle.lease_desk.specs.declared.views.Custody.TheVariants.{Empty, Holds}
 use Rattle.lease_desk.specs.declared.views.View.{View}
 use Rattle.lease_desk.specs.Views.{page_of, receipts_on, unopened}
 
--- where the message is: in the channel, or with the pass of this number, for good or not
+-- where the message is: in the channel, or with the token of this number, for good or not
 pub data Where : Type 0 where
   within : Where
-  out : (final : Bool) → (pass : ℕ) → Where
+  out : (final : Bool) → (token : ℕ) → Where
 
 -- each of these numbers is below one
 abbrev pub AreBelow : ℕ → List ℕ → Type 0
@@ -25,14 +25,14 @@ abbrev pub Lies : Where → List Message → SeenMessage → Type 0
 Lies within items page = (message : Message) × (items ≡ message ∷ []) × (page_of message ≡ page)
 Lies (out final holder) items page = items ≡ []
 
-abbrev pub hand_if : Bool → Bool → SeenMessage → Hand
-hand_if true final page = Holds final page
-hand_if false final page = Empty
+abbrev pub custody_if : Bool → Bool → SeenMessage → Custody
+custody_if true final page = Holds final page
+custody_if false final page = Empty
 
--- what a pass has in hand
-abbrev pub hand_at : Where → ℕ → SeenMessage → Hand
-hand_at within pass page = Empty
-hand_at (out final holder) pass page = hand_if (nat_eq holder pass) final page
+-- what a token has in hand
+abbrev pub custody_at : Where → ℕ → SeenMessage → Custody
+custody_at within token page = Empty
+custody_at (out final holder) token page = custody_if (nat_eq holder token) final page
 
 -- the holder is one of so many passes
 abbrev pub IsAmong : Where → ℕ → Type 0
@@ -50,12 +50,12 @@ pub record IsOf (opening page : SeenMessage) : Type 0 where
   pub before : opening.before ≡ page.before
   pub chairs : opening.chairs ≡ page.chairs
 
--- what one pass knows is so
-pub record Fits (page : SeenMessage) (at : Where) (seats : ℕ → ℕ) (usher made pass : ℕ) (v : View) : Type 0 where
-  pub in_hand : v.hand ≡ hand_at at pass page
+-- what one token knows is so
+pub record Fits (page : SeenMessage) (at : Where) (seats : ℕ → ℕ) (usher made token : ℕ) (v : View) : Type 0 where
+  pub in_custody : v.custody ≡ custody_at at token page
   pub opened : (opening : SeenMessage) → v.opening ≡ Some opening → IsOf opening page
-  pub chair : (k : ℕ) → v.number ≡ Some k → (seats k ≡ pass) × (k < made) × (v.receipts ≡ receipts_on page k)
-  pub ushers : (n : ℕ) → v.made ≡ Some n → (pass ≡ usher) × (n ≡ made)
+  pub chair : (k : ℕ) → v.number ≡ Some k → (seats k ≡ token) × (k < made) × (v.receipts ≡ receipts_on page k)
+  pub ushers : (n : ℕ) → v.made ≡ Some n → (token ≡ usher) × (n ≡ made)
   pub told : (last : SeenMessage) → v.told ≡ Some last → (last ≡ page) × IsFinal at
 
 -- an open desk
@@ -70,7 +70,7 @@ pub record IsOpen (items : List Message) (views : List View) : Type 0 where
   pub even : length page.makers ≡ length page.book.events
   pub listed : AreBelow made page.makers
   pub bound : made ≤ page.chairs
-  pub fits : (pass : ℕ) (v : View) → get_elem? views pass ≡ some v → Fits page at seats usher made pass v
+  pub fits : (token : ℕ) (v : View) → get_elem? views token ≡ some v → Fits page at seats usher made token v
 
 -- the desk is open, or nothing was sent yet
 abbrev pub IsKept : List Message → List View → Type 0

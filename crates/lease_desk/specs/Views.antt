@@ -5,7 +5,7 @@ use Rattle.lease_desk.specs.declared.messages.Message.{Message}
 use Rattle.lease_desk.specs.declared.receipts.Receipt.{Receipt}
 use Rattle.lease_desk.specs.declared.views.SeenMessage.{SeenMessage}
 use Rattle.lease_desk.specs.declared.views.View.{View}
-use Rattle.lease_desk.specs.declared.views.Hand.TheVariants.{Before, Empty, Holds}
+use Rattle.lease_desk.specs.declared.views.Custody.TheVariants.{Before, Empty, Holds}
 use Rattle.lease_desk.specs.Receipts.{receipts_from}
 
 -- how many events of a message no chair has made: those that the book had when the desk was opened
@@ -39,23 +39,23 @@ page_with page chair event =
 abbrev pub receipts_on : SeenMessage → ℕ → List Receipt
 receipts_on page chair = receipts_from chair (length page.before) page.makers page.book.events
 
--- the pass that opens the channel, before it sends
+-- the token that opens the channel, before it sends
 abbrev pub unopened : View
-unopened = record { number = None; receipts = []; made = None; opening = None; hand = Before; told = None }
+unopened = record { number = None; receipts = []; made = None; opening = None; custody = Before; told = None }
 
--- a pass that knows nothing
+-- a token that knows nothing
 abbrev pub blank : View
-blank = record { number = None; receipts = []; made = None; opening = None; hand = Empty; told = None }
+blank = record { number = None; receipts = []; made = None; opening = None; custody = Empty; told = None }
 
--- the pass that makes chairs, after it made so many
+-- the token that makes chairs, after it made so many
 abbrev pub usher : Option SeenMessage → ℕ → View
 usher opening made =
-    record { number = None; receipts = []; made = Some made; opening = opening; hand = Empty; told = None }
+    record { number = None; receipts = []; made = Some made; opening = opening; custody = Empty; told = None }
 
--- the pass of a chair, between its calls
+-- the token of a chair, between its calls
 abbrev pub sitter : Option SeenMessage → ℕ → List Receipt → View
 sitter opening number receipts =
-    record { number = Some number; receipts = receipts; made = None; opening = opening; hand = Empty; told = None }
+    record { number = Some number; receipts = receipts; made = None; opening = opening; custody = Empty; told = None }
 
 -- the same view with a page in hand, for good or not
 abbrev pub holding : Bool → SeenMessage → View → View
@@ -65,6 +65,6 @@ holding final page v =
       receipts = v.receipts;
       made = v.made;
       opening = v.opening;
-      hand = Holds final page;
+      custody = Holds final page;
       told = v.told;
     }

@@ -31,7 +31,7 @@ impl Desk {
         if chair.receipts.reserve(1).is_err() {
             return Err(OutOfMemory);
         }
-        let told = attend(rt, &self.ends, &mut chair.pass, chair.number, asking)?;
+        let told = attend(rt, &self.ends, &mut chair.token, chair.number, asking)?;
         let kept = &told;
         chair.receipts.push_reserved(*kept);
         Ok(told)

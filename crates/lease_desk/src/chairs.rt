@@ -3,14 +3,14 @@
 ghost use Rattle.std.specs.Prelude.{◌≡◌};
 
 use crate::receipts::Receipt;
-use crate::rule::DeskPass;
+use crate::rule::DeskToken;
 
 /// One worker's place at the desk. It keeps a receipt for each of its calls.
 #[derive(Drop)]
 pub struct Chair {
     pub(crate) number: usize,
     pub(crate) receipts: Vec<Receipt>,
-    pub(crate) pass: DeskPass,
+    pub(crate) token: DeskToken,
 }
 
 impl Chair {

@@ -4,15 +4,15 @@ ghost use Rattle.std.specs.Prelude.{◌≡◌, ◌<◌, ℕ, All, Option, Some, 
 ghost use Rattle.crossbeam_channel.specs.Claims.{view, IsSeatAt};
 ghost use Rattle.crossbeam_channel.specs.Ends.{sends_on};
 ghost use Rattle.lease_desk.specs.declared.views.SeenMessage.{SeenMessage};
-ghost use Rattle.lease_desk.specs.declared.views.Hand.TheVariants.{Holds};
+ghost use Rattle.lease_desk.specs.declared.views.Custody.TheVariants.{Holds};
 ghost use Rattle.lease_desk.specs.Desks.{IsChairAt, AreChairsOf, IsClosed, terms_of, start_of, shown_of};
 ghost use Rattle.lease_desk.specs.Closing.{AreSeatedAt, IsCollected, IsSitting, IsCompared};
 
 use crate::chairs::Chair;
 use crate::desk::Desk;
 use crate::ends::DeskEnds;
-use crate::rule::{Compares, DeskPass, Hears, Spares, Tells};
-use crate::turns::take_last;
+use crate::rule::{Compares, DeskToken, Hears, Spares, Tells};
+use crate::taking::take_last;
 use lease_book::Book;
 use std::sync::Wait;
 
@@ -26,27 +26,27 @@ pub struct Closed {
 }
 
 /// Compares the receipts of one chair with the message in hand.
-fn compare(ends: &DeskEnds, own: &mut DeskPass, chair: &mut Chair)
+fn compare(ends: &DeskEnds, own: &mut DeskToken, chair: &mut Chair)
     requires seat { IsSeatAt (sends_on ends.now.sender) own.old }
     requires sits { IsSitting ends.now chair.old }
-    requires holds { (last : SeenMessage) × ((view own.old).hand ≡ Holds true last) }
+    requires holds { (last : SeenMessage) × ((view own.old).custody ≡ Holds true last) }
     ensures seat { IsSeatAt (sends_on ends.now.sender) own.new }
     ensures view { view own.new ≡ view own.old }
     ensures same { shown_of chair.new ≡ shown_of chair.old }
-    ensures compared { (last : SeenMessage) → (view own.old).hand ≡ Holds true last → IsCompared last chair.new }
+    ensures compared { (last : SeenMessage) → (view own.old).custody ≡ Holds true last → IsCompared last chair.new }
 {
     let told = ends.sender.another::<Tells>(own);
-    ends.sender.absorb::<Hears>(&mut chair.pass, told);
-    ends.sender.learn_as::<Compares>(&mut chair.pass);
+    ends.sender.absorb::<Hears>(&mut chair.token, told);
+    ends.sender.learn_as::<Compares>(&mut chair.token);
 }
 
 /// Compares the receipts of each chair with the message in hand.
-fn settle(ends: &DeskEnds, own: DeskPass, chairs: &mut [Chair])
+fn settle(ends: &DeskEnds, own: DeskToken, chairs: &mut [Chair])
     requires seat { IsSeatAt (sends_on ends.now.sender) own }
     requires sit { All (IsSitting ends.now) chairs.old }
-    requires holds { (last : SeenMessage) × ((view own).hand ≡ Holds true last) }
+    requires holds { (last : SeenMessage) × ((view own).custody ≡ Holds true last) }
     ensures same { map shown_of chairs.new ≡ map shown_of chairs.old }
-    ensures compared { (last : SeenMessage) → (view own).hand ≡ Holds true last → All (IsCompared last) chairs.new }
+    ensures compared { (last : SeenMessage) → (view own).custody ≡ Holds true last → All (IsCompared last) chairs.new }
 {
     let mut own = own;
     for chair in chairs.iter_mut() {
@@ -61,7 +61,7 @@ fn collect<R: Wait>(rt: &R, ends: &DeskEnds, chairs: &mut [Chair]) -> Book
     ensures { (opening : Option SeenMessage) → All (IsChairAt ends.now opening) chairs.old
         → IsCollected opening chairs.old chairs.new result }
 {
-    let mut own = ends.sender.another::<Spares>(&mut chairs[0].pass);
+    let mut own = ends.sender.another::<Spares>(&mut chairs[0].token);
     let message = take_last(rt, &ends.receiver, &mut own);
     settle(ends, own, chairs);
     message.book

@@ -3,7 +3,7 @@
 ghost use Rattle.std.specs.Prelude.{◌≡◌, ◌≢◌, IfOk, OnErr, Some, None};
 ghost use Rattle.crossbeam_channel.specs.Claims.{view, IsSeatAt};
 ghost use Rattle.crossbeam_channel.specs.Ends.{sends_on};
-ghost use Rattle.lease_desk.specs.declared.views.Hand.TheVariants.{Empty};
+ghost use Rattle.lease_desk.specs.declared.views.Custody.TheVariants.{Empty};
 ghost use Rattle.lease_desk.specs.Askings.{asked_of};
 ghost use Rattle.lease_desk.specs.Views.{page_of};
 ghost use Rattle.lease_desk.specs.Entries.{IsEntered, IsAttended};
@@ -12,8 +12,8 @@ use crate::asking::Asking;
 use crate::ends::DeskEnds;
 use crate::messages::Message;
 use crate::receipts::Receipt;
-use crate::rule::DeskPass;
-use crate::turns::{give, take};
+use crate::rule::DeskToken;
+use crate::taking::{give, take};
 use cards::OutOfMemory;
 use std::sync::Wait;
 
@@ -38,26 +38,26 @@ fn enter(message: &mut Message, number: usize, asking: Asking) -> Result<Receipt
 pub(crate) fn attend<R: Wait>(
     rt: &R,
     ends: &DeskEnds,
-    pass: &mut DeskPass,
+    token: &mut DeskToken,
     number: usize,
     asking: Asking,
 ) -> Result<Receipt, OutOfMemory>
-    requires seat { IsSeatAt (sends_on ends.now.sender) pass.old }
-    requires number { (view pass.old).number ≡ Some number }
-    requires hand { (view pass.old).hand ≡ Empty }
-    requires no_usher { (view pass.old).made ≡ None }
-    ensures seat { IsSeatAt (sends_on ends.now.sender) pass.new }
-    ensures ok { IfOk result (IsAttended (view pass.old) (view pass.new) (asked_of asking)) }
-    ensures err { OnErr result (view pass.new ≡ view pass.old) }
+    requires seat { IsSeatAt (sends_on ends.now.sender) token.old }
+    requires number { (view token.old).number ≡ Some number }
+    requires custody { (view token.old).custody ≡ Empty }
+    requires no_usher { (view token.old).made ≡ None }
+    ensures seat { IsSeatAt (sends_on ends.now.sender) token.new }
+    ensures ok { IfOk result (IsAttended (view token.old) (view token.new) (asked_of asking)) }
+    ensures err { OnErr result (view token.new ≡ view token.old) }
 {
-    let mut message = take(rt, &ends.receiver, pass);
+    let mut message = take(rt, &ends.receiver, token);
     match enter(&mut message, number, asking) {
         Ok(told) => {
-            give(rt, &ends.sender, pass, message);
+            give(rt, &ends.sender, token, message);
             Ok(told)
         }
         Err(OutOfMemory) => {
-            give(rt, &ends.sender, pass, message);
+            give(rt, &ends.sender, token, message);
             Err(OutOfMemory)
         }
     }

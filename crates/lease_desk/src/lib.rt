@@ -19,7 +19,7 @@ mod opening;
 mod receipts;
 mod rule;
 mod seating;
-mod turns;
+mod taking;
 mod verdicts;
 mod views;
 

@@ -9,9 +9,9 @@ use crate::chairs::Chair;
 use crate::desk::Desk;
 use crate::ends::{DeskEnds, new_ends};
 use crate::messages::Message;
-use crate::rule::DeskPass;
+use crate::rule::DeskToken;
 use crate::seating::seat_all;
-use crate::turns::begin;
+use crate::taking::begin;
 use lease_book::{Book, BookFault};
 use pbn_deals::Board;
 use std::alloc::{AllocError, Global};
@@ -31,7 +31,7 @@ impl Desk {
     {
         let (term, tries, start) = (book.term(), book.tries(), Snapshot::of(&book));
         let boards = copies_of(alloc, book.boards())?;
-        let (ends, pass) = new_ends(alloc)?;
+        let (ends, token) = new_ends(alloc)?;
         let mut idle = Vec::new(alloc);
         if chairs == 0 {
             idle.push(book)?;
@@ -46,14 +46,14 @@ impl Desk {
             };
             return Ok((desk, Vec::new(alloc)));
         }
-        let mut pass = pass;
+        let mut token = token;
         let message = Message {
             book,
             makers: Vec::new(alloc),
             chairs,
         };
-        begin(rt, &ends.sender, &mut pass, message);
-        let seats = seat_all(alloc, &ends, pass, chairs)?;
+        begin(rt, &ends.sender, &mut token, message);
+        let seats = seat_all(alloc, &ends, token, chairs)?;
         let desk = Desk {
             ends,
             boards,

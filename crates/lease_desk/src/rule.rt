@@ -23,20 +23,20 @@ pub type DeskSender = RuledSender<Message, View, OneHistory>;
 /// The end of the desk's channel that receives.
 pub type DeskReceiver = RuledReceiver<Message, View, OneHistory>;
 
-/// A pass of the desk's channel.
-pub type DeskPass = Pass<Message, View>;
+/// A token of the desk's channel.
+pub type DeskToken = Pass<Message, View>;
 
 /// The first message is sent.
 pub struct Opens;
 
 impl Outcome<Message, View> for Opens {
-    ghost use Rattle.lease_desk.specs.Seats.{Opens};
+    ghost use Rattle.lease_desk.specs.Steps.{Opens};
 
     ghost then = { Opens };
 }
 
 impl Lesson<Message, View> for Opens {
-    ghost use Rattle.lease_desk.specs.Seats.{Silent};
+    ghost use Rattle.lease_desk.specs.Steps.{Silent};
 
     ghost fact = { Silent };
 }
@@ -46,13 +46,13 @@ pub struct Borrows;
 
 impl Outcome<Message, View> for Borrows {
     ghost use Rattle.std.specs.Prelude.{false};
-    ghost use Rattle.lease_desk.specs.Seats.{Took};
+    ghost use Rattle.lease_desk.specs.Steps.{Took};
 
     ghost then = { Took false };
 }
 
 impl Lesson<Message, View> for Borrows {
-    ghost use Rattle.lease_desk.specs.Seats.{Silent};
+    ghost use Rattle.lease_desk.specs.Steps.{Silent};
 
     ghost fact = { Silent };
 }
@@ -61,13 +61,13 @@ impl Lesson<Message, View> for Borrows {
 pub struct Gives;
 
 impl Outcome<Message, View> for Gives {
-    ghost use Rattle.lease_desk.specs.Seats.{Gave};
+    ghost use Rattle.lease_desk.specs.Steps.{Gave};
 
     ghost then = { Gave };
 }
 
 impl Lesson<Message, View> for Gives {
-    ghost use Rattle.lease_desk.specs.Seats.{Silent};
+    ghost use Rattle.lease_desk.specs.Steps.{Silent};
 
     ghost fact = { Silent };
 }
@@ -77,56 +77,56 @@ pub struct Keeps;
 
 impl Outcome<Message, View> for Keeps {
     ghost use Rattle.std.specs.Prelude.{true};
-    ghost use Rattle.lease_desk.specs.Seats.{Took};
+    ghost use Rattle.lease_desk.specs.Steps.{Took};
 
     ghost then = { Took true };
 }
 
 impl Lesson<Message, View> for Keeps {
-    ghost use Rattle.lease_desk.specs.Seats.{Silent};
+    ghost use Rattle.lease_desk.specs.Steps.{Silent};
 
     ghost fact = { Silent };
 }
 
 /// A chair is made.
-pub struct Seats;
+pub struct MakesChair;
 
-impl Split<View> for Seats {
-    ghost use Rattle.lease_desk.specs.Seats.{ushering, seated};
+impl Split<View> for MakesChair {
+    ghost use Rattle.lease_desk.specs.Steps.{ushering, seated};
 
     ghost left = { ushering };
 
     ghost right = { seated };
 }
 
-/// A pass is made with which the desk is closed.
+/// A token is made with which the desk is closed.
 pub struct Spares;
 
 impl Split<View> for Spares {
-    ghost use Rattle.lease_desk.specs.Seats.{spared};
+    ghost use Rattle.lease_desk.specs.Steps.{spared};
 
     ghost left = { λ v. v };
 
     ghost right = { spared };
 }
 
-/// A pass is made that tells the last message.
+/// A token is made that tells the last message.
 pub struct Tells;
 
 impl Split<View> for Tells {
-    ghost use Rattle.lease_desk.specs.Seats.{told_of};
+    ghost use Rattle.lease_desk.specs.Steps.{told_of};
 
     ghost left = { λ v. v };
 
     ghost right = { told_of };
 }
 
-/// A pass is told what another tells.
+/// A token is told what another tells.
 pub struct Hears;
 
 impl Join<View> for Hears {
     ghost use Rattle.lease_desk.specs.Views.{blank};
-    ghost use Rattle.lease_desk.specs.Seats.{heard};
+    ghost use Rattle.lease_desk.specs.Steps.{heard};
 
     ghost both = { heard };
 
@@ -137,7 +137,7 @@ impl Join<View> for Hears {
 pub struct Compares;
 
 impl Lesson<Message, View> for Compares {
-    ghost use Rattle.lease_desk.specs.Seats.{Compared};
+    ghost use Rattle.lease_desk.specs.Steps.{Compared};
 
     ghost fact = { Compared };
 }

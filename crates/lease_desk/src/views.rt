@@ -1,4 +1,4 @@
-//! What a pass of the desk's channel knows. It exists in contracts alone.
+//! What a token of the desk's channel knows. It exists in contracts alone.
 
 use crate::receipts::Receipt;
 use lease_book::{Book, Event};
@@ -14,8 +14,8 @@ pub struct SeenMessage {
     pub chairs: usize,
 }
 
-/// Whether a pass has the message in hand. No value of it is made.
-pub enum Hand {
+/// Whether a token has the message in hand. No value of it is made.
+pub enum Custody {
     /// No message was sent yet.
     Before,
     /// It does not.
@@ -24,7 +24,7 @@ pub enum Hand {
     Holds(bool, SeenMessage),
 }
 
-/// What a pass knows. No value of it is made.
+/// What a token knows. No value of it is made.
 pub struct View {
     /// The number of its chair.
     pub number: Option<usize>,
@@ -35,7 +35,7 @@ pub struct View {
     /// The message with which the desk was opened.
     pub opening: Option<SeenMessage>,
     /// The message that it has in hand.
-    pub hand: Hand,
+    pub custody: Custody,
     /// The message that is kept for good, where it was told.
     pub told: Option<SeenMessage>,
 }

@@ -13,4 +13,4 @@ mod threads;
 mod writing;
 
 pub use faults::LeadFault;
-pub use making::{LeadOptions, LeadReport, make_leads};
+pub use making::{LeadLimits, LeadReport, make_leads};

@@ -16,7 +16,7 @@ use streams::read_all;
 
 /// How the leads are looked for.
 #[derive(Clone, Copy, Debug, PartialEq, Eq)]
-pub struct LeadOptions {
+pub struct LeadLimits {
     /// How many threads look for leads.
     pub solvers: usize,
     /// How many steps the solver has for each lead.
@@ -57,7 +57,7 @@ pub fn make_leads<R: Threads + Sync, I: Source, O: Sink, S: CardSolver + Sync>(
     alloc: Global,
     input: &mut I,
     output: &mut O,
-    options: LeadOptions,
+    options: LeadLimits,
     solver: &S,
 ) -> Result<LeadReport, LeadFault>
     ensures { MakesLeads (S.may_find_cards solver.now) options.budget
@@ -65,7 +65,7 @@ pub fn make_leads<R: Threads + Sync, I: Source, O: Sink, S: CardSolver + Sync>(
 {
     let text = read_all(alloc, input)?;
     let boards = take_boards(alloc, text.as_slice())?;
-    let LeadOptions { solvers, budget } = options;
+    let LeadLimits { solvers, budget } = options;
     let table = find_all(rt, alloc, boards.as_slice(), solvers, budget, solver)?;
     write_leads(output, boards.as_slice(), &table)?;
     Ok(LeadReport {

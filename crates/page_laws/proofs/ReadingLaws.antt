@@ -12,8 +12,8 @@ use Rattle.lease_book.specs.declared.events.Event.{Event}
 use Rattle.lease_book.specs.Histories.{Terms}
 use Rattle.lease_book.specs.TrueHistories.{IsTrueHistory}
 use Rattle.tables.specs.declared.pars.BoardPar.{BoardPar}
-use Rattle.tables.specs.declared.sheets.Renews.{Renews}
-use Rattle.tables.specs.declared.sheets.Renews.TheVariants.{Tables, TablesAndPars}
+use Rattle.tables.specs.declared.results.Renews.{Renews}
+use Rattle.tables.specs.declared.results.Renews.TheVariants.{Tables, TablesAndPars}
 use Rattle.tables.specs.ParText.{IsSmallPar}
 use Rattle.tournaments.specs.declared.faults.MakeFault.TheVariants.{OutOfMemory, Read, Pbn, NoThread, Write}
 use Rattle.tournaments.specs.Pages.{Pars, AreSmallPars}
@@ -22,7 +22,7 @@ use Rattle.page_laws.specs.TablesPages.{IsReadOnce}
 use Rattle.page_laws.specs.SheetPages.{IsSheetPage}
 use Rattle.page_laws.specs.Readings.{form_read, par_read, page_read, PutPagesAreRead, MadePagesAreRead}
 use Rattle.page_laws.specs.ReplayedTables.{ReplayedTablesAreRead}
-use Rattle.page_laws.proofs.TablesPageLaws.{tables_are_read}
+use Rattle.page_laws.proofs.TablesPageLaws.{tables_pages_are_read}
 use Rattle.page_laws.proofs.WholePageLaws.{whole_pages_are_read}
 use Rattle.page_laws.proofs.SheetLaws.{sheet_pages_are_read}
 
@@ -32,7 +32,7 @@ no_pars = All-nil (λ (par : Option BoardPar). IfSome par IsSmallPar)
 
 module _ (text : List ℕ) (terms : Terms) (events : List Event) (says : TextAnswers text (Ok terms.boards)) (history : IsTrueHistory terms events) where
   form_is_read : (which : PageForm) (renews : Renews) (pars : Pars) (page : List ℕ) → AreSmallPars pars → form_fact which renews pars text terms.boards events page → form_read which renews pars text terms.boards events page
-  form_is_read form.Tables renews pars page small is = (is, subst (λ (p : List ℕ). IsReadOnce pars terms.boards events p) (sym is) (tables_are_read text terms events pars says history small))
+  form_is_read form.Tables renews pars page small is = (is, subst (λ (p : List ℕ). IsReadOnce pars terms.boards events p) (sym is) (tables_pages_are_read text terms events pars says history small))
   form_is_read form.Whole renews pars page small whole = whole_pages_are_read renews text terms events pars page says history small whole
   form_is_read form.Sheet renews pars page small sheet = subst (λ (p : List ℕ). IsSheetPage pars text terms.boards events p) (sym sheet.is) (sheet_pages_are_read text terms events pars sheet.shown says history small sheet.shows)
 
@@ -82,4 +82,4 @@ made_pages_are_read asked term tries old new (Err Write) made = record {
 
 pub replayed_tables_are_read : ReplayedTablesAreRead
 replayed_tables_are_read text term tries requests sink sink' report filled =
-    tables_are_read text (record { boards = filled.boards; term = term; tries = tries }) filled.events [] filled.history.read filled.history.history no_pars
+    tables_pages_are_read text (record { boards = filled.boards; term = term; tries = tries }) filled.events [] filled.history.read filled.history.history no_pars

@@ -28,9 +28,9 @@ use Rattle.tables.specs.TablesText.{printed_with}
 use Rattle.text_laws.specs.ReadBack.{AreTricks}
 use Rattle.text_laws.specs.PageReading.{Row, Table, Rows, Incomplete, Block}
 use Rattle.text_laws.specs.WrittenOnce.{is_same_denomination, is_row_of, numbers_in, SaysResults, SayBoards}
-use Rattle.text_laws.proofs.PageBack.{pages_are_read}
+use Rattle.text_laws.proofs.PageBack.{table_texts_are_read}
 use Rattle.tournaments.specs.Pages.{Pars, AreSmallPars}
-use Rattle.page_laws.specs.TablesPages.{IsTrueRow, IsTrueTable, TablesAreRead}
+use Rattle.page_laws.specs.TablesPages.{IsTrueRow, IsTrueTable, TablesPagesAreRead}
 
 -- ---- a number that is published is at most 13
 at_most_13 : (deal : Option Deal) (dealt : Deal) (declarer : Seat) (denomination : Trump) (tricks : ℕ) → deal ≡ Some dealt → IsBoardDeal deal → IsValue dealt declarer denomination tricks → tricks ≤ 13
@@ -132,11 +132,11 @@ true_tables all events pars values place (board ∷ boards) (block ∷ blocks) s
   true_tables all events pars values (place + 1) boards blocks (stand_later all place board boards stand) says.1,
 )
 
-pub tables_are_read : TablesAreRead
-tables_are_read text terms events pars says history small =
+pub tables_pages_are_read : TablesPagesAreRead
+tables_pages_are_read text terms events pars says history small =
     let boards = terms.boards in
     let printable = (boards_are_printable text boards says).0 in
-    let page = pages_are_read boards (printed_with pars (book_results boards events)) printable (are_tricks boards events pars printable history.values small) in
+    let page = table_texts_are_read boards (printed_with pars (book_results boards events)) printable (are_tricks boards events pars printable history.values small) in
     record {
       blocks = page.0;
       read = page.1;

@@ -4,7 +4,7 @@ use Rattle.std.specs.List.{AllZip, enumerate_from, filter}
 use Rattle.pbn_deals.specs.declared.boards.Board.{Board}
 use Rattle.pbn_deals.proofs.PrintableBoards.{boards_are_printable}
 use Rattle.tournaments.specs.BookResults.{book_results}
-use Rattle.tables.specs.declared.sheets.Renews.{Renews}
+use Rattle.tables.specs.declared.results.Renews.{Renews}
 use Rattle.tables.specs.TablesText.{Printed, printed_with}
 use Rattle.whole_texts.specs.OldTables.{has_deal}
 use Rattle.whole_texts.specs.WholeText.{Game}

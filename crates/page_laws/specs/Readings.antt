@@ -11,9 +11,9 @@ use Rattle.streams.specs.RunStreams.{Devices}
 use Rattle.lease_book.specs.Books.{Ledger}
 use Rattle.tournaments.specs.BookResults.{book_results}
 use Rattle.lease_book.specs.TrueHistories.{IsTrueHistory}
-use Rattle.tables.specs.declared.sheets.Report.{Report}
-use Rattle.tables.specs.declared.sheets.Renews.{Renews}
-use Rattle.tables.specs.declared.sheets.Renews.TheVariants.{Tables, TablesAndPars}
+use Rattle.tables.specs.declared.results.Report.{Report}
+use Rattle.tables.specs.declared.results.Renews.{Renews}
+use Rattle.tables.specs.declared.results.Renews.TheVariants.{Tables, TablesAndPars}
 use Rattle.tournaments.specs.declared.faults.MakeFault.{MakeFault}
 use Rattle.tournaments.specs.Making.{PageFact, MakesPage}
 use Rattle.tournaments.specs.Pages.{Pars}

@@ -2,7 +2,7 @@
 use Rattle.std.specs.Prelude.{ℕ, List, []}
 use Rattle.cards.specs.Devices.{Device}
 use Rattle.plain_runs.specs.declared.requests.Request.{Request}
-use Rattle.tables.specs.declared.sheets.Report.{Report}
+use Rattle.tables.specs.declared.results.Report.{Report}
 use Rattle.tournaments.specs.Pages.{history_text}
 use Rattle.plain_runs.specs.Replaying.{FillsFromRequests}
 use Rattle.page_laws.specs.TablesPages.{IsReadOnce}

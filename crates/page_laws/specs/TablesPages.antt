@@ -41,8 +41,8 @@ IsTablesPage pars text boards events page =
     (page ≡ history_text pars boards events) × IsReadOnce pars boards events page
 
 -- the page of the boards that any text says, after any true history over them, is read so, whatever small pars it has
-abbrev pub TablesAreRead : Type 0
-TablesAreRead =
+abbrev pub TablesPagesAreRead : Type 0
+TablesPagesAreRead =
     (text : List ℕ) (terms : Terms) (events : List Event) (pars : Pars) →
     TextAnswers text (Ok terms.boards) → IsTrueHistory terms events → AreSmallPars pars →
     IsReadOnce pars terms.boards events (history_text pars terms.boards events)

@@ -8,7 +8,7 @@ use Rattle.lease_book.specs.declared.events.Event.{Event}
 use Rattle.lease_book.specs.Histories.{Terms}
 use Rattle.lease_book.specs.TrueHistories.{AreValues, IsTrueHistory}
 use Rattle.tournaments.specs.BookResults.{book_results}
-use Rattle.tables.specs.declared.sheets.Renews.{Renews}
+use Rattle.tables.specs.declared.results.Renews.{Renews}
 use Rattle.tables.specs.TablesText.{printed_with}
 use Rattle.tournaments.specs.Pages.{Pars, AreSmallPars}
 use Rattle.whole_texts.specs.OldTables.{has_deal}

@@ -4,7 +4,7 @@
 //! tables by its lines, a text with its tables by its games, and a sheet by its elements. Nothing that runs calls them.
 #![tactic(auto)]
 
-ghost use Rattle.page_laws.specs.TablesPages.{TablesAreRead};
+ghost use Rattle.page_laws.specs.TablesPages.{TablesPagesAreRead};
 ghost use Rattle.page_laws.specs.WholePages.{WholePagesAreRead};
 ghost use Rattle.page_laws.specs.SheetPages.{SheetPagesAreRead};
 ghost use Rattle.page_laws.specs.Readings.{PutPagesAreRead, MadePagesAreRead};
@@ -16,8 +16,8 @@ ghost use Rattle.page_laws.specs.ReplayedTables.{ReplayedTablesAreRead};
 ///
 /// [`make_single`](plain_runs::make_single), [`replay_tables`](plain_runs::replay_tables) and `make_tables` of
 /// `board_subcommands` write such a page. On `Ok` their clauses give the text, the terms and the history.
-pub fn tables_are_read()
-    ensures { TablesAreRead }
+pub fn tables_pages_are_read()
+    ensures { TablesPagesAreRead }
 {}
 
 /// Take a text that is read as boards and a true history over them. The page with the tables in the text is read as the

@@ -8,6 +8,7 @@
 
 mod begun;
 mod deals;
+mod first_cards;
 mod followers;
 mod hints;
 mod last_hand;
@@ -21,7 +22,6 @@ mod relevant_cards;
 mod remembering;
 mod search;
 mod starts;
-mod turns;
 mod values;
 mod weights;
 mod words;

@@ -7,7 +7,7 @@ use Rattle.lease_book.specs.declared.events.Event.{Event}
 use Rattle.lease_book.specs.declared.events.Reply.{Reply}
 use Rattle.plain_runs.specs.declared.requests.Request.{Request}
 use Rattle.plain_runs.specs.Replays.{IsReplayed}
-use Rattle.tables.specs.declared.sheets.Report.{Report}
+use Rattle.tables.specs.declared.results.Report.{Report}
 use Rattle.tournaments.specs.declared.faults.MakeFault.{MakeFault}
 use Rattle.tournaments.specs.declared.faults.MakeFault.TheVariants.{OutOfMemory, Read, Pbn, NoThread, Write}
 use Rattle.lease_book.specs.TrueHistories.{IsTrueHistory}

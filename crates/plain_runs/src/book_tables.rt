@@ -7,8 +7,8 @@ ghost use Rattle.tournaments.specs.BookResults.{book_results};
 
 use cards::{DeviceFault, Sink};
 use lease_book::Book;
-use tables::{Renews, Report, write_sheet};
-use tournaments::BookSheet;
+use tables::{Renews, Report};
+use tournaments::BookResults;
 
 /// Writes the tables of the book's boards with the numbers that its history publishes, and tells how many boards there
 /// are and how many of them have all twenty. After a fault of the sink a beginning of the text has gone out. Takes no
@@ -22,6 +22,6 @@ pub fn write_tables<S: Sink>(book: &Book, sink: &mut S) -> Result<Report, Device
         ≡ complete_count book.now.terms.boards
         (printed_with [] (book_results book.now.terms.boards book.now.events))) }
 {
-    let sheet = BookSheet::new(book, Renews::Tables, &[]);
-    write_sheet(&sheet, sink)
+    let results = BookResults::new(book, Renews::Tables, &[]);
+    tables::write_tables(&results, sink)
 }

@@ -10,8 +10,8 @@ ghost use Rattle.play_dialogues.specs.Trails.{IsAsked, AreReplies, ArePlayedSinc
 ghost use Rattle.play_dialogues.specs.Conversing.{IsSettled, Tells, Opens, TakesTurn, Closes, Converses};
 
 use crate::lines::next_line;
+use crate::telling::{told_closing, told_opening};
 use crate::trails::{Trail, reply};
-use crate::turns::{told_closing, told_opening};
 use crate::words::Typed;
 use cards::{OutOfMemory, Sink, Source, write_all};
 use certificate_play::Playing;

@@ -15,10 +15,10 @@ mod lines;
 mod plays;
 mod scores;
 mod showing;
+mod telling;
 mod texts;
 mod trails;
 mod tricks;
-mod turns;
 mod words;
 
 pub use card_words::read_card;

@@ -6,7 +6,7 @@ ghost use Rattle.play_dialogues.specs.declared.words.Typed.TheVariants as said;
 ghost use Rattle.play_dialogues.specs.declared.words.Step.TheVariants.{Played};
 ghost use Rattle.play_dialogues.specs.Trails.{IsAsked, AreReplies, Acts, PlaysCard, IsText, MayPlay, IsRefusedCard};
 
-use crate::turns::{told_asking, told_played, told_refusal};
+use crate::telling::{told_asking, told_played, told_refusal};
 use crate::words::{Refusal, Typed};
 use cards::{Card, OutOfMemory};
 use certificate_play::Playing;

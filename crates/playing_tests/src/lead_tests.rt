@@ -3,7 +3,7 @@
 use crate::expect::{expect_bytes, expect_eq, got};
 use cards::{Buffer, Bytes, Card, Layout, Seat, Trump};
 use certificate_graph::{CardBundle, CardSolver};
-use opening_leads::{LeadFault, LeadOptions, LeadReport, make_leads};
+use opening_leads::{LeadFault, LeadLimits, LeadReport, make_leads};
 use partition_solver::Partition;
 use pbn_deals::PbnFault;
 use std::alloc::{AllocError, Global};
@@ -11,7 +11,7 @@ use std::process::Abort;
 use std::thread::Threads;
 
 /// How the leads are looked for.
-const OPTIONS: LeadOptions = LeadOptions {
+const OPTIONS: LeadLimits = LeadLimits {
     solvers: 3,
     budget: 10_000_000,
 };
@@ -94,7 +94,7 @@ fn expect_made<R: Threads + Sync + Abort, S: CardSolver + Sync>(
     alloc: Global,
     mut source: Bytes<'_>,
     room: usize,
-    (options, solver): (LeadOptions, &S),
+    (options, solver): (LeadLimits, &S),
     (wanted, written): Made<'_>,
 ) {
     let mut sink = got(rt, Buffer::new(alloc, room, 7));
@@ -108,7 +108,7 @@ fn expect_made<R: Threads + Sync + Abort, S: CardSolver + Sync>(
 fn leads_of_one_suit_each(rt: HostRuntime) {
     let solver = Partition::new();
     for solvers in [3usize, 1, 0] {
-        let options = LeadOptions { solvers, ..OPTIONS };
+        let options = LeadLimits { solvers, ..OPTIONS };
         let source = Bytes::new(BOARDS, 7);
         let wanted = (Ok(LeadReport { missing: 0 }), LEADS);
         expect_made(&rt, rt.alloc(), source, 3000, (options, &solver), wanted);

@@ -12,7 +12,7 @@ use crate::headings::{titles_after, write_group, write_titles};
 use crate::templates::{BODY, END, HEAD, STYLE};
 use board_conditions::{Conditions, Titles};
 use cards::{DeviceFault, Sink, write_all};
-use tables::{Report, Sheet, count_complete};
+use tables::{Report, Results, count_complete};
 
 /// What is said of the titles of a board, by its place from 0.
 fn titles_of<'a>(titles: &[Titles<'a>], place: usize) -> Titles<'a>
@@ -50,18 +50,18 @@ fn conditions_at(conditions: &[Conditions], place: usize) -> Conditions
 }
 
 /// Writes the boards, each behind the heading of its event and section, if these begin with it.
-fn write_boards<'a, S: Sink, T: Sheet>(
+fn write_boards<'a, S: Sink, T: Results>(
     sink: &mut S,
-    sheet: &T,
+    results: &T,
     first: Titles<'a>,
     titles: &[Titles<'a>],
     conditions: &[Conditions],
 ) -> Result<(), DeviceFault>
     ensures { Writes (S.state sink.old) (S.state sink.new)
-        (boards_text (map titles_said titles.entry.now) conditions.now (T.printed_of sheet.now)
-        (titles_said first.entry) 0 (T.boards_of sheet.now)) result }
+        (boards_text (map titles_said titles.entry.now) conditions.now (T.printed_of results.now)
+        (titles_said first.entry) 0 (T.boards_of results.now)) result }
 {
-    let boards = sheet.boards();
+    let boards = results.boards();
     let mut before = first;
     let mut place = 0;
     while place < boards.len() {
@@ -69,7 +69,7 @@ fn write_boards<'a, S: Sink, T: Sheet>(
         write_group(sink, before, current)?;
         write_board(
             sink,
-            sheet,
+            results,
             place,
             &boards[place],
             conditions_at(conditions, place),
@@ -100,57 +100,57 @@ fn without_section(head: Titles<'_>) -> Titles<'_>
 }
 
 /// Writes all boards behind a head with these titles.
-fn write_all_boards<'a, S: Sink, T: Sheet>(
+fn write_all_boards<'a, S: Sink, T: Results>(
     sink: &mut S,
-    sheet: &T,
+    results: &T,
     head: Titles<'a>,
     titles: &[Titles<'a>],
     conditions: &[Conditions],
 ) -> Result<(), DeviceFault>
     ensures { Writes (S.state sink.old) (S.state sink.new)
-        (boards_text (map titles_said titles.entry.now) conditions.now (T.printed_of sheet.now)
-        (without_section (titles_said head.entry)) 0 (T.boards_of sheet.now)) result }
+        (boards_text (map titles_said titles.entry.now) conditions.now (T.printed_of results.now)
+        (without_section (titles_said head.entry)) 0 (T.boards_of results.now)) result }
 {
-    write_boards(sink, sheet, without_section(head), titles, conditions)
+    write_boards(sink, results, without_section(head), titles, conditions)
 }
 
 /// Writes the whole page.
-fn write_whole<'a, S: Sink, T: Sheet>(
+fn write_whole<'a, S: Sink, T: Results>(
     sink: &mut S,
-    sheet: &T,
+    results: &T,
     head: Titles<'a>,
     titles: &[Titles<'a>],
     conditions: &[Conditions],
 ) -> Result<(), DeviceFault>
     ensures { Writes (S.state sink.old) (S.state sink.new)
-        (sheet_text (titles_said head.entry) (T.boards_of sheet.now) (map titles_said titles.entry.now) conditions.now
-        (T.printed_of sheet.now)) result }
+        (sheet_text (titles_said head.entry) (T.boards_of results.now) (map titles_said titles.entry.now) conditions.now
+        (T.printed_of results.now)) result }
 {
     write_head(sink, head)?;
-    write_all_boards(sink, sheet, head, titles, conditions)?;
+    write_all_boards(sink, results, head, titles, conditions)?;
     write_all(sink, END)
 }
 
 /// Writes the sheet of the boards as a page of HTML, with these titles in its head, and tells how many boards there are
 /// and how many of their tables are complete. Of each board there are the titles and the conditions, by its place.
 /// After a fault of the sink a beginning of the page has gone out. Takes no memory.
-pub fn write_page<'a, S: Sink, T: Sheet>(
+pub fn write_page<'a, S: Sink, T: Results>(
     sink: &mut S,
-    sheet: &T,
+    results: &T,
     head: Titles<'a>,
     titles: &[Titles<'a>],
     conditions: &[Conditions],
 ) -> Result<Report, DeviceFault>
     ensures writes { Writes (S.state sink.old) (S.state sink.new)
-        (sheet_text (titles_said head.entry) (T.boards_of sheet.now) (map titles_said titles.entry.now) conditions.now
-        (T.printed_of sheet.now)) result }
-    ensures boards { IfOk result (λ report. report.boards ≡ length (T.boards_of sheet.now)) }
+        (sheet_text (titles_said head.entry) (T.boards_of results.now) (map titles_said titles.entry.now) conditions.now
+        (T.printed_of results.now)) result }
+    ensures boards { IfOk result (λ report. report.boards ≡ length (T.boards_of results.now)) }
     ensures complete { IfOk result (λ report. report.complete
-        ≡ complete_count (T.boards_of sheet.now) (T.printed_of sheet.now)) }
+        ≡ complete_count (T.boards_of results.now) (T.printed_of results.now)) }
 {
-    write_whole(sink, sheet, head, titles, conditions)?;
+    write_whole(sink, results, head, titles, conditions)?;
     Ok(Report {
-        boards: sheet.boards().len(),
-        complete: count_complete(sheet),
+        boards: results.boards().len(),
+        complete: count_complete(results),
     })
 }

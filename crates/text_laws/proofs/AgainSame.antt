@@ -19,7 +19,7 @@ use Rattle.text_laws.proofs.WholeLines.{GamesFollow, games_follow, games_whole, 
 use Rattle.text_laws.proofs.SameBoards.{AddsLines, adds_none, adds_escaped, adds_line, dealt_adds, GamesHave, last_game, next_game, games_have}
 use Rattle.text_laws.proofs.CleanLines.{left_of_clean, ends_clean, counts_twice, counts_ends, section_goes, left_twice}
 use Rattle.text_laws.proofs.WrittenLines.{have_boards, lines_follow, lines_ended, lines_whole, out_lines, ends_are_given, given_text}
-use Rattle.tables.specs.declared.sheets.Renews.{Renews}
+use Rattle.tables.specs.declared.results.Renews.{Renews}
 use Rattle.text_laws.proofs.DealTags.{count_no_deal, left_deal}
 
 abbrev any_deal : List Line → Bool

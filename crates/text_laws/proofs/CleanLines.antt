@@ -17,7 +17,7 @@ use Rattle.text_laws.proofs.PageBack.{fewer}
 use Rattle.whole_texts.specs.OldTables.{is_count_text, is_unknown_text, renews_pars, is_old, left_pieces, table_behind, has_more, put_left, table_behind_line, without_tables, is_count, is_escaped_kind, without_counts, left_of}
 use Rattle.whole_texts.specs.WholeText.{as_data, row_lines, entry_lines, table_pair, table_lines, par_pair, with_end, par_kinds, section_lines, if_none}
 use Rattle.text_laws.specs.GivenEnds.{new_end, with_ends}
-use Rattle.tables.specs.declared.sheets.Renews.{Renews}
+use Rattle.tables.specs.declared.results.Renews.{Renews}
 
 -- ---- pieces without a table's tag pair
 abbrev pub is_clean : (old : Renews) → List Piece → Bool

@@ -4,7 +4,7 @@ use Rattle.std.specs.List.{list_any}
 use Rattle.pbn_deals.specs.Pieces.{Piece, Space, Comment, Pair, Data, NoPair, Kind, Gap, Escaped, OfGame}
 use Rattle.pbn_deals.specs.Tags.{is_deal, is_same_name}
 use Rattle.whole_texts.specs.OldTables.{is_old, left_pieces, has_more, is_count, is_deal_pair, is_deal_kind, is_table, is_par_tag, renews_pars}
-use Rattle.tables.specs.declared.sheets.Renews.{Renews}
+use Rattle.tables.specs.declared.results.Renews.{Renews}
 use Rattle.std.proofs.lemmas.Bool.{and_parts}
 use Rattle.std.specs.Prelude.{codes}
 use Rattle.pbn_deals.specs.Letters.{is_letter}

@@ -5,7 +5,7 @@ use Rattle.pbn_deals.proofs.RowsBack.{IsEnded, row_of, Follow}
 use Rattle.whole_texts.specs.OldTables.{without_tables, left_of}
 use Rattle.whole_texts.proofs.Ends.{Ended}
 use Rattle.text_laws.proofs.LeftLines.{left_ended, counts_ended}
-use Rattle.tables.specs.declared.sheets.Renews.{Renews}
+use Rattle.tables.specs.declared.results.Renews.{Renews}
 use Rattle.whole_texts.specs.WholeText.{if_none}
 use Rattle.text_laws.specs.GivenEnds.{new_end}
 use Rattle.whole_texts.specs.LineEnds.{IsLineEnd}

@@ -25,7 +25,7 @@ use Rattle.whole_texts.proofs.Ends.{Ended}
 use Rattle.text_laws.proofs.WholeLines.{GamesFollow, lines_of_games}
 use Rattle.text_laws.proofs.SameBoards.{GamesHave, last_game, next_game}
 use Rattle.pbn_deals.proofs.LinesOfText.{true_or_false}
-use Rattle.tables.specs.declared.sheets.Renews.{Renews}
+use Rattle.tables.specs.declared.results.Renews.{Renews}
 
 first_pieces : (old : Renews) {in_data is_open : Bool} {line : List ℕ} {pieces : List Piece} → HasPieces in_data line pieces is_open → (starts 239 (left_bytes old false pieces) ≡ false) ⊎ (left_pieces old false pieces ≡ pieces)
 first_pieces old at_line_end = inr refl

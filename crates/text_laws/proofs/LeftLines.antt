@@ -10,7 +10,7 @@ use Rattle.whole_texts.specs.OldTables.{left_pieces, table_behind, has_more, wit
 use Rattle.text_laws.proofs.LeftPieces.{left_bytes, left_outside, open_left}
 use Rattle.text_laws.proofs.LeftSigns.{not_blank, return_left, return_more, sign_ends, left_return, left_lacks, still_of_game}
 use Rattle.pbn_deals.proofs.LinesOfText.{true_or_false}
-use Rattle.tables.specs.declared.sheets.Renews.{Renews}
+use Rattle.tables.specs.declared.results.Renews.{Renews}
 use Rattle.whole_texts.proofs.Ends.{Ended}
 use Rattle.std.proofs.lemmas.Bool.{and_parts}
 use Rattle.std.specs.Prelude.{codes, bytes_eq}

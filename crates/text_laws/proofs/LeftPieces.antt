@@ -5,7 +5,7 @@ use Rattle.pbn_deals.specs.Reading.{OpensTag, meaning_of}
 use Rattle.pbn_deals.specs.Pieces.{Piece, Comment, Pair, Data, NoPair, bytes_of, HasPieces, at_line_end, space, section_data, quoted_text, unended_text, line_comment, brace_comment, open_comment, tag_pair, no_tag_pair}
 use Rattle.text_laws.proofs.TagMoved.{pair_again}
 use Rattle.whole_texts.specs.OldTables.{is_old, left_pieces, has_more}
-use Rattle.tables.specs.declared.sheets.Renews.{Renews}
+use Rattle.tables.specs.declared.results.Renews.{Renews}
 
 abbrev pub left_bytes : (old : Renews) → Bool → List Piece → List ℕ
 left_bytes old in_table pieces = flat_map bytes_of (left_pieces old in_table pieces)

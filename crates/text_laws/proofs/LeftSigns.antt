@@ -13,7 +13,7 @@ use Rattle.pbn_deals.proofs.LineParts.{lacks_rest, lacks_front}
 use Rattle.whole_texts.specs.OldTables.{is_old, left_pieces, has_more}
 use Rattle.text_laws.proofs.LeftPieces.{left_bytes, data_stays}
 use Rattle.pbn_deals.proofs.LinesOfText.{true_or_false}
-use Rattle.tables.specs.declared.sheets.Renews.{Renews}
+use Rattle.tables.specs.declared.results.Renews.{Renews}
 
 -- ---- meanings of bytes
 pub blank_means : (byte : ℕ) → is_blank byte ≡ true → meaning_of byte ≡ IsSpace

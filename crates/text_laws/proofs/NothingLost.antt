@@ -15,7 +15,7 @@ use Rattle.whole_texts.proofs.Ends.{Ended}
 use Rattle.text_laws.proofs.WholeLines.{games_follow, games_whole, deal_ended, first_ended}
 use Rattle.text_laws.proofs.WrittenLines.{lines_follow, lines_ended, given_text}
 use Rattle.text_laws.proofs.AgainSame.{GamesEnded, games_ended}
-use Rattle.tables.specs.declared.sheets.Renews.{Renews}
+use Rattle.tables.specs.declared.results.Renews.{Renews}
 use Rattle.whole_texts.proofs.SectionText.{section-text}
 
 -- ---- segments

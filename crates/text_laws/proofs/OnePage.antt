@@ -14,7 +14,7 @@ use Rattle.text_laws.proofs.OneTag.{one_taking}
 use Rattle.tables.specs.TablesText.{Results, Printed, entries, published_count, is_complete}
 use Rattle.text_laws.specs.PageReading.{Row, Table, Rows, Incomplete, Section, Block, page_in}
 use Rattle.text_laws.specs.WrittenOnce.{IsWrittenOnce, SaysResults, SaysSection, SayBoards, SaySame, PagesSayOneThing}
-use Rattle.text_laws.proofs.PageBack.{pages_are_read}
+use Rattle.text_laws.proofs.PageBack.{table_texts_are_read}
 
 -- ---- a board
 deal_tags : Option Deal → Tags
@@ -108,8 +108,8 @@ same_boards (board ∷ boards) (other ∷ others) results results' place (block 
 
 pub pages_say_one_thing : PagesSayOneThing
 pages_say_one_thing boards others results results' printable printable' small small' e =
-    let one = pages_are_read boards results printable small in
-    let other = pages_are_read others results' printable' small' in
+    let one = table_texts_are_read boards results printable small in
+    let other = table_texts_are_read others results' printable' small' in
     let blocks : one.0 ≡ other.0 = some_inj (sym one.1 ∙ (ap (λ (text : List ℕ). page_in (lines_of text)) e ∙ other.1)) in
     let same = same_boards boards others results results' 0 other.0 (subst (λ (b : List Block). SayBoards results (enumerate_from 0 boards) b) blocks one.2) other.2 in
     (same.0, λ place within. from_zero (same.1 place within))

@@ -24,7 +24,7 @@ use Rattle.tables.specs.ParText.{tag_text, IsSmallPar, par_bodies}
 use Rattle.tables.specs.TablesText.{Results, Printed, section_text, line_feed, deal_value, row_text, right_in_two, entries, is_complete, published_count, table_tag, incomplete_text, table_text, board_text, numbered_text}
 use Rattle.text_laws.specs.ReadBack.{AreTricks}
 use Rattle.text_laws.specs.PageReading.{all_items, Row, seat_named, denomination_named, number_named, row_of_words, row_in, Table, Rows, Incomplete, rows_table, count_of_words, value_of_tag, value_in, table_in, Section, section_in, section_of, section_of_values, section_of_score, Nothing, Values, DealerUnknown, VulnerabilityUnknown, Block, block_in, is_empty_line, has_lines, blocks_of, page_in}
-use Rattle.text_laws.specs.WrittenOnce.{numbers_in, SaysResults, par_said, SaysSection, SaysBoard, SayBoards, PagesAreRead}
+use Rattle.text_laws.specs.WrittenOnce.{numbers_in, SaysResults, par_said, SaysSection, SaysBoard, SayBoards, TableTextsAreRead}
 use Rattle.text_laws.proofs.SmallNumbers.{for_small}
 use Rattle.text_laws.proofs.CalmTexts.{NoQuote, calm-no_quote}
 use Rattle.text_laws.proofs.ParTexts.{score-calm, contracts-calm}
@@ -373,7 +373,7 @@ reads_boards (board ∷ boards) printed place printable small =
       says = (one.says, more.says);
     }
 
-pub pages_are_read : PagesAreRead
-pages_are_read boards printed printable small =
+pub table_texts_are_read : TableTextsAreRead
+table_texts_are_read boards printed printable small =
     let page = reads_boards boards printed 0 (recursion_from_All _ boards printable) small in
     (page.blocks, ap page_in (page-lines boards printed) ∙ page.read, page.says)

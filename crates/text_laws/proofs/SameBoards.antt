@@ -15,7 +15,7 @@ use Rattle.tables.specs.TablesText.{Results, Printed, entries, row_text, is_comp
 use Rattle.whole_texts.specs.OldTables.{is_old, left_pieces, table_behind, has_more, without_tables, is_count, is_escaped_kind, without_counts, left_of, has_deal}
 use Rattle.whole_texts.specs.WholeText.{Game, put_line, games_of, as_data, row_lines, entry_lines, table_pair, table_lines, with_end, par_kinds, section_lines, behind}
 use Rattle.text_laws.specs.GivenEnds.{deal_end, with_ends, with_section, dealt_lines, games_lines}
-use Rattle.tables.specs.declared.sheets.Renews.{Renews}
+use Rattle.tables.specs.declared.results.Renews.{Renews}
 use Rattle.text_laws.proofs.DealTags.{no_deal, old_length, same_length}
 
 no_board : (old : Renews) (name : List ℕ) → is_old old name ≡ true → is_board name ≡ true → ⊥

@@ -21,7 +21,7 @@ use Rattle.text_laws.proofs.DealTags.{left_deal, count_no_deal}
 use Rattle.text_laws.proofs.Ends.{left_of_ended, new_again}
 use Rattle.text_laws.proofs.EndsBytes.{unended_missing, same_ends}
 use Rattle.text_laws.proofs.WholeLines.{GamesFollow, lines_of_games}
-use Rattle.tables.specs.declared.sheets.Renews.{Renews}
+use Rattle.tables.specs.declared.results.Renews.{Renews}
 
 -- ---- lines without a Deal tag
 or_parts : (a b : Bool) → (a || b) ≡ false → (a ≡ false) × (b ≡ false)

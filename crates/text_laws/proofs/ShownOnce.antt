@@ -33,7 +33,7 @@ use Rattle.text_laws.proofs.CleanLines.{left_of_clean, ends_clean, clean_stays, 
 use Rattle.text_laws.proofs.AgainSame.{dealt_deal, games_written, written_lines, written_have, games_back}
 use Rattle.whole_texts.proofs.SectionText.{as_data-bytes}
 use Rattle.text_laws.proofs.WrittenLines.{have_boards, out_lines, given_text}
-use Rattle.tables.specs.declared.sheets.Renews.{Renews}
+use Rattle.tables.specs.declared.results.Renews.{Renews}
 
 -- ---- the lines of a section
 rows-bodies : (end : List ℕ) (results : Results) (some : List (Seat × Trump)) → bodies (flat_map (entry_lines end results) some) ≡ flat_map (page.entry_lines results) some

@@ -14,7 +14,7 @@ use Rattle.whole_texts.proofs.Ends.{Ended, AllEnded, ended_split}
 use Rattle.text_laws.proofs.LeftLines.{ended_line, left_follows, counts_follow}
 use Rattle.text_laws.proofs.Ends.{left_of_ended, tail_ended}
 use Rattle.text_laws.proofs.SectionLines.{all_append, section_follows, section_ended}
-use Rattle.tables.specs.declared.sheets.Renews.{Renews}
+use Rattle.tables.specs.declared.results.Renews.{Renews}
 
 -- ---- what is left of a game
 pub left_of_follows : (old : Renews) {lines : List Line} → Follow false lines false → Follow false (left_of old lines) false

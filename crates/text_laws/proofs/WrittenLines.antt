@@ -22,7 +22,7 @@ use Rattle.text_laws.proofs.WholeLines.{whole_ended, GamesFollow, games_follow, 
 use Rattle.text_laws.proofs.SameEnds.{games_same}
 use Rattle.text_laws.proofs.SameBoards.{GamesHave, games_have, whole_have}
 use Rattle.text_laws.proofs.FirstBytes.{FirstOf, whole_first, unmarked}
-use Rattle.tables.specs.declared.sheets.Renews.{Renews}
+use Rattle.tables.specs.declared.results.Renews.{Renews}
 
 -- a text's lines are one list
 pub same_lines : (text : List ℕ) (lines others : List Line) → HasLines text lines → HasLines text others → lines ≡ others

@@ -5,7 +5,7 @@ use Rattle.std.specs.List.{enumerate_from}
 use Rattle.pbn_deals.specs.declared.boards.Board.{Board}
 use Rattle.pbn_deals.specs.Pieces.{Kind, body_of, Line, ends_with_return, HasLines}
 use Rattle.tables.specs.TablesText.{Printed}
-use Rattle.tables.specs.declared.sheets.Renews.{Renews}
+use Rattle.tables.specs.declared.results.Renews.{Renews}
 use Rattle.whole_texts.specs.OldTables.{is_deal_kind, has_deal, left_of}
 use Rattle.whole_texts.specs.WholeText.{Game, games_of, behind, section_lines, if_none, first_end}
 use Rattle.whole_texts.specs.WholeText as said

@@ -12,7 +12,7 @@ use Rattle.text_laws.specs.WrittenOnce.{SaysSection}
 use Rattle.whole_texts.specs.LineEnds.{IsLineEnd}
 use Rattle.whole_texts.specs.OldTables.{renews_pars, has_deal, left_of}
 use Rattle.whole_texts.specs.WholeText.{Game, games_of, WholeText}
-use Rattle.tables.specs.declared.sheets.Renews.{Renews}
+use Rattle.tables.specs.declared.results.Renews.{Renews}
 
 -- one text is written of each that is read as boards
 pub record IsWrittenOne (old : Renews) (text : List ℕ) (boards : List Board) (results : ℕ → Printed) : Type 0 where

@@ -73,8 +73,8 @@ SayBoards printed (numbered ∷ more) (block ∷ blocks) =
 SayBoards printed _ _ = ⊥
 
 -- the page is read as blocks that say the boards and what is printed of them
-abbrev pub PagesAreRead : Type 0
-PagesAreRead =
+abbrev pub TableTextsAreRead : Type 0
+TableTextsAreRead =
     (boards : List Board) (printed : ℕ → Printed) →
     All IsPrintable boards → AreTricks printed →
     (blocks : List Block) × (page_in (lines_of (tables_text boards printed)) ≡ Some blocks)

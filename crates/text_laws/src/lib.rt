@@ -10,7 +10,7 @@ pub use conditions::{
     boards_have_conditions, boards_have_titles, conditions_are_unique, titles_are_unique,
 };
 pub use table_texts::{
-    boards_are_read_back, pages_are_read, pages_say_one_thing, said_boards_are_read_back,
+    boards_are_read_back, pages_say_one_thing, said_boards_are_read_back, table_texts_are_read,
 };
 pub use texts::{
     boards_are_of_lines, layouts_are_read_back, one_answer, one_layout, some_answer, some_layout,

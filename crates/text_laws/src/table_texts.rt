@@ -1,7 +1,7 @@
 //! What holds of the text of the tables alone.
 
 ghost use Rattle.text_laws.specs.ReadBack.{AreReadBack, SaidBoardsAreReadBack};
-ghost use Rattle.text_laws.specs.WrittenOnce.{PagesAreRead, PagesSayOneThing};
+ghost use Rattle.text_laws.specs.WrittenOnce.{TableTextsAreRead, PagesSayOneThing};
 
 /// What is written of boards, whatever their results of at most 13 tricks, is read back by
 /// [`read_boards`](pbn_deals::read_boards) as the same boards: at most 4,096, each with no deal or one of 13 cards a
@@ -20,8 +20,8 @@ pub fn said_boards_are_read_back()
 /// and nothing else: its name, its deal, and twenty rows of which each declarer and denomination has one, with the
 /// number known of it, or how many numbers are known. So each result stands once on the page. A board's name is one
 /// that a Board tag can hold, its deal, if it has one, of 13 cards a hand, and each result at most 13 tricks.
-pub fn pages_are_read()
-    ensures { PagesAreRead }
+pub fn table_texts_are_read()
+    ensures { TableTextsAreRead }
 {}
 
 /// Two lists of boards that are written as the same bytes are the same boards, in the same order, and of each board the

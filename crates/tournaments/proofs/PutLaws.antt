@@ -8,7 +8,7 @@ use Rattle.streams.specs.RunStreams.{devices}
 use Rattle.streams.proofs.ReadLaws.{Loses-all}
 use Rattle.lease_book.specs.Books.{Ledger}
 use Rattle.lease_book.specs.Histories.{Terms}
-use Rattle.tables.specs.declared.sheets.Report.{Report}
+use Rattle.tables.specs.declared.results.Report.{Report}
 use Rattle.tournaments.specs.declared.faults.MakeFault.{MakeFault}
 use Rattle.tournaments.specs.declared.faults.MakeFault.TheVariants.{OutOfMemory, Read, Pbn, NoThread, Write}
 use Rattle.tournaments.specs.Making.{RunFact, PageFact, AreReported, FillsPage, BeginsPage, MakesPage}

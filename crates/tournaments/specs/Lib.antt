@@ -7,5 +7,5 @@ pub mod WholePages
 pub mod SheetPages
 pub mod BoardTricks
 pub mod Pars
-pub mod Sheets
+pub mod BookWithPars
 pub mod Putting

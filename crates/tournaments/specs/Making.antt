@@ -8,7 +8,7 @@ use Rattle.streams.specs.RunStreams.{Devices}
 use Rattle.lease_book.specs.declared.events.Event.{Event}
 use Rattle.lease_book.specs.Books.{Ledger}
 use Rattle.lease_book.specs.Histories.{Terms}
-use Rattle.tables.specs.declared.sheets.Report.{Report}
+use Rattle.tables.specs.declared.results.Report.{Report}
 use Rattle.tournaments.specs.BookResults.{book_results}
 use Rattle.tables.specs.TablesText.{printed_with, complete_count}
 use Rattle.tournaments.specs.declared.faults.MakeFault.{MakeFault}

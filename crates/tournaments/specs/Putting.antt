@@ -8,9 +8,9 @@ use Rattle.tournaments.specs.declared.pages.ParTags.TheVariants.{Without, With}
 use Rattle.cards.specs.Devices.{Device, Adds, AddsBeginning}
 use Rattle.lease_book.specs.Books.{Ledger}
 use Rattle.tournaments.specs.BookResults.{book_results}
-use Rattle.tables.specs.declared.sheets.Report.{Report}
-use Rattle.tables.specs.declared.sheets.Renews.{Renews}
-use Rattle.tables.specs.declared.sheets.Renews.TheVariants.{Tables, TablesAndPars}
+use Rattle.tables.specs.declared.results.Report.{Report}
+use Rattle.tables.specs.declared.results.Renews.{Renews}
+use Rattle.tables.specs.declared.results.Renews.TheVariants.{Tables, TablesAndPars}
 use Rattle.tournaments.specs.declared.faults.MakeFault.{MakeFault}
 use Rattle.tournaments.specs.declared.faults.MakeFault.TheVariants.{OutOfMemory, Read, Pbn, NoThread, Write}
 use Rattle.tournaments.specs.Making.{PageFact, AreReported}

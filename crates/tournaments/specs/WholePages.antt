@@ -3,7 +3,7 @@ use Rattle.std.specs.Prelude.{ℕ, List}
 use Rattle.pbn_deals.specs.declared.boards.Board.{Board}
 use Rattle.lease_book.specs.declared.events.Event.{Event}
 use Rattle.tournaments.specs.BookResults.{book_results}
-use Rattle.tables.specs.declared.sheets.Renews.{Renews}
+use Rattle.tables.specs.declared.results.Renews.{Renews}
 use Rattle.tables.specs.TablesText.{printed_with}
 use Rattle.tournaments.specs.Pages.{Pars}
 use Rattle.whole_texts.specs.WholeText.{WholeText}

@@ -4,14 +4,14 @@
 //! whose history is true. The laws of `page_laws` say how every such page is read.
 #![tactic(auto)]
 
-mod book_sheets;
+mod book_results;
 mod faults;
 mod pages;
 mod pars;
 mod putting;
 mod texts;
 
-pub use book_sheets::BookSheet;
+pub use book_results::BookResults;
 pub use faults::MakeFault;
 pub use pages::{Page, PageForm, ParTags};
 pub use putting::put_page;

@@ -8,7 +8,7 @@ ghost use Rattle.tournaments.specs.WholePages.{HasTables};
 ghost use Rattle.tournaments.specs.Putting.{PutsPage, form_fact, page_fact, par_tags};
 ghost use Rattle.tournaments.specs.SheetPages.{IsSheet};
 
-use crate::book_sheets::BookSheet;
+use crate::book_results::BookResults;
 use crate::faults::{MakeFault, write_failed};
 use crate::pages::{Page, PageForm, ParTags};
 use crate::pars::board_pars;
@@ -17,15 +17,15 @@ use cards::Sink;
 use lease_book::Book;
 use sheets::write_page;
 use std::alloc::Global;
-use tables::{Renews, Report, write_sheet};
+use tables::{Renews, Report, write_tables};
 use whole_texts::write_whole;
 
 /// Writes the tables of the boards of a book, with the numbers that it publishes.
-fn put_tables<O: Sink>(sheet: &BookSheet<'_>, output: &mut O) -> Result<Report, MakeFault>
-    ensures { (text : List ℕ) → PutsPage (AreTables sheet.now.pars) text sheet.now.book (O.state output.old)
+fn put_tables<O: Sink>(results: &BookResults<'_>, output: &mut O) -> Result<Report, MakeFault>
+    ensures { (text : List ℕ) → PutsPage (AreTables results.now.pars) text results.now.book (O.state output.old)
         (O.state output.new) result }
 {
-    match write_sheet(sheet, output) {
+    match write_tables(results, output) {
         Ok(report) => Ok(report),
         Err(fault) => Err(write_failed(fault)),
     }
@@ -34,14 +34,14 @@ fn put_tables<O: Sink>(sheet: &BookSheet<'_>, output: &mut O) -> Result<Report, 
 /// Writes a text of which the boards were read, with such tables in it.
 fn put_whole<O: Sink>(
     text: &[u8],
-    sheet: &BookSheet<'_>,
+    results: &BookResults<'_>,
     output: &mut O,
 ) -> Result<Report, MakeFault>
-    requires boards { TextAnswers text.now (Ok sheet.now.book.terms.boards) }
-    ensures { PutsPage (HasTables sheet.now.renews sheet.now.pars) text.now sheet.now.book (O.state output.old)
+    requires boards { TextAnswers text.now (Ok results.now.book.terms.boards) }
+    ensures { PutsPage (HasTables results.now.renews results.now.pars) text.now results.now.book (O.state output.old)
         (O.state output.new) result }
 {
-    match write_whole(text, sheet, output) {
+    match write_whole(text, results, output) {
         Ok(report) => Ok(report),
         Err(fault) => Err(write_failed(fault)),
     }
@@ -52,10 +52,10 @@ fn put_whole<O: Sink>(
 fn put_sheet<O: Sink>(
     alloc: Global,
     text: &[u8],
-    sheet: &BookSheet<'_>,
+    results: &BookResults<'_>,
     output: &mut O,
 ) -> Result<Report, MakeFault>
-    ensures { PutsPage (IsSheet sheet.now.pars) text.now sheet.now.book (O.state output.old) (O.state output.new)
+    ensures { PutsPage (IsSheet results.now.pars) text.now results.now.book (O.state output.old) (O.state output.new)
         result }
 {
     let Ok(conditions) = read_conditions(alloc, text) else {
@@ -66,7 +66,7 @@ fn put_sheet<O: Sink>(
     };
     match write_page(
         output,
-        sheet,
+        results,
         first_titles(text),
         titles.as_slice(),
         conditions.as_slice(),
@@ -80,18 +80,18 @@ fn put_sheet<O: Sink>(
 fn put_form<O: Sink>(
     alloc: Global,
     text: &[u8],
-    sheet: &BookSheet<'_>,
+    results: &BookResults<'_>,
     form: PageForm,
     output: &mut O,
 ) -> Result<Report, MakeFault>
-    requires boards { TextAnswers text.now (Ok sheet.now.book.terms.boards) }
-    ensures { PutsPage (form_fact form sheet.now.renews sheet.now.pars) text.now sheet.now.book (O.state output.old)
+    requires boards { TextAnswers text.now (Ok results.now.book.terms.boards) }
+    ensures { PutsPage (form_fact form results.now.renews results.now.pars) text.now results.now.book (O.state output.old)
         (O.state output.new) result }
 {
     match form {
-        PageForm::Tables => put_tables(sheet, output),
-        PageForm::Whole => put_whole(text, sheet, output),
-        PageForm::Sheet => put_sheet(alloc, text, sheet, output),
+        PageForm::Tables => put_tables(results, output),
+        PageForm::Whole => put_whole(text, results, output),
+        PageForm::Sheet => put_sheet(alloc, text, results, output),
     }
 }
 
@@ -121,13 +121,13 @@ pub fn put_page<O: Sink>(
 {
     match par_tags(page) {
         ParTags::Without => {
-            let sheet = BookSheet::new(book, Renews::Tables, &[]);
-            put_form(alloc, text, &sheet, page.form, output)
+            let results = BookResults::new(book, Renews::Tables, &[]);
+            put_form(alloc, text, &results, page.form, output)
         }
         ParTags::With => {
             let pars = board_pars(alloc, text, book)?;
-            let sheet = BookSheet::new(book, Renews::TablesAndPars, pars.as_slice());
-            put_form(alloc, text, &sheet, page.form, output)
+            let results = BookResults::new(book, Renews::TablesAndPars, pars.as_slice());
+            put_form(alloc, text, &results, page.form, output)
         }
     }
 }

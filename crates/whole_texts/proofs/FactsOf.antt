@@ -14,7 +14,7 @@ use Rattle.whole_texts.specs.Lefts.{left_kind}
 use Rattle.whole_texts.specs.Facts.{AreFacts}
 use Rattle.whole_texts.specs.declared.lefts.Left.{Left}
 use Rattle.whole_texts.specs.declared.piece_facts.PieceFacts.{PieceFacts}
-use Rattle.tables.specs.declared.sheets.Renews.{Renews}
+use Rattle.tables.specs.declared.results.Renews.{Renews}
 
 pub left-append : (old : Renews) (t : Bool) (before pieces : List Piece) → left_pieces old t (before ++ pieces) ≡ left_pieces old t before ++ left_pieces old (table_behind old t before) pieces
 left-append old t [] pieces = refl

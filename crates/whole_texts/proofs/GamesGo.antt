@@ -22,7 +22,7 @@ use Rattle.whole_texts.specs.declared.games.GameText.{GameText}
 use Rattle.whole_texts.proofs.DealLines.{deal_end_is, section_bytes}
 use Rattle.whole_texts.proofs.LinesGo.{LeftText}
 use Rattle.whole_texts.proofs.Gone.{Gone, none_gone, more_gone, fault_in, all_gone}
-use Rattle.tables.specs.declared.sheets.Renews.{Renews}
+use Rattle.tables.specs.declared.results.Renews.{Renews}
 
 -- ---- games of lines
 lines_in_game : (own rest : List Line) (game : Game) (games : List Game) → list_any (λ line. is_gap_kind line.kind) own ≡ false → games_of rest ≡ game ∷ games → games_of (own ++ rest) ≡ record { lines = own ++ game.lines; gap = game.gap } ∷ games

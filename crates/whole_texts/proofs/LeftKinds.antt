@@ -10,7 +10,7 @@ use Rattle.whole_texts.specs.OldTables.{has_more, is_count}
 use Rattle.whole_texts.specs.Lefts.{left_kind}
 use Rattle.whole_texts.specs.declared.lefts.Left.{Left}
 use Rattle.whole_texts.specs.declared.lefts.Left.TheVariants.{Nothing, Blanks, Count, More}
-use Rattle.tables.specs.declared.sheets.Renews.{Renews}
+use Rattle.tables.specs.declared.results.Renews.{Renews}
 
 more-append : (before pieces : List Piece) → has_more (before ++ pieces) ≡ (has_more before || has_more pieces)
 more-append [] pieces = refl

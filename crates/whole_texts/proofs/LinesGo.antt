@@ -15,7 +15,7 @@ use Rattle.whole_texts.specs.declared.line_facts.LineFacts.{LineFacts}
 use Rattle.whole_texts.specs.declared.line_facts.LineFacts.TheVariants as fact
 use Rattle.whole_texts.proofs.Gone.{Gone, none_gone, more_gone, fault_in, all_gone}
 use Rattle.whole_texts.proofs.SolidLines.{put-append}
-use Rattle.tables.specs.declared.sheets.Renews.{Renews}
+use Rattle.tables.specs.declared.results.Renews.{Renews}
 
 -- ---- a line
 kept-none : (renews : Renews) (drops_counts : Bool) → kept renews drops_counts [] ≡ []

@@ -12,7 +12,7 @@ use Rattle.whole_texts.specs.OldTables.{left_pieces, table_behind}
 use Rattle.whole_texts.specs.LineEnds.{last_of}
 use Rattle.whole_texts.proofs.FactsOf.{left-append, AreSilent, silent_spaces, data_silent}
 use Rattle.whole_texts.proofs.Gone.{Gone, none_gone, more_gone, fault_in, all_gone}
-use Rattle.tables.specs.declared.sheets.Renews.{Renews}
+use Rattle.tables.specs.declared.results.Renews.{Renews}
 
 -- ---- a piece
 -- these bytes are left, and section data behind it is a table's or not

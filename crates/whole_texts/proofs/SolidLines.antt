@@ -6,7 +6,7 @@ use Rattle.whole_texts.specs.OldTables.{left_pieces, has_more, put_left, table_b
 use Rattle.whole_texts.specs.WholeText.{is_gap_kind}
 use Rattle.whole_texts.specs.LineFacts.{is_solid}
 use Rattle.whole_texts.specs.LeftText.{kind_left, without_any_count, tables_behind}
-use Rattle.tables.specs.declared.sheets.Renews.{Renews}
+use Rattle.tables.specs.declared.results.Renews.{Renews}
 
 and_none : (b c : Bool) → c ≡ false → (b && c) ≡ false
 and_none true c e = e

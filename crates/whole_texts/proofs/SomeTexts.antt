@@ -3,7 +3,7 @@ use Rattle.std.proofs.Common.{ℕ, List, ◌++◌, Ok, refl, flat_map}
 use Rattle.pbn_deals.specs.declared.boards.Board.{Board}
 use Rattle.pbn_deals.specs.Pieces.{line_bytes, mark_of}
 use Rattle.pbn_deals.specs.Reading.{TextAnswers}
-use Rattle.tables.specs.declared.sheets.Renews.{Renews}
+use Rattle.tables.specs.declared.results.Renews.{Renews}
 use Rattle.tables.specs.TablesText.{Printed}
 use Rattle.whole_texts.proofs.ReadLines.{of_lines}
 use Rattle.whole_texts.specs.WholeText.{whole_lines, WholeText}

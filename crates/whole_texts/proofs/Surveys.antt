@@ -15,7 +15,7 @@ use Rattle.whole_texts.specs.declared.games.GameText.{GameText}
 use Rattle.whole_texts.proofs.LineCuts.{cut_lines}
 use Rattle.pbn_deals.proofs.RowsInTurn.{HasFirst, has_first}
 use Rattle.whole_texts.proofs.SolidLines.{behind-append, is_minor, EndsSolid, left_parts, ends_solid, stays_minor}
-use Rattle.tables.specs.declared.sheets.Renews.{Renews}
+use Rattle.tables.specs.declared.results.Renews.{Renews}
 
 -- ---- the first line with a Deal tag
 any-append : (p : Line → Bool) (one other : List Line) → list_any p (one ++ other) ≡ (list_any p one || list_any p other)

@@ -5,7 +5,7 @@ use Rattle.pbn_deals.specs.Pieces.{Piece}
 use Rattle.whole_texts.specs.OldTables.{left_pieces, table_behind, is_deal_pair}
 use Rattle.whole_texts.specs.Lefts.{left_kind}
 use Rattle.whole_texts.specs.declared.piece_facts.PieceFacts.{PieceFacts}
-use Rattle.tables.specs.declared.sheets.Renews.{Renews}
+use Rattle.tables.specs.declared.results.Renews.{Renews}
 
 -- those of these pieces; the flags tell that section data before them is a table's, and that a brace comment is open
 -- behind them

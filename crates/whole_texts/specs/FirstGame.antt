@@ -7,7 +7,7 @@ use Rattle.whole_texts.specs.OldTables.{without_tables, left_of, is_deal_kind, h
 use Rattle.whole_texts.specs.WholeText.{is_gap_kind}
 use Rattle.whole_texts.specs.LeftText.{without_any_count, tables_behind}
 use Rattle.whole_texts.specs.declared.games.GameText.{GameText}
-use Rattle.tables.specs.declared.sheets.Renews.{Renews}
+use Rattle.tables.specs.declared.results.Renews.{Renews}
 
 -- the first line with a Deal tag has this end
 pub record HasDealLine (lines : List Line) (end : List ℕ) : Type 0 where

@@ -6,7 +6,7 @@ use Rattle.pbn_deals.specs.Pieces.{Kind, Gap, Escaped, OfGame, Line}
 use Rattle.whole_texts.specs.OldTables.{left_pieces, table_behind_line, is_count}
 use Rattle.whole_texts.specs.LineEnds.{last_of}
 use Rattle.whole_texts.specs.declared.leaving.Before.{Before}
-use Rattle.tables.specs.declared.sheets.Renews.{Renews}
+use Rattle.tables.specs.declared.results.Renews.{Renews}
 
 abbrev pub kind_left : Renews → Bool → Kind → Kind
 kind_left old in_table (Gap bytes) = Gap bytes

@@ -4,7 +4,7 @@ use Rattle.pbn_deals.specs.Pieces.{Piece, OfGame}
 use Rattle.whole_texts.specs.OldTables.{has_more, is_count}
 use Rattle.whole_texts.specs.declared.lefts.Left.{Left}
 use Rattle.whole_texts.specs.declared.lefts.Left.TheVariants.{Nothing, Blanks, Count, More}
-use Rattle.tables.specs.declared.sheets.Renews.{Renews}
+use Rattle.tables.specs.declared.results.Renews.{Renews}
 
 abbrev pub left_kind : Renews → List Piece → Left
 left_kind old [] = Nothing

@@ -7,7 +7,7 @@ use Rattle.whole_texts.specs.declared.lefts.Left.{Left}
 use Rattle.whole_texts.specs.declared.lefts.Left.TheVariants.{Nothing, Blanks, Count, More}
 use Rattle.whole_texts.specs.declared.line_facts.LineFacts.{LineFacts}
 use Rattle.whole_texts.specs.declared.line_facts.LineFacts.TheVariants as fact
-use Rattle.tables.specs.declared.sheets.Renews.{Renews}
+use Rattle.tables.specs.declared.results.Renews.{Renews}
 
 -- the flags tell that section data before it is a table's, and that a brace comment is open behind it
 abbrev pub FactsOfLine : Renews → Bool → Kind → Bool → LineFacts → Type 0

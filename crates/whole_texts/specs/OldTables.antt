@@ -4,8 +4,8 @@ use Rattle.std.specs.Prelude.{ℕ, ◌&&◌, ◌||◌, Bool, true, false, List, 
 use Rattle.std.specs.List.{list_any, list_all, range_with_len}
 use Rattle.pbn_deals.specs.Tags.{is_same_name, is_deal}
 use Rattle.pbn_deals.specs.Pieces.{Piece, Space, Comment, Pair, Data, NoPair, Kind, Gap, Escaped, OfGame, Line}
-use Rattle.tables.specs.declared.sheets.Renews.{Renews}
-use Rattle.tables.specs.declared.sheets.Renews.TheVariants.{Tables, TablesAndPars}
+use Rattle.tables.specs.declared.results.Renews.{Renews}
+use Rattle.tables.specs.declared.results.Renews.TheVariants.{Tables, TablesAndPars}
 use Rattle.tables.specs.TablesText.{incomplete_text}
 
 -- ---- tables

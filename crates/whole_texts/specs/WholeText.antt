@@ -15,7 +15,7 @@ use Rattle.tables.specs.TablesText.{Results, Printed, entries, row_text, is_comp
 use Rattle.tables.specs.TablesText.{incomplete_text, line_feed}
 use Rattle.whole_texts.specs.LineEnds.{last_of, missing_end}
 use Rattle.whole_texts.specs.OldTables.{is_deal_kind, has_deal, left_of}
-use Rattle.tables.specs.declared.sheets.Renews.{Renews}
+use Rattle.tables.specs.declared.results.Renews.{Renews}
 
 -- ---- games
 -- the lines of a game, and the line behind them that ends it, if there is one

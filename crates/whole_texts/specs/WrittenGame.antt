@@ -9,7 +9,7 @@ use Rattle.pbn_deals.specs.Pieces.{Line, line_bytes}
 use Rattle.tables.specs.TablesText.{Printed}
 use Rattle.whole_texts.specs.OldTables.{has_deal}
 use Rattle.whole_texts.specs.WholeText.{dealt_lines, behind}
-use Rattle.tables.specs.declared.sheets.Renews.{Renews}
+use Rattle.tables.specs.declared.results.Renews.{Renews}
 
 -- the boards from this place on, with their places
 abbrev pub boards_from : List Board → ℕ → List (ℕ × Board)

@@ -2,7 +2,7 @@
 
 ghost use Rattle.std.specs.Prelude.{◌≡◌, ◌≢◌, ◌<◌, ◌∷◌, ◌++◌, [], false, Bool, List, length};
 ghost use Rattle.pbn_deals.specs.Pieces.{Kind, Line, rows_of, AreLines};
-ghost use Rattle.tables.specs.declared.sheets.Renews.{Renews};
+ghost use Rattle.tables.specs.declared.results.Renews.{Renews};
 ghost use Rattle.whole_texts.specs.LineFacts.{FactsOfLine};
 ghost use Rattle.whole_texts.specs.FirstGame.{IsDealEnd, IsFirstGame};
 

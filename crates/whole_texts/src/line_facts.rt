@@ -2,7 +2,7 @@
 
 ghost use Rattle.std.specs.Prelude.{◌≡◌, Bool};
 ghost use Rattle.pbn_deals.specs.Pieces.{Kind, LineIs};
-ghost use Rattle.tables.specs.declared.sheets.Renews.{Renews};
+ghost use Rattle.tables.specs.declared.results.Renews.{Renews};
 ghost use Rattle.whole_texts.specs.OldTables.{is_deal_kind};
 ghost use Rattle.whole_texts.specs.WholeText.{is_gap_kind};
 ghost use Rattle.whole_texts.specs.LineFacts.{FactsOfLine, is_solid};

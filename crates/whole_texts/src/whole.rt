@@ -4,7 +4,7 @@ ghost use Rattle.std.specs.Prelude.{◌≡◌, ◌≤◌, ◌++◌, ℕ, false, 
 ghost use Rattle.std.specs.List.{flat_map, enumerate_from};
 ghost use Rattle.cards.specs.Devices.{Writes};
 ghost use Rattle.pbn_deals.specs.Pieces.{Line, line_bytes, rows_of, AreLines};
-ghost use Rattle.tables.specs.declared.sheets.Renews.{Renews};
+ghost use Rattle.tables.specs.declared.results.Renews.{Renews};
 ghost use Rattle.tables.specs.TablesText.{section_text, complete_count};
 ghost use Rattle.whole_texts.specs.OldTables.{left_of};
 ghost use Rattle.whole_texts.specs.WholeText.{first_end, if_none, whole_lines, IsOfLines, WholeText};
@@ -18,7 +18,7 @@ use crate::leaving::{Before, write_lines};
 use crate::line_ends::{if_none, missing_end};
 use cards::{DeviceFault, Sink, write_all};
 use pbn_deals::{first_row, front_of, without_mark};
-use tables::{Renews, Report, Sheet, count_complete};
+use tables::{Renews, Report, Results, count_complete};
 
 /// The end of the text's first line, if it has one, and else a line feed.
 fn first_end(text: &[u8]) -> &[u8]
@@ -55,9 +55,9 @@ fn write_left_of_game<S: Sink>(
 
 /// Writes the section of a board after lines with this last byte: with the end of the Deal tag's line, or if that has
 /// none, with the end that it gets.
-fn write_section<T: Sheet, S: Sink>(
+fn write_section<T: Results, S: Sink>(
     sink: &mut S,
-    sheet: &T,
+    results: &T,
     place: usize,
     deal_end: &[u8],
     other: &[u8],
@@ -66,81 +66,85 @@ fn write_section<T: Sheet, S: Sink>(
     ensures { Writes (S.state sink.old) (S.state sink.new)
         (missing_end last (if_none other.now deal_end.now)
         ++ section_text (if_none (missing_end last (if_none other.now deal_end.now)) deal_end.now)
-        (T.printed_of sheet.now place)) result }
+        (T.printed_of results.now place)) result }
 {
     let missing = missing_end(last, if_none(other, deal_end));
     write_all(sink, missing)?;
-    tables::write_section(sink, sheet, place, if_none(missing, deal_end))
+    tables::write_section(sink, results, place, if_none(missing, deal_end))
 }
 
 /// Writes the lines of a game, of which the board is at this place, if it has a Deal tag. Answers the place of the next
 /// board.
-fn write_game<T: Sheet, S: Sink>(
+fn write_game<T: Results, S: Sink>(
     sink: &mut S,
-    sheet: &T,
+    results: &T,
     place: usize,
     game: &GameText<'_>,
     other: &[u8],
 ) -> Result<usize, DeviceFault>
-    ensures { (lines : List Line) → HasGameLines (T.renews_of sheet.now) lines game.now
-        → WritesGame (T.renews_of sheet.now) (S.state sink.old) (S.state sink.new) (T.boards_of sheet.now)
-        (T.printed_of sheet.now) place other.now lines result }
+    ensures { (lines : List Line) → HasGameLines (T.renews_of results.now) lines game.now
+        → WritesGame (T.renews_of results.now) (S.state sink.old) (S.state sink.new) (T.boards_of results.now)
+        (T.printed_of results.now) place other.now lines result }
 {
     let Some(deal_end) = game.deal_end else {
         write_same(sink, game)?;
         return Ok(place);
     };
-    let last = write_left_of_game(sink, sheet.renews(), game)?;
-    let Some(board) = sheet.boards().get(place) else {
+    let last = write_left_of_game(sink, results.renews(), game)?;
+    let Some(board) = results.boards().get(place) else {
         return Ok(place);
     };
     if board.deal.is_some() {
-        write_section(sink, sheet, place, deal_end, other, last)?;
+        write_section(sink, results, place, deal_end, other, last)?;
     }
     Ok(place + 1)
 }
 
 /// Writes the games of a text.
-fn write_games<T: Sheet, S: Sink>(sink: &mut S, sheet: &T, text: &[u8]) -> Result<(), DeviceFault>
+fn write_games<T: Results, S: Sink>(
+    sink: &mut S,
+    results: &T,
+    text: &[u8],
+) -> Result<(), DeviceFault>
     ensures { (lines : List Line) → AreLines false (rows_of text.now) lines false
         → Writes (S.state sink.old) (S.state sink.new)
         (flat_map line_bytes
-        (whole_lines (T.renews_of sheet.now) (T.boards_of sheet.now) (T.printed_of sheet.now) lines)) result }
+        (whole_lines (T.renews_of results.now) (T.boards_of results.now) (T.printed_of results.now) lines)) result }
 {
     let other = first_end(text);
     let mut rest = text;
     let mut place = 0;
     while !rest.is_empty() {
-        let game = first_game(sheet.renews(), rest);
-        place = write_game(sink, sheet, place, &game, other)?;
+        let game = first_game(results.renews(), rest);
+        place = write_game(sink, results, place, &game, other)?;
         write_all(sink, game.gap)?;
         rest = game.rest;
     }
     Ok(())
 }
 
-/// Writes a text whose boards are those of the sheet, with their tables in place of those that it has. Answers how many
+/// Writes a text whose boards are those of the results, with their tables in place of those that it has. Answers how many
 /// boards there are and how many of their tables are complete. After a fault of the sink a beginning of the text is
 /// written. Takes no memory. A text in which a comment is open at the end has no lines, and no caller has one: it is
 /// refused when its boards are read.
-pub fn write_whole<T: Sheet, S: Sink>(
+pub fn write_whole<T: Results, S: Sink>(
     text: &[u8],
-    sheet: &T,
+    results: &T,
     sink: &mut S,
 ) -> Result<Report, DeviceFault>
     requires { IsOfLines text.now }
     ensures writes { (written : List ℕ)
-        → WholeText (T.renews_of sheet.now) text.now (T.boards_of sheet.now) (T.printed_of sheet.now) written
+        → WholeText (T.renews_of results.now) text.now (T.boards_of results.now) (T.printed_of results.now) written
         → Writes (S.state sink.old) (S.state sink.new) written result }
-    ensures boards { IfOk result (λ report. report.boards ≡ length (T.boards_of sheet.now)) }
+    ensures boards { IfOk result (λ report. report.boards ≡ length (T.boards_of results.now)) }
     ensures complete { IfOk result (λ report. report.complete
-        ≡ complete_count (T.boards_of sheet.now) (T.printed_of sheet.now)) }
+        ≡ complete_count (T.boards_of results.now) (T.printed_of results.now)) }
 {
     let lines = without_mark(text);
     write_all(sink, front_of(text, lines))?;
-    write_games(sink, sheet, lines)?;
+    write_games(sink, results, lines)?;
     Ok(Report {
-        boards: sheet.boards().len(),
-        complete: count_complete(sheet),
+        boards: results.boards().len(),
+        complete: count_complete(results),
     })
 }

@@ -11,7 +11,7 @@ use std::alloc::{AllocError, Global};
 use tables::{Renews, Report};
 use test_support::idle::StandsStill;
 use text_laws::one_is_written;
-use tournaments::{BookSheet, MakeFault, take_boards};
+use tournaments::{BookResults, MakeFault, take_boards};
 use whole_texts::write_whole;
 
 /// Room for the tables of a case.
@@ -101,8 +101,8 @@ fn say_whole(alloc: Global, text: &[u8], book: &Book, sink: &mut Buffer, out: &m
         return out.say("no boards");
     };
     one_is_written();
-    let sheet = BookSheet::new(book, Renews::Tables, &[]);
-    match write_whole(text, &sheet, sink) {
+    let results = BookResults::new(book, Renews::Tables, &[]);
+    match write_whole(text, &results, sink) {
         Ok(report) => {
             say_report(report, out);
             out.say(" |");

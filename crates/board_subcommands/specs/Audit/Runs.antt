@@ -4,7 +4,7 @@ use Rattle.tournaments.specs.declared.pages.Page.{Page}
 use Rattle.cards.specs.Devices.{Device}
 use Rattle.streams.specs.RunStreams.{Devices}
 use Rattle.lease_book.specs.Books.{Ledger}
-use Rattle.tables.specs.declared.sheets.Report.{Report}
+use Rattle.tables.specs.declared.results.Report.{Report}
 use Rattle.evidence.specs.Wholes.{Whole}
 use Rattle.evidence.specs.declared.damages.Damage.{Damage}
 use Rattle.streams.specs.declared.opening.CannotOpen.{CannotOpen}

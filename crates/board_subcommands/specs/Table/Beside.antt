@@ -20,7 +20,7 @@ use Rattle.lease_book.specs.Twins.{is_first}
 use Rattle.lease_book.specs.Histories.{Terms, published_in, times_leased}
 use Rattle.lease_book.specs.Moments.{MayTell}
 use Rattle.farm.specs.Runs.{IsRun}
-use Rattle.tables.specs.declared.sheets.Report.{Report}
+use Rattle.tables.specs.declared.results.Report.{Report}
 use Rattle.tournaments.specs.declared.faults.MakeFault.{MakeFault}
 use Rattle.tournaments.specs.declared.faults.MakeFault.TheVariants.{OutOfMemory, Read, Pbn, NoThread, Write}
 use Rattle.tournaments.specs.Making.{RunFact, HasBoards, MakesPage}

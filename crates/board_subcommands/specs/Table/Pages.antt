@@ -6,7 +6,7 @@ use Rattle.streams.specs.RunStreams.{Devices}
 use Rattle.lease_book.specs.Books.{Ledger}
 use Rattle.lease_book.specs.Moments.{MayTell}
 use Rattle.farm.specs.Runs.{IsRun}
-use Rattle.tables.specs.declared.sheets.Report.{Report}
+use Rattle.tables.specs.declared.results.Report.{Report}
 use Rattle.tournaments.specs.declared.faults.MakeFault.{MakeFault}
 use Rattle.tournaments.specs.Making.{MakesPage}
 use Rattle.tournaments.specs.Putting.{page_fact}

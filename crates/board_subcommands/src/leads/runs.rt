@@ -12,7 +12,7 @@ use crate::leads::options::LeadsOptions;
 use crate::named_boards::of_boards;
 use cards::{Sink, Source};
 use certificate_graph::CardSolver;
-use opening_leads::{LeadFault, LeadOptions, LeadReport, make_leads};
+use opening_leads::{LeadFault, LeadLimits, LeadReport, make_leads};
 use run_ends::{FileFault, NamedFiles, Status};
 use std::alloc::Global;
 use std::thread::Threads;
@@ -51,7 +51,7 @@ fn write_leads<P: CardSolver + Sync, I: Source, O: Sink, R: Threads + Sync>(
     ensures { LeadsBoards (P.may_find_cards solver.now) options.entry
         (devices (I.state input.old) (O.state output.old)) (devices (I.state input.new) (O.state output.new)) result }
 {
-    let how = LeadOptions {
+    let how = LeadLimits {
         solvers: options.solvers,
         budget: options.budget,
     };

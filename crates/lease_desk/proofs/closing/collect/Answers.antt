@@ -12,7 +12,7 @@ another-own-requires-clause-rule g c =
     spares _ _ (sits_empty _ _ _ (s.each 0 c.index-chairs-0.result c.requires.some))
 
 pub settle-requires-clause-holds : goal.settle-requires-clause-holds
-settle-requires-clause-holds g c = (page_of c.take_last-message.result, ap (λ (v : View). v.hand) c.take_last-message.ensures.took.holds)
+settle-requires-clause-holds g c = (page_of c.take_last-message.result, ap (λ (v : View). v.custody) c.take_last-message.ensures.took.holds)
 
 pub returns : goal.returns
 returns g c opening each =

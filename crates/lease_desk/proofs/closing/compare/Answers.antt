@@ -1,5 +1,5 @@
 use Rattle.std.proofs.Common.{◌≡◌, sym, ap, ◌∙◌}
-use Rattle.lease_desk.specs.declared.views.Hand.TheVariants.{Before, Empty}
+use Rattle.lease_desk.specs.declared.views.Custody.TheVariants.{Before, Empty}
 use Rattle.lease_desk.specs.declared.views.View.{View}
 use Rattle.lease_desk.proofs.Moves.{tells, hears}
 use Rattle.lease_desk.proofs.closing.compare.Goals as goal
@@ -9,4 +9,4 @@ another-told-requires-clause-rule c = tells _ _ c.requires.holds.0 c.requires.ho
 
 pub absorb-requires-clause-rule : goal.absorb-requires-clause-rule
 absorb-requires-clause-rule c =
-    hears _ _ _ _ (λ e. let both : Before ≡ Empty = sym e ∙ c.requires.sits.hand in cc) (ap (λ (v : View). v.hand) c.another-told.ensures.rule.1)
+    hears _ _ _ _ (λ e. let both : Before ≡ Empty = sym e ∙ c.requires.sits.custody in cc) (ap (λ (v : View). v.custody) c.another-told.ensures.rule.1)

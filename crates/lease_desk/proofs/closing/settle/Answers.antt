@@ -20,7 +20,7 @@ loop-chair-preserved c =
       told.seat,
       told.view ∙ i.1,
       settled_more _ _ _ _ i.2 c.compare.new.chair c.chair-item.result (omega arith) told.same
-          (λ last e. told.compared last (ap (λ (v : View). v.hand) i.1 ∙ e)),
+          (λ last e. told.compared last (ap (λ (v : View). v.custody) i.1 ∙ e)),
     )
 
 pub returns-clause-compared : goal.returns-clause-compared

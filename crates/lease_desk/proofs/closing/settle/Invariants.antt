@@ -8,4 +8,4 @@ abbrev pub invariant-loop-chair : goal.invariant-loop-chair
 invariant-loop-chair l =
     IsSeatAt (sends_on l.ends.sender) l.own
     × (view l.own ≡ view l.fn.own)
-    × IsSettling (view l.fn.own).hand l.chair-index l.initial.chairs l.chairs
+    × IsSettling (view l.fn.own).custody l.chair-index l.initial.chairs l.chairs

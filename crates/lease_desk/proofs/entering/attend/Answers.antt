@@ -1,6 +1,6 @@
 use Rattle.lease_desk.specs.Askings.{asked_of}
 use Rattle.lease_desk.specs.Views.{page_of}
-use Rattle.lease_desk.proofs.TurnLaws.{may_entered, may_same, attended}
+use Rattle.lease_desk.proofs.TakingLaws.{may_entered, may_same, attended}
 use Rattle.lease_desk.proofs.entering.attend.Goals as goal
 
 pub give-requires-clause-may : goal.give-requires-clause-may
@@ -13,4 +13,4 @@ give-requires-in-Err-clause-may g c =
 
 pub returns-in-Ok-clause-ok : goal.returns-in-Ok-clause-ok
 returns-in-Ok-clause-ok g c =
-    attended _ _ c.take-message.result c.args.number c.take-message.ensures.took c.requires.number (page_of c.enter.new.message) _ (asked_of c.args.asking) c.in-Ok.told c.requires.hand c.give.ensures.gave c.in-Ok.ensures.ok
+    attended _ _ c.take-message.result c.args.number c.take-message.ensures.took c.requires.number (page_of c.enter.new.message) _ (asked_of c.args.asking) c.in-Ok.told c.requires.custody c.give.ensures.gave c.in-Ok.ensures.ok

@@ -5,7 +5,7 @@ use Rattle.crossbeam_channel.specs.Claims.{view}
 use Rattle.lease_desk.specs.declared.chairs.Chair.{Chair}
 use Rattle.lease_desk.specs.declared.receipts.Receipt.{Receipt}
 use Rattle.lease_desk.specs.Views.{sitter}
-use Rattle.lease_desk.specs.Seats.{ushering, seated}
+use Rattle.lease_desk.specs.Steps.{ushering, seated}
 use Rattle.lease_desk.specs.Desks.{IsChairAt, AreAll, number_of, receipts_in}
 use Rattle.lease_desk.proofs.Moves.{seats_as}
 use Rattle.lease_desk.proofs.Numbers.{AreUpTo, are_all, one_more}
@@ -21,8 +21,8 @@ loop-number-preserved c =
     let cut = c.another-seat.ensures in
     let number : ℕ = c.loop-number.number in
     let old : List Chair = c.loop-number.chairs.items in
-    let chair : Chair = record { number = number; receipts = c.new.result; pass = c.another-seat.result } in
-    let opening = (view c.args.pass).opening in
+    let chair : Chair = record { number = number; receipts = c.new.result; token = c.another-seat.result } in
+    let opening = (view c.args.token).opening in
     let pushed : c.push.new.self.items ≡ old ++ chair ∷ [] = c.in_ok-push.ensures.items in
     let at : IsChairAt c.args.ends.now opening chair =
     record { seat = cut.channel.2; knows = cut.rule.1 ∙ ap seated i.1 ∙ ap (λ (l : List Receipt). sitter opening number l) (sym c.new.ensures.items) } in (

@@ -8,8 +8,8 @@ use Rattle.lease_desk.proofs.seating.seat_all.Given as goal
 
 abbrev pub invariant-loop-number : goal.invariant-loop-number
 invariant-loop-number l =
-    IsSeatAt (sends_on l.ends.sender) l.pass
-    × (view l.pass ≡ usher (view l.fn.pass).opening l.number)
-    × All (IsChairAt l.ends (view l.fn.pass).opening) l.chairs.items
+    IsSeatAt (sends_on l.ends.sender) l.token
+    × (view l.token ≡ usher (view l.fn.token).opening l.number)
+    × All (IsChairAt l.ends (view l.fn.token).opening) l.chairs.items
     × AreUpTo l.number (map number_of l.chairs.items)
     × All (λ chair. receipts_in chair ≡ []) l.chairs.items

@@ -7,7 +7,7 @@ use Rattle.sheets.proofs.boards.write_board.Goals as goal
 pub returns-in_err-write_name : goal.returns-in_err-write_name
 unfolding board_text
 returns-in_err-write_name g c =
-    let printed = g.T.Sheet.printed_of c.args.sheet.now c.args.place in
+    let printed = g.T.Results.printed_of c.args.results.now c.args.place in
     let board = c.args.board.now in
     let conditions = c.args.conditions in
     Writes-err c.from_residual.result _ c.from_residual.ensures.1
@@ -16,7 +16,7 @@ returns-in_err-write_name g c =
 pub returns-in_err-write_deal : goal.returns-in_err-write_deal
 unfolding board_text
 returns-in_err-write_deal g c =
-    let printed = g.T.Sheet.printed_of c.args.sheet.now c.args.place in
+    let printed = g.T.Results.printed_of c.args.results.now c.args.place in
     let board = c.args.board.now in
     let conditions = c.args.conditions in
     Writes-err c.from_residual-in_err-write_deal.result _ c.from_residual-in_err-write_deal.ensures.1
@@ -26,7 +26,7 @@ returns-in_err-write_deal g c =
 pub returns : goal.returns
 unfolding board_text
 returns g c =
-    let printed = g.T.Sheet.printed_of c.args.sheet.now c.args.place in
+    let printed = g.T.Results.printed_of c.args.results.now c.args.place in
     let board = c.args.board.now in
     let conditions = c.args.conditions in
     Writes-then c.write_all.result _ _ c.in_ok-write_name.ensures

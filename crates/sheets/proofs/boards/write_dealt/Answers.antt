@@ -6,7 +6,7 @@ use Rattle.sheets.proofs.boards.write_dealt.Goals as goal
 pub returns-in_err-write_facts : goal.returns-in_err-write_facts
 unfolding dealt_text
 returns-in_err-write_facts g c =
-    let printed = g.T.Sheet.printed_of c.args.sheet.now c.args.place in
+    let printed = g.T.Results.printed_of c.args.results.now c.args.place in
     let deal = c.args.layout.now in
     let conditions = c.args.conditions in
     Writes-err c.from_residual.result _ c.from_residual.ensures.1
@@ -15,7 +15,7 @@ returns-in_err-write_facts g c =
 pub returns-in_err-write_hands : goal.returns-in_err-write_hands
 unfolding dealt_text
 returns-in_err-write_hands g c =
-    let printed = g.T.Sheet.printed_of c.args.sheet.now c.args.place in
+    let printed = g.T.Results.printed_of c.args.results.now c.args.place in
     let deal = c.args.layout.now in
     let conditions = c.args.conditions in
     Writes-err c.from_residual-in_err-write_hands.result _ c.from_residual-in_err-write_hands.ensures.1
@@ -25,7 +25,7 @@ returns-in_err-write_hands g c =
 pub returns : goal.returns
 unfolding dealt_text
 returns g c =
-    let printed = g.T.Sheet.printed_of c.args.sheet.now c.args.place in
+    let printed = g.T.Results.printed_of c.args.results.now c.args.place in
     let deal = c.args.layout.now in
     let conditions = c.args.conditions in
     Writes-then c.write_foot.result _ _ c.in_ok-write_facts.ensures

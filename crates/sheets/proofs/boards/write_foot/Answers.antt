@@ -9,14 +9,14 @@ use Rattle.sheets.proofs.boards.write_foot.Goals as goal
 pub returns-in_err-write_all : goal.returns-in_err-write_all
 unfolding foot_text
 returns-in_err-write_all g c =
-    let printed = g.T.Sheet.printed_of c.args.sheet.now c.args.place in
+    let printed = g.T.Results.printed_of c.args.results.now c.args.place in
     Writes-err c.from_residual.result _ c.from_residual.ensures.1
     (AddsBeginning-stop (results_text printed.results ++ (par_shown printed.par ++ (FOOT_END.now))) c.in_err-write_all.ensures)
 
 pub returns-in_err-write_results : goal.returns-in_err-write_results
 unfolding foot_text
 returns-in_err-write_results g c =
-    let printed = g.T.Sheet.printed_of c.args.sheet.now c.args.place in
+    let printed = g.T.Results.printed_of c.args.results.now c.args.place in
     Writes-err c.from_residual-in_err-write_results.result _ c.from_residual-in_err-write_results.ensures.1
     (AddsBeginning-then c.in_ok-write_all.ensures
     (AddsBeginning-stop (par_shown printed.par ++ (FOOT_END.now)) c.in_err-write_results.ensures))
@@ -24,7 +24,7 @@ returns-in_err-write_results g c =
 pub returns-in_err-write_its_par : goal.returns-in_err-write_its_par
 unfolding foot_text
 returns-in_err-write_its_par g c =
-    let printed = g.T.Sheet.printed_of c.args.sheet.now c.args.place in
+    let printed = g.T.Results.printed_of c.args.results.now c.args.place in
     Writes-err c.from_residual-in_err-write_its_par.result _ c.from_residual-in_err-write_its_par.ensures.1
     (AddsBeginning-then c.in_ok-write_all.ensures
     (AddsBeginning-then c.in_ok-write_results.ensures
@@ -33,7 +33,7 @@ returns-in_err-write_its_par g c =
 pub returns : goal.returns
 unfolding foot_text
 returns g c =
-    let printed = g.T.Sheet.printed_of c.args.sheet.now c.args.place in
+    let printed = g.T.Results.printed_of c.args.results.now c.args.place in
     Writes-then c.write_all-2.result _ _ c.in_ok-write_all.ensures
     (Writes-then c.write_all-2.result _ _ c.in_ok-write_results.ensures
     (Writes-then c.write_all-2.result _ _ c.in_ok-write_its_par.ensures

@@ -7,10 +7,10 @@ use Rattle.sheets.proofs.pages.write_boards.Given as goal
 
 abbrev pub invariant-loop-place : goal.invariant-loop-place
 invariant-loop-place g l =
-    (l.boards ≡ g.T.Sheet.boards_of l.sheet) × (l.place ≤ length l.boards)
+    (l.boards ≡ g.T.Results.boards_of l.results) × (l.place ≤ length l.boards)
     × (gone : List ℕ) × Adds (g.S.Sink.state l.fn.sink) (g.S.Sink.state l.sink) gone
-    × (gone ++ boards_text (map titles_said l.titles) l.conditions (g.T.Sheet.printed_of l.sheet) (titles_said l.before) l.place (drop l.place (g.T.Sheet.boards_of l.sheet))
-    ≡ boards_text (map titles_said l.fn.titles) l.fn.conditions (g.T.Sheet.printed_of l.fn.sheet) (titles_said l.fn.first) 0 (g.T.Sheet.boards_of l.fn.sheet))
+    × (gone ++ boards_text (map titles_said l.titles) l.conditions (g.T.Results.printed_of l.results) (titles_said l.before) l.place (drop l.place (g.T.Results.boards_of l.results))
+    ≡ boards_text (map titles_said l.fn.titles) l.fn.conditions (g.T.Results.printed_of l.fn.results) (titles_said l.fn.first) 0 (g.T.Results.boards_of l.fn.results))
 
 abbrev pub decreases-loop-place : goal.decreases-loop-place
 decreases-loop-place g l = length l.boards - l.place

@@ -12,8 +12,8 @@ returns-in_err-write_head g c =
     let head = titles_said c.args.head in
     let titles = map titles_said c.args.titles.now in
     let conditions = c.args.conditions.now in
-    let printed = g.T.Sheet.printed_of c.args.sheet.now in
-    let boards = g.T.Sheet.boards_of c.args.sheet.now in
+    let printed = g.T.Results.printed_of c.args.results.now in
+    let boards = g.T.Results.boards_of c.args.results.now in
     Writes-err c.from_residual.result _ c.from_residual.ensures.1
     (AddsBeginning-stop (boards_text titles conditions printed (without_section head) 0 boards ++ (END.now)) c.in_err-write_head.ensures)
 
@@ -23,8 +23,8 @@ returns-in_err-write_all_boards g c =
     let head = titles_said c.args.head in
     let titles = map titles_said c.args.titles.now in
     let conditions = c.args.conditions.now in
-    let printed = g.T.Sheet.printed_of c.args.sheet.now in
-    let boards = g.T.Sheet.boards_of c.args.sheet.now in
+    let printed = g.T.Results.printed_of c.args.results.now in
+    let boards = g.T.Results.boards_of c.args.results.now in
     Writes-err c.from_residual-in_err-write_all_boards.result _ c.from_residual-in_err-write_all_boards.ensures.1
     (AddsBeginning-then c.in_ok-write_head.ensures
     (AddsBeginning-stop (END.now) c.in_err-write_all_boards.ensures))
@@ -35,8 +35,8 @@ returns g c =
     let head = titles_said c.args.head in
     let titles = map titles_said c.args.titles.now in
     let conditions = c.args.conditions.now in
-    let printed = g.T.Sheet.printed_of c.args.sheet.now in
-    let boards = g.T.Sheet.boards_of c.args.sheet.now in
+    let printed = g.T.Results.printed_of c.args.results.now in
+    let boards = g.T.Results.boards_of c.args.results.now in
     Writes-then c.write_all.result _ _ c.in_ok-write_head.ensures
     (Writes-then c.write_all.result _ _ c.in_ok-write_all_boards.ensures
     (c.write_all.ensures))

@@ -8,5 +8,5 @@ use Rattle.sheets.proofs.results.write_cells.Given as goal
 abbrev pub invariant-loop-trump : goal.invariant-loop-trump
 invariant-loop-trump g l = record {
   items : l.trump-items ≡ columns;
-  wrote : Adds (g.S.Sink.state l.fn.sink) (g.S.Sink.state l.sink) (flat_map (entry_text (g.T.Sheet.printed_of l.sheet l.board).results l.declarer) (take l.trump-index columns));
+  wrote : Adds (g.S.Sink.state l.fn.sink) (g.S.Sink.state l.sink) (flat_map (entry_text (g.T.Results.printed_of l.results l.board).results l.declarer) (take l.trump-index columns));
 }

@@ -10,8 +10,8 @@ use Rattle.tables.proofs.tables.count_complete.Goals.{then-count_results-eq20, e
 
 pub loop-place-preserved : goal.loop-place-preserved
 loop-place-preserved g c =
-    let boards = g.T.Sheet.boards_of c.args.sheet.now in
-    let results = g.T.Sheet.printed_of c.args.sheet.now in
+    let boards = g.T.Results.boards_of c.args.results.now in
+    let results = g.T.Results.printed_of c.args.results.now in
     let place = c.loop-place.place in
     let within : place < length boards = omega (arith, ap length c.boards-place-end.ensures, c.loop-place-test.true) in
     let count = c.count_results.result in
@@ -29,8 +29,8 @@ loop-place-preserved g c =
 pub returns : goal.returns
 unfolding complete_count
 returns g c =
-    let boards = g.T.Sheet.boards_of c.args.sheet.now in
-    let results = g.T.Sheet.printed_of c.args.sheet.now in
+    let boards = g.T.Results.boards_of c.args.results.now in
+    let results = g.T.Results.printed_of c.args.results.now in
     let end : length boards ≤ c.loop-place.place = omega (arith, ap length c.boards-place-end.ensures, c.loop-place-test.false) in
     c.loop-place.invariant.counted
     ∙ ap (count_by (λ (numbered : ℕ × Board). is_complete (results numbered.0).results)) (take_all c.loop-place.place (enumerate_from 0 boards) (omega (arith, end, length-enumerate_from 0 boards)))

@@ -11,7 +11,7 @@ use Rattle.tables.proofs.tables.count_results.Goals as goal
 
 pub loop-declarer-preserved : goal.loop-declarer-preserved
 loop-declarer-preserved g c =
-    let results = (g.T.Sheet.printed_of c.args.sheet.now c.args.board).results in
+    let results = (g.T.Results.printed_of c.args.results.now c.args.board).results in
     let i = c.loop-declarer.declarer-index in
     let more = ap (published_among results) (pieces-more entries_of declarers i North (omega arith)) in
     let sum = sum_by-append (λ (entry : Seat × Trump). cond (is_some (results entry.0 entry.1)) 1 0) (flat_map entries_of (take i declarers)) (entries_of (get_or declarers i North)) in
@@ -24,5 +24,5 @@ loop-declarer-preserved g c =
 pub returns-clause-count : goal.returns-clause-count
 unfolding published_count
 returns-clause-count g c =
-    let results = (g.T.Sheet.printed_of c.args.sheet.now c.args.board).results in
+    let results = (g.T.Results.printed_of c.args.results.now c.args.board).results in
     c.loop-declarer.invariant.counted ∙ ap (published_among results) (pieces-all entries_of declarers c.loop-declarer.declarer-index (omega arith))

@@ -7,6 +7,6 @@ use Rattle.tables.proofs.tables.count_results.Given as goal
 abbrev pub invariant-loop-declarer : goal.invariant-loop-declarer
 invariant-loop-declarer g l = record {
   items : l.declarer-items ≡ declarers;
-  counted : l.count ≡ published_among (g.T.Sheet.printed_of l.sheet l.board).results (flat_map entries_of (take l.declarer-index declarers));
+  counted : l.count ≡ published_among (g.T.Results.printed_of l.results l.board).results (flat_map entries_of (take l.declarer-index declarers));
   bound : l.count ≤ 5 * l.declarer-index;
 }

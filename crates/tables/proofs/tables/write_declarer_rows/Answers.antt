@@ -7,7 +7,7 @@ use Rattle.tables.proofs.tables.write_declarer_rows.Goals as goal
 
 pub returns-in_err-write_row : goal.returns-in_err-write_row
 returns-in_err-write_row g c =
-    let results = (g.T.Sheet.printed_of c.args.sheet.now c.args.board).results in
+    let results = (g.T.Results.printed_of c.args.results.now c.args.board).results in
     Writes-err c.from_residual.result _ c.from_residual.ensures.1
     (AddsBeginning-piece (λ (denomination : Trump). entry_row c.args.end.now results (c.args.declarer, denomination)) denominations c.loop-trump.trump-index Nt (omega arith) c.loop-trump.invariant.wrote
     (rw (← c.in-Some.ensures.value) c.in_err-write_row.ensures))

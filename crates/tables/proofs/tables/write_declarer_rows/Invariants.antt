@@ -9,5 +9,5 @@ use Rattle.tables.proofs.tables.write_declarer_rows.Given as goal
 abbrev pub invariant-loop-trump : goal.invariant-loop-trump
 invariant-loop-trump g l = record {
   items : l.trump-items ≡ denominations;
-  wrote : Adds (g.S.Sink.state l.fn.sink) (g.S.Sink.state l.sink) (flat_map (λ (denomination : Trump). entry_row l.end (g.T.Sheet.printed_of l.sheet l.board).results (l.declarer, denomination)) (take l.trump-index denominations));
+  wrote : Adds (g.S.Sink.state l.fn.sink) (g.S.Sink.state l.sink) (flat_map (λ (denomination : Trump). entry_row l.end (g.T.Results.printed_of l.results l.board).results (l.declarer, denomination)) (take l.trump-index denominations));
 }

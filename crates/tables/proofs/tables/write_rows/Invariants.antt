@@ -8,5 +8,5 @@ use Rattle.tables.proofs.tables.write_rows.Given as goal
 abbrev pub invariant-loop-declarer : goal.invariant-loop-declarer
 invariant-loop-declarer g l = record {
   items : l.declarer-items ≡ declarers;
-  wrote : Adds (g.S.Sink.state l.fn.sink) (g.S.Sink.state l.sink) (flat_map (λ declarer. flat_map (entry_row l.end (g.T.Sheet.printed_of l.sheet l.board).results) (entries_of declarer)) (take l.declarer-index declarers));
+  wrote : Adds (g.S.Sink.state l.fn.sink) (g.S.Sink.state l.sink) (flat_map (λ declarer. flat_map (entry_row l.end (g.T.Results.printed_of l.results l.board).results) (entries_of declarer)) (take l.declarer-index declarers));
 }

@@ -5,7 +5,7 @@ use Rattle.tables.proofs.tables.write_section.Goals as goal
 pub returns-in_err-write_par : goal.returns-in_err-write_par
 unfolding section_text
 returns-in_err-write_par g c =
-    let results = (g.T.Sheet.printed_of c.args.sheet.now c.args.board).results in
+    let results = (g.T.Results.printed_of c.args.results.now c.args.board).results in
     Writes-err c.from_residual.result _ c.from_residual.ensures.1 (AddsBeginning-stop (table_text c.args.end.now results) (rw c.par.ensures.value at c.in_err-write_par.ensures))
 
 pub returns : goal.returns

@@ -13,18 +13,18 @@ use Rattle.tournaments.proofs.putting.put_sheet.Goals as goal
 
 pub returns-in-Ok-write_page : goal.returns-in-Ok-write_page
 returns-in-Ok-write_page g c =
-    let sheet = c.args.sheet.now in
+    let results = c.args.results.now in
     let text = c.args.text.now in
-    let terms = sheet.book.terms in
-    let events = sheet.book.events in
+    let terms = results.book.terms in
+    let events = results.book.events in
     let shown : Shown = record {
       head = titles_said c.first_titles.result;
       boards = terms.boards;
       titles = map titles_said c.as_slice.result.now;
       conditions = c.as_slice-2.result.now;
-      printed = printed_with sheet.pars (book_results terms.boards events);
+      printed = printed_with results.pars (book_results terms.boards events);
     } in
-    let shows : IsShown sheet.pars text terms.boards events shown = record {
+    let shows : IsShown results.pars text terms.boards events shown = record {
       boards_are = refl;
       printed_is = refl;
       said = record {
@@ -38,24 +38,24 @@ returns-in-Ok-write_page g c =
       c.in-Ok-write_page.ensures.writes,
       record {
         boards_are = c.in-Ok-write_page.ensures.boards;
-        complete_are = c.in-Ok-write_page.ensures.complete ∙ complete_alike terms.boards sheet.pars (book_results terms.boards events);
+        complete_are = c.in-Ok-write_page.ensures.complete ∙ complete_alike terms.boards results.pars (book_results terms.boards events);
       },
     )
 
 pub returns : goal.returns
 returns g c =
-    let sheet = c.args.sheet.now in
+    let results = c.args.results.now in
     let text = c.args.text.now in
-    let terms = sheet.book.terms in
-    let events = sheet.book.events in
+    let terms = results.book.terms in
+    let events = results.book.events in
     let shown : Shown = record {
       head = titles_said c.first_titles.result;
       boards = terms.boards;
       titles = map titles_said c.as_slice.result.now;
       conditions = c.as_slice-2.result.now;
-      printed = printed_with sheet.pars (book_results terms.boards events);
+      printed = printed_with results.pars (book_results terms.boards events);
     } in
-    let shows : IsShown sheet.pars text terms.boards events shown = record {
+    let shows : IsShown results.pars text terms.boards events shown = record {
       boards_are = refl;
       printed_is = refl;
       said = record {

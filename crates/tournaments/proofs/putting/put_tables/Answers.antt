@@ -7,22 +7,22 @@ use Rattle.tournaments.proofs.putting.put_tables.Goals as goal
 
 pub returns-in-Ok : goal.returns-in-Ok
 returns-in-Ok g c = λ text.
-    let sheet = c.args.sheet.now in
-    let terms = sheet.book.terms in
-    let events = sheet.book.events in (
-      history_text sheet.pars terms.boards events,
+    let results = c.args.results.now in
+    let terms = results.book.terms in
+    let events = results.book.events in (
+      history_text results.pars terms.boards events,
       refl,
       c.in-Ok.ensures.writes,
-      record { boards_are = c.in-Ok.ensures.boards; complete_are = c.in-Ok.ensures.complete ∙ complete_alike terms.boards sheet.pars (book_results terms.boards events) },
+      record { boards_are = c.in-Ok.ensures.boards; complete_are = c.in-Ok.ensures.complete ∙ complete_alike terms.boards results.pars (book_results terms.boards events) },
     )
 
 pub returns-in-Err : goal.returns-in-Err
 returns-in-Err g c =
-    let sheet = c.args.sheet.now in
-    let terms = sheet.book.terms in
-    let events = sheet.book.events in
+    let results = c.args.results.now in
+    let terms = results.book.terms in
+    let events = results.book.events in
     rw c.write_failed.ensures λ text. (
-      history_text sheet.pars terms.boards events,
+      history_text results.pars terms.boards events,
       refl,
       c.in-Err.ensures.writes,
     )

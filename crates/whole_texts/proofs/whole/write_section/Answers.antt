@@ -8,7 +8,7 @@ use Rattle.whole_texts.proofs.whole.write_section.Goals as goal
 
 pub returns : goal.returns
 returns g c =
-    let results = g.T.Sheet.printed_of c.args.sheet.now c.args.place in
+    let results = g.T.Results.printed_of c.args.results.now c.args.place in
     let start = g.S.Sink.state c.args.sink.now in
     let now = g.S.Sink.state c.write_all.new.sink in
     let later = g.S.Sink.state c.write_section.new.sink in

@@ -13,7 +13,7 @@ returns-in_err-write_all-clause-writes g c = λ written whole.
     let start = g.S.Sink.state c.args.sink.now in
     let now = g.S.Sink.state c.write_all.new.sink in
     let mark = c.front_of.ensures (mark_of text) (marked text ∙ ap (λ l. mark_of text ++ l) (sym c.without_mark-lines.ensures.value)) in
-    let lines = flat_map line_bytes (whole_lines (g.T.Sheet.renews_of c.args.sheet.now) (g.T.Sheet.boards_of c.args.sheet.now) (g.T.Sheet.printed_of c.args.sheet.now) whole.lines) in
+    let lines = flat_map line_bytes (whole_lines (g.T.Results.renews_of c.args.results.now) (g.T.Results.boards_of c.args.results.now) (g.T.Results.printed_of c.args.results.now) whole.lines) in
     Writes-err c.from_residual.result _ c.from_residual.ensures.1
     (subst (λ t. AddsBeginning start now t) (sym whole.is)
     (AddsBeginning-stop lines (subst (λ m. AddsBeginning start now m) mark c.in_err-write_all.ensures)))

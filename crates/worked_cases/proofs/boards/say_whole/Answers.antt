@@ -1,6 +1,6 @@
 -- The text was read as boards, so it has lines.
 use Rattle.std.proofs.Common.{None}
-use Rattle.tables.specs.declared.sheets.Renews.TheVariants.{Tables}
+use Rattle.tables.specs.declared.results.Renews.TheVariants.{Tables}
 use Rattle.worked_cases.proofs.boards.say_whole.Goals as goal
 
 pub write_whole-requires : goal.write_whole-requires

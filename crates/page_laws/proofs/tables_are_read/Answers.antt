@@ -1,5 +1,0 @@
-use Rattle.page_laws.proofs.TablesPageLaws.{tables_are_read}
-use Rattle.page_laws.proofs.tables_are_read.Goals as goal
-
-pub returns : goal.returns
-returns c = tables_are_read
