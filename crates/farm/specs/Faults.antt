@@ -2,12 +2,10 @@
 use Rattle.std.specs.Prelude.{◌≡◌, ◌<◌, List, length, ⊤}
 use Rattle.pbn_deals.specs.declared.boards.Board.{Board}
 use Rattle.lease_book.specs.declared.faults.BookFault.TheVariants.{TooManyBoards}
-use Rattle.farm_threads.specs.declared.faults.StartFault.{StartFault}
-use Rattle.farm_threads.specs.declared.faults.StartFault.TheVariants as starts
+use Rattle.farm_threads.specs.declared.halts.Halt.{Halt}
+use Rattle.farm_threads.specs.declared.halts.Halt.TheVariants as halts
 use Rattle.farm.specs.declared.faults.FarmFault.{FarmFault}
 use Rattle.farm.specs.declared.faults.FarmFault.TheVariants.{OutOfMemory, NoThread, Book}
-use Rattle.farm.specs.declared.halts.Halt.{Halt}
-use Rattle.farm.specs.declared.halts.Halt.TheVariants as halts
 
 -- the book is at fault only if there are too many boards
 abbrev pub IsFaultOf : List Board → FarmFault → Type 0
@@ -20,11 +18,6 @@ abbrev pub IsHalt : FarmFault → Type 0
 IsHalt OutOfMemory = ⊤
 IsHalt NoThread = ⊤
 IsHalt (Book fault) = ⊥
-
--- the halt if threads were not started
-abbrev pub start_halt : StartFault → Halt
-start_halt starts.OutOfMemory = halts.OutOfMemory
-start_halt starts.NoThread = halts.NoThread
 
 -- the fault if a run ended early
 abbrev pub halt_fault : Halt → FarmFault

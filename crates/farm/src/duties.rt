@@ -4,12 +4,11 @@
 use crate::checking::check_all;
 use crate::clerks::settle_all;
 use crate::crews::Crew;
-use crate::halts::Halt;
 use crate::lending::lend_all;
 use crate::posts::{CheckerPost, ClerkPost, LenderPost, SolverPost};
 use crate::solving::solve_all;
 use certificate_graph::Solver;
-use farm_threads::Work;
+use farm_threads::{Halt, Work};
 use lease_book::{Clock, Gate};
 use std::sync::Wait;
 use std::thread::Threads;

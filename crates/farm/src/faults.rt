@@ -3,7 +3,7 @@
 ghost use Rattle.std.specs.Prelude.{◌≡◌};
 ghost use Rattle.farm.specs.declared.faults.FarmFault.TheVariants as faults;
 
-use crate::halts::Halt;
+use farm_threads::Halt;
 use lease_book::BookFault;
 use std::alloc::AllocError;
 

@@ -14,7 +14,6 @@ mod draining;
 mod duties;
 mod faults;
 mod groups;
-mod halts;
 mod lease_lock;
 mod leftovers;
 mod lending;

@@ -8,7 +8,6 @@ ghost use Rattle.farm.specs.Rounds.{Finishes};
 ghost use Rattle.farm.specs.Runs.{IsBookOf, terms_for};
 
 use crate::faults::FarmFault;
-use crate::halts::Halt;
 use crate::leftovers::take_back_all;
 use crate::means::Means;
 use crate::opening::{deals_of, open_book};
@@ -17,6 +16,7 @@ use crate::settings::Settings;
 use crate::telling::tell_published;
 use cards::Layout;
 use certificate_graph::Solver;
+use farm_threads::Halt;
 use lease_book::{Book, Clock, Gate, first_boards, is_true_history};
 use pbn_deals::Board;
 use std::alloc::Global;

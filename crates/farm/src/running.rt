@@ -6,7 +6,6 @@ ghost use Rattle.farm.specs.Rounds.{IsRound};
 ghost use Rattle.farm.specs.Running.{MayBegin, AreOpenedPosts, HaveEnded, HaveWorked};
 
 use crate::crews::Crew;
-use crate::halts::Halt;
 use crate::lease_lock::LeaseLock;
 use crate::means::Means;
 use crate::posts::{CheckerPost, ClerkPost, LenderPost, Posts, SolverPost};
@@ -15,7 +14,7 @@ use crate::settings::Settings;
 use crate::started::{Started, end_all, join_all, start_all};
 use cards::Layout;
 use certificate_graph::Solver;
-use farm_threads::Work;
+use farm_threads::{Halt, Work};
 use lease_book::{Book, Clock, Gate};
 use lease_desk::{Chair, Closed, Desk};
 use std::alloc::Global;
@@ -99,7 +98,8 @@ fn work_at<
     )
 }
 
-/// Works at all posts as [`work_at`] does, if one value does all four kinds of work.
+/// Works at all posts as [`work_at`] does, if one value does all four kinds of work. The two are apart because a
+/// closure's contract can't name one type's several works, and a call can't borrow one value for several types.
 fn work_as<
     W: Work<LenderPost, Halt>
         + Work<SolverPost, Halt>

@@ -6,10 +6,9 @@ ghost use Rattle.farm.specs.Relaying.{AreEnded};
 ghost use Rattle.farm.specs.Running.{IsEmpty, MayBegin, AreStarted, HaveEnded};
 ghost use Rattle.farm.specs.declared.posts.Posts.{Posts as PostsOfRun};
 
-use crate::halts::Halt;
 use crate::posts::{CheckerPost, ClerkPost, Posts, SolverPost};
 use crate::relays::Relays;
-use farm_threads::{Thread, Work, end_each, join_each, start_each};
+use farm_threads::{Halt, Thread, Work, end_each, join_each, start_each};
 use std::alloc::AllocError;
 use std::sync::Wait;
 use std::thread::{Scope, Threads};

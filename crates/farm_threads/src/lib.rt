@@ -4,13 +4,13 @@
 //! their order, each as the work has left it. [`end_each`] only waits.
 #![tactic(auto)]
 
-mod faults;
+mod halts;
 mod joining;
 mod promises;
 mod starting;
 mod works;
 
-pub use faults::StartFault;
+pub use halts::Halt;
 pub use joining::{end_each, join_each};
 pub use promises::{Keeps, Thread};
 pub use starting::start_each;

@@ -4,7 +4,7 @@ ghost use Rattle.std.specs.Prelude.{◌≡◌, [], All, IfSome, OnOk};
 ghost use denote.Param.Send.{IsSync};
 ghost use Rattle.farm_threads.specs.Posts.{IsThreadOf, AreThreadsOf};
 
-use crate::faults::StartFault;
+use crate::halts::Halt;
 use crate::promises::{Keeps, Thread};
 use crate::works::{Ended, Work};
 use core::thread::Stack;
@@ -70,14 +70,14 @@ pub fn start_each<
     work: &'s W,
     posts: Vec<P>,
     threads: &mut Vec<Thread<P, F, W>>,
-) -> Result<(), StartFault>
+) -> Result<(), Halt>
     requires begins { All (W.begins work.now) posts.items }
     requires none { threads.old.items ≡ [] }
     ensures { OnOk result (AreThreadsOf work.now posts.items threads.new.items) }
 {
     for post in posts {
         let Some(thread) = start(rt, scope, work, post) else {
-            return Err(StartFault::NoThread);
+            return Err(Halt::NoThread);
         };
         threads.push(thread)?;
     }

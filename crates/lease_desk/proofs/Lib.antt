@@ -1,9 +1,9 @@
 pub mod PageLaws
 pub mod Lists
-pub mod Hands
+pub mod CustodyLaws
 pub mod ReceiptLaws
 pub mod Moves
-pub mod TurnLaws
+pub mod TakingLaws
 pub mod Loops
 pub mod Numbers
 pub mod CollectLaws

@@ -13,7 +13,7 @@ use crate::notes::Notes;
 use crate::table::beside::{Making, write_tables_beside};
 use crate::table::kept_files::KeptFiles;
 use crate::table::options::TableOptions;
-use crate::table::pages::{Unwatched, write_page};
+use crate::table::pages::write_page;
 use cards::{Sink, Source};
 use certificate_graph::Solver;
 use evidence_solvers::{Access, Closed, Held, KeepFault, Keeping, Opened};
@@ -105,7 +105,7 @@ fn write_beside<
 /// is searched, and what is found is added to it.
 ///
 /// A file that can't be opened is refused before anything of the input is read.
-fn fill_tables<
+pub(crate) fn fill_tables<
     P: Solver + Sync,
     G: Gate + Sync,
     C: Clock + Sync,
@@ -133,35 +133,4 @@ fn fill_tables<
     };
     let making = Making { options, means };
     write_beside::<P, G, C, I, O, R, Brand>(rt, alloc, making, opened, input, output).answer
-}
-
-/// The same, and the gate is told of the work if progress is asked for.
-pub(crate) fn keep_tables<
-    P: Solver + Sync,
-    G: Gate + Sync,
-    C: Clock + Sync,
-    I: Source,
-    O: Sink,
-    R: Threads + Wait + Sync + KeptFiles,
->(
-    rt: &R,
-    alloc: Global,
-    options: TableOptions<'_>,
-    means: &Means<'_, P, G, C>,
-    input: &mut I,
-    output: &mut O,
-) -> Result<FinishedRun, BoardFault>
-    ensures { FillsTables (R.may_keep rt.now) (C.may_tell means.now.clock.now) options.entry options.entry.evidence
-        (devices (I.state input.old) (O.state output.old))
-        (devices (I.state input.new) (O.state output.new)) result }
-{
-    if options.progress {
-        return fill_tables(rt, alloc, options, means, input, output);
-    }
-    let unwatched = Means {
-        solver: means.solver,
-        gate: &Unwatched,
-        clock: means.clock,
-    };
-    fill_tables(rt, alloc, options, &unwatched, input, output)
 }

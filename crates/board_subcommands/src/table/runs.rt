@@ -9,9 +9,10 @@ use crate::ends::{FileNames, end};
 use crate::faults::BoardFault;
 use crate::finished_runs::FinishedRun;
 use crate::named_boards::of_boards;
-use crate::table::kept::keep_tables;
+use crate::table::kept::fill_tables;
 use crate::table::kept_files::KeptFiles;
 use crate::table::options::TableOptions;
+use crate::table::pages::Unwatched;
 use cards::{Sink, Source};
 use certificate_graph::Solver;
 use farm::{Clock, Means};
@@ -45,15 +46,16 @@ fn table_boards<
         (devices (I.state input.new) (O.state output.new)) result }
 {
     let Some(name) = options.boards else {
-        return keep_tables(rt, alloc, options, means, input, output);
+        return fill_tables(rt, alloc, options, means, input, output);
     };
     match rt.open_named(name) {
-        Ok(mut file) => of_boards(keep_tables(rt, alloc, options, means, &mut file, output)),
+        Ok(mut file) => of_boards(fill_tables(rt, alloc, options, means, &mut file, output)),
         Err(why) => Err(BoardFault::Boards(FileFault::Open(why))),
     }
 }
 
-/// Writes the tables of the boards that the words name, or tells why it can't, and answers how the run ends.
+/// Writes the tables of the boards that the words name, or tells why it can't, and answers how the run ends. The gate
+/// is told of the work if progress is asked for.
 pub fn run<
     P: Solver + Sync,
     G: Gate + Sync,
@@ -72,11 +74,20 @@ pub fn run<
     ensures { RunsTable (C.may_tell means.now.clock.now) (R.may_open rt.now) (R.may_keep rt.now) options.entry
         (devices_of I.state O.state E.state streams.old) (devices_of I.state O.state E.state streams.new) result }
 {
-    let (input, output) = (&mut streams.input, &mut streams.output);
-    let answer = table_boards(rt, alloc, options, means, input, output);
     let names = FileNames {
         boards: options.boards,
         evidence: options.evidence,
     };
+    let (input, output) = (&mut streams.input, &mut streams.output);
+    if options.progress {
+        let answer = table_boards(rt, alloc, options, means, input, output);
+        return end(answer, names, &mut streams.errors);
+    }
+    let unwatched = &Means {
+        solver: means.solver,
+        gate: &Unwatched,
+        clock: means.clock,
+    };
+    let answer = table_boards(rt, alloc, options, unwatched, input, output);
     end(answer, names, &mut streams.errors)
 }

@@ -1,16 +1,14 @@
-//! Why a run ends before its time.
+//! Why threads end before their work is done.
 
 ghost use Rattle.std.specs.Prelude.{◌≡◌};
-ghost use Rattle.farm.specs.declared.halts.Halt.TheVariants as halts;
-ghost use Rattle.farm.specs.Faults.{start_halt};
+ghost use Rattle.farm_threads.specs.declared.halts.Halt.TheVariants as halts;
 
 use cards::OutOfMemory;
-use farm_threads::StartFault;
 use std::alloc::{AllocError, AllocFailed};
 
-/// Why a run ends before its time.
+/// Why threads end before their work is done.
 #[derive(Clone, Copy)]
-pub(crate) enum Halt {
+pub enum Halt {
     /// Memory ran out.
     OutOfMemory,
     /// A thread could not be started.
@@ -38,16 +36,5 @@ impl<T: Drop> From<AllocFailed<T>> for Halt {
 
     fn from(_fault: AllocFailed<T>) -> Halt {
         Halt::OutOfMemory
-    }
-}
-
-impl From<StartFault> for Halt {
-    ghost from_gives = { λ fault answer. answer ≡ start_halt fault };
-
-    fn from(fault: StartFault) -> Halt {
-        match fault {
-            StartFault::OutOfMemory => Halt::OutOfMemory,
-            StartFault::NoThread => Halt::NoThread,
-        }
     }
 }
