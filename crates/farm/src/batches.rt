@@ -15,13 +15,13 @@ use lease_book::Clock;
 use lease_desk::Chair;
 use std::sync::Wait;
 
-/// Leases more entries after the first, until the batch is full or no entry is open.
+/// Leases more entries after the first, until the batch is full or no entry is open. Then the lock is let go.
 pub(crate) fn lease_batch<S, G, C: Clock, R: Wait>(
     rt: &R,
     crew: &Crew<'_, S, G, C>,
     chair: &mut Chair,
     first: Task,
-    guard: &LeaseGuard<'_>,
+    guard: LeaseGuard<'_>,
 ) -> Result<Tasks, OutOfMemory>
     requires duty { IsOnDuty C.may_tell crew.now chair.old }
     requires given { WasGiven (receipts_in chair.old) first }
@@ -36,7 +36,7 @@ pub(crate) fn lease_batch<S, G, C: Clock, R: Wait>(
     let mut batch = Tasks::new();
     batch.push(first);
     for _more in 1..crew.settings.batch {
-        let Some(task) = next_task(rt, crew, chair, guard)? else {
+        let Some(task) = next_task(rt, crew, chair, &guard)? else {
             return Ok(batch);
         };
         batch.push(task);

@@ -87,8 +87,7 @@ pub(crate) fn lend_all<S, G, C: Clock, R: Wait>(
     for _batch in rt.forever() {
         let guard = crew.lease_lock.lock(rt);
         if let Some(first) = next_task(rt, crew, &mut post.chair, &guard)? {
-            let batch = lease_batch(rt, crew, &mut post.chair, first, &guard)?;
-            drop(guard);
+            let batch = lease_batch(rt, crew, &mut post.chair, first, guard)?;
             lend_batch(rt, crew, post, batch)?;
         } else if !frees_a_lease(rt, crew, &mut post.chair)? {
             return Ok(());

@@ -50,11 +50,12 @@ pub(crate) fn frees_a_lease<S, G, C: Clock, R: Wait>(
 }
 
 /// Gives a lease up.
-pub(crate) fn give_up<S, G, C: Clock, R: Wait>(
+fn give_up<S, G, C: Clock, R: Wait>(
     rt: &R,
     crew: &Crew<'_, S, G, C>,
     chair: &mut Chair,
     lease: u64,
+    _guard: &LeaseGuard<'_>,
 ) -> Result<(), OutOfMemory>
     requires { IsOnDuty C.may_tell crew.now chair.old }
     ensures stays { StaysOnDuty C.may_tell crew.now chair.old chair.new }
@@ -77,10 +78,10 @@ pub(crate) fn give_up_all<S, G, C: Clock, R: Wait>(
         Moves weight (receipts_in chair.old) (receipts_in chair.new) (of_tasks weight tasks.now.items) 0) }
     ensures receipts { OnOk result (Continues (receipts_in chair.old) (receipts_in chair.new)) }
 {
-    let _guard = crew.lease_lock.lock(rt);
+    let guard = crew.lease_lock.lock(rt);
     let tasks = tasks.as_slice();
     for task in tasks.iter() {
-        give_up(rt, crew, chair, task.lease)?;
+        give_up(rt, crew, chair, task.lease, &guard)?;
     }
     Ok(())
 }

@@ -17,18 +17,18 @@ pub returns-in-Ok : goal.returns-in-Ok
 returns-in-Ok g c =
     let results = c.args.results.now in
     let terms = results.book.terms in
-    let results = book_results terms.boards results.book.events in
-    let one = some_text results.renews c.args.text.now terms.boards (printed_with results.pars results) c.requires.boards in (
+    let published = book_results terms.boards results.book.events in
+    let one = some_text results.renews c.args.text.now terms.boards (printed_with results.pars published) c.requires.boards in (
       one.0,
       one.1,
       c.in-Ok.ensures.writes one.0 one.1,
-      record { boards_are = c.in-Ok.ensures.boards; complete_are = c.in-Ok.ensures.complete ∙ complete_alike terms.boards results.pars results },
+      record { boards_are = c.in-Ok.ensures.boards; complete_are = c.in-Ok.ensures.complete ∙ complete_alike terms.boards results.pars published },
     )
 
 pub returns-in-Err : goal.returns-in-Err
 returns-in-Err g c =
     let results = c.args.results.now in
     let terms = results.book.terms in
-    let results = book_results terms.boards results.book.events in
-    let one = some_text results.renews c.args.text.now terms.boards (printed_with results.pars results) c.requires.boards in
+    let published = book_results terms.boards results.book.events in
+    let one = some_text results.renews c.args.text.now terms.boards (printed_with results.pars published) c.requires.boards in
     rw c.write_failed.ensures (one.0, one.1, c.in-Err.ensures.writes one.0 one.1)
