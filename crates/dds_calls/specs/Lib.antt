@@ -6,6 +6,7 @@ pub mod Hands
 pub mod Lines
 pub mod Pars
 pub mod Readings
+pub mod RowsFound
 pub mod Rules
 pub mod Seats
 pub mod Sections

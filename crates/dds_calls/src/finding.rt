@@ -1,7 +1,8 @@
 //! What is found of the hands of a table in a denomination.
 
 ghost use Rattle.std.specs.Prelude.{◌≡◌, MatchResult};
-ghost use Rattle.dds_calls.specs.Tables.{IsFoundFor, IsRowFault, row_code};
+ghost use Rattle.dds_calls.specs.RowsFound.{IsFoundFor};
+ghost use Rattle.dds_calls.specs.Tables.{IsRowFault, row_code};
 
 use crate::codes::{STEPS, TRUMP_WRONG, UNKNOWN_FAULT};
 use crate::denominations::denomination_of;

@@ -1,7 +1,8 @@
 //! A row of a table: the tricks of the four declarers of a denomination.
 
 ghost use Rattle.std.specs.Prelude.{◌≤◌, IfSome, MatchResult};
-ghost use Rattle.dds_calls.specs.Tables.{AnswersRow, IsRowFault, IsRowOf, HasNumbers};
+ghost use Rattle.dds_calls.specs.RowsFound.{HasNumbers};
+ghost use Rattle.dds_calls.specs.Tables.{AnswersRow, IsRowFault, IsRowOf};
 
 use crate::codes::NO_FAULT;
 use crate::finding::{RowFault, found_for};

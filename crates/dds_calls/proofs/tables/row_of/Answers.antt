@@ -9,7 +9,8 @@ use Rattle.certificate_graph.specs.declared.bundles.Bundle.{Bundle}
 use Rattle.certified_tricks.specs.Searches.{AreKnownBy, IsKnown}
 use Rattle.certified_tricks.specs.declared.answers.FourTricks.{FourTricks}
 use Rattle.dds_calls.specs.declared.tables.TableRow.{TableRow}
-use Rattle.dds_calls.specs.Tables.{IsEntry, IsNumberOf, HasNumbers, entry_of}
+use Rattle.dds_calls.specs.RowsFound.{IsNumberOf, HasNumbers}
+use Rattle.dds_calls.specs.Tables.{IsEntry, entry_of}
 use Rattle.dds_calls.proofs.tables.row_of.Goals as goal
 
 entry : (deal : Deal) (seat : Seat) (trump : Trump) (bundle : Bundle) (known : Option ℕ) (size : ℕ) (number : ℤ)
