@@ -34,6 +34,17 @@ is_current() {
     [[ -z "$newer" ]]
 }
 
+# What this machine's processor is: x86-64-v3 where it has all of that, which takes three to eight hundredths off a
+# search, else x86-64-v2. On a processor that lacks something of its level the program ends with 127 as it starts.
+cpu_of_machine() {
+    local flags flag
+    flags=" $(grep -m 1 '^flags' /proc/cpuinfo || true) "
+    for flag in abm avx avx2 bmi1 bmi2 f16c fma movbe xsave; do
+        [[ "$flags" == *" $flag "* ]] || { echo x86-64-v2; return; }
+    done
+    echo x86-64-v3
+}
+
 # How many jobs prove crates: one a processor, where each has 3 GB of memory.
 all_jobs() {
     local room most
