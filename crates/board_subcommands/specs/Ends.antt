@@ -1,4 +1,4 @@
--- How a run for boards ends, and what is told of it.
+-- How a run for boards ends, and what is printed of it.
 use Rattle.std.specs.Prelude.{◌≡◌, ℕ, List, Option, None, Result, Ok, Err, option_map}
 use Rattle.cards.specs.Devices.{Device}
 use Rattle.streams.specs.RunStreams.{Devices, RunDevices}
@@ -19,13 +19,13 @@ use Rattle.board_subcommands.specs.declared.finished_runs.FinishedRun.{FinishedR
 abbrev pub told : Option (List ℕ) → BoardFault → List ℕ
 told name fault = told_text name (said fault) (opening fault) (explanation fault)
 
--- how a run that was done ends: as it does where all was kept, or that not all was is told
+-- How a run that was done ends: by its own status if all was kept. Otherwise it is printed that something was not.
 abbrev pub EndsKept : Result Unit KeepFault → Status → Device → Device → Status → Type 0
 EndsKept (Ok done) reached errors errors' ended = (ended ≡ reached) × (errors' ≡ errors)
 EndsKept (Err fault) reached errors errors' ended =
     (ended ≡ Failed) × IsTold errors errors' (told None (Unkept fault))
 
--- that, where all was read that was to be read, or that not all was is told
+-- The same if all was read that was to be read. Otherwise it is printed that something was not.
 abbrev pub EndsRead : Result Unit InputFault → Result Unit KeepFault → Status → Device → Device → Status → Type 0
 EndsRead (Ok done) kept reached errors errors' ended = EndsKept kept reached errors errors' ended
 EndsRead (Err fault) kept reached errors errors' ended =

@@ -1,4 +1,4 @@
--- Why runs for boards fail or are refused: how a run ends with it, and what is told of it.
+-- Why runs for boards fail or are refused: the status of such a run, and what is printed of the fault.
 use Rattle.std.specs.Prelude.{ℕ, List, [], Option, None, Some, codes}
 use Rattle.pbn_deals.specs.Faults.{fault_text, fault_line}
 use Rattle.tournaments.specs.declared.faults.MakeFault.{MakeFault}

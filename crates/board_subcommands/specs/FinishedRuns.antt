@@ -1,4 +1,4 @@
--- What came of a run that was done, and what is told of it: what was passed over of evidence.
+-- What came of a run that was done, and what is printed of it: what was passed over of evidence.
 use Rattle.std.specs.Prelude.{◌≡◌, ℕ, ◌<◌, List, [], ◌∷◌, ◌++◌, ◌⊎◌, Ok, codes}
 use Rattle.std.specs.Fmt.{decimal}
 use Rattle.cards.specs.Devices.{Device}
@@ -24,7 +24,7 @@ abbrev pub quiet : Status → FinishedRun
 quiet status =
     record { status = status; damage = undamaged; notes = quiet_notes; read = Ok tt; kept = Ok tt }
 
--- ---- what is told
+-- ---- what is printed
 abbrev pub counted_text : ℕ → List ℕ
 counted_text count =
     counted count (codes "1 section is damaged, at byte ") (codes " sections are damaged, the first at byte ")

@@ -74,7 +74,7 @@ unshown_text tables =
     ++ (codes "the evidence does not show all results" ++ 10
     ∷ codes "  table --evidence searches the rest and adds it to the file" ++ 10 ∷ [])
 
--- ---- what is told
+-- ---- what is printed
 -- a text, if it holds
 abbrev pub TellsIf : Bool → List ℕ → Device → Device → Type 0
 TellsIf true text errors errors' = IsTold errors errors' text

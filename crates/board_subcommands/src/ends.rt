@@ -1,4 +1,4 @@
-//! How a run for boards ends, and what is told of it.
+//! How a run for boards ends, and what is printed of it.
 
 ghost use Rattle.std.specs.Prelude.{◌≡◌, None, option_map};
 ghost use Rattle.run_ends.specs.Telling.{IsTold};

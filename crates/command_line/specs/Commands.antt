@@ -35,7 +35,7 @@ pub record IsInLines (said lines : List ℕ) : Type 0 where
 abbrev pub AreLinesOf : Option (List ℕ) → List ℕ → Type 0
 AreLinesOf said lines = AreLines lines × IfSome said (λ bytes. IsInLines bytes lines)
 
--- nothing is read or written, and that memory ran out is told
+-- nothing is read or written, and it is reported that memory ran out
 abbrev pub TellsNoMemory : RunDevices → RunDevices → Status → Type 0
 TellsNoMemory old new status =
     (status ≡ Failed) × (new.both ≡ old.both) × IsTold old.errors new.errors (told OutOfMemory)
@@ -45,7 +45,7 @@ abbrev pub ShowsHelp : Option (List ℕ) → RunDevices → RunDevices → Statu
 ShowsHelp (Some lines) old new status = Shows old new lines status
 ShowsHelp None old new status = TellsNoMemory old new status
 
--- what is told of refused words: the lines of why, or where memory ran out for them that they are refused
+-- What is printed of refused words: the lines of why. If memory ran out for those, only that the words are refused.
 abbrev pub refusal_lines : Option (List ℕ) → List ℕ
 refusal_lines (Some lines) = lines
 refusal_lines None = codes "ddfarm: the command line is refused" ++ 10 ∷ []
@@ -54,8 +54,8 @@ abbrev pub TellsRefusal : Option (List ℕ) → Device → Device → Status →
 TellsRefusal lines errors errors' status = (status ≡ Refused) × IsTold errors errors' (refusal_lines lines)
 
 -- What comes of words that ask for no subcommand, by the kind of the error and what it says, in lines if memory held
--- them: help that was asked for is written; a refusal is told on the error output alone; or memory ran out. The input
--- stays as it was.
+-- them: help that was asked for is written; a refusal is printed on the error output alone; or memory ran out. The
+-- input stays as it was.
 pub data EndsWords (said : Option (List ℕ)) (old new : RunDevices) (kind : ErrorKind) (status : Status) : Type 0 where
   is_shown : IsAsked kind → (lines : Option (List ℕ)) → IfSome lines (AreLinesOf said)
       → ShowsHelp lines old new status

@@ -1,4 +1,4 @@
--- What is told of a fault of the program.
+-- What is printed of a fault of the program.
 use Rattle.std.specs.Prelude.{ℕ, List, [], Option, None, codes}
 use Rattle.run_ends.specs.Telling.{told_text}
 use Rattle.run_ends.specs.declared.statuses.Status.{Status}

@@ -1,4 +1,4 @@
-//! The command line as `clap` is told of it.
+//! The command line as it is defined for `clap`.
 
 ghost use Rattle.std.specs.Prelude.{◌≡◌, IfOk, map};
 ghost use Rattle.clap.specs.Words.{app_of};

@@ -27,7 +27,7 @@ pub fn room_for(read: &Result<Subcommand<'_>, Error>) -> usize
     }
 }
 
-/// Writes a text that was asked for, such as help, and answers how the run ends: a write that failed is told on the
+/// Writes a text that was asked for, such as help, and answers how the run ends: a write that failed is reported on the
 /// error output.
 pub fn show<I: Source, O: Sink, E: Sink>(text: &[u8], streams: &mut Streams<I, O, E>) -> Status
     ensures { Shows (devices_of I.state O.state E.state streams.old) (devices_of I.state O.state E.state streams.new)

@@ -29,13 +29,13 @@ use std::sync::Wait;
 use std::thread::Threads;
 use streams::{Streams, WriterSink};
 
-/// What is told of refused words where there is no memory for more.
+/// What is printed of refused words if there is no memory for more.
 const REFUSED: &str = "ddfarm: the command line is refused\n";
 
 /// Does what the words ask for, the first of them being the program's name, and answers the exit status. If the words
 /// don't say how many solvers or checkers, there are as many as the processors given, 64 at most.
 ///
-/// What can't be done is told on the error output, with nothing on the output but what `play` has written, and the
+/// What can't be done is reported on the error output, with nothing on the output but what `play` has written, and the
 /// beginning that a failed output has taken; so is what was passed over of evidence, or couldn't be kept, behind a page
 /// that was written. Else the error output is as it was. Where the error output fails, nobody is left to be told.
 pub fn run_command<

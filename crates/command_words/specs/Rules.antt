@@ -1,4 +1,4 @@
--- What `clap` is told of a subcommand: a rule for each of its words and options.
+-- How a subcommand is defined for `clap`: a rule for each of its words and options.
 use Rattle.std.specs.Prelude.{◌≡◌, Bool, List, [], ◌∷◌, Some, map, fold, codes, true, false, pos}
 use Rattle.std.specs.Borrow.{Bor}
 use Rattle.clap.specs.Words.{App, Rule, Shape, Text, app_of, new_rule, rule_of, with_rule, with_subcommand}

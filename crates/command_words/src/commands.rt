@@ -1,4 +1,4 @@
-//! What `clap` is told of the words and options of a subcommand.
+//! How the words and options of a subcommand are defined for `clap`.
 
 ghost use Rattle.std.specs.Prelude.{IfOk, map};
 ghost use Rattle.command_words.specs.Options.{numbers_of};

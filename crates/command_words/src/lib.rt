@@ -1,4 +1,4 @@
-//! Words and options of a command line: what `clap` is told of them, and what it has read of them.
+//! Words and options of a command line: how they are defined for `clap`, and what it has read of them.
 //!
 //! A [`Definition`] describes a subcommand by a row for each of its words and options.
 #![tactic(auto)]

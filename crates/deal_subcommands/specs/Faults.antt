@@ -1,4 +1,4 @@
--- Why nothing comes of a layout or an answer: how a run ends with it, and what is told of it.
+-- Why nothing comes of a layout or an answer: the status of such a run, and what is printed of the fault.
 use Rattle.std.specs.Prelude.{ℕ, List, [], ◌++◌, Option, None, Some, Result, Ok, Err, codes}
 use Rattle.streams.specs.declared.inputs.InputFault.{InputFault}
 use Rattle.streams.specs.declared.inputs.InputFault.TheVariants as input

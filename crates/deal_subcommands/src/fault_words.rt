@@ -1,4 +1,4 @@
-//! What is told of a fault.
+//! What is printed of a fault.
 
 ghost use Rattle.std.specs.Prelude.{◌≡◌, ◌++◌};
 ghost use Rattle.cards.specs.Devices.{Writes};

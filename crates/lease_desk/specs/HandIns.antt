@@ -1,4 +1,4 @@
--- What a custody-in tells its chair.
+-- What a hand-in tells its chair.
 use Rattle.std.specs.Prelude.{◌≡◌, ℕ, List, Some, Result}
 use Rattle.cards.specs.Deal.{Deal}
 use Rattle.checker.specs.declared.claims.Claimed.{Claimed}

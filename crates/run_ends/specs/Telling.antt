@@ -1,4 +1,4 @@
--- What is told of a fault, and how a run ends.
+-- What is printed of a fault, and how a run ends.
 use Rattle.std.specs.Prelude.{◌≡◌, ℕ, List, ◌∷◌, ◌++◌, ◌⊎◌, [], Option, None, Some, Result, Ok, Err, codes}
 use Rattle.std.specs.Fmt.{decimal}
 use Rattle.cards.specs.Devices.{Device, Adds, AddsBeginning}
@@ -25,7 +25,7 @@ abbrev pub IsTold : Device → Device → List ℕ → Type 0
 IsTold old new line = Adds old new line ⊎ AddsBeginning old new line
 
 -- How a run ends, by the status of its fault, what is said of it, why a file can't be opened, what explains any other
--- fault, and the name of the file. Nothing is told of a run that did what was asked.
+-- fault, and the name of the file. Nothing is printed of a run that did what was asked.
 abbrev pub Ends : {Fault : Type 0} → (Fault → Status) → (Fault → List ℕ) → (Fault → Option CannotOpen)
     → (Fault → List ℕ) → Option (List ℕ) → Result Status Fault → Device → Device → Status → Type 0
 Ends status_of said_of opening_of explanation_of file (Ok reached) errors errors' status =

@@ -1,7 +1,7 @@
-//! How a run ends, and what is told of why it can't do what was asked.
+//! How a run ends, and what is printed if it can't do what was asked.
 //!
-//! A fault is told on the error output ([`tell`]): a line says what it is, and a second one explains it. The status of
-//! the run says how it ends.
+//! A fault is printed on the error output ([`tell`]): a line says what it is, and a second one explains it. The status
+//! of the run says how it ends.
 #![tactic(auto)]
 
 mod explanations;

@@ -1,4 +1,4 @@
-//! Why PBN texts and layouts are refused, as it is told.
+//! Why PBN texts and layouts are refused, as it is printed.
 
 ghost use Rattle.cards.specs.Devices.{Writes};
 ghost use Rattle.pbn_deals.specs.Faults.{fault_line, fault_text};

@@ -26,7 +26,7 @@ tries_option = record { name = codes "tries"; least = 1; most = 1000; default = 
 abbrev pub batch_option : OptionNumbers
 batch_option = record { name = codes "batch"; least = 1; most = 20; default = codes "20"; is_by_machine = false }
 
--- whether it is told how far the work has come
+-- whether the progress of the work is printed
 abbrev pub progress_option : List ℕ
 progress_option = codes "progress"
 

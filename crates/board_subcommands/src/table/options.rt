@@ -76,7 +76,7 @@ const BATCH: NumberOption = NumberOption {
     help: "How many entries are lent at a time: 1 to 20",
 };
 
-/// Whether it is told how far the work has come.
+/// Whether the progress of the work is printed.
 const PROGRESS: FlagOption = FlagOption {
     name: "progress",
     help: "Tells on the error output how far the work has come, at most once a second and at the end",
