@@ -7,7 +7,8 @@ use Rattle.clap.specs.declared.error.Error.{Error}
 use Rattle.command_line.specs.declared.subcommands.Subcommand.{Subcommand}
 use Rattle.command_line.specs.CommandLine.{command_line}
 use Rattle.command_line.specs.Words.{AreReadBy, AskFor, HasNone, reasons, refusal_kind}
-use Rattle.command_line.specs.Matches.{SaysMatched, exclude_each_other}
+use Rattle.command_line.specs.Subcommands.{SaysMatched}
+use Rattle.command_line.specs.Words.{exclude_each_other}
 use Rattle.command_words.specs.declared.commands.Letters.{Letters}
 
 pub simple : (letters : Letters) → is_simple (command_line letters) ≡ true

@@ -3,7 +3,7 @@ use Rattle.std.proofs.Common.{◌≡◌, ℕ, List, Option, Some, None, option_m
 use Rattle.std.specs.Prelude.{MatchOption, IsSomeAnd}
 use Rattle.clap.specs.Words.{Row, Text}
 use Rattle.command_words.specs.Says.{IsRead}
-use Rattle.command_line.specs.Matches.{Says, SaysMatched}
+use Rattle.command_line.specs.Subcommands.{Says, SaysMatched}
 use Rattle.command_line.specs.declared.subcommands.Subcommand.{Subcommand}
 
 named_rows : {B : Type 0} (f : B → Text) (g : B → List Row) (o : Option B) (name : Text) (rows : List Row)

@@ -16,7 +16,7 @@ use Rattle.command_line.specs.Faults.{told}
 use Rattle.run_ends.specs.Statuses.{status_code}
 use Rattle.run_ends.specs.Telling.{IsTold}
 use Rattle.command_line.specs.Outputs.{EndsStreams, Shows}
-use Rattle.command_line.specs.Runs.{MayOpen, MaySolve, RunsSubcommand}
+use Rattle.command_line.specs.Subcommands.{MayOpen, MaySolve, RunsSubcommand}
 
 -- help or the version is asked for
 abbrev pub IsAsked : ErrorKind → Type 0

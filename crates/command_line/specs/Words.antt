@@ -1,12 +1,14 @@
 -- What the words of a command line ask for.
-use Rattle.std.specs.Prelude.{◌≡◌, ◌⊎◌, ℕ, Bool, true, false, List, [], ◌∷◌, Result, Ok, Err}
-use Rattle.clap.specs.Words.{IsAmong, Kinds, Text, fault_of, kind_of, subcommand_of}
+use Rattle.std.specs.Prelude.{◌≡◌, ◌⊎◌, ◌||◌, ℕ, Bool, true, false, List, [], ◌∷◌, Option, Some, None, Result, Ok, Err}
+use Rattle.clap.specs.Words.{IsAmong, Kinds, Row, Text, fault_of, kind_of, subcommand_of}
 use Rattle.clap.specs.Kinds.{or_else}
 use Rattle.clap.specs.declared.error.Error.{Error}
 use Rattle.clap.specs.declared.error.kind.ErrorKind.{ErrorKind}
 use Rattle.clap.specs.declared.error.kind.ErrorKind.TheVariants.{ArgumentConflict, MissingSubcommand, OutOfMemory}
 use Rattle.command_line.specs.declared.subcommands.Subcommand.{Subcommand}
-use Rattle.command_line.specs.Matches.{SaysMatched, exclude_each_other}
+use Rattle.command_line.specs.Subcommands.{SaysMatched}
+use Rattle.board_subcommands.specs.PageOptions.{asks_for_both}
+use Rattle.deal_subcommands.specs.CardTricks.Options.{names_both_files}
 use Rattle.command_words.specs.Rules.{AreLetters}
 use Rattle.command_line.specs.CommandLine.{command_line}
 use Rattle.command_words.specs.declared.commands.Letters.{Letters}
@@ -22,6 +24,11 @@ AskFor letters words processors asked =
 -- the words ask for nothing
 abbrev pub AskForNothing : Letters → List Text → ℕ → Type 0
 AskForNothing letters words processors = (asked : Subcommand) → AskFor letters words processors asked → ⊥
+
+-- the words have two options that exclude each other: two pages, or two files of evidence
+abbrev pub exclude_each_other : Option (Text × List Row) → Bool
+exclude_each_other None = false
+exclude_each_other (Some matched) = asks_for_both matched.1 || names_both_files matched.1
 
 -- why words that `clap` takes are refused: two options exclude each other, or nothing is asked for
 abbrev pub refusal_kind : Bool → ErrorKind

@@ -1,15 +1,12 @@
 //! The command line as it is defined for `clap`.
 
-ghost use Rattle.std.specs.Prelude.{◌≡◌, IfOk, map};
+ghost use Rattle.std.specs.Prelude.{◌≡◌, IfOk};
 ghost use Rattle.clap.specs.Words.{app_of};
-ghost use Rattle.command_words.specs.Rules.{shape_in};
-ghost use Rattle.command_words.specs.declared.commands.Letters.{Letters};
-ghost use Rattle.command_line.specs.CommandLine.{command_line, program, shapes};
+ghost use Rattle.command_line.specs.CommandLine.{command_line, program};
 
-use board_subcommands::{audit, leads, table};
+use crate::subcommands::definitions;
 use clap::Command;
-use command_words::{Definition, Letters, with_subcommands};
-use deal_subcommands::{card_tricks, check, line, plain, play, solve};
+use command_words::{Letters, with_subcommands};
 use std::alloc::{AllocError, Global};
 
 const ABOUT: &str = "\
@@ -43,23 +40,6 @@ print the tricks after each opening lead of a tournament, and after each card th
 be played.
 
 `ddfarm table --help` tells more of `table`, and so of each command.";
-
-/// The subcommands, in the order of the program's help.
-fn definitions() -> [Definition; 9]
-    ensures { (letters : Letters) → map (shape_in letters) result ≡ shapes letters }
-{
-    [
-        table::definition(),
-        audit::definition(),
-        leads::definition(),
-        solve::definition(),
-        check::definition(),
-        line::definition(),
-        play::definition(),
-        card_tricks::definition(),
-        plain::definition(),
-    ]
-}
 
 /// The command line that is understood.
 pub(crate) fn command<'a>(alloc: Global, letters: Letters<'a>) -> Result<Command<'a>, AllocError>

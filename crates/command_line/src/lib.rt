@@ -5,16 +5,13 @@
 
 mod commands;
 mod faults;
-mod matching;
 mod outputs;
 mod run_commands;
-mod running;
 mod subcommands;
 mod words;
 
 pub use faults::ProgramFault;
 pub use outputs::{close_output, room_for, show};
 pub use run_commands::{run_command, run_program};
-pub use running::run_subcommand;
-pub use subcommands::Subcommand;
+pub use subcommands::{Subcommand, run_subcommand};
 pub use words::parse_arguments;

@@ -9,8 +9,7 @@ ghost use Rattle.command_line.specs.Words.{AreReadAs};
 
 use crate::faults::ProgramFault;
 use crate::outputs::{close_output, show};
-use crate::running::run_subcommand;
-use crate::subcommands::Subcommand;
+use crate::subcommands::{Subcommand, run_subcommand};
 use crate::words::parse_arguments;
 use board_subcommands::table::KeptFiles;
 use cards::{Sink, Source, write_all};

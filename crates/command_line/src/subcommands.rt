@@ -1,12 +1,32 @@
-//! What is asked of a run.
+//! The subcommands: what each asks for, how it is defined, what its words say, and what is done for it.
+
+ghost use Rattle.std.specs.Prelude.{◌≡◌, map};
+ghost use Rattle.clap.specs.Words.{subcommand_rows_of};
+ghost use Rattle.command_words.specs.Rules.{shape_in};
+ghost use Rattle.command_words.specs.Says.{IsRead};
+ghost use Rattle.command_words.specs.declared.commands.Letters.{Letters};
+ghost use Rattle.streams.specs.RunStreams.{devices_of};
+ghost use Rattle.command_line.specs.Subcommands.{RunsSubcommand, SaysMatched, shapes};
 
 use board_subcommands::audit::AuditOptions;
 use board_subcommands::leads::LeadsOptions;
-use board_subcommands::table::TableOptions;
-use command_words::LayoutWords;
-use deal_subcommands::card_tricks::CardsOptions;
+use board_subcommands::table::{KeptFiles, TableOptions};
+use board_subcommands::{audit, leads, table};
+use cards::{Sink, Source};
+use certificate_graph::{CardSolver, Solver};
+use clap::ArgMatches;
+use command_words::{Definition, LayoutWords};
+use deal_subcommands::card_tricks::{CardsOptions, NewFiles};
 use deal_subcommands::play::PlayOptions;
 use deal_subcommands::solve::SolveOptions;
+use deal_subcommands::{card_tricks, check, line, plain, play, solve};
+use farm::{Clock, Means};
+use lease_book::Gate;
+use run_ends::{NamedFiles, Status};
+use std::alloc::Global;
+use std::sync::Wait;
+use std::thread::Threads;
+use streams::Streams;
 
 /// What is asked of a run.
 #[derive(Clone, Copy)]
@@ -29,4 +49,85 @@ pub enum Subcommand<'a> {
     Cards(CardsOptions<'a>),
     /// The tricks of North and South in a layout.
     Plain(LayoutWords<'a>),
+}
+
+/// The subcommands, in the order of the program's help.
+pub(crate) fn definitions() -> [Definition; 9]
+    ensures { (letters : Letters) → map (shape_in letters) result ≡ shapes letters }
+{
+    [
+        table::definition(),
+        audit::definition(),
+        leads::definition(),
+        solve::definition(),
+        check::definition(),
+        line::definition(),
+        play::definition(),
+        card_tricks::definition(),
+        plain::definition(),
+    ]
+}
+
+/// The subcommand that the words name, if the matches have its words. Without the options for the numbers of threads
+/// there are as many as the processors given, 64 at most.
+pub(crate) fn matched_subcommand<'a>(
+    matches: &ArgMatches<'a>,
+    processors: usize,
+) -> Option<Subcommand<'a>>
+    ensures { IsRead (SaysMatched (subcommand_rows_of matches.now) processors) result }
+{
+    let (name, said) = matches.subcommand()?;
+    match name {
+        "table" => table::options_of(said, processors).map(Subcommand::Table),
+        "audit" => audit::options_of(said).map(Subcommand::Audit),
+        "leads" => leads::options_of(said, processors).map(Subcommand::Leads),
+        "solve" => solve::options_of(said).map(Subcommand::Solve),
+        "check" => check::options_of(said).map(Subcommand::Check),
+        "line" => line::options_of(said).map(Subcommand::Line),
+        "play" => play::options_of(said).map(Subcommand::Play),
+        "cards" => card_tricks::options_of(said).map(Subcommand::Cards),
+        "plain" => plain::options_of(said).map(Subcommand::Plain),
+        _ => None,
+    }
+}
+
+/// Does what is asked, and answers how the run ends.
+///
+/// A fault is written on the error output, with a line that explains it. Then the output has nothing but what `play`
+/// has written, and the beginning that a failed output has taken. After a page that was written, the error output has
+/// what was passed over of evidence, the notes, and what could not be read or kept. Otherwise it stays as it was. If it
+/// fails, nobody is left to be told.
+pub fn run_subcommand<
+    P: Solver + CardSolver + Sync,
+    G: Gate + Sync,
+    C: Clock + Sync,
+    I: Source,
+    O: Sink,
+    E: Sink,
+    R: Threads + Wait + Sync + NamedFiles + KeptFiles + NewFiles,
+>(
+    rt: &R,
+    alloc: Global,
+    asked: Subcommand<'_>,
+    means: &Means<'_, P, G, C>,
+    streams: &mut Streams<I, O, E>,
+) -> Status
+    ensures { RunsSubcommand
+        (record { answers = P.may_find means.now.solver.now; cards = P.may_find_cards means.now.solver.now })
+        (C.may_tell means.now.clock.now)
+        (record { to_read = R.may_open rt.now; to_keep = R.may_keep rt.now; to_make = R.may_make rt.now }) asked.entry
+        (devices_of I.state O.state E.state streams.old)
+        (devices_of I.state O.state E.state streams.new) result }
+{
+    match asked {
+        Subcommand::Table(options) => table::run(rt, alloc, options, means, streams),
+        Subcommand::Audit(options) => audit::run(rt, alloc, options, streams),
+        Subcommand::Leads(options) => leads::run(rt, alloc, options, means.solver, streams),
+        Subcommand::Solve(options) => solve::run(alloc, options, means.solver, streams),
+        Subcommand::Check(options) => check::run(alloc, options, streams),
+        Subcommand::Line(options) => line::run(alloc, options, streams),
+        Subcommand::Play(options) => play::run(rt, alloc, options, streams),
+        Subcommand::Cards(options) => card_tricks::run(rt, alloc, options, means.solver, streams),
+        Subcommand::Plain(options) => plain::run(options, streams),
+    }
 }

@@ -1,15 +1,15 @@
 //! The words of a command line.
 
 ghost use Rattle.std.specs.Prelude.{◌≡◌, IfOk, is_some, map};
-ghost use Rattle.clap.specs.Words.{kind_of};
-ghost use Rattle.command_line.specs.Words.{AreReadAs, refusal_kind};
+ghost use Rattle.clap.specs.Words.{kind_of, subcommand_rows_of};
+ghost use Rattle.command_line.specs.Words.{AreReadAs, exclude_each_other, refusal_kind};
 
 use crate::commands::command;
-use crate::matching::{excluded, matched_subcommand};
-use crate::subcommands::Subcommand;
-use clap::Error;
+use crate::subcommands::{Subcommand, matched_subcommand};
 use clap::error::ErrorKind;
+use clap::{ArgMatches, Error};
 use command_words::{Letters, known_letters};
+use deal_subcommands::card_tricks;
 use std::alloc::{AllocError, Global};
 use std::convert::AsStr;
 
@@ -46,5 +46,16 @@ fn refusal<'a>(
     match excluded {
         Some(text) => command.error(ErrorKind::ArgumentConflict, text),
         None => command.error(ErrorKind::MissingSubcommand, "no such command"),
+    }
+}
+
+/// What is said of options that exclude each other, if the words have such.
+fn excluded(matches: &ArgMatches<'_>) -> Option<&'static str>
+    ensures { is_some result ≡ exclude_each_other (subcommand_rows_of matches.now) }
+{
+    let (_, said) = matches.subcommand()?;
+    match board_subcommands::conflict(said) {
+        Some(text) => Some(text),
+        None => card_tricks::conflict(said),
     }
 }

@@ -1,6 +1,7 @@
 use Rattle.std.proofs.Common.{rules, ◌∙◌, List, Option, map, ap, sym, subst}
 use Rattle.clap.specs.Words.{App, HasKind, Row, Text, fault_of, is_simple, is_simple_and_free, subcommand_of}
-use Rattle.command_line.specs.Matches.{SaysMatched, exclude_each_other}
+use Rattle.command_line.specs.Subcommands.{SaysMatched}
+use Rattle.command_line.specs.Words.{exclude_each_other}
 use Rattle.command_line.specs.Words.{refusal_kind}
 use Rattle.command_line.proofs.ReadLemmas.{simple, simple_and_free, none_from, none_without, refused_by}
 use Rattle.command_line.proofs.words.parse_arguments.Goals as goal

@@ -1,6 +1,6 @@
 use Rattle.command_line.proofs.SaysLemmas.{says_matched, of_options}
 use Rattle.command_line.specs.declared.subcommands.Subcommand.TheVariants.{Table, Audit, Leads, Solve, Check, Line, Play, Cards, Plain}
-use Rattle.command_line.proofs.matching.matched_subcommand.Goals as goal
+use Rattle.command_line.proofs.subcommands.matched_subcommand.Goals as goal
 
 pub returns-in-table : goal.returns-in-table
 returns-in-table c = says_matched _ _ _ _ _ _ _ _ c.in_ok-name.ensures.name c.in_ok-name.ensures.rows c.in-table.is
