@@ -2,8 +2,6 @@
 
 mod options;
 mod runs;
-mod words;
 
-pub use options::LeadsOptions;
+pub use options::{LeadsOptions, definition, options_of};
 pub use runs::run;
-pub use words::{definition, options_of};

@@ -1,5 +1,5 @@
 use Rattle.command_words.proofs.SaysLemmas.{nothing_read}
-use Rattle.board_subcommands.proofs.leads.words.options_of.Goals as goal
+use Rattle.board_subcommands.proofs.leads.options.options_of.Goals as goal
 
 pub returns-in_err-solvers : goal.returns-in_err-solvers
 returns-in_err-solvers c = nothing_read _ _ c.from_residual.ensures (λ read said. c.in_err-solvers.ensures read.solvers said.0)
