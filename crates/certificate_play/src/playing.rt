@@ -177,8 +177,8 @@ impl<'a> Playing<'a> {
     }
 
     /// The side's card at its turn: the last legal card that a certificate names by which the promise is kept. Once the
-    /// promised tricks are won it may be the last of all legal cards. It is the card that [`Playing::answer`] plays, but
-    /// only tests show that.
+    /// promised tricks are won it may be the last of all legal cards. It is the card that [`Playing::answer`] plays,
+    /// but only tests show that.
     #[tactic(auto, unfolding(crate::specs::OwnCards::IsAnswer))]
     pub fn next_card(&self) -> Card
         requires goes_on { GoesOn self.now }

@@ -1,5 +1,5 @@
-//! Laws of certificates: of their texts, of patterns and their cards, and of the checker's steps and faults. Nothing that
-//! runs rests on this crate.
+//! Laws of certificates: of their texts, of patterns and their cards, and of the checker's steps and faults. Nothing
+//! that runs rests on this crate.
 #![tactic(auto)]
 
 mod graph_texts;

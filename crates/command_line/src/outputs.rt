@@ -16,8 +16,8 @@ use streams::{Streams, WriterSink};
 /// How many bytes of the output are held back at the most.
 const ROOM: usize = 8192;
 
-/// How many bytes of the output may be held back, by what was read of the words: none where `play` asks for cards, since
-/// each text has to be there before a line is read.
+/// How many bytes of the output may be held back, by what was read of the words: none where `play` asks for cards,
+/// since each text has to be there before a line is read.
 pub fn room_for(read: &Result<Subcommand<'_>, Error>) -> usize
     ensures { result ≡ room_for read.now }
 {

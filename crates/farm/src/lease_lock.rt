@@ -2,8 +2,8 @@
 
 use std::sync::{Mutex, MutexGuard, Wait};
 
-/// The lock of a round, beside the desk. The lender holds it while it leases a batch, and a solver while it gives up the
-/// leases of a group. So no batch is leased while a part of a group is still to be given up.
+/// The lock of a round, beside the desk. The lender holds it while it leases a batch, and a solver while it gives up
+/// the leases of a group. So no batch is leased while a part of a group is still to be given up.
 #[derive(Drop)]
 pub(crate) struct LeaseLock {
     taken: Mutex<()>,

@@ -50,10 +50,10 @@ fn work_through<S: Solver + Sync, G: Gate + Sync, C: Clock + Sync, R: Threads + 
 /// Has threads work through a book, whatever its history. Returns the book when no lease is held and each entry whose
 /// board has a deal has a number, or was leased as often as it may be.
 ///
-/// The threads work in rounds, whose sizes are in [`Settings`]. In a round the lender leases entries until none is open,
-/// and the solvers' answers are checked and handed in. When all threads have ended, nothing is on its way any more. Leases
-/// that were left behind are given up, and another round begins if an entry is open, such as one whose claim was
-/// refused at the end.
+/// The threads work in rounds, whose sizes are in [`Settings`]. In a round the lender leases entries until none is
+/// open, and the solvers' answers are checked and handed in. When all threads have ended, nothing is on its way any
+/// more. Leases that were left behind are given up, and another round begins if an entry is open, such as one whose
+/// claim was refused at the end.
 ///
 /// The gate is called for the numbers that the book has published before the first round.
 pub fn resume_farm<S: Solver + Sync, G: Gate + Sync, C: Clock + Sync, R: Threads + Wait + Sync>(

@@ -1,8 +1,8 @@
 //! The tables of boards as a PBN text.
 //!
-//! [`write_tables`] writes the boards of a [`Results`] with the results that are known of them, [`write_section`] the par
-//! and the table of one board, [`write_deal`] its Deal tag. They take no memory. After a fault of the sink a beginning
-//! of the text has been written.
+//! [`write_tables`] writes the boards of a [`Results`] with the results that are known of them, [`write_section`] the
+//! par and the table of one board, [`write_deal`] its Deal tag. They take no memory. After a fault of the sink a
+//! beginning of the text has been written.
 #![tactic(auto)]
 
 mod all_tables;

@@ -123,9 +123,9 @@ fn write_games<T: Results, S: Sink>(
     Ok(())
 }
 
-/// Writes a text whose boards are those of the results, with their tables in place of those that it has. Answers how many
-/// boards there are and how many of their tables are complete. After a fault of the sink a beginning of the text is
-/// written. Takes no memory. A text in which a comment is open at the end has no lines, and no caller has one: it is
+/// Writes a text whose boards are those of the results, with their tables in place of those that it has. Answers how
+/// many boards there are and how many of their tables are complete. After a fault of the sink a beginning of the text
+/// is written. Takes no memory. A text in which a comment is open at the end has no lines, and no caller has one: it is
 /// refused when its boards are read.
 pub fn write_whole<T: Results, S: Sink>(
     text: &[u8],

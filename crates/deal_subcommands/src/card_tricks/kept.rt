@@ -86,8 +86,8 @@ fn find_section<P: CardSolver>(
     }
 }
 
-/// Returns the values of the cards that may be played, as [`find_cards`](crate::card_tricks::find_cards) does, with the text of
-/// their evidence.
+/// Returns the values of the cards that may be played, as [`find_cards`](crate::card_tricks::find_cards) does, with the
+/// text of their evidence.
 pub fn find_kept<P: CardSolver>(
     alloc: Global,
     options: CardsOptions<'_>,

@@ -25,8 +25,8 @@ use run_ends::{Status, end};
 use std::alloc::Global;
 use streams::Streams;
 
-/// Reads an answer to its end, checks it as [`check_answer`](crate::check::check_answer) does, and writes the verdict; behind
-/// one that accepts, a line of play in which each side has just the tricks that were shown for it.
+/// Reads an answer to its end, checks it as [`check_answer`](crate::check::check_answer) does, and writes the verdict;
+/// behind one that accepts, a line of play in which each side has just the tricks that were shown for it.
 ///
 /// Refuses bytes that spell no layout before anything is read, and a text whose first line is not a result line.
 /// Nothing was written after any fault but a failed output, and after that one a beginning of the text.

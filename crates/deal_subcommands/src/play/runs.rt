@@ -39,9 +39,9 @@ pub(crate) fn read_file<R: NamedFiles>(
     }
 }
 
-/// Reads the answer in the file that is named, checks it as [`check_answer`](crate::check::check_answer) does, and where it is
-/// accepted plays for the side that is asked for by its certificate, against the cards that are typed. A refused answer
-/// has its verdict written.
+/// Reads the answer in the file that is named, checks it as [`check_answer`](crate::check::check_answer) does, and
+/// where it is accepted plays for the side that is asked for by its certificate, against the cards that are typed. A
+/// refused answer has its verdict written.
 pub fn play_answer<R: NamedFiles, I: Source, O: Sink>(
     rt: &R,
     alloc: Global,
