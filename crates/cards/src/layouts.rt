@@ -55,7 +55,8 @@ impl Model for Layout {
     ghost use Rattle.cards.specs.SameDeal.{words_of_deal_of_words};
     ghost use Rattle.std.proofs.Common.{ap};
 
-    ghost inverse_ok = { λ layout dealt. ap (λ hands. record { hands = hands }) (words_of_deal_of_words layout.hands dealt) };
+    ghost inverse_ok = { λ layout dealt. ap (λ hands. record { hands = hands })
+        (words_of_deal_of_words layout.hands dealt) };
 }
 
 impl PartialEq for Layout {

@@ -2,7 +2,8 @@
 
 ghost use Rattle.std.specs.Prelude.{IfOk, map};
 ghost use Rattle.command_words.specs.Options.{numbers_of};
-ghost use Rattle.command_words.specs.Rules.{AddsRules, AddsShapes, AreLetters, IsArg, IsLeaf, KeepsShape, choice, choice_rule};
+ghost use Rattle.command_words.specs.Rules.{AddsRules, AddsShapes, AreLetters, IsArg, IsLeaf, KeepsShape, choice};
+ghost use Rattle.command_words.specs.Rules.{choice_rule};
 ghost use Rattle.command_words.specs.Rules.{flag, number_rule, optional_word, rule_in, shape_in, text_rule, word};
 
 use crate::definitions::{Argument, Definition, Word};

@@ -5,7 +5,8 @@ ghost use Rattle.clap.specs.Words.{first_of, found_of, rows_of};
 ghost use Rattle.cards.specs.Seats.{seat_letter};
 ghost use Rattle.cards.specs.Pack.{trump_letters};
 ghost use Rattle.command_words.specs.Options.{numbers_of};
-ghost use Rattle.command_words.specs.Says.{IsRead, SaysDeal, SaysNumber, SaysThreads, flag_letters, is_said, named_boards};
+ghost use Rattle.command_words.specs.Says.{IsRead, SaysDeal, SaysNumber, SaysThreads, flag_letters, is_said};
+ghost use Rattle.command_words.specs.Says.{named_boards};
 
 use crate::kinds::NumberOption;
 use cards::{Seat, Trump};

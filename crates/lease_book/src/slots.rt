@@ -114,7 +114,8 @@ impl Model for Slots {
 
     ghost view = { λ all. all.slots.items };
 
-    ghost invariant = { λ all. (all.deadlines ≡ map deadline_of all.slots.items) × (all.openings ≡ map opening_of all.slots.items) };
+    ghost invariant = { λ all. (all.deadlines ≡ map deadline_of all.slots.items)
+        × (all.openings ≡ map opening_of all.slots.items) };
 }
 
 impl Slots {

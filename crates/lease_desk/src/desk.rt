@@ -22,6 +22,9 @@ pub struct Desk {
     /// The book of a desk of no chairs, and else nothing.
     pub(crate) idle: Vec<Book>,
     pub(crate) ghost idle_is: { idle.items ≡ (if nat_eq chairs 0
-        then (record { terms = record { boards = boards.items; term = term; tries = tries }; events = start.value.events }) ∷ []
+        then (record {
+          terms = record { boards = boards.items; term = term; tries = tries };
+          events = start.value.events;
+        }) ∷ []
         else []) },
 }

@@ -45,7 +45,8 @@ impl Results for BookResults<'_> {
 
     ghost renews_of = { λ results. results.renews };
 
-    ghost printed_of = { λ results. printed_with results.pars (book_results results.book.terms.boards results.book.events) };
+    ghost printed_of = { λ results. printed_with results.pars
+        (book_results results.book.terms.boards results.book.events) };
 
     fn renews(&self) -> Renews {
         self.renews

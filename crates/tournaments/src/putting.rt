@@ -85,8 +85,8 @@ fn put_form<O: Sink>(
     output: &mut O,
 ) -> Result<Report, MakeFault>
     requires boards { TextAnswers text.now (Ok results.now.book.terms.boards) }
-    ensures { PutsPage (form_fact form results.now.renews results.now.pars) text.now results.now.book (O.state output.old)
-        (O.state output.new) result }
+    ensures { PutsPage (form_fact form results.now.renews results.now.pars) text.now results.now.book
+        (O.state output.old) (O.state output.new) result }
 {
     match form {
         PageForm::Tables => put_tables(results, output),
