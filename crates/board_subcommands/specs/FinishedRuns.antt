@@ -14,6 +14,7 @@ use Rattle.run_ends.specs.declared.statuses.Status.{Status}
 use Rattle.board_subcommands.specs.Counted.{counted}
 use Rattle.board_subcommands.specs.Notes.{quiet_notes}
 use Rattle.run_ends.specs.Telling.{IsTold}
+use Rattle.cards.specs.Bytes as ascii
 
 -- nothing was passed over
 abbrev pub undamaged : Damage
@@ -31,7 +32,8 @@ counted_text count =
 
 -- the line: how many pieces were passed over, and where the first begins
 abbrev pub damage_line : Damage → List ℕ
-damage_line damage = codes "ddfarm: evidence: " ++ (counted_text damage.count ++ (decimal damage.first ++ 10 ∷ []))
+damage_line damage =
+    codes "ddfarm: evidence: " ++ (counted_text damage.count ++ (decimal damage.first ++ ascii.line_feed ∷ []))
 
 -- the error output has the line, where any piece was passed over, and else is as it was
 abbrev pub TellsDamage : Damage → Device → Device → Type 0

@@ -8,6 +8,7 @@ use Rattle.board_subcommands.specs.declared.notes.Lacking.TheVariants.{Nothing, 
 use Rattle.board_subcommands.specs.declared.notes.Notes.{Notes}
 use Rattle.board_subcommands.specs.Counted.{counted}
 use Rattle.run_ends.specs.Telling.{IsTold}
+use Rattle.cards.specs.Bytes as ascii
 
 -- nothing is said
 abbrev pub quiet_notes : Notes
@@ -17,19 +18,21 @@ quiet_notes = record { lacks_boards = false; undealt = 0; read_only = false; lac
 -- no board was found
 abbrev pub no_board_text : List ℕ
 no_board_text =
-    codes "ddfarm: note: no board was found" ++ 10
-    ∷ codes "  the input has to be plain text in PBN, not UTF-16, and its lines have to end by LF or CR LF" ++ 10 ∷ []
+    codes "ddfarm: note: no board was found" ++ ascii.line_feed
+    ∷ codes "  the input has to be plain text in PBN, not UTF-16, and its lines have to end by LF or CR LF"
+    ++ ascii.line_feed ∷ []
 
 -- boards have no deal
 abbrev pub undealt_text : ℕ → List ℕ
 undealt_text count =
     codes "ddfarm: note: "
     ++ (counted count (codes "1 board has") (codes " boards have")
-    ++ (codes " no deal, so there is no table" ++ 10 ∷ []))
+    ++ (codes " no deal, so there is no table" ++ ascii.line_feed ∷ []))
 
 -- a file of evidence can only be read
 abbrev pub read_only_text : List ℕ
-read_only_text = codes "ddfarm: note: evidence: the file can only be read, so nothing is added to it" ++ 10 ∷ []
+read_only_text =
+    codes "ddfarm: note: evidence: the file can only be read, so nothing is added to it" ++ ascii.line_feed ∷ []
 
 -- how many tables are incomplete, as the beginning of a note
 abbrev pub counted_tables : ℕ → List ℕ
@@ -43,7 +46,8 @@ counts_text searches =
     counted searches.steps (codes "1 search ran out of steps, ") (codes " searches ran out of steps, ")
     ++ (decimal searches.memory
     ++ (codes " out of memory, "
-    ++ (counted searches.refused (codes "1 answer was refused") (codes " answers were refused") ++ 10 ∷ [])))
+    ++ (counted searches.refused (codes "1 answer was refused") (codes " answers were refused")
+    ++ ascii.line_feed ∷ [])))
 
 -- a text, if it holds
 abbrev pub text_if : Bool → List ℕ → List ℕ
@@ -61,7 +65,7 @@ memory_advice count = text_if (nat_lt 0 count) (codes "; use fewer --solvers or 
 abbrev pub advice_line : Searches → List ℕ
 advice_line searches =
     codes "  each missing result was tried as often as --tries says"
-    ++ (steps_advice searches.steps ++ (memory_advice searches.memory ++ 10 ∷ []))
+    ++ (steps_advice searches.steps ++ (memory_advice searches.memory ++ ascii.line_feed ∷ []))
 
 -- tables are incomplete after searches
 abbrev pub searched_text : ℕ → Searches → List ℕ
@@ -72,7 +76,7 @@ abbrev pub unshown_text : ℕ → List ℕ
 unshown_text tables =
     counted_tables tables
     ++ (codes "the evidence does not show all results" ++ 10
-    ∷ codes "  table --evidence searches the rest and adds it to the file" ++ 10 ∷ [])
+    ∷ codes "  table --evidence searches the rest and adds it to the file" ++ ascii.line_feed ∷ [])
 
 -- ---- what is printed
 -- a text, if it holds

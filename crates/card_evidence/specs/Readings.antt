@@ -8,6 +8,7 @@ use Rattle.pbn_deals.specs.Reading.{Lacks}
 use Rattle.certificate_graph.specs.declared.card_claims.CardClaim.{CardClaim}
 use Rattle.card_evidence.specs.Sections.{CardSectionShape, IsKeptClaim}
 use Rattle.card_evidence.specs.SectionTexts.{line_text, claims_text, IsTextOf}
+use Rattle.cards.specs.Bytes as ascii
 
 -- the section whose text it is, or that it is the text of none
 abbrev pub SaysCardSection : List ℕ → Option CardSectionShape → Type 0
@@ -28,8 +29,8 @@ ReadsWord Is spelled word None = (value : _) → Is value → word ≢ spelled v
 -- A text begins with a line of this name. The reader returns the line's word and the rest of the text, or nothing if it
 -- begins with no such line.
 abbrev pub ReadsLine : List ℕ → List ℕ → Option (Bor (List ℕ) × Bor (List ℕ)) → Type 0
-ReadsLine name text (Some found) = Lacks 10 found.0.now × (text ≡ line_text name found.0.now found.1.now)
-ReadsLine name text None = (word rest : List ℕ) → Lacks 10 word → text ≢ line_text name word rest
+ReadsLine name text (Some found) = Lacks ascii.line_feed found.0.now × (text ≡ line_text name found.0.now found.1.now)
+ReadsLine name text None = (word rest : List ℕ) → Lacks ascii.line_feed word → text ≢ line_text name word rest
 
 -- the text is that of some cards, which were added to those before
 pub record AddsCards (text : List ℕ) (old new : List Card) : Type 0 where

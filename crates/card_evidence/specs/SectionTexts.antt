@@ -12,10 +12,11 @@ use Rattle.certificate_graph.specs.declared.card_claims.CardClaim.{CardClaim}
 use Rattle.certificate_graph.specs.Texts.{trump_text, node_text}
 use Rattle.evidence.specs.SectionTexts.{deal_line, count_line, graphs_text}
 use Rattle.card_evidence.specs.Sections.{CardSectionShape, IsCardSection}
+use Rattle.cards.specs.Bytes as ascii
 
 -- a name, a word and the end of a line
 abbrev pub line_text : List ℕ → List ℕ → List ℕ → List ℕ
-line_text name word rest = name ++ (word ++ (10 ∷ rest))
+line_text name word rest = name ++ (word ++ (ascii.line_feed ∷ rest))
 
 -- ---- the trick in progress
 -- the first line, which names the form

@@ -7,6 +7,7 @@ use Rattle.play_rules.specs.Legal.{seat_to_play}
 use Rattle.cards.specs.CardTexts.{card_text}
 use Rattle.card_values.specs.declared.values.CardValue.{CardValue}
 use Rattle.card_values.specs.CardValues.{ShownValues}
+use Rattle.cards.specs.Bytes as ascii
 
 -- the numbers of tricks, the most first
 abbrev pub falling_counts : List ℕ
@@ -17,7 +18,7 @@ is_worth tricks value = nat_eq value.tricks tricks
 
 -- a card after a blank, if it leads to this many tricks
 abbrev pub card_if_worth : ℕ → CardValue → List ℕ
-card_if_worth tricks value = if is_worth tricks value then 32 ∷ card_text value.card else []
+card_if_worth tricks value = if is_worth tricks value then ascii.blank ∷ card_text value.card else []
 
 -- the cards that lead to this many tricks
 unfoldable pub cards_worth : List CardValue → ℕ → List ℕ

@@ -8,3 +8,4 @@ pub mod Memory
 pub mod FromHands
 pub mod Orders
 pub mod SameDeal
+pub mod Bytes

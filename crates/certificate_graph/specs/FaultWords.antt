@@ -5,10 +5,11 @@ use Rattle.certificate_graph.specs.declared.faults.TextFault.{TextFault}
 use Rattle.certificate_graph.specs.declared.faults.TextFault.TheVariants.{Head, NodeForm, BadPattern, ChildNumber}
 use Rattle.certificate_graph.specs.declared.faults.TextFault.TheVariants.{Count}
 use Rattle.certificate_graph.specs.declared.faults.TextFault.TheVariants.{TooLarge, OutOfMemory}
+use Rattle.cards.specs.Bytes as ascii
 
 -- a number, a blank and a name, as in `2 NodeForm`
 abbrev pub numbered : ℕ → List ℕ → List ℕ
-numbered number name = decimal number ++ 32 ∷ name
+numbered number name = decimal number ++ ascii.blank ∷ name
 
 abbrev pub fault_number : TextFault → ℕ
 fault_number (Head line) = 1

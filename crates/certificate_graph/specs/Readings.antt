@@ -19,6 +19,7 @@ use Rattle.certificate_graph.specs.LineForms.{IsSuitForm, IsPatternForm, IsTreeF
 use Rattle.certificate_graph.specs.Texts.{card_text, child_text, more_children_text, children_text, tree_text}
 use Rattle.certificate_graph.specs.Texts.{branches_text, owners_text, suit_text, pattern_text, claim_text, nodes_text}
 use Rattle.certificate_graph.specs.Texts.{count_text}
+use Rattle.cards.specs.Bytes as ascii
 
 -- a text that begins with no digit
 abbrev pub StopsDigits : List ℕ → Type 0
@@ -147,7 +148,7 @@ LacksReply room text = (tree : TrickTree) (rest : List ℕ) → BeginsReply room
 -- at most so many owners, and a blank
 abbrev pub LacksOwners : ℕ → List ℕ → Type 0
 LacksOwners room text =
-    (owners : List Seat) (rest : List ℕ) → length owners ≤ room → text ≡ owners_text owners (32 ∷ rest) → ⊥
+    (owners : List Seat) (rest : List ℕ) → length owners ≤ room → text ≡ owners_text owners (ascii.blank ∷ rest) → ⊥
 
 -- two lengths before these bytes
 pub record BeginsTwo (first second : ℕ) (text : List ℕ) (one other : ℕ) (rest : List ℕ) : Type 0 where
@@ -171,7 +172,7 @@ LacksLens text = (lens rest : List ℕ) → BeginsLens text lens rest → ⊥
 -- a suit and a blank
 pub record BeginsSuit (text : List ℕ) (suit : SuitShape) (rest : List ℕ) : Type 0 where
   pub form : IsSuitForm suit
-  pub is : text ≡ suit_text suit (32 ∷ rest)
+  pub is : text ≡ suit_text suit (ascii.blank ∷ rest)
 
 abbrev pub LacksSuit : List ℕ → Type 0
 LacksSuit text = (suit : SuitShape) (rest : List ℕ) → BeginsSuit text suit rest → ⊥
@@ -180,7 +181,7 @@ LacksSuit text = (suit : SuitShape) (rest : List ℕ) → BeginsSuit text suit r
 pub record BeginsTwoSuits (text : List ℕ) (first second : SuitShape) (rest : List ℕ) : Type 0 where
   pub form : IsSuitForm first
   pub also : IsSuitForm second
-  pub is : text ≡ suit_text first (32 ∷ suit_text second (32 ∷ rest))
+  pub is : text ≡ suit_text first (ascii.blank ∷ suit_text second (ascii.blank ∷ rest))
 
 abbrev pub LacksTwoSuits : List ℕ → Type 0
 LacksTwoSuits text = (first second : SuitShape) (rest : List ℕ) → BeginsTwoSuits text first second rest → ⊥
@@ -188,7 +189,7 @@ LacksTwoSuits text = (first second : SuitShape) (rest : List ℕ) → BeginsTwoS
 -- a pattern and a blank
 pub record BeginsPattern (text : List ℕ) (pattern : Shape) (rest : List ℕ) : Type 0 where
   pub form : IsPatternForm pattern
-  pub is : text ≡ pattern_text pattern (32 ∷ rest)
+  pub is : text ≡ pattern_text pattern (ascii.blank ∷ rest)
 
 abbrev pub LacksPattern : List ℕ → Type 0
 LacksPattern text = (pattern : Shape) (rest : List ℕ) → BeginsPattern text pattern rest → ⊥

@@ -17,12 +17,13 @@ use Rattle.certificate_graph.specs.declared.versions.Version.{Version}
 use Rattle.certificate_graph.specs.declared.versions.Version.TheVariants.{One, Two}
 use Rattle.certificate_graph.specs.Trees.{TrickTree, Own, Reply, Leaf, Branches, NoBranch, Branch}
 use Rattle.certificate_graph.specs.Graphs.{GraphShape}
+use Rattle.cards.specs.Bytes as ascii
 
 -- ---- a tree
 -- a card: the letter of its suit, and `a` to `m` for a top, or `x`
 abbrev pub card_text : PatCard → List ℕ → List ℕ
 card_text (Top suit place) rest = suit_letter suit ++ ((97 + place) ∷ rest)
-card_text (Low suit) rest = suit_letter suit ++ (120 ∷ rest)
+card_text (Low suit) rest = suit_letter suit ++ (ascii.small_x ∷ rest)
 
 -- a child: the letter of its seat, and the number of the node
 abbrev pub child_text : Child → List ℕ → List ℕ
@@ -30,12 +31,12 @@ child_text child rest = seat_letter child.winner ++ (decimal child.number ++ res
 
 -- children that follow another one, each after a blank, and the closing brace
 abbrev pub more_children_text : List Child → List ℕ → List ℕ
-more_children_text [] rest = 125 ∷ rest
-more_children_text (child ∷ more) rest = 32 ∷ child_text child (more_children_text more rest)
+more_children_text [] rest = ascii.close_brace ∷ rest
+more_children_text (child ∷ more) rest = ascii.blank ∷ child_text child (more_children_text more rest)
 
 -- children with a blank between two, and the closing brace
 abbrev pub children_text : List Child → List ℕ → List ℕ
-children_text [] rest = 125 ∷ rest
+children_text [] rest = ascii.close_brace ∷ rest
 children_text (child ∷ more) rest = child_text child (more_children_text more rest)
 
 -- a tree: a card of the side and what follows it; the opponents' cards, each with what follows it, in parentheses; or
@@ -43,11 +44,11 @@ children_text (child ∷ more) rest = child_text child (more_children_text more 
 abbrev mutual
   pub tree_text : TrickTree → List ℕ → List ℕ
   tree_text (Own card tree) rest = card_text card (tree_text tree rest)
-  tree_text (Reply branches) rest = 40 ∷ branches_text branches rest
-  tree_text (Leaf children) rest = 123 ∷ children_text children rest
+  tree_text (Reply branches) rest = ascii.open_paren ∷ branches_text branches rest
+  tree_text (Leaf children) rest = ascii.open_brace ∷ children_text children rest
 
   pub branches_text : Branches → List ℕ → List ℕ
-  branches_text NoBranch rest = 41 ∷ rest
+  branches_text NoBranch rest = ascii.close_paren ∷ rest
   branches_text (Branch card tree more) rest = card_text card (tree_text tree (branches_text more rest))
 
 -- ---- a pattern
@@ -58,23 +59,26 @@ owners_text (owner ∷ more) rest = seat_letter owner ++ owners_text more rest
 -- a suit: four lengths joined by dots, a slash, and the owners
 abbrev pub suit_text : SuitShape → List ℕ → List ℕ
 suit_text suit rest =
-    decimal (len_of suit North) ++ (46 ∷ (decimal (len_of suit East) ++ (46 ∷ (decimal (len_of suit South) ++
-    (46 ∷ (decimal (len_of suit West) ++ (47 ∷ owners_text suit.owners rest)))))))
+    decimal (len_of suit North) ++ (ascii.dot ∷ (decimal (len_of suit East) ++ (ascii.dot ∷
+    (decimal (len_of suit South) ++ (ascii.dot ∷
+    (decimal (len_of suit West) ++ (ascii.slash ∷ owners_text suit.owners rest)))))))
 
 -- four suits with a blank between two
 abbrev pub pattern_text : Shape → List ℕ → List ℕ
 pattern_text shape rest =
-    suit_text shape.spades (32 ∷ suit_text shape.hearts
-    (32 ∷ suit_text shape.diamonds (32 ∷ suit_text shape.clubs rest)))
+    suit_text shape.spades (ascii.blank ∷ suit_text shape.hearts
+    (ascii.blank ∷ suit_text shape.diamonds (ascii.blank ∷ suit_text shape.clubs rest)))
 
 -- ---- lines
 -- a lead and a need, with a blank after each
 abbrev pub claim_text : Seat → ℕ → List ℕ → List ℕ
-claim_text lead need rest = seat_letter lead ++ (32 ∷ (decimal need ++ (32 ∷ rest)))
+claim_text lead need rest = seat_letter lead ++ (ascii.blank ∷ (decimal need ++ (ascii.blank ∷ rest)))
 
 -- a node: its lead, its need, its pattern and its tree, with a blank between two, on a line
 abbrev pub node_text : Node → List ℕ → List ℕ
-node_text node rest = claim_text node.lead node.need (pattern_text node.pattern (32 ∷ tree_text node.tree (10 ∷ rest)))
+node_text node rest =
+    claim_text node.lead node.need
+    (pattern_text node.pattern (ascii.blank ∷ tree_text node.tree (ascii.line_feed ∷ rest)))
 
 abbrev pub nodes_text : List Node → List ℕ → List ℕ
 nodes_text [] rest = rest
@@ -87,16 +91,16 @@ version_digit Two = codes "2"
 
 -- the first four lines
 abbrev pub title_text : Version → List ℕ → List ℕ
-title_text version rest = codes "DDC " ++ (version_digit version ++ (10 ∷ rest))
+title_text version rest = codes "DDC " ++ (version_digit version ++ (ascii.line_feed ∷ rest))
 
 abbrev pub trump_text : Trump → List ℕ → List ℕ
-trump_text trump rest = codes "trump " ++ (trump_letters trump ++ (10 ∷ rest))
+trump_text trump rest = codes "trump " ++ (trump_letters trump ++ (ascii.line_feed ∷ rest))
 
 abbrev pub side_text : Side → List ℕ → List ℕ
-side_text side rest = codes "side " ++ (side_letters side ++ (10 ∷ rest))
+side_text side rest = codes "side " ++ (side_letters side ++ (ascii.line_feed ∷ rest))
 
 abbrev pub count_text : List ℕ → List ℕ → List ℕ
-count_text digits rest = codes "nodes " ++ (digits ++ (10 ∷ rest))
+count_text digits rest = codes "nodes " ++ (digits ++ (ascii.line_feed ∷ rest))
 
 -- a graph: the title with its version, the trump, the side, the number of nodes, and the nodes
 abbrev pub graph_text : GraphShape → List ℕ

@@ -14,6 +14,7 @@ use Rattle.checker.specs.declared.entry_faults.EntryFault.{EntryFault}
 use Rattle.checker.specs.declared.entry_faults.EntryFault.TheVariants.{Declarer, Defenders, KTooLarge}
 use Rattle.checker.specs.declared.hand_faults.HandFault.{HandFault}
 use Rattle.checker.specs.declared.hand_faults.HandFault.TheVariants.{Entry, DeclarerText, DefendersText, NoDeal}
+use Rattle.cards.specs.Bytes as ascii
 
 abbrev pub step_fault_number : StepFault → ℕ
 step_fault_number CardNotLegal = 1
@@ -62,11 +63,11 @@ step_fault_text fault = numbered (step_fault_number fault) (step_fault_name faul
 
 -- `i n Name`, after the number of the node
 abbrev pub node_fault_text : NodeFault → List ℕ
-node_fault_text fault = decimal fault.number ++ 32 ∷ step_fault_text fault.fault
+node_fault_text fault = decimal fault.number ++ ascii.blank ∷ step_fault_text fault.fault
 
 -- the node, after the name of a fault that names one
 abbrev pub after_part : PartFault → List ℕ
-after_part (Node fault) = 32 ∷ node_fault_text fault
+after_part (Node fault) = ascii.blank ∷ node_fault_text fault
 after_part _ = []
 
 -- `n Name`, or `8 Node i n Name`

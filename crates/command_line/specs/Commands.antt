@@ -17,6 +17,7 @@ use Rattle.run_ends.specs.Statuses.{status_code}
 use Rattle.run_ends.specs.Telling.{IsTold}
 use Rattle.command_line.specs.Outputs.{EndsStreams, Shows}
 use Rattle.command_line.specs.Subcommands.{MayOpen, MaySolve, RunsSubcommand}
+use Rattle.cards.specs.Bytes as ascii
 
 -- help or the version is asked for
 abbrev pub IsAsked : ErrorKind → Type 0
@@ -24,12 +25,12 @@ IsAsked kind = (kind ≡ kinds.DisplayHelp) ⊎ (kind ≡ kinds.DisplayVersion)
 
 -- a line at least, and each is ended
 abbrev pub AreLines : List ℕ → Type 0
-AreLines text = (beginning : List ℕ) × (text ≡ beginning ++ 10 ∷ [])
+AreLines text = (beginning : List ℕ) × (text ≡ beginning ++ ascii.line_feed ∷ [])
 
 -- what is said, with the end of its last line, which may be missing
 pub record IsInLines (said lines : List ℕ) : Type 0 where
   pub ended : AreLines said → lines ≡ said
-  pub unended : (AreLines said → ⊥) → lines ≡ said ++ 10 ∷ []
+  pub unended : (AreLines said → ⊥) → lines ≡ said ++ ascii.line_feed ∷ []
 
 -- whole lines, which say what is said, where that is known
 abbrev pub AreLinesOf : Option (List ℕ) → List ℕ → Type 0
@@ -48,7 +49,7 @@ ShowsHelp None old new status = TellsNoMemory old new status
 -- What is printed of refused words: the lines of why. If memory ran out for those, only that the words are refused.
 abbrev pub refusal_lines : Option (List ℕ) → List ℕ
 refusal_lines (Some lines) = lines
-refusal_lines None = codes "ddfarm: the command line is refused" ++ 10 ∷ []
+refusal_lines None = codes "ddfarm: the command line is refused" ++ ascii.line_feed ∷ []
 
 abbrev pub TellsRefusal : Option (List ℕ) → Device → Device → Status → Type 0
 TellsRefusal lines errors errors' status = (status ≡ Refused) × IsTold errors errors' (refusal_lines lines)

@@ -1,10 +1,11 @@
 -- The text of an answer: its result, and the texts of two certificates.
 use Rattle.std.specs.Prelude.{◌≡◌, ◌≢◌, ℕ, ◌-◌, ◌≤◌, List, [], ◌∷◌, ◌++◌, length, slice_get, Some, codes, ◌⊎◌}
 use Rattle.std.specs.Fmt.{decimal}
+use Rattle.cards.specs.Bytes as ascii
 
 -- a number and a line feed before a text
 abbrev pub number_line : ℕ → List ℕ → List ℕ
-number_line number rest = decimal number ++ 10 ∷ rest
+number_line number rest = decimal number ++ ascii.line_feed ∷ rest
 
 -- the first line, and what stands after it
 abbrev pub result_text : ℕ → List ℕ → List ℕ
@@ -20,7 +21,7 @@ HasNoEmptyLine text = (place : ℕ) → IsEmptyLine text place → ⊥
 
 -- the first empty line stands between the texts: the text for declarer's side goes to the end of the line before it
 pub record IsCut (body declarers defenders : List ℕ) : Type 0 where
-  pub is : body ≡ declarers ++ 10 ∷ defenders
+  pub is : body ≡ declarers ++ ascii.line_feed ∷ defenders
   pub empty : IsEmptyLine body (length declarers)
   pub first : HasNoEmptyLine declarers
 

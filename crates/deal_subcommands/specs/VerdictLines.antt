@@ -6,6 +6,7 @@ use Rattle.checker.specs.declared.entries.Shown.{Shown}
 use Rattle.checker.specs.FaultWords.{hand_fault_text}
 use Rattle.run_ends.specs.declared.statuses.Status.{Status}
 use Rattle.run_ends.specs.declared.statuses.Status.TheVariants.{Done, Rejected}
+use Rattle.cards.specs.Bytes as ascii
 
 -- what is said of a verdict
 abbrev pub verdict_text : Result Shown HandFault → List ℕ
@@ -14,7 +15,7 @@ verdict_text (Err fault) = codes "refused " ++ hand_fault_text fault
 
 -- the line that is printed, and how the run ends
 abbrev pub verdict_line : Result Shown HandFault → List ℕ
-verdict_line verdict = verdict_text verdict ++ 10 ∷ []
+verdict_line verdict = verdict_text verdict ++ ascii.line_feed ∷ []
 
 abbrev pub verdict_status : Result Shown HandFault → Status
 verdict_status (Ok shown) = Done

@@ -11,10 +11,11 @@ use Rattle.evidence.specs.declared.parts.Part.TheVariants.{Found, Damaged, End}
 use Rattle.memchr.specs.Find.{OccursAt}
 use Rattle.evidence.specs.Sections.{SectionShape}
 use Rattle.evidence.specs.SectionTexts.{title, IsTextOf}
+use Rattle.cards.specs.Bytes as ascii
 
 -- what stands where two pieces meet: the end of a line, and a title
 abbrev pub border : List ℕ
-border = 10 ∷ title
+border = ascii.line_feed ∷ title
 
 -- the piece ends where the first title stands behind the end of a line
 pub record EndsAtTitle (text piece rest : List ℕ) : Type 0 where

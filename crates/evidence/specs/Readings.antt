@@ -8,6 +8,7 @@ use Rattle.evidence.specs.declared.head_reading.Head.{Head}
 use Rattle.evidence.specs.declared.head_reading.ClaimWords.{ClaimWords}
 use Rattle.evidence.specs.Sections.{SectionShape, IsClaim}
 use Rattle.evidence.specs.SectionTexts.{root_text, claim_line, IsTextOf}
+use Rattle.cards.specs.Bytes as ascii
 
 -- the section whose text it is, or that it is the text of none
 abbrev pub SaysSection : List ℕ → Option SectionShape → Type 0
@@ -21,13 +22,13 @@ LacksClaim text = (claim : Claim) (rest : List ℕ) → IsClaim claim → text �
 
 -- the first word of the text is the letter of no seat
 abbrev pub NamesNoSeat : List ℕ → Type 0
-NamesNoSeat text = (seat : Seat) (rest : List ℕ) → text ≢ seat_letter seat ++ (32 ∷ rest)
+NamesNoSeat text = (seat : Seat) (rest : List ℕ) → text ≢ seat_letter seat ++ (ascii.blank ∷ rest)
 
 -- the first word is the letter of a seat; and where the text begins with the line of a claim, this is the claim, and
 -- what stands after the line
 pub record FindsClaim (text : List ℕ) (claim : Claim) (rest : List ℕ) : Type 0 where
   pub after : List ℕ
-  pub named : text ≡ seat_letter claim.declarer ++ (32 ∷ after)
+  pub named : text ≡ seat_letter claim.declarer ++ (ascii.blank ∷ after)
   pub found : (other : Claim) (more : List ℕ) → IsClaim other → text ≡ claim_line other more
       → (claim ≡ other) × (rest ≡ more)
 
@@ -42,7 +43,7 @@ pub record AreWordsOf (words : ClaimWords) (claim : Claim) : Type 0 where
 -- words, and what stands after the line
 pub record FindsWords (text : List ℕ) (words : ClaimWords) (rest : List ℕ) : Type 0 where
   pub after : List ℕ
-  pub first : text ≡ words.declarer.now ++ (32 ∷ after)
+  pub first : text ≡ words.declarer.now ++ (ascii.blank ∷ after)
   pub found : (claim : Claim) (more : List ℕ) → IsClaim claim → text ≡ claim_line claim more
       → AreWordsOf words claim × (rest ≡ more)
 

@@ -11,17 +11,18 @@ use Rattle.certificate_graph.specs.Texts.{trump_text, graph_text}
 use Rattle.pbn_deals.specs.DealText.{deal_text}
 use Rattle.certificate_graph.specs.declared.bundles.Claim.{Claim}
 use Rattle.evidence.specs.Sections.{SectionShape, IsSection}
+use Rattle.cards.specs.Bytes as ascii
 
 -- the first line, which tells the form
 abbrev pub title : List ℕ
-title = codes "DDE 1" ++ (10 ∷ [])
+title = codes "DDE 1" ++ (ascii.line_feed ∷ [])
 
 abbrev pub deal_line : Deal → List ℕ → List ℕ
-deal_line deal rest = codes "deal " ++ (deal_text deal ++ (10 ∷ rest))
+deal_line deal rest = codes "deal " ++ (deal_text deal ++ (ascii.line_feed ∷ rest))
 
 -- how many claims there are
 abbrev pub count_line : ℕ → List ℕ → List ℕ
-count_line count rest = codes "claims " ++ (decimal count ++ (10 ∷ rest))
+count_line count rest = codes "claims " ++ (decimal count ++ (ascii.line_feed ∷ rest))
 
 -- a root, or `-` where there is none
 abbrev pub root_text : Option ℕ → List ℕ
@@ -32,8 +33,8 @@ root_text (Some number) = decimal number
 -- with a blank between two
 abbrev pub claim_line : Claim → List ℕ → List ℕ
 claim_line claim rest =
-    seat_letter claim.declarer ++ (32 ∷ (decimal claim.k ++ (32 ∷
-    (root_text claim.declarer_root ++ (32 ∷ (root_text claim.defenders_root ++ (10 ∷ rest)))))))
+    seat_letter claim.declarer ++ (ascii.blank ∷ (decimal claim.k ++ (ascii.blank ∷
+    (root_text claim.declarer_root ++ (ascii.blank ∷ (root_text claim.defenders_root ++ (ascii.line_feed ∷ rest)))))))
 
 abbrev pub claim_lines : List Claim → List ℕ → List ℕ
 claim_lines [] rest = rest
@@ -46,7 +47,7 @@ head_text deal trump claims rest =
 
 -- the texts of two graphs, with an empty line between them
 abbrev pub graphs_text : GraphShape → GraphShape → List ℕ
-graphs_text ns ew = graph_text ns ++ (10 ∷ graph_text ew)
+graphs_text ns ew = graph_text ns ++ (ascii.line_feed ∷ graph_text ew)
 
 -- a section: its title, its deal, its denomination, its claims, North's and South's graph, and East's and West's
 abbrev pub section_text : SectionShape → List ℕ

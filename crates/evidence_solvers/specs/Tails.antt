@@ -8,6 +8,7 @@ use Rattle.cards.specs.declared.faults.OutOfMemory.{OutOfMemory as NoMemory}
 use Rattle.evidence_solvers.specs.declared.tails.Tail.{Tail}
 use Rattle.evidence_solvers.specs.declared.faults.KeepFault.{KeepFault}
 use Rattle.evidence_solvers.specs.declared.faults.KeepFault.TheVariants.{OutOfMemory, Write}
+use Rattle.cards.specs.Bytes as ascii
 
 -- what the file of a tail has, where it tells that
 abbrev pub tail_contents : {F : Type 0} → (F → Option (List ℕ)) → Tail F → Option (List ℕ)
@@ -33,7 +34,7 @@ WritesOnce contents old new text false failed' =
 -- if the last line of a file had no end, a line feed was added so, and else nothing
 abbrev pub EndsLastLine : {F : Type 0} → (F → Option (List ℕ)) → F → F → Bool → Bool → Type 0
 EndsLastLine contents old new true failed = (new ≡ old) × (failed ≡ false)
-EndsLastLine contents old new false failed = WritesOnce contents old new (10 ∷ []) false failed
+EndsLastLine contents old new false failed = WritesOnce contents old new (ascii.line_feed ∷ []) false failed
 
 -- the text was added so, and a sync after it may fail, which is noted too
 abbrev pub AddsOne : {F : Type 0} → (F → Option (List ℕ)) → Tail F → Tail F → List ℕ → Type 0

@@ -2,6 +2,7 @@
 use Rattle.std.specs.Prelude.{ℕ, ◌==◌, List, map, flat_map, codes, if◌then◌else◌}
 use Rattle.std.specs.Char.{encode_utf8, is_control}
 use Rattle.std.specs.Str.{chars, is_utf8}
+use Rattle.cards.specs.Bytes as ascii
 
 -- the characters of a value: those that its bytes spell in UTF-8, or else one for each byte (ISO 8859-1)
 abbrev pub value_chars : List ℕ → List ℕ
@@ -14,9 +15,9 @@ shown_char c = if is_control c then 0xFFFD else c
 -- the bytes of a character in a page: a reference for each that could begin or end markup, or else its UTF-8
 abbrev pub char_text : ℕ → List ℕ
 char_text c =
-    if c == 38 then codes "&amp;" else
-    (if c == 60 then codes "&lt;" else
-    (if c == 62 then codes "&gt;" else
+    if c == ascii.ampersand then codes "&amp;" else
+    (if c == ascii.open_angle then codes "&lt;" else
+    (if c == ascii.close_angle then codes "&gt;" else
     encode_utf8 c))
 
 -- the bytes of characters in a page

@@ -6,6 +6,7 @@ use Rattle.lease_book.specs.declared.events.Reply.{Reply}
 use Rattle.lease_book.specs.declared.events.Reply.TheVariants.{Given, Nothing, Freed, GaveUp}
 use Rattle.lease_book.specs.declared.events.Reply.TheVariants.{UnknownLease, NotHeld, OtherEntry, AlreadyPublished}
 use Rattle.lease_book.specs.declared.events.Reply.TheVariants.{BadCertificate, Published}
+use Rattle.cards.specs.Bytes as ascii
 
 -- the number of a refusal
 abbrev pub refusal_number : Reply → Option ℕ
@@ -30,15 +31,15 @@ reply_name (Published tricks) = codes "published"
 
 -- the number and a space, where there is one
 abbrev pub number_text : Option ℕ → List ℕ
-number_text (Some number) = decimal number ++ 32 ∷ []
+number_text (Some number) = decimal number ++ ascii.blank ∷ []
 number_text None = []
 
 -- what the reply tells after its name: a number, or the certificate's own fault
 abbrev pub told_text : Reply → List ℕ
-told_text (Given lease entry deadline) = 32 ∷ decimal lease
-told_text (Freed count) = 32 ∷ decimal count
-told_text (Published tricks) = 32 ∷ decimal tricks
-told_text (BadCertificate fault) = 32 ∷ hand_fault_text fault
+told_text (Given lease entry deadline) = ascii.blank ∷ decimal lease
+told_text (Freed count) = ascii.blank ∷ decimal count
+told_text (Published tricks) = ascii.blank ∷ decimal tricks
+told_text (BadCertificate fault) = ascii.blank ∷ hand_fault_text fault
 told_text _ = []
 
 -- the number of a refusal, the name, and what it tells, as in `2 NotHeld`, `published 7` and `5 BadCertificate 11

@@ -12,12 +12,14 @@ use Rattle.tables.specs.TablesText.{declarers, denominations, right_in_two, tag_
 use Rattle.card_values.specs.declared.values.CardValue.{CardValue}
 use Rattle.card_values.specs.Texts.{groups_text}
 use Rattle.opening_leads.specs.Leads.{Leads}
+use Rattle.cards.specs.Bytes as ascii
 
 -- ---- rows
 -- a row: the contract, and the leads with the tricks of the defenders, the most first: `N NT  5 HK HQ  4 S3 C8`
 unfoldable pub row_text : Seat → Trump → List CardValue → List ℕ
 row_text declarer denomination values =
-    seat_letter declarer ++ (32 ∷ right_in_two (trump_letters denomination) ++ (groups_text values ++ codes "\n"))
+    seat_letter declarer ++ (ascii.blank ∷ right_in_two (trump_letters denomination)
+    ++ (groups_text values ++ codes "\n"))
 
 abbrev pub known_row : Seat → Trump → Option (List CardValue) → List ℕ
 known_row declarer denomination None = []
@@ -64,7 +66,7 @@ missing_count boards leads =
 -- ---- boards
 -- the heading of the rows
 unfoldable pub leads_tag : List ℕ
-leads_tag = tag_line (codes "OpeningLeads") (codes "Declarer;Denomination" ++ (92 ∷ codes "2R;Leads"))
+leads_tag = tag_line (codes "OpeningLeads") (codes "Declarer;Denomination" ++ (ascii.backslash ∷ codes "2R;Leads"))
 
 -- the rows of a board below their heading
 unfoldable pub headed_text : Leads → List ℕ

@@ -12,6 +12,7 @@ use Rattle.cards.specs.declared.pack.Card.{Card}
 use Rattle.cards.specs.Seats.{next_of}
 use Rattle.pbn_deals.specs.Letters.{is_blank, is_dot, seat_of_letter, rank_of_letter}
 use Rattle.pbn_deals.specs.Dealing.{Holding, held_by}
+use Rattle.cards.specs.Bytes as ascii
 
 -- what stands after the blanks at the front
 abbrev pub after_blanks : List ℕ → List ℕ
@@ -57,7 +58,7 @@ suits_in_order = Spades ∷ Hearts ∷ Diamonds ∷ Clubs ∷ []
 -- a hand that is not known is written `-`
 abbrev pub is_unknown : List ℕ → Bool
 is_unknown [] = false
-is_unknown (byte ∷ []) = byte == 45
+is_unknown (byte ∷ []) = byte == ascii.dash
 is_unknown (byte ∷ other ∷ bytes) = false
 
 -- the cards that a hand names: none where it is not known
@@ -100,7 +101,7 @@ naming_from None text = None
 abbrev pub naming_at : List ℕ → Option Naming
 naming_at [] = None
 naming_at (letter ∷ []) = None
-naming_at (letter ∷ colon ∷ text) = if colon == 58 then naming_from (seat_of_letter letter) text else None
+naming_at (letter ∷ colon ∷ text) = if colon == ascii.colon then naming_from (seat_of_letter letter) text else None
 
 -- what a Deal value says, where it is of the form
 abbrev pub naming_of : List ℕ → Option Naming

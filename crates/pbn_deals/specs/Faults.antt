@@ -4,6 +4,7 @@ use Rattle.std.specs.Fmt.{decimal}
 use Rattle.pbn_deals.specs.declared.faults.PbnFault.{PbnFault}
 use Rattle.pbn_deals.specs.declared.faults.PbnFault.TheVariants.{TagForm, OpenComment, SecondDeal, DealForm, CardTwice}
 use Rattle.pbn_deals.specs.declared.faults.PbnFault.TheVariants.{HandSize, Inherited, TooManyBoards, OutOfMemory}
+use Rattle.cards.specs.Bytes as ascii
 
 abbrev pub fault_number : PbnFault → ℕ
 fault_number (TagForm line) = 1
@@ -29,7 +30,7 @@ fault_name OutOfMemory = codes "OutOfMemory"
 
 -- the number and the name, as in `5 CardTwice`
 abbrev pub fault_text : PbnFault → List ℕ
-fault_text fault = decimal (fault_number fault) ++ 32 ∷ fault_name fault
+fault_text fault = decimal (fault_number fault) ++ ascii.blank ∷ fault_name fault
 
 abbrev pub fault_line : PbnFault → Option ℕ
 fault_line (TagForm line) = Some line

@@ -11,6 +11,7 @@ use Rattle.pbn_deals.specs.declared.line_starts.LineStart.TheVariants as start
 use Rattle.pbn_deals.specs.DealValue.{is_word}
 use Rattle.pbn_deals.specs.Pieces.{Piece, Space, Comment, Pair, Data, NoPair, bytes_of, HasPieces, rows_of}
 use Rattle.pbn_deals.specs.Pieces.{Kind, Gap, Escaped, OfGame}
+use Rattle.cards.specs.Bytes as ascii
 
 -- the first row of a text, and the text behind it
 pub record IsFirstRow (text : List ℕ) (row : CodeRow) (after : List ℕ) : Type 0 where
@@ -19,7 +20,7 @@ pub record IsFirstRow (text : List ℕ) (row : CodeRow) (after : List ℕ) : Typ
 
 -- a byte that ends section data, or is none
 abbrev pub is_sign : ℕ → Bool
-is_sign byte = (byte == 59) || ((byte == 123) || (byte == 34))
+is_sign byte = (byte == ascii.semicolon) || ((byte == ascii.open_brace) || (byte == ascii.quote))
 
 -- bytes without such a one stand before the rest of the text
 pub record IsAfterData (text after : List ℕ) : Type 0 where

@@ -11,6 +11,7 @@ use Rattle.pbn_deals.specs.declared.faults.PbnFault.TheVariants.{TooManyBoards}
 use Rattle.pbn_deals.specs.Dealing.{Holding, cards_named, NamesOnce, NamesTwice, IsDealOf}
 use Rattle.pbn_deals.specs.DealValue.{Naming, naming_of, words_of, after_blanks, full}
 use Rattle.pbn_deals.specs.Tags.{is_board, is_deal, is_inherited}
+use Rattle.cards.specs.Bytes as ascii
 
 -- the name of the game's first Board tag, and what its Deal tag says
 pub record Tags : Type 0 where
@@ -23,7 +24,7 @@ no_tags = record { name = None; deal = None }
 -- ---- the value of a Deal tag
 -- a value without cards: nothing but blanks, or `?`
 abbrev pub IsNoDeal : List ℕ → Type 0
-IsNoDeal value = (words_of value ≡ []) ⊎ (words_of value ≡ (63 ∷ []) ∷ [])
+IsNoDeal value = (words_of value ≡ []) ⊎ (words_of value ≡ (ascii.question_mark ∷ []) ∷ [])
 
 -- a hand is not of 13 cards
 abbrev pub HasOtherSize : List Holding → Type 0

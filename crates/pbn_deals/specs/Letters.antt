@@ -8,14 +8,15 @@ use Rattle.cards.specs.declared.pack.Rank.TheVariants.{Two, Three, Four, Five, S
 use Rattle.cards.specs.declared.pack.Rank.TheVariants.{Queen, King, Ace}
 use Rattle.cards.specs.Pack.{rank_letter}
 use Rattle.cards.specs.Seats.{seat_letter}
+use Rattle.cards.specs.Bytes as ascii
 
 -- a blank is a space or a tab
 abbrev pub is_blank : ℕ → Bool
-is_blank byte = (byte == 32) || (byte == 9)
+is_blank byte = (byte == ascii.blank) || (byte == ascii.tab)
 
 -- the dot between two groups of a hand
 abbrev pub is_dot : ℕ → Bool
-is_dot byte = byte == 46
+is_dot byte = byte == ascii.dot
 
 -- the letter is this capital, or the small letter of it
 abbrev pub is_letter : ℕ → ℕ → Bool

@@ -7,6 +7,7 @@ use Rattle.pbn_deals.specs.Lines.{is_line_feed, without_mark, without_return, is
 use Rattle.pbn_deals.specs.Reading.{Lacks, Meaning, EndsLine, OpensComment, OpensText, OpensTag, IsSpace, IsData}
 use Rattle.pbn_deals.specs.Reading.{meaning_of}
 use Rattle.pbn_deals.specs.Tags.{Tag, tag_of}
+use Rattle.cards.specs.Bytes as ascii
 
 -- ---- the pieces of a line
 pub data Piece : Type 0 where
@@ -51,12 +52,12 @@ pub data HasPieces : Bool → List ℕ → List Piece → Bool → Type 0 where
       HasPieces in_data (byte ∷ rest) (Data (byte ∷ []) ∷ pieces) is_open
   quoted_text :
       {in_data : Bool} {byte : ℕ} (text : List ℕ) {rest after : List ℕ} {pieces : List Piece} {is_open : Bool} →
-      meaning_of byte ≡ OpensText → rest ≡ text ++ 34 ∷ after → Lacks 34 text →
+      meaning_of byte ≡ OpensText → rest ≡ text ++ ascii.quote ∷ after → Lacks ascii.quote text →
       HasPieces true after pieces is_open →
-      HasPieces in_data (byte ∷ rest) (Data (byte ∷ (text ++ 34 ∷ [])) ∷ pieces) is_open
+      HasPieces in_data (byte ∷ rest) (Data (byte ∷ (text ++ ascii.quote ∷ [])) ∷ pieces) is_open
   unended_text :
       {in_data : Bool} {byte : ℕ} {rest : List ℕ} →
-      meaning_of byte ≡ OpensText → Lacks 34 rest →
+      meaning_of byte ≡ OpensText → Lacks ascii.quote rest →
       HasPieces in_data (byte ∷ rest) (Data (byte ∷ rest) ∷ []) false
   line_comment :
       {in_data : Bool} {byte : ℕ} {rest : List ℕ} →
@@ -64,12 +65,12 @@ pub data HasPieces : Bool → List ℕ → List Piece → Bool → Type 0 where
       HasPieces in_data (byte ∷ rest) (Comment (byte ∷ rest) ∷ []) false
   brace_comment :
       {in_data : Bool} {byte : ℕ} (text : List ℕ) {rest after : List ℕ} {pieces : List Piece} {is_open : Bool} →
-      meaning_of byte ≡ OpensComment → rest ≡ text ++ 125 ∷ after → Lacks 125 text →
+      meaning_of byte ≡ OpensComment → rest ≡ text ++ ascii.close_brace ∷ after → Lacks ascii.close_brace text →
       HasPieces in_data after pieces is_open →
-      HasPieces in_data (byte ∷ rest) (Comment (byte ∷ (text ++ 125 ∷ [])) ∷ pieces) is_open
+      HasPieces in_data (byte ∷ rest) (Comment (byte ∷ (text ++ ascii.close_brace ∷ [])) ∷ pieces) is_open
   open_comment :
       {in_data : Bool} {byte : ℕ} {rest : List ℕ} →
-      meaning_of byte ≡ OpensComment → Lacks 125 rest →
+      meaning_of byte ≡ OpensComment → Lacks ascii.close_brace rest →
       HasPieces in_data (byte ∷ rest) (Comment (byte ∷ rest) ∷ []) true
   tag_pair :
       {byte : ℕ} (inside : List ℕ) {rest : List ℕ} {tag : Tag} {pieces : List Piece} {is_open : Bool} →
@@ -103,11 +104,11 @@ pub data LineIs : Bool → List ℕ → Kind → Bool → Type 0 where
       {line : List ℕ} {pieces : List Piece} {is_open : Bool} →
       is_escaped line ≡ false → is_blank_line line ≡ false → HasPieces false line pieces is_open →
       LineIs false line (OfGame pieces) is_open
-  is_in_comment : {line : List ℕ} → Lacks 125 line → LineIs true line (OfGame (Comment line ∷ [])) true
+  is_in_comment : {line : List ℕ} → Lacks ascii.close_brace line → LineIs true line (OfGame (Comment line ∷ [])) true
   closes_comment :
       (text : List ℕ) {line rest : List ℕ} {pieces : List Piece} {is_open : Bool} →
-      line ≡ text ++ 125 ∷ rest → Lacks 125 text → HasPieces false rest pieces is_open →
-      LineIs true line (OfGame (Comment (text ++ 125 ∷ []) ∷ pieces)) is_open
+      line ≡ text ++ ascii.close_brace ∷ rest → Lacks ascii.close_brace text → HasPieces false rest pieces is_open →
+      LineIs true line (OfGame (Comment (text ++ ascii.close_brace ∷ []) ∷ pieces)) is_open
 
 -- the bytes of a line without its end, and its end: LF, CR LF, or nothing at the end of a text
 pub record Row : Type 0 where
@@ -117,12 +118,12 @@ pub record Row : Type 0 where
 -- its last byte is a carriage return
 abbrev pub ends_with_return : List ℕ → Bool
 ends_with_return [] = false
-ends_with_return (byte ∷ []) = byte == 13
+ends_with_return (byte ∷ []) = byte == ascii.carriage_return
 ends_with_return (byte ∷ other ∷ bytes) = ends_with_return (other ∷ bytes)
 
 -- the end of a line that is this part between two line feeds
 abbrev pub end_of : List ℕ → List ℕ
-end_of part = if ends_with_return part then (13 ∷ 10 ∷ []) else (10 ∷ [])
+end_of part = if ends_with_return part then (ascii.carriage_return ∷ ascii.line_feed ∷ []) else (ascii.line_feed ∷ [])
 
 -- what stands behind the last line feed is a line where there is a byte
 abbrev pub rows_of_parts : List (List ℕ) → List Row

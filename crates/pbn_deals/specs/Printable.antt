@@ -5,6 +5,7 @@ use Rattle.pbn_deals.specs.declared.boards.Board.{Board}
 use Rattle.pbn_deals.specs.Tags.{is_inherited}
 use Rattle.pbn_deals.specs.Games.{greatest_count}
 use Rattle.pbn_deals.specs.Reading.{TextAnswers, Lacks}
+use Rattle.cards.specs.Bytes as ascii
 
 -- the deal of a board in a tournament: 13 cards a hand
 pub record IsWholeDeal (deal : Deal) : Type 0 where
@@ -18,8 +19,8 @@ IsBoardDeal (Some deal) = IsWholeDeal deal
 
 -- A Board tag can hold the board's name, which has no line feed and no quote and does not begin with `#`.
 pub record IsPrintable (board : Board) : Type 0 where
-  pub one_line : Lacks 10 board.name
-  pub no_quote : Lacks 34 board.name
+  pub one_line : Lacks ascii.line_feed board.name
+  pub no_quote : Lacks ascii.quote board.name
   pub own_name : is_inherited board.name ≡ false
   pub deal : IsBoardDeal board.deal
 

@@ -9,6 +9,7 @@ use Rattle.pbn_deals.specs.Letters.{is_blank}
 use Rattle.pbn_deals.specs.Lines.{without_mark, lines_of, is_escaped, is_blank_line}
 use Rattle.pbn_deals.specs.Tags.{Tag, tag_of}
 use Rattle.pbn_deals.specs.Games.{Tags, no_tags, TakesTag, boards_of}
+use Rattle.cards.specs.Bytes as ascii
 
 -- ---- the pieces of a line
 abbrev pub Lacks : ℕ → List ℕ → Type 0
@@ -25,10 +26,10 @@ pub data Meaning : Type 0 where
 
 abbrev pub meaning_of : ℕ → Meaning
 meaning_of byte =
-    if byte == 59 then EndsLine else
-    (if byte == 123 then OpensComment else
-    (if byte == 34 then OpensText else
-    (if byte == 91 then OpensTag else
+    if byte == ascii.semicolon then EndsLine else
+    (if byte == ascii.open_brace then OpensComment else
+    (if byte == ascii.quote then OpensText else
+    (if byte == ascii.open_bracket then OpensTag else
     (if is_blank byte then IsSpace else
     IsData))))
 
@@ -52,12 +53,12 @@ pub data Scans (number count : ℕ) : Bool → Tags → List ℕ → LineEnd →
       Scans number count in_data tags (byte ∷ rest) (Ends tags false)
   at_comment :
       {in_data : Bool} {tags : Tags} {byte : ℕ} (text : List ℕ) {rest after : List ℕ} {last : LineEnd} →
-      meaning_of byte ≡ OpensComment → rest ≡ text ++ 125 ∷ after → Lacks 125 text →
+      meaning_of byte ≡ OpensComment → rest ≡ text ++ ascii.close_brace ∷ after → Lacks ascii.close_brace text →
       Scans number count in_data tags after last →
       Scans number count in_data tags (byte ∷ rest) last
   at_open_comment :
       {in_data : Bool} {tags : Tags} {byte : ℕ} {rest : List ℕ} →
-      meaning_of byte ≡ OpensComment → Lacks 125 rest →
+      meaning_of byte ≡ OpensComment → Lacks ascii.close_brace rest →
       Scans number count in_data tags (byte ∷ rest) (Ends tags true)
   at_tag :
       {tags tags' : Tags} {byte : ℕ} {rest : List ℕ} {tag : Tag} {last : LineEnd} →
@@ -75,12 +76,12 @@ pub data Scans (number count : ℕ) : Bool → Tags → List ℕ → LineEnd →
       Scans number count false tags (byte ∷ rest) (Stops (TagForm number))
   at_quoted :
       {in_data : Bool} {tags : Tags} {byte : ℕ} (text : List ℕ) {rest after : List ℕ} {last : LineEnd} →
-      meaning_of byte ≡ OpensText → rest ≡ text ++ 34 ∷ after → Lacks 34 text →
+      meaning_of byte ≡ OpensText → rest ≡ text ++ ascii.quote ∷ after → Lacks ascii.quote text →
       Scans number count true tags after last →
       Scans number count in_data tags (byte ∷ rest) last
   at_unended :
       {in_data : Bool} {tags : Tags} {byte : ℕ} {rest : List ℕ} →
-      meaning_of byte ≡ OpensText → Lacks 34 rest →
+      meaning_of byte ≡ OpensText → Lacks ascii.quote rest →
       Scans number count in_data tags (byte ∷ rest) (Ends tags false)
   at_plain :
       {in_data : Bool} {tags : Tags} {byte : ℕ} {rest : List ℕ} {last : LineEnd} →
@@ -134,24 +135,27 @@ pub data Answers : ℕ → Option ℕ → Tags → ℕ → List (List ℕ) → R
   inner_line :
       {number opened count : ℕ} {tags : Tags} {line : List ℕ}
       {lines : List (List ℕ)} {answer : Result (List Board) PbnFault} →
-      Lacks 125 line → Answers (number + 1) (Some opened) tags count lines answer →
+      Lacks ascii.close_brace line → Answers (number + 1) (Some opened) tags count lines answer →
       Answers number (Some opened) tags count (line ∷ lines) answer
   closing_line :
       {number opened count : ℕ} {tags tags' : Tags} (text : List ℕ) {line rest : List ℕ}
       {lines : List (List ℕ)} {answer : Result (List Board) PbnFault} →
-      line ≡ text ++ 125 ∷ rest → Lacks 125 text → Scans number count false tags rest (Ends tags' false) →
+      line ≡ text ++ ascii.close_brace ∷ rest → Lacks ascii.close_brace text →
+      Scans number count false tags rest (Ends tags' false) →
       Answers (number + 1) None tags' count lines answer →
       Answers number (Some opened) tags count (line ∷ lines) answer
   reopening_line :
       {number opened count : ℕ} {tags tags' : Tags} (text : List ℕ) {line rest : List ℕ}
       {lines : List (List ℕ)} {answer : Result (List Board) PbnFault} →
-      line ≡ text ++ 125 ∷ rest → Lacks 125 text → Scans number count false tags rest (Ends tags' true) →
+      line ≡ text ++ ascii.close_brace ∷ rest → Lacks ascii.close_brace text →
+      Scans number count false tags rest (Ends tags' true) →
       Answers (number + 1) (Some number) tags' count lines answer →
       Answers number (Some opened) tags count (line ∷ lines) answer
   faulty_closing_line :
       {number opened count : ℕ} {tags : Tags} (text : List ℕ) {line rest : List ℕ}
       {lines : List (List ℕ)} {fault : PbnFault} →
-      line ≡ text ++ 125 ∷ rest → Lacks 125 text → Scans number count false tags rest (Stops fault) →
+      line ≡ text ++ ascii.close_brace ∷ rest → Lacks ascii.close_brace text →
+      Scans number count false tags rest (Stops fault) →
       Answers number (Some opened) tags count (line ∷ lines) (Err fault)
 
 -- the answer for a whole text

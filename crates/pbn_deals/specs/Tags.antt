@@ -3,13 +3,14 @@ use Rattle.std.specs.Prelude.{ℕ, ◌==◌, ◌&&◌, ◌||◌, Bool, true, fal
 use Rattle.std.specs.Prelude.{nat_le, codes}
 use Rattle.pbn_deals.specs.Letters.{is_letter}
 use Rattle.pbn_deals.specs.DealValue.{after_blanks}
+use Rattle.cards.specs.Bytes as ascii
 
 -- a letter, a digit or `_`
 abbrev pub is_name_byte : ℕ → Bool
 is_name_byte byte =
     (nat_le 65 byte && nat_le byte 90) ||
     ((nat_le 97 byte && nat_le byte 122) ||
-    ((nat_le 48 byte && nat_le byte 57) || (byte == 95)))
+    ((nat_le ascii.zero byte && nat_le byte ascii.nine) || (byte == ascii.underscore)))
 
 -- a tag pair, and what stands after it in its line
 pub record Tag : Type 0 where
@@ -29,17 +30,17 @@ after_name (byte ∷ bytes) = if is_name_byte byte then after_name bytes else (b
 -- what stands before the next quote, and after it
 abbrev pub value_front : List ℕ → List ℕ
 value_front [] = []
-value_front (byte ∷ bytes) = if byte == 34 then [] else byte ∷ value_front bytes
+value_front (byte ∷ bytes) = if byte == ascii.quote then [] else byte ∷ value_front bytes
 
 abbrev pub after_value : List ℕ → Option (List ℕ)
 after_value [] = None
-after_value (byte ∷ bytes) = if byte == 34 then Some bytes else after_value bytes
+after_value (byte ∷ bytes) = if byte == ascii.quote then Some bytes else after_value bytes
 
 -- the closing bracket
 abbrev pub closed_tag : List ℕ → List ℕ → List ℕ → Option Tag
 closed_tag name value [] = None
 closed_tag name value (byte ∷ bytes) =
-    if byte == 93 then Some (record { name = name; value = value; rest = bytes }) else None
+    if byte == ascii.close_bracket then Some (record { name = name; value = value; rest = bytes }) else None
 
 abbrev pub tag_with_value : List ℕ → List ℕ → Option (List ℕ) → Option Tag
 tag_with_value name value (Some after) = closed_tag name value (after_blanks after)
@@ -49,7 +50,7 @@ tag_with_value name value None = None
 abbrev pub tag_with_name : List ℕ → List ℕ → Option Tag
 tag_with_name name [] = None
 tag_with_name name (byte ∷ bytes) =
-    if byte == 34 then tag_with_value name (value_front bytes) (after_value bytes) else None
+    if byte == ascii.quote then tag_with_value name (value_front bytes) (after_value bytes) else None
 
 -- a name of one byte at least
 abbrev pub named_tag : List ℕ → List ℕ → Option Tag
@@ -76,4 +77,4 @@ is_deal = is_same_name (codes "DEAL")
 -- the value is handed on from another game
 abbrev pub is_inherited : List ℕ → Bool
 is_inherited [] = false
-is_inherited (byte ∷ bytes) = byte == 35
+is_inherited (byte ∷ bytes) = byte == ascii.hash

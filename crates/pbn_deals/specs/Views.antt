@@ -11,6 +11,7 @@ use Rattle.pbn_deals.specs.declared.faults.PbnFault.{PbnFault}
 use Rattle.pbn_deals.specs.declared.faults.PbnFault.TheVariants.{OutOfMemory}
 use Rattle.pbn_deals.specs.Tags.{Tag}
 use Rattle.pbn_deals.specs.Games.{Tags}
+use Rattle.cards.specs.Bytes as ascii
 
 abbrev pub tag_seen : Option code.Tag → Option Tag
 tag_seen (Some tag) = Some (record { name = tag.name.now; value = tag.value.now; rest = tag.rest.now })
@@ -34,9 +35,9 @@ abbrev pub ReadsTag : ℕ → ℕ → GameTags → GameTags → List ℕ → Res
 ReadsTag number count old new text (Ok after) =
     (last : LineEnd) →
     Scans number count false (tags_seen new) after.now last →
-    Scans number count false (tags_seen old) (91 ∷ text) last
+    Scans number count false (tags_seen old) (ascii.open_bracket ∷ text) last
 ReadsTag number count old new text (Err fault) =
-    UnlessMemory fault (Scans number count false (tags_seen old) (91 ∷ text) (Stops fault))
+    UnlessMemory fault (Scans number count false (tags_seen old) (ascii.open_bracket ∷ text) (Stops fault))
 
 -- what a line does, unless memory runs out
 abbrev pub ReadsLine : ℕ → ℕ → GameTags → GameTags → List ℕ → Result Bool PbnFault → Type 0

@@ -5,13 +5,14 @@ use Rattle.cards.specs.Devices.{Device, TakesWhereTold, StaysWhereTold, NoneIsLe
 use Rattle.cards.specs.declared.devices.DeviceFault.{DeviceFault}
 use Rattle.play_dialogues.specs.declared.words.Typed.{Typed}
 use Rattle.play_dialogues.specs.Words.{letters_of, Says}
+use Rattle.cards.specs.Bytes as ascii
 
 -- ---- lines of a text
 -- The first line of a text, and what stands behind it: it ends at the first line feed, or with a text that has none. An
 -- empty text has no line.
 pub record IsFirstLine (text line rest : List ℕ) : Type 0 where
   pub one : Contains line 10 → ⊥
-  pub ends : (text ≡ line ++ 10 ∷ rest) ⊎ ((text ≡ line) × (line ≢ []) × (rest ≡ []))
+  pub ends : (text ≡ line ++ ascii.line_feed ∷ rest) ⊎ ((text ≡ line) × (line ≢ []) × (rest ≡ []))
 
 -- the first lines of a text, and what stands behind them
 abbrev pub AreFirstLines : List ℕ → List (List ℕ) → List ℕ → Type 0

@@ -11,17 +11,19 @@ use Rattle.cards.specs.Seats.{next_of, seat_letter, side_of, other_side}
 use Rattle.play_rules.specs.Winners.{winner_of}
 use Rattle.play_rules.specs.History.{trick_made, leader_after, tricks_of}
 use Rattle.cards.specs.CardTexts.{cards_text}
+use Rattle.cards.specs.Bytes as ascii
 
 -- the seat that wins the four cards of a trick, after a blank; nothing for a trick that is not whole
 abbrev pub winner_text : Trump → Seat → List Card → List ℕ
-winner_text trump leader (a ∷ b ∷ c ∷ d ∷ []) = 32 ∷ seat_letter (winner_of trump leader (trick_made a b c d))
+winner_text trump leader (a ∷ b ∷ c ∷ d ∷ []) = ascii.blank ∷ seat_letter (winner_of trump leader (trick_made a b c d))
 winner_text trump leader cards = []
 
 -- the line of a trick: its number, its leader, its cards clockwise from the leader, and its winner
 unfoldable pub play_trick_line : ℕ → Trump → Seat → List Card → List ℕ
 play_trick_line number trump leader cards =
     decimal number
-    ++ ((32 ∷ seat_letter leader) ++ (codes ":" ++ (cards_text cards ++ (winner_text trump leader cards ++ (10 ∷ [])))))
+    ++ ((ascii.blank ∷ seat_letter leader) ++ (codes ":" ++ (cards_text cards
+    ++ (winner_text trump leader cards ++ (ascii.line_feed ∷ [])))))
 
 -- the line of the trick after so many others
 abbrev pub line_after : Trump → Seat → List Card → ℕ → List ℕ
@@ -39,7 +41,7 @@ unfoldable pub play_score_line : Seat → Trump → List Card → List ℕ
 play_score_line declarer trump cards =
     codes "declarer " ++ (decimal (tricks_of (side_of declarer) trump (next_of declarer) cards)
     ++ (codes ", defenders " ++ (decimal (tricks_of (other_side (side_of declarer)) trump (next_of declarer) cards)
-    ++ (10 ∷ []))))
+    ++ (ascii.line_feed ∷ []))))
 
 -- the whole text; the seat at declarer's left leads first (Law 41A)
 unfoldable pub play_text : Seat → Trump → List Card → List ℕ

@@ -21,6 +21,7 @@ use Rattle.certificate_play.specs.Promises.{Promise}
 use Rattle.cards.specs.CardTexts.{card_text, cards_text}
 use Rattle.play_dialogues.specs.declared.words.Refusal.{Refusal}
 use Rattle.play_dialogues.specs.declared.words.Refusal.TheVariants.{NoCard, NotHeld, MustFollow, Several, NothingBack}
+use Rattle.cards.specs.Bytes as ascii
 
 -- ---- the hands
 -- who holds each card that is left
@@ -44,7 +45,7 @@ suit_text deal seat suit = flat_map (held_letter deal seat suit) ranks_falling
 unfoldable pub hand_line : Deal → Seat → List ℕ
 hand_line deal seat =
     seat_letter seat ++ codes ": " ++ suit_text deal seat Spades ++ codes "." ++ suit_text deal seat Hearts
-    ++ codes "." ++ suit_text deal seat Diamonds ++ codes "." ++ suit_text deal seat Clubs ++ 10 ∷ []
+    ++ codes "." ++ suit_text deal seat Diamonds ++ codes "." ++ suit_text deal seat Clubs ++ ascii.line_feed ∷ []
 
 -- the four hands
 unfoldable pub hands_text : Deal → List ℕ
@@ -57,7 +58,7 @@ trick_line promise =
     decimal (length promise.position.history / 4 + 1) ++ codes " "
     ++ seat_letter
     (leader_after promise.position.opening.trump promise.position.opening.leader promise.position.history)
-    ++ codes ":" ++ cards_text (trick_of promise.position.history) ++ 10 ∷ []
+    ++ codes ":" ++ cards_text (trick_of promise.position.history) ++ ascii.line_feed ∷ []
 
 -- the tricks that a side has won so far
 abbrev pub tricks_in : Promise → Side → ℕ
@@ -68,17 +69,17 @@ tricks_in promise side =
 unfoldable pub score_line : Promise → List ℕ
 score_line promise =
     codes "NS " ++ decimal (tricks_in promise NorthSouth) ++ codes ", EW " ++ decimal (tricks_in promise EastWest)
-    ++ 10 ∷ []
+    ++ ascii.line_feed ∷ []
 
 -- what was promised: `NS promised 2`
 unfoldable pub promise_line : Promise → List ℕ
-promise_line promise = side_letters promise.side ++ codes " promised " ++ decimal promise.tricks ++ 10 ∷ []
+promise_line promise = side_letters promise.side ++ codes " promised " ++ decimal promise.tricks ++ ascii.line_feed ∷ []
 
 -- ---- what is said
 -- whose turn it is: `S to play`
 unfoldable pub turn_line : Option Seat → List ℕ
 turn_line None = []
-turn_line (Some seat) = seat_letter seat ++ codes " to play" ++ 10 ∷ []
+turn_line (Some seat) = seat_letter seat ++ codes " to play" ++ ascii.line_feed ∷ []
 
 -- a card is asked for, while one is still to be played
 unfoldable pub asking_text : Option Seat → Promise → List ℕ
@@ -98,7 +99,7 @@ letter_of_holder (Some seat) = seat_letter seat
 
 -- a card that is played, behind the seat that held it: `S SA`
 unfoldable pub played_line : Deal → Card → List ℕ
-played_line deal card = letter_of_holder (holder_of deal card) ++ codes " " ++ card_text card ++ 10 ∷ []
+played_line deal card = letter_of_holder (holder_of deal card) ++ codes " " ++ card_text card ++ ascii.line_feed ∷ []
 
 -- the cards that are played from these hands
 unfoldable pub played_text : Deal → List Card → List ℕ
@@ -106,11 +107,11 @@ played_text deal cards = flat_map (played_line deal) cards
 
 -- why nothing is done
 unfoldable pub refusal_line : Refusal → List ℕ
-refusal_line NoCard = codes "no card: type one as S3 or 3S, or undo, hands or quit" ++ 10 ∷ []
-refusal_line NotHeld = codes "the card is not in this hand" ++ 10 ∷ []
-refusal_line MustFollow = codes "the suit led must be followed" ++ 10 ∷ []
-refusal_line Several = codes "more than one card may be played" ++ 10 ∷ []
-refusal_line NothingBack = codes "there is no card to take back" ++ 10 ∷ []
+refusal_line NoCard = codes "no card: type one as S3 or 3S, or undo, hands or quit" ++ ascii.line_feed ∷ []
+refusal_line NotHeld = codes "the card is not in this hand" ++ ascii.line_feed ∷ []
+refusal_line MustFollow = codes "the suit led must be followed" ++ ascii.line_feed ∷ []
+refusal_line Several = codes "more than one card may be played" ++ ascii.line_feed ∷ []
+refusal_line NothingBack = codes "there is no card to take back" ++ ascii.line_feed ∷ []
 
 -- at the end: what was played, who has won how many tricks, and what was promised
 unfoldable pub closing_text : Promise → List ℕ

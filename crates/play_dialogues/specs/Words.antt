@@ -7,10 +7,11 @@ use Rattle.cards.specs.declared.pack.Card.{Card}
 use Rattle.cards.specs.Pack.{suit_letter, rank_letter}
 use Rattle.play_dialogues.specs.declared.words.Typed.{Typed}
 use Rattle.play_dialogues.specs.declared.words.Typed.TheVariants as typed
+use Rattle.cards.specs.Bytes as ascii
 
 -- a blank, a tab or a carriage return
 abbrev pub is_blank : ℕ → Bool
-is_blank byte = byte == 32 || (byte == 9 || byte == 13)
+is_blank byte = byte == ascii.blank || (byte == ascii.tab || byte == ascii.carriage_return)
 
 -- the letters of a line: its bytes without blanks, in capitals
 unfoldable pub letters_of : List ℕ → List ℕ

@@ -9,11 +9,12 @@ use Rattle.streams.specs.declared.opening.CannotOpen.TheVariants.{Missing, Denie
 use Rattle.streams.specs.declared.opening.CannotOpen.TheVariants.{PbnText, Refused}
 use Rattle.run_ends.specs.declared.named_files.FileFault.{FileFault}
 use Rattle.run_ends.specs.declared.named_files.FileFault.TheVariants as file
+use Rattle.cards.specs.Bytes as ascii
 
 -- a line of this text, after two blanks; there is no line without a text
 abbrev pub second_line : List ℕ → List ℕ
 second_line [] = []
-second_line (byte ∷ more) = codes "  " ++ (byte ∷ more) ++ 10 ∷ []
+second_line (byte ∷ more) = codes "  " ++ (byte ∷ more) ++ ascii.line_feed ∷ []
 
 -- ---- a file that can't be opened
 abbrev pub reason_text : CannotOpen → List ℕ
@@ -26,7 +27,7 @@ reason_text Refused = codes "the system does not open it"
 
 -- a byte of a name, or a question mark for a control character
 abbrev pub shown_byte : ℕ → ℕ
-shown_byte byte = if nat_lt byte 32 || nat_eq byte 127 then 63 else byte
+shown_byte byte = if nat_lt byte ascii.blank || nat_eq byte 127 then 63 else byte
 
 abbrev pub shown_name : List ℕ → List ℕ
 shown_name name = flat_map (λ byte. shown_byte byte ∷ []) name
@@ -34,7 +35,7 @@ shown_name name = flat_map (λ byte. shown_byte byte ∷ []) name
 -- the name of the file, if it has one, and why it can't be opened
 abbrev pub opening_line : Option (List ℕ) → CannotOpen → List ℕ
 opening_line None why = second_line (reason_text why)
-opening_line (Some name) why = codes "  " ++ shown_name name ++ codes ": " ++ reason_text why ++ 10 ∷ []
+opening_line (Some name) why = codes "  " ++ shown_name name ++ codes ": " ++ reason_text why ++ ascii.line_feed ∷ []
 
 -- ---- other faults
 -- a refused PBN text

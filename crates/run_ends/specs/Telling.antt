@@ -5,6 +5,7 @@ use Rattle.cards.specs.Devices.{Device, Adds, AddsBeginning}
 use Rattle.streams.specs.declared.opening.CannotOpen.{CannotOpen}
 use Rattle.run_ends.specs.declared.statuses.Status.{Status}
 use Rattle.run_ends.specs.Explanations.{explained}
+use Rattle.cards.specs.Bytes as ascii
 
 -- a place of the input before a text
 abbrev pub after_line : Option ℕ → List ℕ → List ℕ
@@ -13,7 +14,7 @@ after_line (Some line) text = codes "line " ++ decimal line ++ codes ": " ++ tex
 
 -- the line of a fault of which this is said
 abbrev pub told_line : List ℕ → List ℕ
-told_line said = codes "ddfarm: " ++ said ++ 10 ∷ []
+told_line said = codes "ddfarm: " ++ said ++ ascii.line_feed ∷ []
 
 -- all that is written of a fault, by the name of the file that was to be opened, what is said, why a file can't be
 -- opened, and what explains any other fault

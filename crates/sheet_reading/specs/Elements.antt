@@ -2,11 +2,12 @@
 use Rattle.std.specs.Prelude.{ℕ, ◌==◌, Bool, ◌||◌, List, [], ◌∷◌, if◌then◌else◌, bytes_eq}
 use Rattle.std.specs.List.{flat_map}
 use Rattle.sheet_reading.specs.Pages.{parts_of, resolved}
+use Rattle.cards.specs.Bytes as ascii
 
 -- ---- the name of a tag
 -- a blank, the end of a line, or the end of the tag
 abbrev pub ends_name : ℕ → Bool
-ends_name byte = byte == 32 || (byte == 10 || byte == 62)
+ends_name byte = byte == ascii.blank || (byte == ascii.line_feed || byte == ascii.close_angle)
 
 abbrev pub up_to_end : List ℕ → List ℕ
 up_to_end [] = []
@@ -39,7 +40,7 @@ pieces_of page = past_text (parts_of page)
 -- ---- elements
 -- the name of the tag that ends an element
 abbrev pub end_of : List ℕ → List ℕ
-end_of name = 47 ∷ name
+end_of name = ascii.slash ∷ name
 
 -- the pieces before the first tag of this name, or all if there is none
 abbrev pub before_tag : List ℕ → List Piece → List Piece

@@ -3,6 +3,7 @@
 use Rattle.std.specs.Prelude.{ℕ, ◌==◌, Bool, true, false, List, [], ◌∷◌, ◌++◌, codes, bytes_eq}
 use Rattle.std.specs.Prelude.{if◌then◌else◌, Option, None, Some}
 use Rattle.html.specs.Places.{Place, InText, is_text, place_after}
+use Rattle.cards.specs.Bytes as ascii
 
 -- ---- texts and tags
 -- the parts with this byte before the first
@@ -52,24 +53,25 @@ suit_reference name =
     (if bytes_eq name (codes "hearts") then 0xE2 ∷ 0x99 ∷ 0xA5 ∷ [] else
     (if bytes_eq name (codes "diams") then 0xE2 ∷ 0x99 ∷ 0xA6 ∷ [] else
     (if bytes_eq name (codes "clubs") then 0xE2 ∷ 0x99 ∷ 0xA3 ∷ [] else
-    38 ∷ (name ++ 59 ∷ []))))
+    ascii.ampersand ∷ (name ++ ascii.semicolon ∷ []))))
 
 -- what a character reference stands for
 abbrev pub reference : List ℕ → List ℕ
 reference name =
-    if bytes_eq name (codes "amp") then 38 ∷ [] else
-    (if bytes_eq name (codes "lt") then 60 ∷ [] else
-    (if bytes_eq name (codes "gt") then 62 ∷ [] else
+    if bytes_eq name (codes "amp") then ascii.ampersand ∷ [] else
+    (if bytes_eq name (codes "lt") then ascii.open_angle ∷ [] else
+    (if bytes_eq name (codes "gt") then ascii.close_angle ∷ [] else
     suit_reference name))
 
 -- the bytes that a text stands for: what goes from `&` to `;` is a reference, of which this is the name so far, if any
 abbrev pub resolved_from : Option (List ℕ) → List ℕ → List ℕ
 resolved_from None [] = []
 resolved_from None (byte ∷ bytes) =
-    if byte == 38 then resolved_from (Some []) bytes else byte ∷ resolved_from None bytes
-resolved_from (Some name) [] = 38 ∷ name
+    if byte == ascii.ampersand then resolved_from (Some []) bytes else byte ∷ resolved_from None bytes
+resolved_from (Some name) [] = ascii.ampersand ∷ name
 resolved_from (Some name) (byte ∷ bytes) =
-    if byte == 59 then reference name ++ resolved_from None bytes else resolved_from (Some (name ++ byte ∷ [])) bytes
+    if byte == ascii.semicolon then reference name ++ resolved_from None bytes
+    else resolved_from (Some (name ++ byte ∷ [])) bytes
 
 abbrev pub resolved : List ℕ → List ℕ
 resolved text = resolved_from None text

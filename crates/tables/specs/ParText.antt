@@ -4,10 +4,12 @@ use Rattle.std.specs.List.{flat_map}
 use Rattle.par.specs.Texts.{score_text, contracts_text, IsSmallResult}
 use Rattle.tables.specs.declared.pars.BoardPar.{BoardPar}
 use Rattle.tables.specs.declared.pars.BoardPar.TheVariants.{Known, NoDealer, NoVulnerability}
+use Rattle.cards.specs.Bytes as ascii
 
 -- a tag pair: the opening bracket, the name, a space, the value in quotes, the closing bracket
 unfoldable pub tag_text : List ℕ → List ℕ → List ℕ
-tag_text name value = 91 ∷ (name ++ (32 ∷ 34 ∷ (value ++ (34 ∷ 93 ∷ []))))
+tag_text name value =
+    ascii.open_bracket ∷ (name ++ (ascii.blank ∷ ascii.quote ∷ (value ++ (ascii.quote ∷ ascii.close_bracket ∷ []))))
 
 -- the text of a line, with this end
 abbrev pub body_line : List ℕ → List ℕ → List ℕ

@@ -15,6 +15,7 @@ use Rattle.pbn_deals.specs.declared.boards.Board.{Board}
 use Rattle.pbn_deals.specs.DealText.{deal_text}
 use Rattle.tables.specs.declared.pars.BoardPar.{BoardPar}
 use Rattle.tables.specs.ParText.{par_text}
+use Rattle.cards.specs.Bytes as ascii
 
 -- the results of one board that are known, by declarer and denomination
 abbrev pub Results : Type 0
@@ -30,15 +31,17 @@ abbrev pub printed_with : List (Option BoardPar) → (ℕ → Results) → ℕ �
 printed_with pars results place = record { results = results place; par = slice_index_or pars place None }
 
 abbrev pub line_feed : List ℕ
-line_feed = 10 ∷ []
+line_feed = ascii.line_feed ∷ []
 
 -- a text and its line feed
 abbrev pub ended_line : List ℕ → List ℕ
-ended_line text = text ++ 10 ∷ []
+ended_line text = text ++ ascii.line_feed ∷ []
 
 -- a tag pair on a line of its own: the opening bracket, the name, a space, the value in quotes, the closing bracket
 abbrev pub tag_line : List ℕ → List ℕ → List ℕ
-tag_line name value = 91 ∷ (name ++ (32 ∷ 34 ∷ (value ++ (34 ∷ 93 ∷ 10 ∷ []))))
+tag_line name value =
+    ascii.open_bracket ∷ (name ++ (ascii.blank ∷ ascii.quote ∷
+    (value ++ (ascii.quote ∷ ascii.close_bracket ∷ ascii.line_feed ∷ []))))
 
 -- the value of the Deal tag
 abbrev pub deal_value : Option Deal → List ℕ
@@ -63,13 +66,13 @@ entries = flat_map entries_of declarers
 
 -- a text right in two places
 abbrev pub right_in_two : List ℕ → List ℕ
-right_in_two text = if nat_lt (length text) 2 then 32 ∷ text else text
+right_in_two text = if nat_lt (length text) 2 then ascii.blank ∷ text else text
 
 -- a row: the declarer, the denomination and the result
 unfoldable pub row_text : Seat → Trump → ℕ → List ℕ
 row_text declarer denomination tricks =
-    (seat_letter declarer ++ (32 ∷ []))
-    ++ (right_in_two (trump_letters denomination) ++ (32 ∷ right_in_two (decimal tricks)))
+    (seat_letter declarer ++ (ascii.blank ∷ []))
+    ++ (right_in_two (trump_letters denomination) ++ (ascii.blank ∷ right_in_two (decimal tricks)))
 
 -- the row of an entry that has a result, with the end of its line
 abbrev pub result_row : List ℕ → Seat → Trump → Option ℕ → List ℕ
@@ -97,8 +100,9 @@ is_complete results = published_count results == 20
 -- the heading of a complete table
 unfoldable pub table_tag : List ℕ
 table_tag =
-    codes "[OptimumResultTable " ++ (34 ∷ codes "Declarer;Denomination")
-    ++ (92 ∷ codes "2R;Result") ++ (92 ∷ codes "2R") ++ (34 ∷ 93 ∷ [])
+    codes "[OptimumResultTable " ++ (ascii.quote ∷ codes "Declarer;Denomination")
+    ++ (ascii.backslash ∷ codes "2R;Result") ++ (ascii.backslash ∷ codes "2R")
+    ++ (ascii.quote ∷ ascii.close_bracket ∷ [])
 
 -- what stands in place of an incomplete table
 unfoldable pub incomplete_text : ℕ → List ℕ
@@ -118,7 +122,7 @@ section_text end printed = par_text end printed.par ++ table_text end printed.re
 unfoldable pub board_text : Board → Printed → List ℕ
 board_text board printed =
     tag_line (codes "Board") board.name
-    ++ (tag_line (codes "Deal") (deal_value board.deal) ++ (section_text line_feed printed ++ (10 ∷ [])))
+    ++ (tag_line (codes "Deal") (deal_value board.deal) ++ (section_text line_feed printed ++ (ascii.line_feed ∷ [])))
 
 -- each board with what is printed of it, found by its place
 abbrev pub numbered_text : (ℕ → Printed) → ℕ × Board → List ℕ

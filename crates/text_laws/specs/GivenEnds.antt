@@ -9,10 +9,11 @@ use Rattle.tables.specs.declared.results.Renews.{Renews}
 use Rattle.whole_texts.specs.OldTables.{is_deal_kind, has_deal, left_of}
 use Rattle.whole_texts.specs.WholeText.{Game, games_of, behind, section_lines, if_none, first_end}
 use Rattle.whole_texts.specs.WholeText as said
+use Rattle.cards.specs.Bytes as ascii
 
 -- an end for a line that has none: a carriage return that is the line's own isn't made a part of the end
 abbrev pub new_end : List ℕ → Kind → List ℕ
-new_end end kind = if ends_with_return (body_of kind) then (13 ∷ 10 ∷ []) else end
+new_end end kind = if ends_with_return (body_of kind) then (ascii.carriage_return ∷ ascii.line_feed ∷ []) else end
 
 -- the end of the line of the Deal tag: the one that it gets, where it has none
 abbrev pub deal_end : List ℕ → List Line → List ℕ

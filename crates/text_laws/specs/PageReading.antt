@@ -13,6 +13,7 @@ use Rattle.cards.specs.declared.suits.Trump.{Trump}
 use Rattle.cards.specs.declared.suits.Trump.TheVariants as trump
 use Rattle.pbn_deals.specs.DealValue.{is_word, words_of}
 use Rattle.pbn_deals.specs.Tags.{Tag, tag_of}
+use Rattle.cards.specs.Bytes as ascii
 
 -- the items, where all are there
 abbrev pub put_item : {A : Type 0} → Option A → Option (List A) → Option (List A)
@@ -95,13 +96,14 @@ value_of_tag name (Some tag) = if bytes_eq tag.name name && not (is_word tag.res
 -- the value of the tag pair of this name that is the whole line
 abbrev pub value_in : List ℕ → List ℕ → Option (List ℕ)
 value_in name [] = None
-value_in name (byte ∷ bytes) = if byte == 91 then value_of_tag name (tag_of bytes) else None
+value_in name (byte ∷ bytes) = if byte == ascii.open_bracket then value_of_tag name (tag_of bytes) else None
 
 -- the columns of a table (PBN 2.1, the OptimumResultTable tag)
 abbrev pub are_columns : Option (List ℕ) → Bool
 are_columns None = false
 are_columns (Some value) =
-    bytes_eq value (codes "Declarer;Denomination" ++ (92 ∷ codes "2R;Result") ++ (92 ∷ codes "2R"))
+    bytes_eq value
+    (codes "Declarer;Denomination" ++ (ascii.backslash ∷ codes "2R;Result") ++ (ascii.backslash ∷ codes "2R"))
 
 -- a line that stands alone tells a number
 abbrev pub count_alone : List ℕ → List (List ℕ) → Option Table

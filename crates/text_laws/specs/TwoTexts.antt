@@ -7,6 +7,7 @@ use Rattle.pbn_deals.specs.declared.faults.PbnFault.TheVariants.{HandSize, Inher
 use Rattle.pbn_deals.specs.Games.{no_tags, greatest_count}
 use Rattle.pbn_deals.specs.Lines.{lines_of, without_mark}
 use Rattle.pbn_deals.specs.Reading.{Answers, TextAnswers}
+use Rattle.cards.specs.Bytes as ascii
 
 -- the text ends outside a comment, or has a fault before its end
 abbrev pub EndsOutside : List ℕ → Type 0
@@ -14,7 +15,7 @@ EndsOutside text = (line : ℕ) → TextAnswers text (Err (OpenComment line)) �
 
 -- the end of the first text's last line, a blank line, and the second text without its byte order mark
 abbrev pub joined : List ℕ → List ℕ → List ℕ
-joined first second = first ++ 10 ∷ 10 ∷ without_mark second
+joined first second = first ++ ascii.line_feed ∷ ascii.line_feed ∷ without_mark second
 
 -- how many lines stand before the second text: those of the first and the blank one
 abbrev pub lines_before : List ℕ → ℕ

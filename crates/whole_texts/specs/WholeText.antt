@@ -16,6 +16,7 @@ use Rattle.tables.specs.TablesText.{incomplete_text, line_feed}
 use Rattle.whole_texts.specs.LineEnds.{last_of, missing_end}
 use Rattle.whole_texts.specs.OldTables.{is_deal_kind, has_deal, left_of}
 use Rattle.tables.specs.declared.results.Renews.{Renews}
+use Rattle.cards.specs.Bytes as ascii
 
 -- ---- games
 -- the lines of a game, and the line behind them that ends it, if there is one
@@ -56,7 +57,7 @@ entry_lines end results entry = row_lines end entry.0 entry.1 (results entry.0 e
 abbrev pub table_pair : Piece
 table_pair =
     Pair (codes "OptimumResultTable")
-    (codes "Declarer;Denomination" ++ (92 ∷ codes "2R;Result") ++ (92 ∷ codes "2R")) table_tag
+    (codes "Declarer;Denomination" ++ (ascii.backslash ∷ codes "2R;Result") ++ (ascii.backslash ∷ codes "2R")) table_tag
 
 -- the table where all twenty results are known, else how many are, in lines with this end
 abbrev pub table_lines : List ℕ → Results → List Line

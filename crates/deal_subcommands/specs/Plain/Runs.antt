@@ -13,10 +13,11 @@ use Rattle.streams.specs.RunStreams.{RunDevices}
 use Rattle.run_ends.specs.declared.statuses.Status.{Status}
 use Rattle.deal_subcommands.specs.Runs.{Runs, Finishes}
 use Rattle.command_words.specs.declared.reading.LayoutWords.{LayoutWords}
+use Rattle.cards.specs.Bytes as ascii
 
 -- the line: `NS `, the digit of the number, LF
 abbrev pub line_of : ℕ → List ℕ
-line_of tricks = codes "NS " ++ (48 + tricks) ∷ 10 ∷ []
+line_of tricks = codes "NS " ++ (48 + tricks) ∷ ascii.line_feed ∷ []
 
 -- The bytes spell a layout of at most 4 cards a hand, of which North and South can win this many tricks, and East and
 -- West the others.

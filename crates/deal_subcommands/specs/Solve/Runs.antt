@@ -19,14 +19,16 @@ use Rattle.streams.specs.RunStreams.{RunDevices}
 use Rattle.run_ends.specs.declared.statuses.Status.{Status}
 use Rattle.deal_subcommands.specs.Runs.{Runs, Finishes}
 use Rattle.deal_subcommands.specs.declared.solve.options.SolveOptions.{SolveOptions}
+use Rattle.cards.specs.Bytes as ascii
 
 -- the first line: `result `, the number, LF
 abbrev pub result_line : ℕ → List ℕ
-result_line tricks = codes "result " ++ (decimal tricks ++ 10 ∷ [])
+result_line tricks = codes "result " ++ (decimal tricks ++ ascii.line_feed ∷ [])
 
 -- the text of an answer: the first line, the text of declarer's graph, an empty line, that of the defenders' graph
 abbrev pub answer_text : ℕ → GraphShape → GraphShape → List ℕ
-answer_text tricks declarers defenders = result_line tricks ++ (graph_text declarers ++ 10 ∷ graph_text defenders)
+answer_text tricks declarers defenders =
+    result_line tricks ++ (graph_text declarers ++ ascii.line_feed ∷ graph_text defenders)
 
 -- an answer of the solver for the deal, of at most 13 tricks and with two graphs
 pub record IsFound (may_find : MayFind) (deal : Deal) (declarer : Seat) (trump : Trump) (budget : ℕ) (answer : Answer)
