@@ -1,6 +1,7 @@
 //! What a line asks for, and the answer.
 
 use crate::conditions::{answer_conditions, answer_first};
+use crate::plays::answer_plays;
 use cards::{Buffer, DeviceFault, Seat, Trump, write_all};
 use par::{
     Bid, Doubling, Level, ParContract, Tricks, Vulnerability, VulnerableSides, par_contracts,
@@ -26,6 +27,7 @@ pub fn answer_case(alloc: Global, case: &str, out: &mut String) -> Result<(), Al
         "par" => answer_par(alloc, case, out),
         "conditions" => answer_conditions(alloc, case, out),
         "first" => answer_first(alloc, case, out),
+        "plays" => answer_plays(alloc, case, out),
         _ => out.push_str("no such kind"),
     }
 }

@@ -34,7 +34,7 @@ pub fn answer_first(alloc: Global, case: &str, out: &mut String) -> Result<(), A
 }
 
 /// The text between the bars of a case.
-fn text_of(alloc: Global, case: &str) -> Result<Vec<u8>, AllocError> {
+pub fn text_of(alloc: Global, case: &str) -> Result<Vec<u8>, AllocError> {
     let mut text = Vec::new(alloc);
     let mut is_escaped = false;
     for byte in case.split('|').nth(1).unwrap_or("").as_bytes() {

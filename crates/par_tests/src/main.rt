@@ -5,6 +5,7 @@
 
 mod cases;
 mod conditions;
+mod plays;
 
 use cases::answer_case;
 use std::io;
