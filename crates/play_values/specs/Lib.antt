@@ -1,0 +1,4 @@
+pub mod PlayValues
+pub mod Recordings
+pub mod Rests
+pub mod Laws
