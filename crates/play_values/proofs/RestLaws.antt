@@ -1,5 +1,5 @@
 -- After whole tricks, play goes on as from the layout that is left, also after some more cards.
-use Rattle.std.proofs.Common.{◌≡◌, ℕ, zero, suc, ◌+◌, ◌-◌, ◌*◌, List, [], ◌∷◌, ◌++◌, length, sym, ◌∙◌, ap, subst, arith, append_assoc, append-nil, length-append}
+use Rattle.std.proofs.Common.{◌≡◌, ℕ, zero, suc, ◌+◌, ◌-◌, List, [], ◌∷◌, ◌++◌, length, sym, ◌∙◌, ap, subst, arith, append_assoc, append-nil, length-append}
 use Rattle.cards.specs.declared.seats.Seat.TheVariants.{North}
 use Rattle.cards.specs.declared.seats.Side.{Side}
 use Rattle.cards.specs.declared.pack.Card.{Card}
@@ -7,7 +7,6 @@ use Rattle.cards.specs.Seats.{side_of}
 use Rattle.cards.specs.Deal.{size_of}
 use Rattle.play_rules.specs.History.{Opening, trick_of}
 use Rattle.play_rules.specs.Legal.{IsLegalAfter, IsLegalHistory, cards_in_play}
-use Rattle.strategies.specs.Strategies.{CanWin}
 use Rattle.strategies.specs.Values.{opening_after}
 use Rattle.strategies.proofs.Shifting.{seat_to_play-after, tricks_of-after, CanPlay-after, CanPlay-before, IsLegalAfter-after}
 use Rattle.strategies.proofs.Counting.{legal-within, count_of-left_of}

@@ -1,14 +1,13 @@
 -- The values of a play: no two, and no gain.
-use Rattle.std.proofs.Common.{◌≡◌, ℕ, ◌-◌, ◌≤◌, List, ◌∷◌, [], ◌++◌, refl, arith}
+use Rattle.std.proofs.Common.{ℕ, ◌-◌, ◌≤◌, List, ◌∷◌, [], arith}
 use Rattle.cards.specs.declared.seats.Side.{Side}
 use Rattle.cards.specs.declared.seats.Side.TheVariants.{NorthSouth, EastWest}
 use Rattle.cards.specs.declared.pack.Card.{Card}
-use Rattle.cards.specs.Seats.{other_side, side_of}
+use Rattle.cards.specs.Seats.{other_side}
 use Rattle.cards.specs.Deal.{size_of, IsLayout}
 use Rattle.play_rules.specs.History.{Opening}
 use Rattle.play_rules.specs.Legal.{IsLegalHistory}
 use Rattle.strategies.specs.Strategies.{CanWin}
-use Rattle.strategies.specs.Values.{opening_of}
 use Rattle.strategies.proofs.LawProofs.{by_own_card}
 use Rattle.strategies.proofs.UniqueProofs.{no_more_than_all}
 use Rattle.play_values.specs.Laws.{CardCannotGain, HasOnePlayValue, FirstValueIsValue}

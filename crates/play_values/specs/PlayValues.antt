@@ -1,5 +1,5 @@
 -- What a recorded play is worth after each of its cards.
-use Rattle.std.specs.Prelude.{◌≡◌, ℕ, ◌+◌, ◌-◌, ◌≤◌, List, length, take, Option, Some, slice_get}
+use Rattle.std.specs.Prelude.{◌≡◌, ℕ, ◌+◌, ◌-◌, ◌≤◌, List, length, take, Option, None, slice_index_or, IfSome}
 use Rattle.cards.specs.declared.seats.Side.{Side}
 use Rattle.cards.specs.declared.pack.Card.{Card}
 use Rattle.cards.specs.Seats.{other_side}
@@ -33,7 +33,7 @@ IsValueAt play count tricks = IsPlayValue play.position.opening play.declarers (
 -- the value isn't known.
 pub record ArePlayValues (play : Recorded) (values : List (Option ℕ)) : Type 0 where
   pub count : length values ≡ length play.position.history + 1
-  pub each : (count tricks : ℕ) → slice_get values count ≡ Some (Some tricks) → IsValueAt play count tricks
+  pub each : (count : ℕ) → IfSome (slice_index_or values count None) (IsValueAt play count)
 
 -- ---- one card
 -- The tricks that a card loses for the side that plays it after the history. If declarer's side plays it, the number

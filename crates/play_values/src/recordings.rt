@@ -1,6 +1,7 @@
 //! The recording of a play.
 
-ghost use Rattle.std.specs.Prelude.{◌≡◌, ◌≤◌, [], length, OnErr, OnOk};
+ghost use Rattle.std.specs.Prelude.{◌≡◌, ◌≤◌, ◌<◌, [], length, OnErr, OnOk};
+ghost use Rattle.play_rules.specs.Legal.{seat_to_play};
 ghost use Rattle.play_rules.specs.Position.{IsReached, with_card};
 ghost use Rattle.play_rules.specs.Plays.{PlaysOrRefuses};
 ghost use Rattle.play_values.specs.PlayValues.{first_cards};
@@ -112,12 +113,25 @@ impl RecordedPlay {
         requires { count ≤ length self.now.position.history }
         ensures { result ≡ record self.now.position { history = first_cards self.now count } }
     {
+        self.invariant();
         let cards = self.cards();
         let mut table = Table::new(self.layout, self.leader, self.trump);
         for place in 0..count {
             table = table.after(cards[place]);
         }
         table
+    }
+
+    /// The seat that played the card in this place, counted from 0.
+    pub fn player(&self, place: usize) -> Seat
+        requires { place < length self.now.position.history }
+        ensures { result ≡ seat_to_play self.now.position.opening (first_cards self.now place) }
+    {
+        self.invariant();
+        match self.table_after(place).turn() {
+            Some(seat) => seat,
+            None => unreachable!(),
+        }
     }
 
     /// What every recording keeps: its cards are a legal history of its layout.

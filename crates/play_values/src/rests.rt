@@ -31,9 +31,12 @@ impl RecordedPlay {
             (length (first_cards self.now count) ≡ cards_in_play self.now.position.opening)
             (IsRestAfter self.now.position.opening (first_cards self.now count)) }
     {
+        self.invariant();
         let whole = count - count % 4;
         let table = self.table_after(whole);
-        let leader = table.turn()?;
+        let Some(leader) = table.turn() else {
+            return None;
+        };
         Some(Rest {
             layout: layout_left(self.layout(), self.cards(), whole),
             leader,

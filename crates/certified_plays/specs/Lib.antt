@@ -1,0 +1,4 @@
+pub mod Proofs
+pub mod Judging
+pub mod Values
+pub mod Searches
