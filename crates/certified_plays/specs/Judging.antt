@@ -1,5 +1,5 @@
 -- When claims show what a play is worth after some of its cards, and what is wrong of them otherwise.
-use Rattle.std.specs.Prelude.{◌≡◌, ℕ, ◌-◌, ◌<◌, ◌≤◌, List, Option, None, Some, slice_get, Result, Ok, Err}
+use Rattle.std.specs.Prelude.{◌≡◌, ℕ, ◌-◌, ◌<◌, ◌≤◌, List, Option, None, Some, slice_get}
 use Rattle.std.specs.Option.{option_flatten}
 use Rattle.cards.specs.declared.seats.Side.{Side}
 use Rattle.cards.specs.declared.seats.Side.TheVariants.{NorthSouth, EastWest}
@@ -12,6 +12,8 @@ use Rattle.play_values.specs.PlayValues.{Recorded, first_cards, IsValueAt}
 use Rattle.certified_plays.specs.declared.proofs.PlayProofs.{PlayProofs}
 use Rattle.certified_plays.specs.declared.faults.ValueFault.{ValueFault}
 use Rattle.certified_plays.specs.declared.faults.ValueFault.TheVariants as faults
+use Rattle.certified_plays.specs.declared.faults.PlayEntry.{PlayEntry}
+use Rattle.certified_plays.specs.declared.faults.PlayEntry.TheVariants.{Known, Unknown}
 use Rattle.certified_plays.specs.Proofs.{ShowsSide, IsSideFault}
 
 -- ---- one claim
@@ -62,7 +64,7 @@ AreLeft play count = IsUnfinished play.position.opening (first_cards play count)
 
 -- The judgement of the value after the first cards: the value that is shown, or why it isn't shown. After the last card
 -- of a layout nothing has to be shown.
-abbrev pub IsJudged : PlayProofs → List (Option PlayClaim) → Recorded → ℕ → Result ℕ ValueFault → Type 0
-IsJudged proofs claims play count (Ok tricks) =
+abbrev pub IsJudged : PlayProofs → List (Option PlayClaim) → Recorded → ℕ → PlayEntry → Type 0
+IsJudged proofs claims play count (Known tricks) =
     IsValueAt play count tricks × (AreLeft play count → IsClaimed proofs claims play count tricks)
-IsJudged proofs claims play count (Err fault) = AreLeft play count × IsValueFault proofs claims play count fault
+IsJudged proofs claims play count (Unknown fault) = AreLeft play count × IsValueFault proofs claims play count fault

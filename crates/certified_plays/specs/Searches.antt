@@ -10,10 +10,10 @@ use Rattle.certified_plays.specs.Values.{ShownPlay, AreShownValues, AreJudged}
 
 -- the graphs and begun nodes of a bundle
 pub record AreProofsOf (bundle : PlayBundle) (proofs : PlayProofs) : Type 0 where
-  pub ns_graph : proofs.graphs.ns.now ≡ bundle.ns.graph.value
-  pub ew_graph : proofs.graphs.ew.now ≡ bundle.ew.graph.value
-  pub ns_begun : proofs.ns.now ≡ bundle.ns.begun.items
-  pub ew_begun : proofs.ew.now ≡ bundle.ew.begun.items
+  pub ns_graph : proofs.ns_graph.now ≡ bundle.ns.graph.value
+  pub ew_graph : proofs.ew_graph.now ≡ bundle.ew.graph.value
+  pub ns_begun : proofs.ns_begun.now ≡ bundle.ns.begun.items
+  pub ew_begun : proofs.ew_begun.now ≡ bundle.ew.begun.items
 
 -- the bundle shows these values of the play, and no others
 pub record ShowsPlay (bundle : PlayBundle) (play : Recorded) (shown : ShownPlay) : Type 0 where

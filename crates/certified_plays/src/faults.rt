@@ -1,4 +1,4 @@
-//! Why certificates don't show a value of a play.
+//! The entries of a play's values, and why certificates don't show one.
 
 use card_values::AfterFault;
 
@@ -13,4 +13,19 @@ pub enum ValueFault {
     NorthSouth(AfterFault),
     /// East and West are not shown to win the others.
     EastWest(AfterFault),
+}
+
+/// What a play is worth after some of its cards, or why it isn't shown.
+#[derive(Clone, Copy, Debug, PartialEq, Eq)]
+pub enum PlayEntry {
+    /// The tricks that declarer's side takes in all.
+    Known(u8),
+    /// They aren't shown.
+    Unknown(ValueFault),
+}
+
+impl Default for PlayEntry {
+    fn default() -> PlayEntry {
+        PlayEntry::Unknown(ValueFault::ClaimMissing)
+    }
 }

@@ -7,11 +7,11 @@ ghost use Rattle.play_values.specs.Rests.{IsRestAfter};
 ghost use Rattle.certified_plays.specs.Judging.{IsShownClaim, IsClaimFault, IsJudged, claim_after, tricks_of_side};
 ghost use Rattle.certified_plays.specs.Values.{AreJudged};
 
-use crate::faults::ValueFault;
+use crate::faults::{PlayEntry, ValueFault};
 use crate::proofs::PlayProofs;
 use crate::values::PlayValues;
 use arrayvec::ArrayVec;
-use card_values::{BegunClaim, check_after, graph_in};
+use card_values::BegunClaim;
 use cards::Side;
 use play_claims::PlayClaim;
 use play_values::{RecordedPlay, Rest};
@@ -42,9 +42,7 @@ fn check_claim(
         side: Side::NorthSouth,
         need: claim.tricks.saturating_sub(rest.north_south),
     };
-    let graph = graph_in(&proofs.graphs, Side::NorthSouth);
-    let node = proofs.node(Side::NorthSouth, claim.ns);
-    if let Err(fault) = check_after(&north_south, graph, node) {
+    if let Err(fault) = proofs.check(&north_south, claim.ns) {
         return Err(ValueFault::NorthSouth(fault));
     }
     let east_west = BegunClaim {
@@ -52,9 +50,7 @@ fn check_claim(
         need: (size - claim.tricks).saturating_sub(rest.east_west),
         ..north_south
     };
-    let graph = graph_in(&proofs.graphs, Side::EastWest);
-    let node = proofs.node(Side::EastWest, claim.ew);
-    match check_after(&east_west, graph, node) {
+    match proofs.check(&east_west, claim.ew) {
         Ok(()) => Ok(()),
         Err(fault) => Err(ValueFault::EastWest(fault)),
     }
@@ -88,26 +84,26 @@ fn check_value(
     claims: &[Option<PlayClaim>],
     play: &RecordedPlay,
     count: usize,
-) -> Result<u8, ValueFault>
+) -> PlayEntry
     requires { count ≤ length play.now.position.history }
     ensures { IsJudged proofs.now claims.now play.now count result }
 {
-    proofs.graphs.ns.graph().invariant();
-    proofs.graphs.ew.graph().invariant();
+    proofs.ns_graph.graph().invariant();
+    proofs.ew_graph.graph().invariant();
     play.invariant();
     let Some(rest) = play.rest_after(count) else {
-        return Ok(play.table().tricks(play.declarers()));
+        return PlayEntry::Known(play.table().tricks(play.declarers()));
     };
     let Some(claim) = claim_after(claims, count) else {
-        return Err(ValueFault::ClaimMissing);
+        return PlayEntry::Unknown(ValueFault::ClaimMissing);
     };
     match check_claim(proofs, play, &rest, count, claim) {
-        Ok(()) => Ok(tricks_of(
+        Ok(()) => PlayEntry::Known(tricks_of(
             play.declarers(),
             play.layout().len() as u8,
             claim.tricks,
         )),
-        Err(fault) => Err(fault),
+        Err(fault) => PlayEntry::Unknown(fault),
     }
 }
 

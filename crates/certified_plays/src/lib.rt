@@ -11,7 +11,7 @@ mod proofs;
 mod searching;
 mod values;
 
-pub use faults::ValueFault;
+pub use faults::{PlayEntry, ValueFault};
 pub use judging::judge_play;
 pub use proofs::PlayProofs;
 pub use searching::{PlayFound, certified_play, judge_play_bundle};

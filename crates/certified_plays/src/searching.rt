@@ -5,7 +5,6 @@ ghost use Rattle.certified_plays.specs.Searches.{IsBundleJudged, FindsPlay};
 use crate::judging::judge_play;
 use crate::proofs::PlayProofs;
 use crate::values::PlayValues;
-use card_values::CardGraphs;
 use cards::OutOfMemory;
 use checker::CheckedGraph;
 use play_claims::{PlayBundle, PlaySolver};
@@ -30,9 +29,10 @@ pub fn judge_play_bundle(
     let ns = CheckedGraph::of(bundle.ns.graph.clone()?);
     let ew = CheckedGraph::of(bundle.ew.graph.clone()?);
     let proofs = PlayProofs {
-        graphs: CardGraphs { ns: &ns, ew: &ew },
-        ns: bundle.ns.begun.as_slice(),
-        ew: bundle.ew.begun.as_slice(),
+        ns_graph: &ns,
+        ew_graph: &ew,
+        ns_begun: bundle.ns.begun.as_slice(),
+        ew_begun: bundle.ew.begun.as_slice(),
     };
     let values = judge_play(&proofs, bundle.claims.as_slice(), play);
     values.invariant();

@@ -1,12 +1,11 @@
 //! The values of a play.
 
 ghost use Rattle.std.specs.Prelude.{◌≡◌, ◌<◌, ◌≤◌, length, MatchOption};
-ghost use Rattle.std.specs.Result.{result_err};
 ghost use Rattle.play_values.specs.PlayValues.{ArePlayValues};
 ghost use Rattle.certified_plays.specs.Values.{AreShownValues, IsLossAt, IsLossUnknown};
 ghost use Rattle.certified_plays.specs.Values.{entry_at, known_of, value_at};
 
-use crate::faults::ValueFault;
+use crate::faults::PlayEntry;
 use arrayvec::ArrayVec;
 use play_values::RecordedPlay;
 use std::marker::Model;
@@ -16,7 +15,7 @@ use std::marker::Model;
 #[derive(Drop)]
 pub struct PlayValues {
     play: RecordedPlay,
-    entries: ArrayVec<Result<u8, ValueFault>, 53>,
+    entries: ArrayVec<PlayEntry, 53>,
 }
 
 impl Model for PlayValues {
@@ -33,7 +32,7 @@ impl PlayValues {
     /// These values of the play.
     pub(crate) fn new(
         play: RecordedPlay,
-        entries: ArrayVec<Result<u8, ValueFault>, 53>,
+        entries: ArrayVec<PlayEntry, 53>,
     ) -> PlayValues
         requires { AreShownValues play entries.items }
         ensures play { result.play ≡ play }
@@ -50,7 +49,7 @@ impl PlayValues {
     }
 
     /// For each number of first cards, from none to all, the value or why it isn't shown.
-    pub fn entries(&self) -> &[Result<u8, ValueFault>]
+    pub fn entries(&self) -> &[PlayEntry]
         ensures { result.now ≡ self.now.entries }
     {
         self.entries.as_slice()
@@ -61,7 +60,7 @@ impl PlayValues {
         ensures { result ≡ value_at self.now count }
     {
         match self.entries.as_slice().get(count) {
-            Some(Ok(tricks)) => Some(*tricks),
+            Some(PlayEntry::Known(tricks)) => Some(*tricks),
             _ => None,
         }
     }
@@ -74,8 +73,12 @@ impl PlayValues {
     {
         self.play.invariant();
         self.invariant();
-        let before = self.value(place)?;
-        let after = self.value(place + 1)?;
+        let Some(before) = self.value(place) else {
+            return None;
+        };
+        let Some(after) = self.value(place + 1) else {
+            return None;
+        };
         Some(before.abs_diff(after))
     }
 

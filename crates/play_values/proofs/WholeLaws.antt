@@ -30,9 +30,9 @@ pub whole_is_whole : (history : List Card) → trick_of (whole_tricks history) �
 whole_is_whole history = nil_from_length (trick_of (whole_tricks history)) (omega (arith, length-trick_of (whole_tricks history), size_of_whole history))
 
 -- the trick in progress is what comes after them
-pub then_the_trick : (history : List Card) → whole_tricks history ++ trick_of history ≡ history
-then_the_trick history =
-    ap (λ (t : List Card). whole_tricks history ++ t) trick ∙ all
+pub trick_is : (history : List Card) → trick_of history ≡ drop (length history - length history % 4) history
+trick_is history =
+    ap trick_of (sym all) ∙ (trick_of-append (whole_tricks history) more ∙ (ap (λ (t : List Card). trick_of (t ++ more)) (whole_is_whole history) ∙ trick_of-short more few))
   where
     more : List Card
     more = drop (length history - length history % 4) history
@@ -43,9 +43,9 @@ then_the_trick history =
     few : length (drop (length history - length history % 4) history) < 4
     few = omega (arith, length-drop (length history - length history % 4) history)
 
-    trick : trick_of history ≡ drop (length history - length history % 4) history
-    trick = ap trick_of (sym all) ∙ (trick_of-append (whole_tricks history) (drop (length history - length history % 4) history)
-        ∙ (ap (λ (t : List Card). trick_of (t ++ drop (length history - length history % 4) history)) (whole_is_whole history) ∙ trick_of-short (drop (length history - length history % 4) history) few))
+pub then_the_trick : (history : List Card) → whole_tricks history ++ trick_of history ≡ history
+then_the_trick history =
+    ap (λ (t : List Card). whole_tricks history ++ t) (trick_is history) ∙ take-append-drop (length history - length history % 4) history
 
 pub few_in_trick : (history : List Card) → length (trick_of history) ≤ 3
 few_in_trick history = omega (arith, length-trick_of history)
@@ -93,6 +93,7 @@ module _ (play : Recorded) (count : ℕ) (within : count ≤ length play.positio
       north_south ≡ tricks_of NorthSouth table.opening.trump table.opening.leader table.history → east_west ≡ tricks_of EastWest table.opening.trump table.opening.leader table.history →
       IsRestAfter opening (first_cards play count) (record { layout = layout; leader = leader; north_south = north_south; east_west = east_west })
   rest_is leader layout north_south east_west turn left ns ew = record {
+    cards_left = omega (arith, unfinished leader turn, length-take (count - count % 4) play.position.history, length-take count play.position.history);
     opening_is = there ∙ ap (λ (h : List Card). opening_after opening h) (sym (whole_of_first play count within));
     north_south = won NorthSouth north_south ns;
     east_west = won EastWest east_west ew;

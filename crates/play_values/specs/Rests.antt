@@ -5,7 +5,7 @@ use Rattle.cards.specs.declared.seats.Side.TheVariants.{NorthSouth, EastWest}
 use Rattle.cards.specs.declared.pack.Card.{Card}
 use Rattle.cards.specs.Deal.{IsLayout}
 use Rattle.play_rules.specs.History.{Opening, trick_of, tricks_of}
-use Rattle.play_rules.specs.Legal.{IsLegalHistory}
+use Rattle.play_rules.specs.Legal.{IsLegalHistory, IsUnfinished}
 use Rattle.strategies.specs.Strategies.{CanWin}
 use Rattle.strategies.specs.Values.{opening_after}
 use Rattle.play_values.specs.declared.rests.Rest.{Rest}
@@ -31,8 +31,9 @@ whole_tricks history = take (length history - length history % 4) history
 abbrev pub rest_opening : Opening → List Card → Opening
 rest_opening opening history = opening_after opening (whole_tricks history)
 
--- the rest after the whole tricks of a history, and how many of them each side has won
+-- Cards are left after the history. This is the rest after its whole tricks, and how many of them each side has won.
 pub record IsRestAfter (opening : Opening) (history : List Card) (rest : Rest) : Type 0 where
+  pub cards_left : IsUnfinished opening history
   pub opening_is : record { deal = rest.layout; leader = rest.leader; trump = opening.trump }
       ≡ rest_opening opening history
   pub north_south : rest.north_south ≡ tricks_won opening NorthSouth history

@@ -1,0 +1,4 @@
+mod ClaimLaws
+mod EntryLaws
+mod LossLaws
+mod BundleLaws
