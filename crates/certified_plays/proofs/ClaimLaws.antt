@@ -1,12 +1,11 @@
 -- What a shown claim says of a play.
-use Rattle.std.proofs.Common.{◌≡◌, ℕ, ◌+◌, ◌-◌, ◌*◌, ◌%◌, ◌<◌, ◌≤◌, List, [], ◌∷◌, ◌++◌, length, take, drop, Option, Some, None, refl, sym, ◌∙◌, ap, subst, arith, length-take, length-append}
+use Rattle.std.proofs.Common.{◌≡◌, ℕ, ◌+◌, ◌-◌, ◌%◌, ◌≤◌, List, [], ◌++◌, length, take, drop, Option, sym, ◌∙◌, ap, subst, arith, length-take, length-append}
 use Rattle.std.proofs.lemmas.List.{drop-take}
 use Rattle.cards.specs.declared.suits.Trump.{Trump}
 use Rattle.cards.specs.declared.seats.Seat.{Seat}
 use Rattle.cards.specs.declared.seats.Side.{Side}
 use Rattle.cards.specs.declared.seats.Side.TheVariants.{NorthSouth, EastWest}
 use Rattle.cards.specs.declared.pack.Card.{Card}
-use Rattle.cards.specs.Seats.{other_side}
 use Rattle.cards.specs.Deal.{Deal, size_of, IsLayout}
 use Rattle.play_rules.specs.History.{Opening, trick_of}
 use Rattle.play_rules.specs.Legal.{IsLegalHistory, IsUnfinished}

@@ -1,5 +1,5 @@
 -- The judgement of each entry, and of all.
-use Rattle.std.proofs.Common.{◌≡◌, ℕ, ◌+◌, ◌-◌, ◌*◌, ◌<◌, ◌≤◌, List, [], ◌∷◌, ◌++◌, length, map, get_or, take, Option, Some, None, refl, sym, ◌∙◌, ap, subst, arith, inl, inr, length-append, length-take, below_more}
+use Rattle.std.proofs.Common.{◌≡◌, ℕ, ◌+◌, ◌<◌, ◌≤◌, List, [], ◌∷◌, ◌++◌, length, take, Option, Some, sym, ◌∙◌, ap, subst, arith, inl, inr, length-append, length-take, below_more}
 use Rattle.std.proofs.lemmas.Bool.{cases_lt}
 use Rattle.std.proofs.Math.ListN.{get_or-map, get_or-append, get_or-eq_default}
 use Rattle.std.proofs.lemmas.List.{length-map, take_all, get_or_push}
@@ -12,18 +12,16 @@ use Rattle.cards.specs.Deal.{size_of, IsLayout}
 use Rattle.play_rules.specs.History.{Opening, tricks_of}
 use Rattle.play_rules.specs.Legal.{IsLegalHistory, cards_in_play}
 use Rattle.play_rules.specs.Position.{IsReached}
-use Rattle.play_rules.proofs.PositionLaws.{tricks_of-le}
-use Rattle.strategies.proofs.Counting.{tricks-add_up}
 use Rattle.strategies.proofs.LawProofs.{what_is_won, share}
 use Rattle.play_claims.specs.declared.claims.PlayClaim.{PlayClaim}
-use Rattle.play_values.specs.PlayValues.{Recorded, first_cards, IsPlayValue, IsValueAt, ArePlayValues}
+use Rattle.play_values.specs.PlayValues.{Recorded, first_cards, IsPlayValue, IsValueAt}
 use Rattle.certified_plays.specs.declared.proofs.PlayProofs.{PlayProofs}
 use Rattle.certified_plays.specs.declared.faults.ValueFault.{ValueFault}
 use Rattle.certified_plays.specs.declared.faults.ValueFault.TheVariants as faults
 use Rattle.certified_plays.specs.declared.faults.PlayEntry.{PlayEntry}
 use Rattle.certified_plays.specs.declared.faults.PlayEntry.TheVariants.{Known, Unknown}
-use Rattle.certified_plays.specs.Judging.{IsClaimFault, IsValueFault, IsJudged, AreLeft, claim_after}
-use Rattle.certified_plays.specs.Values.{ShownPlay, AreJudged, AreShownValues, entry_at, known_in, known_of}
+use Rattle.certified_plays.specs.Judging.{IsClaimFault, IsValueFault, IsJudged, claim_after}
+use Rattle.certified_plays.specs.Values.{ShownPlay, AreJudged, AreShownValues, entry_at, known_in}
 
 -- ---- after the last card
 -- the tricks won by both sides are all

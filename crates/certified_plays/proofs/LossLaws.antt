@@ -1,12 +1,12 @@
 -- What a card loses.
-use Rattle.std.proofs.Common.{◌≡◌, ℕ, ◌+◌, ◌-◌, ◌<◌, ◌≤◌, List, [], ◌∷◌, ◌++◌, length, map, get_or, take, Option, Some, None, sym, ◌∙◌, ap, subst, arith}
+use Rattle.std.proofs.Common.{◌≡◌, ℕ, ◌+◌, ◌-◌, ◌<◌, List, length, get_or, take, Option, Some, ◌∙◌, subst, arith}
 use Rattle.std.proofs.Math.ListN.{get_or-map}
 use Rattle.std.proofs.lemmas.List.{take_more}
 use Rattle.std.specs.Prelude.{IfSome}
 use Rattle.cards.specs.declared.pack.Card.{Card}
 use Rattle.cards.specs.Pack.{card_at}
 use Rattle.play_rules.specs.Position.{IsReached}
-use Rattle.play_values.specs.PlayValues.{IsPlayValue, IsValueAt, IsLoss, first_cards}
+use Rattle.play_values.specs.PlayValues.{IsPlayValue, IsValueAt}
 use Rattle.play_values.proofs.LegalLaws.{next_is_legal}
 use Rattle.play_values.proofs.ValueLaws.{cannot_gain}
 use Rattle.certified_plays.specs.declared.faults.ValueFault.TheVariants.{ClaimMissing}

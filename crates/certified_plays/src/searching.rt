@@ -20,10 +20,7 @@ pub struct PlayFound {
 
 /// Returns the values of a play that a bundle shows, and why it doesn't show the others. Each graph is checked once.
 /// Fails only if memory runs out.
-pub fn judge_play_bundle(
-    play: RecordedPlay,
-    bundle: &PlayBundle,
-) -> Result<PlayValues, OutOfMemory>
+pub fn judge_play_bundle(play: RecordedPlay, bundle: &PlayBundle) -> Result<PlayValues, OutOfMemory>
     ensures { IsBundleJudged play bundle.now result }
 {
     let ns = CheckedGraph::of(bundle.ns.graph.clone()?);

@@ -30,10 +30,7 @@ impl Model for PlayValues {
 
 impl PlayValues {
     /// These values of the play.
-    pub(crate) fn new(
-        play: RecordedPlay,
-        entries: ArrayVec<PlayEntry, 53>,
-    ) -> PlayValues
+    pub(crate) fn new(play: RecordedPlay, entries: ArrayVec<PlayEntry, 53>) -> PlayValues
         requires { AreShownValues play entries.items }
         ensures play { result.play ≡ play }
         ensures entries { result.entries ≡ entries.items }

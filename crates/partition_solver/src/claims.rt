@@ -153,7 +153,12 @@ impl Claims {
 
 /// Where play starts for a side that wins just so many tricks with this seat to lead, or nothing where those are none.
 /// None where it is not remembered.
-fn start_of(search: &Search, leader: usize, side: Side, need: i32) -> Option<Option<TrickStart>> {
+pub(crate) fn start_of(
+    search: &Search,
+    leader: usize,
+    side: Side,
+    need: i32,
+) -> Option<Option<TrickStart>> {
     if need <= 0 {
         return Some(None);
     }

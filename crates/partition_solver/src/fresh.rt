@@ -3,9 +3,11 @@
 use crate::best_claims::best_bundle_of;
 use crate::card_claims::{card_bundle_of, may_all_be_played, tricks_begun};
 use crate::claims::bundle_of;
+use crate::play_searches::play_bundle_of;
 use cards::{Card, Layout, Seat, Trump};
 use certificate_graph::{Bundle, CardBundle, CardSolver, Solver};
 use partition_search::{Begun, Search, may_be_played};
+use play_claims::{PlayBundle, PlaySolver};
 use std::alloc::{AllocError, Global};
 
 /// The search of a [`Partition`](crate::Partition) that remembers nothing from one call to the next. It takes no lock,
@@ -57,6 +59,24 @@ impl CardSolver for FreshPartition {
             return Err(AllocError);
         }
         Ok(bundle)
+    }
+}
+
+impl PlaySolver for FreshPartition {
+    fn solve_play(
+        &self,
+        alloc: Global,
+        layout: &Layout,
+        leader: Seat,
+        trump: Trump,
+        cards: &[Card],
+        budget: u64,
+    ) -> Result<PlayBundle, AllocError> {
+        let mut search = Search::new(alloc, layout, trump)?;
+        match play_bundle_of(&mut search, leader, trump, cards, budget) {
+            Some(bundle) => Ok(bundle),
+            None => Err(AllocError),
+        }
     }
 }
 

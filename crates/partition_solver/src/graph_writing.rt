@@ -109,7 +109,7 @@ impl Writing {
     }
 
     /// Puts a node down for writing, with the next number, unless it has one. Answers its number, from 1.
-    fn put_down(&mut self, start: TrickStart) -> Result<u32, AllocError> {
+    pub(crate) fn put_down(&mut self, start: TrickStart) -> Result<u32, AllocError> {
         let old = self.plan.number(start.record);
         if old != 0 {
             return Ok(old);

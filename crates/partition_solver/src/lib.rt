@@ -1,5 +1,5 @@
-//! A solver: how many tricks declarers of a denomination take, or each card of a trick leads to, with a certificate for
-//! each side that they share.
+//! A solver: how many tricks declarers of a denomination take, each card of a trick leads to, or both sides take after
+//! each card of a play, with a certificate for each side that they share.
 //!
 //! A partition search over the real cards remembers patterns, each with what a side can win of it, and the certificates
 //! are written from what it remembers. Nothing that it answers is trusted: the checker decides. It promises only that
@@ -17,6 +17,7 @@ mod leaves;
 mod memory;
 mod pattern_tricks;
 mod plans;
+mod play_searches;
 mod solving;
 
 pub use fresh::{FreshBest, FreshPartition};

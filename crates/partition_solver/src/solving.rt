@@ -3,8 +3,10 @@
 use crate::card_claims::{card_bundle_of, count_cards, may_all_be_played, tricks_begun};
 use crate::claims::bundle_of;
 use crate::memory::Memory;
+use crate::play_searches::{is_all_claimed, play_bundle_of};
 use cards::{Card, Layout, Seat, Trump};
 use certificate_graph::{Bundle, CardBundle, CardSolver, Solver};
+use play_claims::{PlayBundle, PlaySolver};
 use std::alloc::{AllocError, Global};
 
 /// A partition search. A step of its budget is one card tried, in the search or for a tree of a graph; where the last
@@ -76,6 +78,48 @@ impl Partition {
             self.memory.keep(search);
         }
         Ok(bundle)
+    }
+}
+
+impl Partition {
+    /// Claims, as `solve_play` gives them. If there is one for each number of first cards, the search is not kept.
+    fn found_play(
+        &self,
+        alloc: Global,
+        layout: &Layout,
+        leader: Seat,
+        trump: Trump,
+        cards: &[Card],
+        budget: u64,
+    ) -> Result<PlayBundle, AllocError> {
+        let mut search = self.memory.search_of(alloc, layout, trump)?;
+        let Some(bundle) = play_bundle_of(&mut search, leader, trump, cards, budget) else {
+            return Err(AllocError);
+        };
+        if !is_all_claimed(&bundle) {
+            self.memory.keep(search);
+        }
+        Ok(bundle)
+    }
+}
+
+impl PlaySolver for Partition {
+    fn solve_play(
+        &self,
+        alloc: Global,
+        layout: &Layout,
+        leader: Seat,
+        trump: Trump,
+        cards: &[Card],
+        budget: u64,
+    ) -> Result<PlayBundle, AllocError> {
+        self.memory.enter();
+        let found = self.found_play(alloc, layout, leader, trump, cards, budget);
+        self.memory.leave();
+        if found.is_err() {
+            self.memory.shrink(0);
+        }
+        found
     }
 }
 

@@ -30,8 +30,7 @@ returns-in-Ok c =
     ∙ (ap (λ (s : Side). tricks_of_side s c.len.result claim.tricks) c.declarers-in-Ok.ensures
     ∙ ap (λ (n : ℕ). tricks_of_side play.declarers n claim.tricks) (c.len.ensures.size ∙ ap (λ (d : Deal). size_of d) c.layout.ensures)) in
     let value = value_shown c.args.proofs.now play.position.opening (first_cards play c.args.count) c.invariant-3.ensures.layout (take_is_legal play.position.opening play.position.history c.args.count c.invariant-3.ensures.legal) c.in-Some.ensures.cards_left play.declarers claim
-    (subst IsGraph c.graph.ensures c.invariant.ensures) (subst IsGraph c.graph-2.ensures c.invariant-2.ensures) c.in-Ok.ensures in
-    (
+    (subst IsGraph c.graph.ensures c.invariant.ensures) (subst IsGraph c.graph-2.ensures c.invariant-2.ensures) c.in-Ok.ensures in (
       subst (λ (n : ℕ). IsPlayValue play.position.opening play.declarers (first_cards play c.args.count) n) (sym are) value,
       λ _. record { claim = claim; there = there; shown = c.in-Ok.ensures; tricks_are = are },
     )
