@@ -15,71 +15,10 @@ use Rattle.strategies.proofs.Counting.{legal-within, tricks-add_up, count_of-lef
 use Rattle.strategies.proofs.Minimax.{Gets, Gets-from_CanWin}
 use Rattle.strategies.proofs.Planning.{CanWin-from_Gets}
 use Rattle.checker.specs.ValuesAfter.{side_to_play}
-use Rattle.value_laws.specs.ValuesAfter.{tricks_won, WinsTheRestAfter, ValueCountsTricksWon}
-
--- ---- histories
--- the beginning of a legal history, and the rest of it
-first_is_legal : (opening : Opening) (before history more : List Card) → IsLegalAfter opening before (history ++ more) → IsLegalAfter opening before history
-first_is_legal opening before [] more legal = tt
-first_is_legal opening before (card ∷ history) more legal = (legal.0, first_is_legal opening (before ++ card ∷ []) history more legal.1)
-
-rest_is_legal : (opening : Opening) (before history more : List Card) → IsLegalAfter opening before (history ++ more) → IsLegalAfter opening (before ++ history) more
-rest_is_legal opening before [] more legal = subst (λ (h : List Card). IsLegalAfter opening h more) (sym (append-nil before)) legal
-rest_is_legal opening before (card ∷ history) more legal =
-    subst (λ (h : List Card). IsLegalAfter opening h more) (append_assoc before (card ∷ []) history) (rest_is_legal opening (before ++ card ∷ []) history more legal.1)
-
--- ---- what a side gets
-gets_after : (opening : Opening) (side : Side) (tricks left : ℕ) (history more : List Card) → trick_of history ≡ [] → Gets opening side tricks left (history ++ more) →
-    Gets (opening_after opening history) side (tricks - tricks_won opening side history) left more
-gets_after opening side tricks zero history more whole gets = omega (arith, tricks_of-after opening side history more whole)
-gets_after opening side tricks (suc left) history more whole gets =
-    let seat = seat_to_play-after opening history more whole in (
-      λ turn.
-          let own = gets.0 (ap side_of seat ∙ turn) in (
-            own.0,
-            CanPlay-after opening history more own.0 whole own.1,
-            gets_after opening side tricks left history (more ++ own.0 ∷ []) whole (subst (λ (h : List Card). Gets opening side tricks left h) (append_assoc history more (own.0 ∷ [])) own.2),
-          ),
-      λ not card can.
-          gets_after opening side tricks left history (more ++ card ∷ []) whole
-          (subst (λ (h : List Card). Gets opening side tricks left h) (append_assoc history more (card ∷ []))
-          (gets.1 (λ turn. not (sym (ap side_of seat) ∙ turn)) card (CanPlay-before opening history more card whole can))),
-    )
-
-gets_before : (opening : Opening) (side : Side) (tricks left : ℕ) (history more : List Card) → trick_of history ≡ [] → Gets (opening_after opening history) side (tricks - tricks_won opening side history) left more →
-    Gets opening side tricks left (history ++ more)
-gets_before opening side tricks zero history more whole gets = omega (arith, tricks_of-after opening side history more whole)
-gets_before opening side tricks (suc left) history more whole gets =
-    let seat = seat_to_play-after opening history more whole in (
-      λ turn.
-          let own = gets.0 (sym (ap side_of seat) ∙ turn) in (
-            own.0,
-            CanPlay-before opening history more own.0 whole own.1,
-            subst (λ (h : List Card). Gets opening side tricks left h) (sym (append_assoc history more (own.0 ∷ []))) (gets_before opening side tricks left history (more ++ own.0 ∷ []) whole own.2),
-          ),
-      λ not card can.
-          subst (λ (h : List Card). Gets opening side tricks left h) (sym (append_assoc history more (card ∷ [])))
-          (gets_before opening side tricks left history (more ++ card ∷ []) whole
-          (gets.1 (λ turn. not (ap side_of seat ∙ turn)) card (CanPlay-after opening history more card whole can))),
-    )
-
--- ---- what a side can win
-pub wins_the_rest_after : WinsTheRestAfter
-wins_the_rest_after opening side tricks history more layout legal whole =
-    let within = legal-within opening.trump opening.deal opening.leader (history ++ more) (size_of opening.deal) layout.equal_hands legal in
-    let left = cards_in_play opening - length (history ++ more) in
-    let all : length (history ++ more) + left ≡ cards_in_play opening = omega (arith, within) in
-    let after = opening_after opening history in
-    let gone = count_of-left_of opening.trump opening.deal opening.leader history (first_is_legal opening [] history more legal) whole North in
-    let rest : length more + left ≡ cards_in_play after = omega (arith, all, gone, length-append history more) in
-    let later : IsLegalHistory after more = IsLegalAfter-after opening history [] more whole
-    (subst (λ (h : List Card). IsLegalAfter opening h more) (sym (append-nil history)) (rest_is_legal opening [] history more legal)) in
-    let fewer = tricks - tricks_won opening side history in (
-      λ win. CanWin-from_Gets after side fewer left more rest later
-          (gets_after opening side tricks left history more whole (Gets-from_CanWin opening side tricks left (history ++ more) all legal win)),
-      λ win. CanWin-from_Gets opening side tricks left (history ++ more) all legal
-          (gets_before opening side tricks left history more whole (Gets-from_CanWin after side fewer left more rest later win)),
-    )
+use Rattle.play_values.specs.Rests.{tricks_won}
+use Rattle.play_values.proofs.LegalLaws.{first_is_legal}
+use Rattle.play_values.proofs.RestLaws.{wins_the_rest_after}
+use Rattle.value_laws.specs.ValuesAfter.{ValueCountsTricksWon}
 
 -- the tricks of whole tricks are the sides' together
 tricks_are_shared : (opening : Opening) (history more : List Card) → IsLegalHistory opening (history ++ more) → trick_of history ≡ [] → (side : Side) →

@@ -1,15 +1,17 @@
 -- Double-dummy values after some cards, also in the middle of a trick.
-use Rattle.std.specs.Prelude.{◌≡◌, ℕ, ◌+◌, ◌-◌, ◌≤◌, ◌↔◌, [], ◌++◌, List}
+use Rattle.std.specs.Prelude.{◌≡◌, ℕ, ◌+◌, ◌-◌, ◌≤◌, ◌↔◌, [], ◌++◌, List, if◌then◌else◌}
 use Rattle.cards.specs.declared.suits.Trump.{Trump}
 use Rattle.cards.specs.declared.seats.Seat.{Seat}
 use Rattle.cards.specs.declared.seats.Side.{Side}
 use Rattle.cards.specs.declared.pack.Card.{Card}
+use Rattle.cards.specs.Seats.{is_same_side}
 use Rattle.cards.specs.Deal.{Deal, IsLayout, size_of}
-use Rattle.play_rules.specs.History.{Opening, trick_of, tricks_of}
+use Rattle.play_rules.specs.History.{Opening, trick_of}
 use Rattle.play_rules.specs.Legal.{IsLegalHistory}
-use Rattle.strategies.specs.Strategies.{CanWin}
 use Rattle.strategies.specs.Values.{IsValue, opening_of, opening_after}
 use Rattle.checker.specs.ValuesAfter.{IsValueAfter, side_to_play}
+use Rattle.play_values.specs.PlayValues.{IsPlayValue}
+use Rattle.play_values.specs.Rests.{tricks_won}
 
 -- after a legal history there is at most one value
 abbrev pub HasOneValueAfter : Type 0
@@ -27,20 +29,6 @@ ValueIsValueAfter =
     → IsValue deal declarer trump tricks
     ↔ IsValueAfter (opening_of deal declarer trump) [] (size_of deal - tricks)
 
--- ---- earlier tricks
--- how many tricks of the history a side has won
-abbrev pub tricks_won : Opening → Side → List Card → ℕ
-tricks_won opening side history = tricks_of side opening.trump opening.leader history
-
--- After whole tricks and some more cards, a side can win exactly the tricks that it had not won before these cards, in
--- play of the layout that was left then.
-abbrev pub WinsTheRestAfter : Type 0
-WinsTheRestAfter =
-    (opening : Opening) (side : Side) (tricks : ℕ) (history more : List Card)
-    → IsLayout opening.deal → IsLegalHistory opening (history ++ more) → trick_of history ≡ []
-    → CanWin opening side tricks (history ++ more)
-    ↔ CanWin (opening_after opening history) side (tricks - tricks_won opening side history) more
-
 -- After whole tricks and some more cards, the value is the value after these cards in play of the layout that was left,
 -- and the tricks that the side to play had won before.
 abbrev pub ValueCountsTricksWon : Type 0
@@ -50,3 +38,12 @@ ValueCountsTricksWon =
     → IsValueAfter (opening_after opening history) more tricks
     → IsValueAfter opening (history ++ more)
     (tricks_won opening (side_to_play opening (history ++ more)) history + tricks)
+
+-- The value of a play is the value after its cards if declarer's side is to play then. Otherwise that is the number of
+-- the other tricks.
+abbrev pub PlayValueIsValueAfter : Type 0
+PlayValueIsValueAfter =
+    (opening : Opening) (declarers : Side) (history : List Card) (tricks : ℕ) → tricks ≤ size_of opening.deal
+    → IsPlayValue opening declarers history tricks
+    ↔ IsValueAfter opening history
+    (if is_same_side (side_to_play opening history) declarers then tricks else size_of opening.deal - tricks)

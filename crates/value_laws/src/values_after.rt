@@ -1,7 +1,8 @@
 //! Double-dummy values after some cards. Each law is a function that does nothing: its contract is the law.
 
-ghost use Rattle.value_laws.specs.ValuesAfter.{HasOneValueAfter, ValueIsValueAfter, WinsTheRestAfter};
-ghost use Rattle.value_laws.specs.ValuesAfter.{ValueCountsTricksWon};
+ghost use Rattle.play_values.specs.Rests.{WinsTheRestAfter};
+ghost use Rattle.value_laws.specs.ValuesAfter.{HasOneValueAfter, ValueIsValueAfter, ValueCountsTricksWon};
+ghost use Rattle.value_laws.specs.ValuesAfter.{PlayValueIsValueAfter};
 
 /// After a legal history there is at most one value.
 pub fn value_after_is_unique()
@@ -23,4 +24,10 @@ pub fn wins_the_rest_after()
 /// left, and the tricks that the side to play had won before.
 pub fn value_counts_tricks_won()
     ensures { ValueCountsTricksWon }
+{}
+
+/// The value of a recorded play is the value after its cards if declarer's side is to play then, otherwise that is the
+/// number of the other tricks.
+pub fn play_value_is_value_after()
+    ensures { PlayValueIsValueAfter }
 {}
