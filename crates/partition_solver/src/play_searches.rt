@@ -8,9 +8,7 @@ use crate::claims::start_of;
 use crate::graph_writing::Writing;
 use cards::{Card, Seat, Side, Trump};
 use certificate_graph::Node;
-use partition_search::{
-    Begun, CardSet, OURS, Search, TRICK_CARDS, seat_to_left, side_of, suit_of,
-};
+use partition_search::{Begun, CardSet, OURS, Search, TRICK_CARDS, seat_to_left, side_of, suit_of};
 use play_claims::{PlayBundle, PlayClaim, PlayNodes};
 use std::alloc::AllocError;
 

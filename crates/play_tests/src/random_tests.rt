@@ -58,7 +58,10 @@ fn other_numbers_are_refused(rt: HostRuntime) {
         let judged = got(&rt, judge_play_bundle(play, &bundle));
         expect(&rt, judged.value(place).is_none());
         for count in 0..bundle.claims.len() {
-            expect(&rt, count == place || judged.value(count) == before.values.value(count));
+            expect(
+                &rt,
+                count == place || judged.value(count) == before.values.value(count),
+            );
         }
     }
 }

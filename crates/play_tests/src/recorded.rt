@@ -2,8 +2,8 @@
 
 use crate::draws::draw_below;
 use crate::expect::{got, some};
-use certified_plays::{PlayFound, certified_play};
 use cards::{Card, Layout, Seat, Trump, rank_of, suit_of};
+use certified_plays::{PlayFound, certified_play};
 use partition_solver::FreshPartition;
 use pbn_deals::read_layout;
 use play_values::RecordedPlay;
