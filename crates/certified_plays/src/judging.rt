@@ -107,9 +107,9 @@ fn check_value(
     }
 }
 
-/// Returns what a play is worth after each of its cards. A number is known if its claim is shown: both sides' graphs are
-/// right, and the nodes that it names are right beside them after the cards of the trick in progress. Otherwise the entry
-/// has a fault of the claim. Takes no memory.
+/// Returns what a play is worth after each of its cards. A number is known if its claim is shown: both sides' graphs
+/// are right, and the nodes that it names are right beside them after the cards of the trick in progress. Otherwise the
+/// entry has a fault of the claim. Takes no memory.
 pub fn judge_play(
     proofs: &PlayProofs<'_>,
     claims: &[Option<PlayClaim>],

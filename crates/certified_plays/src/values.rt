@@ -10,8 +10,8 @@ use arrayvec::ArrayVec;
 use play_values::RecordedPlay;
 use std::marker::Model;
 
-/// What a recorded play is worth: for each number of first cards, from none to all, the tricks that declarer's side takes
-/// in all if both sides play best from there, or why they aren't shown. Only [`crate::judge_play`] makes them.
+/// What a recorded play is worth: for each number of first cards, from none to all, the tricks that declarer's side
+/// takes in all if both sides play best from there, or why they aren't shown. Only [`crate::judge_play`] makes them.
 #[derive(Drop)]
 pub struct PlayValues {
     play: RecordedPlay,

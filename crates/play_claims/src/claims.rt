@@ -4,8 +4,8 @@ use certificate_graph::{Graph, Node};
 use std::sync::Arc;
 
 /// How many tricks both sides take after some first cards of a play, and the nodes that are to show it. A node's number
-/// counts the nodes of its side's graph, and after them the begun nodes. The cards of the trick in progress are the path
-/// in the node's tree. A node counts the tricks that are not won yet, and so stands for the claims of several moments.
+/// counts the nodes of its side's graph, and after them the begun nodes. The cards of the trick in progress are the
+/// path in the node's tree. A node needs the tricks that are not won yet, so it may serve for several claims.
 #[derive(Clone, Copy, Debug, PartialEq, Eq)]
 pub struct PlayClaim {
     /// The tricks that North and South take in all, 0 to 13.

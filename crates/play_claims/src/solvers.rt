@@ -15,8 +15,8 @@ pub trait PlaySolver {
     /// Whoever is to show that it may be found has to ask for it.
     ghost may_find_play: { Self → MayFindPlay } = { λ _ _ _ _ _ _ _. ⊤ };
 
-    /// Claims for the first cards of each number, as long as a card is left. The cards may be played in turn. The budget
-    /// is a number of steps for each claim.
+    /// Claims for the first cards of each number, as long as a card is left. The cards may be played in turn. The
+    /// budget is a number of steps for each claim.
     fn solve_play(
         &self,
         alloc: Global,

@@ -1,4 +1,5 @@
-//! What a recorded play is worth: after each of its cards the tricks that declarer's side takes if both sides play best.
+//! What a recorded play is worth: after each of its cards the tricks that declarer's side takes if both sides play
+//! best.
 //!
 //! The definitions and laws are here, the recording of a play, and the rest that whole tricks leave. No card can better
 //! the number of its own side, so what a card loses is a natural number. `certified_plays` finds the values.
