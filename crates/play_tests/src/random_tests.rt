@@ -13,7 +13,7 @@ use std::process::Abort;
 fn drawn(rt: &impl Abort, words: &mut Pcg32, size: usize) -> RecordedPlay {
     let layout = got(rt, draw_layout(words, 52, size));
     let mut play = begun(layout, draw_seat(words), draw_trump(words));
-    let count = draw_below(words, 4 * size + 1);
+    let count = draw_below(words, size.min(13) * 4 + 1);
     record_drawn(rt, &mut play, words, count);
     play
 }
