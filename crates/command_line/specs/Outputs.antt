@@ -18,7 +18,7 @@ abbrev pub room_for : Result Subcommand Error → ℕ
 room_for (Ok (Play options)) = 0
 room_for _ = 8192
 
--- A text was written on the output, or a beginning of it, and that it failed was told. The input stays as it was.
+-- A text was written on the output, or a beginning of it, and that it failed was reported. The input stays as it was.
 abbrev pub Shows : RunDevices → RunDevices → List ℕ → Status → Type 0
 Shows old new text Done =
     (new.both.source ≡ old.both.source) × Adds old.both.sink new.both.sink text × (new.errors ≡ old.errors)

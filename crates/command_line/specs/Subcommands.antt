@@ -109,7 +109,7 @@ pub record MayOpen : Type 1 where
   pub to_make : Opens
 
 -- A whole run, by what the solver may find, the clock may tell and the opening of a file may come to. What can't be done
--- is told on the error output.
+-- is reported on the error output.
 abbrev pub RunsSubcommand : MaySolve → MayTell → MayOpen → Subcommand → RunDevices → RunDevices → Status → Type 0
 RunsSubcommand may_solve may_tell may_open (Table options) old new status =
     RunsTable may_tell may_open.to_read may_open.to_keep options old new status
