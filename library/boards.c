@@ -13,7 +13,7 @@ int SolveBoard(struct deal dl, int target, int solutions, int mode, struct futur
     return ddfarm_solve_board(&dl, target, solutions, mode, futp);
 }
 
-static int read_deal(const struct dealPBN *from, struct deal *to)
+int read_deal(const struct dealPBN *from, struct deal *to)
 {
     struct ddfarm_text text;
     struct ddTableDeal hands;

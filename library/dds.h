@@ -358,7 +358,8 @@ EXTERN_C DLLEXPORT int STDCALL SidesParBin(struct ddTableResults *tablep, struct
 EXTERN_C DLLEXPORT int STDCALL ConvertToDealerTextFormat(struct parResultsMaster *pres, char *resp);
 EXTERN_C DLLEXPORT int STDCALL ConvertToSidesTextFormat(struct parResultsMaster *pres, struct parTextResults *resp);
 
-/* ---- Plays. These are not there yet: they answer RETURN_UNKNOWN_FAULT and zeros. */
+/* ---- Plays: declarer's tricks before the first card, and after each card but those of the last trick. The leader of
+   the current trick is a defender. A play's number counts the cards of the current trick too, which aren't listed. */
 
 EXTERN_C DLLEXPORT int STDCALL AnalysePlayBin(struct deal dl, struct playTraceBin play, struct solvedPlay *solved,
                                               int thrId);

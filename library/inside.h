@@ -28,6 +28,9 @@ int ddfarm_read_hands(const struct ddfarm_text *text, struct ddTableDeal *hands)
 /* All that SolveBoard answers, except for the thread index. */
 int ddfarm_solve_board(const struct deal *dl, int target, int solutions, int mode, struct futureTricks *futp);
 
+/* All that AnalysePlayBin answers, except for the thread index. */
+int ddfarm_analyse_play(const struct deal *dl, const struct playTraceBin *play, struct solvedPlay *solved);
+
 /* Par if this dealer's side calls first, as North and South see it. For each side and denomination that reaches par
    there is the lowest contract. If par is 0, there is one contract of zeros. */
 int ddfarm_par(const struct ddTableResults *table, int dealer, int vulnerable, struct parResultsMaster *par);
@@ -51,6 +54,11 @@ void run_tasks(int tasks, void (*run)(void *work, int task), void *work);
 
 /* The first code of a fault, or RETURN_NO_FAULT. */
 int first_fault(const int *codes, int count);
+
+/* boards.c */
+
+/* Reads a position of which the cards are text, and answers a code. */
+int read_deal(const struct dealPBN *from, struct deal *to);
 
 /* par_texts.c */
 

@@ -104,6 +104,54 @@ static void ask_batches(int count)
     }
 }
 
+/* ---- Plays */
+
+static void print_play(const char *name, int code, const struct solvedPlay *play)
+{
+    printf("%s %d: %d", name, code, play->number);
+    for (int i = 0; code == 1 && i < play->number; i++)
+        printf(" %d", play->tricks[i]);
+    puts("");
+}
+
+/* A position and cards played from it on. DDS has no number for the last trick once a card of it is played. */
+static struct deal play_position(struct playTraceBin *play)
+{
+    int cards = 1 + roll(roll(8) ? 8 : 13), played = cards == 1 ? 0 : roll(4);
+    struct deal deal = position(cards, played);
+    *play = random_play(deal, played, roll(3) ? 52 : roll(4 * cards));
+    return deal;
+}
+
+/* Plays one at a time, and all in one call. */
+static void ask_plays(int count)
+{
+    static struct boards boards;
+    static struct boardsPBN texts;
+    static struct playTracesBin plays;
+    static struct playTracesPBN play_texts;
+    static struct solvedPlays solved;
+    boards.noOfBoards = texts.noOfBoards = plays.noOfBoards = play_texts.noOfBoards = count;
+    for (int i = 0; i < count; i++) {
+        struct solvedPlay answer = {0};
+        boards.deals[i] = play_position(&plays.plays[i]);
+        texts.deals[i] = position_text(&boards.deals[i]);
+        play_texts.plays[i] = play_text(&plays.plays[i]);
+        int code = AnalysePlayBin(boards.deals[i], plays.plays[i], &answer, 0);
+        print_play("AnalysePlayBin", code, &answer);
+        code = AnalysePlayPBN(texts.deals[i], play_texts.plays[i], &answer, 0);
+        print_play("AnalysePlayPBN", code, &answer);
+    }
+    for (int kind = 0; kind < 2; kind++) {
+        memset(&solved, 0, sizeof solved);
+        int code = kind == 0 ? AnalyseAllPlaysBin(&boards, &plays, &solved, 1)
+                             : AnalyseAllPlaysPBN(&texts, &play_texts, &solved, 1);
+        printf("all plays: %d, %d\n", code, solved.noOfBoards);
+        for (int i = 0; i < count; i++)
+            print_play("play", code, &solved.solved[i]);
+    }
+}
+
 /* ---- Pars */
 
 static void print_texts(const char *name, int code, const struct parResultsDealer *par)
@@ -342,6 +390,7 @@ int main(int count, char **words)
     ask_tables(200, 4, NO_TRUMP, 0);
     ask_boards(positions);
     ask_batches(positions < 200 ? positions : 200);
+    ask_plays(positions < 200 ? positions : 200);
     ask_faults(20 * positions);
     ask_limits();
     return 0;

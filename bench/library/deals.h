@@ -68,6 +68,57 @@ static inline struct deal position(int cards, int played)
     return deal;
 }
 
+/* The place in a trick of the card that wins it. */
+static inline int winner_of(const int suits[4], const int ranks[4], int trump)
+{
+    int best = 0;
+    for (int i = 1; i < 4; i++)
+        if (suits[i] == suits[best] ? ranks[i] > ranks[best] : suits[i] == trump)
+            best = i;
+    return best;
+}
+
+/* Random cards that are played in turn from a position on, so many at most. The number counts the cards of the trick in
+   progress too. */
+static inline struct playTraceBin random_play(struct deal deal, int played, int most)
+{
+    struct playTraceBin play;
+    int suits[4] = {0}, ranks[4] = {0}, leader = deal.first;
+    memset(&play, 0, sizeof play);
+    memcpy(suits, deal.currentTrickSuit, sizeof deal.currentTrickSuit);
+    memcpy(ranks, deal.currentTrickRank, sizeof deal.currentTrickRank);
+    play.number = played;
+    for (int count = 0; count < most; count++) {
+        unsigned int *hand = deal.remainCards[(leader + played) % 4];
+        if (!(hand[0] | hand[1] | hand[2] | hand[3]))
+            break;
+        int card = choose_card(hand, played == 0 ? -1 : suits[0]);
+        hand[card / 16] &= ~(1u << card % 16);
+        play.suit[count] = suits[played] = card / 16;
+        play.rank[count] = ranks[played] = card % 16;
+        play.number++;
+        if (++played == 4) {
+            leader = (leader + winner_of(suits, ranks, deal.trump)) % 4;
+            played = 0;
+        }
+    }
+    return play;
+}
+
+/* The play as text. DDS reads as many cards as its number says, so there are some more than it looks at. */
+static inline struct playTracePBN play_text(const struct playTraceBin *play)
+{
+    struct playTracePBN text;
+    memset(&text, 0, sizeof text);
+    text.number = play->number;
+    for (int i = 0; i < 52; i++) {
+        int rank = play->rank[i] < 2 || play->rank[i] > 14 ? 2 : play->rank[i];
+        text.cards[2 * i] = "SHDC"[play->suit[i] & 3];
+        text.cards[2 * i + 1] = "23456789TJQKA"[rank - 2];
+    }
+    return text;
+}
+
 /* Whether the cards of the trick in progress could be played in turn. DDS goes on if they could not. */
 static inline int is_position(const struct deal *deal)
 {

@@ -142,9 +142,37 @@ static int print_position(int count, char **words)
     return 0;
 }
 
+/* Declarer's tricks before the first card of a play and after each that counts, alone and in a batch. */
+static int print_play(int count, char **words)
+{
+    static struct boardsPBN boards = {.noOfBoards = 1};
+    static struct playTracesPBN plays = {.noOfBoards = 1};
+    static struct solvedPlays solved;
+    struct solvedPlay play = {0};
+    struct dealPBN *deal = &boards.deals[0];
+    deal->first = (int)(strchr(SEATS, words[1][0]) - SEATS);
+    while (strcmp(DENOMINATIONS[deal->trump], words[2]) != 0)
+        deal->trump++;
+    strncpy(deal->remainCards, words[0], sizeof deal->remainCards - 1);
+    plays.plays[0].number = count - 3;
+    for (int i = 0; i + 3 < count; i++)
+        memcpy(&plays.plays[0].cards[2 * i], words[3 + i], 2);
+    int code = AnalysePlayPBN(*deal, plays.plays[0], &play, 0);
+    int other = AnalyseAllPlaysPBN(&boards, &plays, &solved, 1);
+    if (code != other || memcmp(&play, &solved.solved[0], sizeof play) != 0)
+        return printf("dds_answers: a batch of one play: %d\n", other), 1;
+    printf("%d:", code);
+    for (int i = 0; i < play.number; i++)
+        printf(" %d", play.tricks[i]);
+    puts("");
+    return 0;
+}
+
 int main(int count, char **words)
 {
     char text[80];
+    if (count >= 5 && strcmp(words[1], "plays") == 0)
+        return print_play(count - 2, words + 2);
     if (count >= 5 && strcmp(words[1], "cards") == 0)
         return print_position(count - 2, words + 2);
     if (count != 2)

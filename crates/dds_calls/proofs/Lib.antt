@@ -8,6 +8,7 @@ pub mod LastTrick
 pub mod LineLaws
 pub mod NoneListed
 pub mod Places
+pub mod PlayLaws
 pub mod Positions
 pub mod PutBack
 pub mod ReadingLaws

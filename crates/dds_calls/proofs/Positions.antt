@@ -206,7 +206,7 @@ no_layout board ask reading back HandSize read put all alone met position is = n
 
 -- ---- the play
 -- each card of a legal history may be played
-legal_at : (opening : Opening) (history cards : List Card) (i : ℕ) (other : Card) → i < length cards → IsLegalAfter opening history cards → CanPlay opening (history ++ take i cards) (get_or cards i other)
+pub legal_at : (opening : Opening) (history cards : List Card) (i : ℕ) (other : Card) → i < length cards → IsLegalAfter opening history cards → CanPlay opening (history ++ take i cards) (get_or cards i other)
 legal_at opening history [] i other less legal = absurd (omega (arith, less))
 legal_at opening history (card ∷ cards) zero other less legal = rw append-nil legal.0
 legal_at opening history (card ∷ cards) (suc i) other less legal =

@@ -5,6 +5,7 @@ pub mod Denominations
 pub mod Hands
 pub mod Lines
 pub mod Pars
+pub mod Plays
 pub mod Readings
 pub mod RowsFound
 pub mod Rules

@@ -34,6 +34,8 @@ pub(crate) const MODE_WRONG_HI: i32 = -17;
 pub(crate) const TRUMP_WRONG: i32 = -18;
 /// The number stands for no seat.
 pub(crate) const FIRST_WRONG: i32 = -19;
+/// The trace has a card that may not be played there.
+pub(crate) const PLAY_FAULT: i32 = -98;
 /// The text has another form.
 pub(crate) const PBN_FAULT: i32 = -99;
 

@@ -98,7 +98,7 @@ fn rank_of(number: i32) -> Option<Rank>
 }
 
 /// Returns the card with these numbers.
-fn card_of(given_suit: i32, given_rank: i32) -> Option<Card>
+pub(crate) fn card_of(given_suit: i32, given_rank: i32) -> Option<Card>
     ensures { MatchOption result
         ((card : Card) → IsNumbered card given_suit given_rank → ⊥)
         (λ card. IsNumbered card given_suit given_rank) }
