@@ -1,6 +1,7 @@
 # Cuts from evidence the sections that claim numbers: `into=.. awk [-v each=1] -f cut.awk NUMBERS - <EVIDENCE`, NUMBERS
 # as boards.awk prints them. A section that claims a number which none before it claims goes to `room/N.dde`, N being
-# the first board of its deal. With `each`, each section that claims a number goes to its own file, `room/1` and so on.
+# the first board of its deal. With `each`, each section that claims a number goes to its own file, `room/1` and so on,
+# and how many these are is printed.
 BEGIN {
     FS = "\t"
     room = ENVIRON["into"] # since -v would read escapes in it
@@ -19,6 +20,7 @@ lines > 3 && /^[NESW] [0-9]+ [-0-9]+ [-0-9]+$/ { claim(); keep(); next }
 lines > 3 { if (is_wanted) open_file(); lines = 0 }
 file != "" { print >file }
 { lines = 0 }
+END { if (each) print sections + 0 }
 
 function begin() {
     if (file != "") close(file)
