@@ -1,7 +1,7 @@
 // Checks the numbers of a board by its evidence, as `audit` does: a number is shown by the first section of its deal
 // and denomination with a claim for its declarer that the certificates show.
 import { Refusal, faultOfBeginning, faultOfSteps, partsOf } from "./checker.js";
-import { NO_ROOT, piecesOf, readClaims, readGraphs } from "./evidence.js";
+import { NO_ROOT, isOfDeal, piecesOf, readClaims, readGraphs } from "./evidence.js";
 import { FormFault, TextFault } from "./form.js";
 import { SEATS, SIDES, readLayout, sideOf } from "./patterns.js";
 
@@ -49,6 +49,8 @@ export class Board {
         this.layout = readLayout(deal);
         /** By denomination and declarer, each number that isn't shown so far, with the first reason, `why`, or null. */
         this.open = new Map(numbers.map(number => [keyOf(number), { ...number, why: null }]));
+        /** How many of these have no reason. */
+        this.unexplained = this.open.size;
     }
 
     /** The numbers that are not shown, and why. */
@@ -58,19 +60,26 @@ export class Board {
 
     /**
      * Goes through the evidence. `hears.shown(number, parts)` is called for each number that is shown, `hears.progress`
-     * with the nodes checked since the last call, and `hears.passed` with the bytes of each piece.
+     * with the nodes checked since the last call, and `hears.passed` with the bytes of each piece. A piece of another
+     * deal is read only for a number without a reason: evidence may have millions of pieces.
      */
     check(bytes, hears) {
         for (const piece of piecesOf(bytes)) {
-            try {
-                const claims = readClaims(piece);
-                if (claims.deal === this.deal && this.asksFor(claims)) {
-                    this.checkSection(claims, hears);
-                }
-            } catch (fault) {
-                this.note(fault, piece);
+            if (this.unexplained > 0 || isOfDeal(piece, this.deal)) {
+                this.checkPiece(piece, hears);
             }
             hears.passed?.(piece.length);
+        }
+    }
+
+    checkPiece(piece, hears) {
+        try {
+            const claims = readClaims(piece);
+            if (claims.deal === this.deal && this.asksFor(claims)) {
+                this.checkSection(claims, hears);
+            }
+        } catch (fault) {
+            this.note(fault, piece);
         }
     }
 
@@ -87,15 +96,27 @@ export class Board {
             }
             try {
                 const parts = section.show(claim, { ...number, layout: this.layout });
-                this.open.delete(keyOf(number));
+                this.close(number);
                 hears.shown(number, parts);
             } catch (fault) {
                 if (!(fault instanceof Refusal)) {
                     throw fault;
                 }
-                number.why ??= fault.message;
+                this.explain(number, fault.message);
             }
         }
+    }
+
+    /** Takes a number that was shown away. */
+    close(number) {
+        this.explain(number, "");
+        this.open.delete(keyOf(number));
+    }
+
+    /** Keeps the first reason why a number is not shown. */
+    explain(number, why) {
+        this.unexplained -= number.why === null ? 1 : 0;
+        number.why ??= why;
     }
 
     /** Says of the numbers that a damaged piece may have been about why they are not shown. */
@@ -107,7 +128,7 @@ export class Board {
         const part = fault instanceof TextFault ? `certificate of ${SIDES[fault.side]}, ` : "";
         for (const number of this.open.values()) {
             if (trump === undefined || number.trump === trump) {
-                number.why ??= `its section is damaged: ${part}${fault.message}`;
+                this.explain(number, `its section is damaged: ${part}${fault.message}`);
             }
         }
     }

@@ -1,5 +1,5 @@
 // Reads evidence (docs/FORMATS.md, "The text of evidence"): its pieces, and the sections that they are.
-import { FormFault, Reader, cutAtEmptyLine, readGraph } from "./form.js";
+import { FormFault, Reader, cutAtEmptyLine, readGraph, standsAt } from "./form.js";
 import { DENOMINATIONS, MOST, SEATS, SIDES, dealText, readLayout } from "./patterns.js";
 
 const BEGIN = "DDE 1\n";
@@ -47,7 +47,7 @@ async function unpackedParts(bytes) {
 export function* piecesOf(bytes) {
     let begin = 0;
     for (let at = bytes.indexOf(LINE_FEED); at >= 0; at = bytes.indexOf(LINE_FEED, at + 1)) {
-        if (begins(bytes, at + 1)) {
+        if (standsAt(bytes, at + 1, BEGIN)) {
             yield bytes.subarray(begin, at + 1);
             begin = at + 1;
         }
@@ -57,9 +57,8 @@ export function* piecesOf(bytes) {
     }
 }
 
-function begins(bytes, at) {
-    return bytes[at] === BEGIN.charCodeAt(0) && new Reader(bytes.subarray(at)).takesText(BEGIN);
-}
+/** Whether a piece begins as the sections of a deal do. */
+export const isOfDeal = (piece, deal) => standsAt(piece, 0, `${BEGIN}deal ${deal}\n`);
 
 /** The text of a line that begins so, and passes over it; null if it doesn't. */
 function lineAfter(reader, word) {

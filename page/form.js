@@ -49,6 +49,16 @@ export class Graph {
     }
 }
 
+/** Whether a text of ASCII characters stands at a place of bytes. */
+export function standsAt(bytes, at, text) {
+    for (let place = 0; place < text.length; place++) {
+        if (bytes[at + place] !== text.charCodeAt(place)) {
+            return false;
+        }
+    }
+    return true;
+}
+
 /** A place in a text. The functions that read answer -1 or false if the bytes there are not of the form. */
 export class Reader {
     constructor(bytes) {
@@ -75,13 +85,9 @@ export class Reader {
 
     /** Passes over a text of ASCII characters if it is next. */
     takesText(text) {
-        for (let place = 0; place < text.length; place++) {
-            if (this.bytes[this.at + place] !== text.charCodeAt(place)) {
-                return false;
-            }
-        }
-        this.at += text.length;
-        return true;
+        const is = standsAt(this.bytes, this.at, text);
+        this.at += is ? text.length : 0;
+        return is;
     }
 
     /** Reads a number without a leading zero and with at most so many digits. */

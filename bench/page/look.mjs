@@ -38,14 +38,14 @@ function see(what, isSo, found) {
 const seeSame = (what, found, wanted) => see(what, JSON.stringify(found) === JSON.stringify(wanted), found);
 
 /** Opens a copy of the folder that was changed, and leaves nothing running. */
-async function withPage(change, look, at = folder) {
+async function withPage(change, look, at = folder, width = 1000) {
     const copy = mkdtempSync(join(room, "site-"));
     cpSync(at, copy, { recursive: true });
     change(copy);
     const server = await serve(copy);
     const page = isFirefox ? new FirefoxPage(mkdtempSync(join(room, "profile-"))) : new Page(join(room, "profile"));
     try {
-        await page.open(server.url);
+        await page.open(server.url, width);
         await look(page, server.url);
         // Firefox names a font of its own, which is no request.
         see("each request is for a file of the folder",
@@ -121,6 +121,29 @@ async function lookAtDamage([name, change, status, shown]) {
         const marks = await page.value(`${OFFERS}[0].querySelectorAll('span.mark').length`);
         const reasons = await page.value("document.querySelectorAll('.reasons li').length");
         see(`${name}: each number that isn't shown has a reason`, marks === reasons, [marks, reasons]);
+    });
+}
+
+/** 96 KB that unpack to eleven million pieces: the page answers while they are passed, and hears little of them. */
+async function lookAtPieces() {
+    const pieces = gzipSync(Buffer.alloc(6 * 11000000, "DDE 1\n"));
+    await withPage(copy => writeFileSync(fileOf(copy, places[0]), pieces), async page => {
+        const status = `${OFFERS}[0].querySelector('[role=status]')`;
+        await page.value(`changes = 0, new MutationObserver(() => { changes += 1; }).observe(${status}, ` +
+            "{ childList: true })");
+        await page.value(`${BUTTONS}[0].click()`);
+        await page.until(`/^[0-9]+ %/.test(${STATUSES}[0])`);
+        const [before, begin] = [await page.value("changes"), Date.now()];
+        await new Promise(answer => setTimeout(answer, 1000));
+        const said = await page.value("changes") - before;
+        see("what is said of many pieces", said > 0 && said < 2 + (Date.now() - begin) / 100, said);
+        const { usedSize } = await page.send("Runtime.getHeapUsage");
+        see("the page's memory", usedSize < 100e6, usedSize);
+        await page.value(`${BUTTONS}[0].click()`);
+        seeSame("stopped among many pieces", (await page.value(STATUSES))[0], "stopped");
+        await page.value(`${BUTTONS}[1].click()`);
+        await page.until(`${BUTTONS}[1].textContent === "Check"`);
+        seeSame("the next board after many pieces", await page.value(SHOWN), [0, 20, ...none.slice(2)]);
     });
 }
 
@@ -201,6 +224,42 @@ async function tryBoth(page, title, tricks) {
         }
         see(`${title}: the promise was kept`, Number(words.exec(said)[2]) >= promise, said);
         seeSame(`${title}: cards played by the reader`, cards, 26);
+    }
+}
+
+/** By board how far par's right edge is from the board's, and its lower edge from the table's. */
+const PARS = "[...document.querySelectorAll('article')].map(board => [board, ...board.querySelectorAll(" +
+    "'footer table, footer p')].map(part => part.getBoundingClientRect()))" +
+    ".map(([board, table, par]) => [board.right - par.right, table.bottom - par.bottom].map(Math.round))";
+const SMALLS = "[...document.querySelectorAll('dialog .card, dialog .close')].map(part => " +
+    "part.getBoundingClientRect()).filter(part => part.width < 32 || part.height < 32).length";
+
+/** Par stays where the sheet has it, and what is pressed is large enough. */
+async function lookAtPlaces() {
+    const plain = mkdtempSync(join(room, "sheet-"));
+    cpSync(sheet, join(plain, "index.html"));
+    for (const width of [1000, 390]) {
+        let wanted = [];
+        await withPage(() => {}, async page => { wanted = await page.value(PARS); }, plain, width);
+        await withPage(() => {}, async page => {
+            seeSame(`par before a check, ${width} pixels`, await page.value(PARS), wanted);
+            await checkAll(page);
+            seeSame(`par after a check, ${width} pixels`, await page.value(PARS), wanted);
+            const [width1, height] = await page.value("(({ width, height }) => [width, height])(" +
+                "document.querySelector('button.mark').parentNode.getBoundingClientRect())");
+            see(`the place of a mark, ${width} pixels`, width1 >= 24 && height >= 24, [width1, height]);
+            await page.value("document.querySelector('button.mark').click()");
+            await page.until(`${SAID}.endsWith(" leads.")`);
+            await page.value(press("Try as defenders"));
+            await page.until(`/ are promised /.test(${SAID}) && document.querySelector('dialog .card') !== null`);
+            seeSame(`cards and the cross that are small, ${width} pixels`, await page.value(SMALLS), 0);
+            const [box, cross] = await page.value("['dialog', 'dialog .close'].map(part => " +
+                "document.querySelector(part).getBoundingClientRect().toJSON())");
+            see(`the cross is in the corner, ${width} pixels`, box.right - cross.right < 20 && cross.top - box.top < 20,
+                [box, cross]);
+            await page.value("document.querySelector('dialog .close').click()");
+            seeSame("the cross closes", await page.value("document.querySelector('dialog').open"), false);
+        }, folder, width);
     }
 }
 
@@ -295,11 +354,15 @@ await lookAtAll();
 for (const damage of DAMAGES) {
     await lookAtDamage(damage);
 }
+if (!isFirefox) {
+    await lookAtPieces();
+}
 await lookAtExchange();
 await lookAtPage();
 await lookAtStop();
 await lookAtPlay();
 if (!isFirefox) {
+    await lookAtPlaces();
     await lookAtKeys();
     await lookAtPaper();
     await lookWithoutScripts();

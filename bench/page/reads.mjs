@@ -165,16 +165,22 @@ async function readEvidence() {
     }
 }
 
-/** Many pieces are passed by few messages. */
+/** A million pieces are passed in a second, by few messages. A piece of another deal is read while it may matter. */
 async function readPieces() {
     await withReader(async (reader, board) => {
         const evidence = gunzipSync(readFileSync(join(folder, board.file)));
-        reader.files.set(board.file, gzipSync(Buffer.concat([Buffer.alloc(6 * 20000, "DDE 1\n"), evidence])));
-        const begin = Date.now();
+        reader.files.set(board.file, gzipSync(Buffer.concat([Buffer.alloc(6 * 1500000, "DDE 1\n"), evidence])));
+        const begin = Date.now(), before = process.cpuUsage();
         await board.check();
+        const seconds = (Date.now() - begin) / 1000, { user } = process.cpuUsage(before);
         seeSame("evidence after many pieces", board.counts, [20, 0, 0]);
         const said = reader.messages.filter(kind => kind === "progress").length;
-        seeSame(`${said} messages of progress`, said <= 1 + (Date.now() - begin) / 100, true);
+        seeSame(`${said} messages of progress`, said > 0 && said <= 1 + 10 * seconds, true);
+        seeSame(`${user / 1e6} seconds of a processor`, user < 8e6, true);
+        reader.files.set(board.file, gzipSync(Buffer.from("DDE 1\n".repeat(2) + "DDE 1\ntrump NT\n")));
+        await board.check();
+        const reasons = board.article.querySelectorAll(".reasons li").map(line => line.textContent.split(": ").at(-1));
+        seeSame("the reasons of damage", reasons, reasons.map(() => "line 2 is no deal"));
     });
 }
 
