@@ -1,7 +1,7 @@
 // Checks certificates as docs/CERTIFICATES.md says under "What the checker looks at": the beginning for a layout, and
 // the step of each node. It walks over the bytes of a tree, once per node, with the cards played so far.
-import { CLOSE, CLOSE_LEAF, FormFault, OPEN, OPEN_LEAF, SEAT_OF, SUIT_OF, TOP_OF, TextFault, countsOf,
-    cutAnswer, passTree, readGraph } from "./form.js";
+import { CLOSE, CLOSE_LEAF, FormFault, OPEN, OPEN_LEAF, SEAT_OF, SUIT_OF, TOP_OF, TextFault, belowBranch,
+    countsOf, cutAnswer, passTree, readGraph } from "./form.js";
 import { NO_ROOT } from "./evidence.js";
 import { LOW, SUITS, leftOf, matches, sideOf, sizeOf } from "./patterns.js";
 
@@ -23,8 +23,10 @@ const nameOf = (names, number) => `${number} ${names[number]}`;
 
 /** Walks over the trees of a graph. Its fields tell of the node at hand, or of the trick that is being played. */
 class Walk {
-    constructor(graph) {
+    /** A begun node is in a graph of its own; the nodes that it names are in the graph `named`. */
+    constructor(graph, named = graph) {
         this.graph = graph;
+        this.named = named;
         this.trump = SUITS.indexOf(graph.trump);
         this.at = 0;
         this.node = 0;
@@ -42,12 +44,42 @@ class Walk {
 
     /** The fault of a node's step. */
     faultOf(node) {
+        this.begin(node);
+        return this.place(this.graph.lead[node], 0);
+    }
+
+    begin(node) {
         this.node = node;
         this.at = this.graph.trees[node];
         for (let suit = 0; suit < 4; suit++) {
             this.deal(suit);
         }
-        return this.place(this.graph.lead[node], 0);
+    }
+
+    /** The fault of a begun node, after cards of which each is a pair of suit and top. */
+    faultAfter(cards) {
+        this.begin(0);
+        if (!cards.every(([suit, top]) => this.enters(suit, top))) {
+            return TREE_SHAPE;
+        }
+        let seat = this.graph.lead[0];
+        for (const [played, [suit, top]] of cards.entries()) {
+            if ((this.legal(suit, seat, played) & 1 << top) === 0) {
+                return CARD_NOT_LEGAL;
+            }
+            this.note(seat, suit, top, played);
+            seat = leftOf(seat);
+        }
+        return this.place(seat, cards.length);
+    }
+
+    /** Goes on in the tree by a card, if it is the next or has a branch. */
+    enters(suit, top) {
+        const { bytes } = this.graph;
+        const isNext = SUIT_OF[bytes[this.at]] === suit && TOP_OF[bytes[this.at + 1]] === top;
+        const below = isNext ? this.at + 2 : bytes[this.at] === OPEN ? belowBranch(bytes, this.at, suit, top) : -1;
+        this.at = below;
+        return below >= 0;
     }
 
     /** Gives the seats the cards of a suit of the node. */
@@ -89,10 +121,14 @@ class Walk {
     /** Plays the card that comes next. */
     play(seat, played) {
         const { bytes } = this.graph;
-        this.seats[played] = seat;
-        this.suits[played] = SUIT_OF[bytes[this.at]];
-        this.tops[played] = TOP_OF[bytes[this.at + 1]];
+        this.note(seat, SUIT_OF[bytes[this.at]], TOP_OF[bytes[this.at + 1]], played);
         this.at += 2;
+    }
+
+    note(seat, suit, top, played) {
+        this.seats[played] = seat;
+        this.suits[played] = suit;
+        this.tops[played] = top;
     }
 
     own(seat, played) {
@@ -198,10 +234,10 @@ class Walk {
     }
 
     childFault(seat, child) {
-        if (this.graph.lead[child] !== seat) {
+        if (this.named.lead[child] !== seat) {
             return CHILD_LEAD;
         }
-        if (this.graph.need[child] < this.left(seat)) {
+        if (this.named.need[child] < this.left(seat)) {
             return CHILD_NEED;
         }
         for (let suit = 0; suit < 4; suit++) {
@@ -216,12 +252,12 @@ class Walk {
     fits(child, suit) {
         const place = 4 * child + suit;
         for (let seat = 0; seat < 4; seat++) {
-            if (this.graph.lengths[4 * place + seat] !== this.lengths[4 * suit + seat]) {
+            if (this.named.lengths[4 * place + seat] !== this.lengths[4 * suit + seat]) {
                 return false;
             }
         }
-        const count = this.graph.ownerCounts[place];
-        const same = this.owners[suit] ^ this.graph.owners[place];
+        const count = this.named.ownerCounts[place];
+        const same = this.owners[suit] ^ this.named.owners[place];
         return count <= this.ownerCounts[suit] && (same & (1 << 2 * count) - 1) === 0;
     }
 
@@ -302,6 +338,13 @@ export function faultOfSteps(graph, progress) {
         }
     }
     return null;
+}
+
+/** The fault of a begun node beside its side's graph after cards, as `n Name`, or nothing. */
+export function faultOfBegun(begun, graph, cards) {
+    const { version, trump, side } = graph;
+    const fault = new Walk(Object.assign(begun, { version, trump, side }), graph).faultAfter(cards);
+    return fault === NO_FAULT ? null : nameOf(STEP_FAULTS, fault);
 }
 
 /**

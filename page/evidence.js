@@ -61,7 +61,7 @@ export function* piecesOf(bytes) {
 export const isOfDeal = (piece, deal) => standsAt(piece, 0, `${BEGIN}deal ${deal}\n`);
 
 /** The text of a line that begins so, and passes over it; null if it doesn't. */
-function lineAfter(reader, word) {
+export function lineAfter(reader, word) {
     const end = reader.bytes.indexOf(LINE_FEED, reader.at);
     if (end < 0 || !reader.takesText(word)) {
         return null;

@@ -288,6 +288,14 @@ export function readGraph(bytes) {
     return graph;
 }
 
+/** Reads the line of a node that is in no graph: a graph of it alone, with `most` the greatest node named, or null. */
+export function readLoneNode(reader) {
+    const graph = new Graph(0, "", 0, 1, reader.bytes);
+    reader.most = -1;
+    const isLone = isNode(reader, graph, 0) && isPattern(graph, 0) && reader.most < MOST_NODES;
+    return isLone ? Object.assign(graph, { most: reader.most }) : null;
+}
+
 /** Where the tree that begins at a place ends. It was read before, so it is of the form. */
 export function passTree(bytes, begin) {
     let at = begin, depth = 0;
@@ -303,6 +311,16 @@ export function passTree(bytes, begin) {
         at += 1;
     } while (depth > 0);
     return at;
+}
+
+/** Where the tree below a card begins, in the branches that begin at a place; -1 if the card has none. */
+export function belowBranch(bytes, begin, suit, top) {
+    for (let at = begin + 1; bytes[at] !== CLOSE; at = passTree(bytes, at + 2)) {
+        if (SUIT_OF[bytes[at]] === suit && TOP_OF[bytes[at + 1]] === top) {
+            return at + 2;
+        }
+    }
+    return -1;
 }
 
 /** Cuts bytes at their first empty line: what comes before it, and after it. Without one the second part is empty. */

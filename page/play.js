@@ -1,6 +1,6 @@
 // Plays a layout card by card, with sides that follow their certificates (docs/FORMATS.md, `line` and `play`). A card
 // is a number: 13 times its suit's place, plus its rank's (docs/DEFINITIONS.md).
-import { CLOSE, CLOSE_LEAF, SEAT_OF, SUIT_OF, TOP_OF, passTree } from "./form.js";
+import { CLOSE_LEAF, SEAT_OF, SUIT_OF, TOP_OF, belowBranch } from "./form.js";
 import { NO_ROOT } from "./evidence.js";
 import { LOW, MOST, RANKS, SUITS, leftOf, sideOf, sizeOf } from "./patterns.js";
 
@@ -58,14 +58,9 @@ class Follower {
 
     /** Goes into a branch, if it is there. */
     goes(suit, top) {
-        const { bytes } = this.graph;
-        for (let at = this.at + 1; bytes[at] !== CLOSE; at = passTree(bytes, at + 2)) {
-            if (SUIT_OF[bytes[at]] === suit && TOP_OF[bytes[at + 1]] === top) {
-                this.at = at + 2;
-                return true;
-            }
-        }
-        return false;
+        const below = belowBranch(this.graph.bytes, this.at, suit, top);
+        this.at = below < 0 ? this.at : below;
+        return below >= 0;
     }
 
     /** Goes on at the node that the leaf names for the winner, or is done. */

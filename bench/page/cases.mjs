@@ -1,8 +1,10 @@
-// Compares the checker in page/ with what the program said of cases (cases.py, sections.py), in Node and in a browser.
+// Compares the checker in page/ with what the program said of cases (cases.py, sections.py, cards.py), in Node and in a
+// browser.
 import { Board } from "../../page/board.js";
+import { cardsLines } from "../../page/cards.js";
 import { verdictOf } from "../../page/checker.js";
 import { piecesOf, readClaims, readGraphs } from "../../page/evidence.js";
-import { SEATS, readLayout } from "../../page/patterns.js";
+import { MOST, RANKS, SEATS, SUITS, readLayout } from "../../page/patterns.js";
 
 const LINE_FEED = 10;
 
@@ -45,14 +47,33 @@ function evidenceLine([deal, table], text) {
     return `${shown} shown, ${damaged} damaged${first}`;
 }
 
+/** What the checker prints of evidence of cards, in one line. */
+function cardsLine([layout, leader, trump, cards], text) {
+    const played = cards.split(" ").filter(card => card !== "")
+        .map(([suit, rank]) => MOST * SUITS.indexOf(suit) + RANKS.indexOf(rank));
+    const position = { layout: readLayout(layout), leader: SEATS.indexOf(leader), trump, played };
+    return cardsLines(text, position).replaceAll("\n", " / ");
+}
+
+/** What the checker says of a case. */
+function lineOf(words, text) {
+    return words.length === 2 ? evidenceLine(words, text) : words.length === 4 ? cardsLine(words, text) :
+        verdictOf(text, numberOf(words));
+}
+
+/** The kind of a program's line: the last fault that it names, if it refuses. */
+function kindOf(line) {
+    const faults = line.startsWith("refused") ? line.match(/[A-Z][A-Za-z]*[a-z](?= |$)/g) : null;
+    return faults?.at(-1) ?? line.replace(/(, at|(?<=accepted)|(?<=to play)) .*/, "");
+}
+
 /** Counts the cases, and those of each fault; lists the first that differ. */
 export function compare(bytes) {
     const faults = {}, differences = [];
     let count = 0;
     for (const { words, line, text } of casesOf(bytes)) {
-        const ours = words.length === 2 ? evidenceLine(words, text) : verdictOf(text, numberOf(words));
-        const kind = words.length === 2 ? line.replace(/, at.*/, "") : line.match(/[A-Z][A-Za-z]+(?= line|$)/)?.[0] ??
-            line.split(" ")[0];
+        const ours = lineOf(words, text);
+        const kind = kindOf(line);
         faults[kind] = (faults[kind] ?? 0) + 1;
         count += 1;
         if (ours !== line && differences.length < 20) {

@@ -228,8 +228,8 @@ async function tryBoth(page, title, tricks) {
 }
 
 /** By board how far par's right edge is from the board's, and its lower edge from the table's. */
-const PARS = "[...document.querySelectorAll('article')].map(board => [board, ...board.querySelectorAll(" +
-    "'footer table, footer p')].map(part => part.getBoundingClientRect()))" +
+const PARS = "[...document.querySelectorAll('footer table')].map(table => [table.closest('article'), table, " +
+    "table.parentNode.querySelector('p')].map(part => part.getBoundingClientRect()))" +
     ".map(([board, table, par]) => [board.right - par.right, table.bottom - par.bottom].map(Math.round))";
 const SMALLS = "[...document.querySelectorAll('dialog .card, dialog .close')].map(part => " +
     "part.getBoundingClientRect()).filter(part => part.width < 32 || part.height < 32).length";
