@@ -63,13 +63,21 @@ export function readDeal(article) {
     const deals = [...article.querySelectorAll(".deal")];
     const [compass, ...lists] = elementsOf(deals[0]);
     const hands = lists.map(readHand);
-    if (deals.length !== 1 || !isElement(deals[0], "div", "deal") || compass?.localName !== "div" ||
+    if (deals.length !== 1 || !isElement(deals[0], "div", "deal") || !isCompass(compass) ||
         hands.length !== 4 || hands.includes(null)) {
         return null;
     }
     const value = "N:" + hands.join(" ");
     const layout = readLayout(value);
     return layout !== null && dealText(layout) === value ? value : null;
+}
+
+/** Whether an element is the compass, with the seats' letters at their sides. */
+function isCompass(compass) {
+    const sides = elementsOf(compass);
+    const kinds = ["", "deals", "exposed", "deals exposed"];
+    return compass?.localName === "div" && compass.className === "compass" && sides.map(textOf).join() === "N,W,E,S" &&
+        sides.every(side => kinds.some(kind => isElement(side, "span", kind)));
 }
 
 /** The cards of a hand's list, or null. */

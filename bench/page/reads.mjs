@@ -67,6 +67,8 @@ const FORMS = [
     ["deal", /<\/b>(?=.*<\/li>)/, "</b><i hidden>10843</i>"],
     ["deal", /(<b>&spades;<\/b>[^<]*)/, "$1<i>10</i>"],
     ["deal", /<b>&spades;/, "<b hidden>&spades;"],
+    ["deal", /(<span[^>]*>)N(<\/span>[^]*?)S(?=<\/span>)/, "$1S$2N"],
+    ["deal", /(<span[^>]*)(>N<\/span>)/, "$1 hidden$2"],
     ["deal", /<ul>/, "<ul hidden>"],
     ["deal", /<ul>/, "<ul>♠AKQ"],
     ["deal", /(<ul>[^]*?<\/ul>)/, "<div>$1</div>"],
