@@ -23,12 +23,13 @@ CARD = rb"[SHDC][a-mx]"
 
 
 def with_begun(text):
-    """The text after the tree of a begun node is changed where its cards are: a card or a branch of the path becomes
-    the other, or another branch stands beside it."""
+    """The text after the tree of a begun node is changed where its cards are: a card of the path becomes a branch or
+    the other way round, or a low card, or another branch stands beside it."""
     for begun in list(BEGUN.finditer(text))[:4]:
         for place in re.finditer(rb"\(?" + CARD, begun[2]):
             card = place[0]
             others = [card[1:]] if card[:1] == b"(" else [b"(" + card + b"Sx{})", b"(" + card]
+            others.append(card[:-1] + b"x")
             others += [b"(Sa{}" + card[1:], b"(" + card[1:] + b"{})"] if card[:1] == b"(" else []
             for other in others:
                 start, end = (begun.start(2) + at for at in place.span())

@@ -22,11 +22,20 @@ import damages  # noqa: E402
 import versions  # noqa: E402
 
 LONG = 100_000
-# Numbers over what a form takes, and leaves and brackets out of place.
+
+
+def longer(lengths):
+    """The lengths of a suit, each hand with one card more."""
+    return re.sub(rb"\d+", lambda length: b"%d" % (int(length[0]) + 1), lengths[0])
+
+
+# Numbers over what a form takes, leaves and brackets out of place, a pattern that has a card more in each hand, and the
+# number of a node after the last.
 EDITS = [(rb"nodes \d+", b"nodes 1000001"), (rb"nodes \d+", b"nodes 99999999999999999999"), (rb"{\w*", b"{N9999999"),
          (rb"{\w*", b"{N99999999"), (rb"\.\d+/", b".14/"), (rb"/[NESW]*", b"/NESWNESWNESWN"),
          (rb"/[NESW]*", b"/NESWNESWNESWNE"), (rb" (?=\S+\n)", b" Sx"), (rb"\(.*", b"()"), (rb"\(.*", b"{}"),
-         (rb"}", b"})")]
+         (rb"}", b"})"), (rb"\d+(\.\d+){3}/", longer),
+         (rb"(?s)nodes (\d+)(.*?{\w)\d+", rb"nodes \1\2\1")]
 LETTERS = b"NESWSHDCabcx()(){}{}0123456789 ./\n"
 
 

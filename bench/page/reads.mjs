@@ -7,6 +7,8 @@ import { gunzipSync, gzipSync } from "node:zlib";
 import { Reader, threadOf, until } from "./reader.mjs";
 
 const HINT = " numbers proved here, on your device. Press a ✓ to see the play. Par is not checked here.";
+/** The most bytes of a file, packed or not. */
+const MOST = 64 << 20;
 const CELL = /<td>([0-9]*)<small>([0-9]*)<\/small>/;
 const [folder, ...names] = process.argv.slice(2);
 let passed = 0, failed = 0;
@@ -157,6 +159,8 @@ async function readEvidence() {
             [16, 4, 4], `16 of 20${HINT}`],
         ["evidence twice", gzipSync(Buffer.concat([text, text])), [20, 0, 0], `20 of 20${HINT}`],
         ["no gzip", Buffer.from([0x1f, 0x8b, 8, 8]), [0, 0, 0], "the file is damaged: it cannot be unpacked"],
+        ["too much evidence", gzipSync(Buffer.alloc(MOST + 1)), [0, 0, 0], "the file is too large"],
+        ["too large a file", Buffer.alloc(MOST + 1), [0, 0, 0], "the file evidence/1.dde.gz is too large"],
     ];
     for (const [what, bytes, counts, status] of cases) {
         await withReader(async (reader, board) => {
@@ -165,6 +169,17 @@ async function readEvidence() {
             seeSame(what, [board.counts, board.status], [counts, status]);
         });
     }
+}
+
+/** A file that isn't there is named, and the next board is checked. */
+async function readMissing() {
+    const change = text => text.replace("evidence/1.dde.gz", "evidence/9.dde.gz");
+    await withReader(async (reader, board, other) => {
+        await reader.checkAll();
+        seeSame("a missing file", [board.counts, board.status],
+            [[0, 0, 0], "the file evidence/9.dde.gz is missing (404)"]);
+        seeSame("the board after it", other.counts, [20, 0, 0]);
+    }, { change });
 }
 
 /** A million pieces are passed in a second, by few messages. A piece of another deal is read while it may matter. */
@@ -303,8 +318,8 @@ async function readOld() {
     }
 }
 
-const reads = [readAll, readForms, readNumber, readMeanwhile, readEvidence, readPieces, readNames, readCrossing,
-    readStop, readPlay, readOld];
+const reads = [readAll, readForms, readNumber, readMeanwhile, readEvidence, readMissing, readPieces, readNames,
+    readCrossing, readStop, readPlay, readOld];
 for (const read of reads.filter(({ name }) => names.length === 0 || names.includes(name))) {
     try {
         await read();
