@@ -36,6 +36,15 @@ def with_begun(text):
                 yield text[:start] + other + text[end:]
 
 
+def with_names(text):
+    """A begun node names the node after the last of a graph, and a node takes the place of none."""
+    for count in set(re.findall(rb"(?m)^nodes (\d+)$", text)):
+        yield re.sub(rb"(?m)^(.*\{\w)\d+", rb"\g<1>" + count, text, count=1)
+    begun = BEGUN.search(text)
+    if begun is not None:
+        yield text.replace(b"\n-\n", b"\n" + begun[0] + b"\n", 1)
+
+
 def line_of(program, file, words):
     """What an audit prints, in one line."""
     done = subprocess.run([program, "cards", "--audit", str(file), *words], capture_output=True, check=False)
@@ -48,7 +57,7 @@ def texts(dice, text, words, others, most):
     """Texts, each with the words of the position that is asked."""
     yield text, words
     yield from ((other, words) for _, other in damaged_texts(dice, text, most) if other != text)
-    yield from ((other, words) for other in with_begun(text))
+    yield from ((other, words) for other in [*with_begun(text), *with_names(text)])
     for asked in others:
         yield text, asked
         yield renamed(text, asked), asked

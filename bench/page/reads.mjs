@@ -194,10 +194,11 @@ async function readPieces() {
         const said = reader.messages.filter(kind => kind === "progress").length;
         seeSame(`${said} messages of progress`, said > 0 && said <= 1 + 10 * seconds, true);
         seeSame(`${user / 1e6} seconds of a processor`, user < 8e6, true);
-        reader.files.set(board.file, gzipSync(Buffer.from("DDE 1\n".repeat(2) + "DDE 1\ntrump NT\n")));
+        const head = evidence.subarray(0, evidence.indexOf("trump"));
+        reader.files.set(board.file, gzipSync(Buffer.concat([Buffer.from("DDE 1\n"), head])));
         await board.check();
         const reasons = board.article.querySelectorAll(".reasons li").map(line => line.textContent.split(": ").at(-1));
-        seeSame("the reasons of damage", reasons, reasons.map(() => "line 2 is no deal"));
+        seeSame("the first reason", reasons, reasons.map(() => "line 2 is no deal"));
     });
 }
 
@@ -212,6 +213,10 @@ async function readNames() {
     const loaded = await ask({ number: 1, kind: "load", file: "1", bytes });
     const found = await ask({ number: 2, kind: "check", file: "2", deal: "", numbers: [] });
     seeSame("the kinds of answers", [loaded.kind, found.kind], ["loaded", "failed"]);
+    const [, deal] = /\ndeal (.*)\n/.exec(gunzipSync(readFileSync(join(folder, "evidence/1.dde.gz"))));
+    const of = { declarer: 0, trump: "NT", tricks: 14 };
+    const { kind, why } = await ask({ number: 3, kind: "open", file: "1", deal, of });
+    seeSame("a number that is not shown", [kind, why], ["failed", "the file has no claim of it for this deal"]);
     await thread.terminate();
 }
 
@@ -252,7 +257,8 @@ async function readStop() {
         board.button.click();
         seeSame("stopped", board.status, "stopped");
         reader.gate.open("checked");
-        await board.isChecked();
+        await new Promise(answer => setTimeout(answer, 50));
+        seeSame("it stays stopped", [board.status, board.button.textContent], ["stopped", "Check"]);
         board.marks[0].click();
         await until("the play is shown", () => reader.said !== "loading");
         seeSame("a number opens after a stop", reader.said.endsWith(" leads."), true);
