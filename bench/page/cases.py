@@ -29,8 +29,8 @@ def longer(lengths):
     return re.sub(rb"\d+", lambda length: b"%d" % (int(length[0]) + 1), lengths[0])
 
 
-# Numbers over what a form takes, leaves and brackets out of place, a pattern that has a card more in each hand, the number
-# of a node after the last, and a tree with a card too many.
+# Numbers over what a form takes, leaves and brackets out of place, a pattern that has a card more in each hand, the
+# number of a node after the last, and a tree with a card too many.
 EDITS = [(rb"nodes \d+", b"nodes 1000001"), (rb"nodes \d+", b"nodes 99999999999999999999"), (rb"{\w*", b"{N9999999"),
          (rb"{\w*", b"{N99999999"), (rb"\.\d+/", b".14/"), (rb"/[NESW]*", b"/NESWNESWNESWN"),
          (rb"/[NESW]*", b"/NESWNESWNESWNE"), (rb" (?=\S+\n)", b" Sx"), (rb"\(.*", b"()"), (rb"\(.*", b"{}"),
