@@ -7,8 +7,6 @@ import { gunzipSync, gzipSync } from "node:zlib";
 import { Reader, threadOf, until } from "./reader.mjs";
 
 const HINT = " numbers proved here, on your device. Press a ✓ to see the play. Par is not checked here.";
-/** The most bytes of a file, packed or not. */
-const MOST = 64 << 20;
 const CELL = /<td>([0-9]*)<small>([0-9]*)<\/small>/;
 const [folder, ...names] = process.argv.slice(2);
 let passed = 0, failed = 0;
@@ -147,6 +145,9 @@ function tricksIn(cell) {
     const [level, tricks] = [cell.textContent, cell.querySelector("small").textContent];
     return tricks === "" ? Number(level) + 6 : Number(tricks);
 }
+
+/** The most bytes of a file, packed or not. */
+const MOST = 64 << 20;
 
 /** Evidence that shows less, or can't be read: what is said, and how many numbers are proved. */
 async function readEvidence() {
