@@ -245,9 +245,9 @@ async function lookAtPlaces() {
             seeSame(`par before a check, ${width} pixels`, await page.value(PARS), wanted);
             await checkAll(page);
             seeSame(`par after a check, ${width} pixels`, await page.value(PARS), wanted);
-            const [width1, height] = await page.value("(({ width, height }) => [width, height])(" +
+            const [wide, high] = await page.value("(({ width, height }) => [width, height])(" +
                 "document.querySelector('button.mark').parentNode.getBoundingClientRect())");
-            see(`the place of a mark, ${width} pixels`, width1 >= 24 && height >= 24, [width1, height]);
+            see(`the place of a mark, ${width} pixels`, wide >= 24 && high >= 24, [wide, high]);
             await page.value("document.querySelector('button.mark').click()");
             await page.until(`${SAID}.endsWith(" leads.")`);
             await page.value(press("Try as defenders"));
