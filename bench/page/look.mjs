@@ -14,7 +14,7 @@ import { FirefoxPage } from "./firefox.mjs";
 const [folder, sheet, ...cases] = process.argv.slice(2);
 const root = join(dirname(fileURLToPath(import.meta.url)), "../..");
 const room = mkdtempSync(join(tmpdir(), "look-"));
-process.on("exit", () => rmSync(room, { recursive: true, force: true }));
+process.on("exit", () => rmSync(room, { recursive: true, force: true, maxRetries: 9 }));
 
 const ALL = "document.querySelector('header .evidence button')";
 const BUTTONS = "[...document.querySelectorAll('article .evidence button')]";
