@@ -93,11 +93,12 @@ export function readCardSection(bytes) {
     const count = wordAfter(reader, "claims ", COUNTS.slice(1)) + 1;
     const claims = Array.from({ length: count }, () => readClaim(reader));
     const graphs = readBoth(trump, cutAtEmptyLine(bytes.subarray(reader.at)));
-    return { layout, trump, leader, played, play, claims, graphs };
+    // The faults of the graphs' steps, "" for none, which are checked once, when a claim needs them.
+    return { layout, trump, leader, played, play, claims, graphs, faults: [] };
 }
 
 /** Why a begun node, or none, doesn't show that a graph's side takes `need` tricks after cards; null if it does. */
-function faultAfter({ layout, leader }, begun, graph, need, cards) {
+function faultAfter({ layout, leader, faults: steps }, begun, graph, need, cards) {
     if (begun === null || need === 0) {
         return need > 0 ? "RootMissing" : begun !== null ? "RootNeedless" : null;
     }
@@ -108,7 +109,11 @@ function faultAfter({ layout, leader }, begun, graph, need, cards) {
         return ["RootForm", "RootLead", "RootNeed", "RootPattern"][first];
     }
     const fault = faultOfBegun(begun, graph, cards.map(card => topOf(layout, begun, card)));
-    return fault !== null ? `Begun ${fault}` : faultOfSteps(graph)?.replace(/^8 /, "") ?? null;
+    if (fault !== null) {
+        return `Begun ${fault}`;
+    }
+    steps[graph.side] ??= faultOfSteps(graph)?.replace(/^8 /, "") ?? "";
+    return steps[graph.side] || null;
 }
 
 /** The suit of a card, and its place in the pattern of a begun node. */

@@ -38,7 +38,7 @@ def with_begun(text):
 
 def with_names(text):
     """A begun node names the node after the last of a graph, and a node takes the place of none."""
-    for count in set(re.findall(rb"(?m)^nodes (\d+)$", text)):
+    for count in sorted(set(re.findall(rb"(?m)^nodes (\d+)$", text))):
         yield re.sub(rb"(?m)^(.*\{\w)\d+", rb"\g<1>" + count, text, count=1)
     begun = BEGUN.search(text)
     if begun is not None:
