@@ -128,9 +128,9 @@ fn told_of(alloc: Global, board: &BoardDeal, trace: &PlayTrace) -> Result<Solved
 }
 
 /// Says what a play is worth, as DDS's `AnalysePlayBin` does: the tricks of declarer's side, which doesn't lead to the
-/// board's current trick, in all tricks from that one on, before the first card of the trace and after each that counts.
-/// Cards of the last trick don't count. Each number is the double-dummy value after the cards, and was shown by the
-/// checker. Returns DDS's code: 1, or the code of the first fault. After a fault the struct has zeros.
+/// board's current trick, in all tricks from that one on, before the first card of the trace and after each that
+/// counts. Cards of the last trick don't count. Each number is the double-dummy value after the cards, and was shown by
+/// the checker. Returns DDS's code: 1, or the code of the first fault. After a fault the struct has zeros.
 #[unsafe(no_mangle)]
 pub extern "C" fn ddfarm_analyse_play(
     alloc: Global,
