@@ -45,9 +45,9 @@ struct SidePlay {
     roots: Vec<Root>,
 }
 
-/// The claims for the first cards of a play, with their graphs. Those of each number are searched with so many steps,
-/// and the graphs are written with what the searches leave. Nothing is claimed if a graph can't be finished. None if
-/// memory ran out.
+/// The claims for the first cards of a play, with their graphs. Each number of first cards has a search with the whole
+/// budget of steps. The graphs are written with what the searches leave. Nothing is claimed if a graph can't be
+/// finished. None if memory ran out.
 pub(crate) fn play_bundle_of(
     search: &mut Search,
     leader: Seat,
@@ -99,8 +99,8 @@ fn moments_of(search: &Search, leader: Seat, cards: &[Card]) -> Result<Vec<Momen
     Ok(moments)
 }
 
-/// Finds the tricks after the first cards of each number, the last ones first, each with so many steps, and answers how
-/// many they leave. The first guess is the number that was found after one card more.
+/// Finds the tricks after the first cards of each number, the last ones first. Each search has the whole budget.
+/// Answers how many steps they leave. The first guess is the number that was found after one card more.
 fn find_each(search: &mut Search, moments: &mut Vec<Moment>, budget: u64) -> u64 {
     let mut left = 0u64;
     let mut total: Option<i32> = None;

@@ -24,7 +24,7 @@ pub fn draw_trump(words: &mut Pcg32) -> Trump {
     Trump::ALL[draw_below(words, 5)]
 }
 
-/// Four hands of so many cards each, of the first cards of the pack, so many. A hand has at most a quarter of these.
+/// Four hands of `size` cards each, drawn from the first `pack` cards. `size` is at most a quarter of `pack`.
 pub fn draw_layout(words: &mut Pcg32, pack: usize, size: usize) -> Result<Layout, LayoutFault>
     requires { pack ≤ 52 }
 {

@@ -9,7 +9,7 @@ use play_values::RecordedPlay;
 use rand_pcg::Pcg32;
 use std::process::Abort;
 
-/// A play of an ending of so many cards a hand, all at random. It may end early.
+/// A random play of a random ending with this many cards a hand. It may end early.
 fn drawn(rt: &impl Abort, words: &mut Pcg32, size: usize) -> RecordedPlay {
     let layout = got(rt, draw_layout(words, 52, size));
     let mut play = begun(layout, draw_seat(words), draw_trump(words));

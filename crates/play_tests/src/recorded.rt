@@ -31,7 +31,7 @@ pub fn record(rt: &impl Abort, play: &mut RecordedPlay, text: &[u8]) {
     }
 }
 
-/// Records so many legal cards, drawn at random, as long as there are some.
+/// Records this many legal cards, drawn at random, or all that are left.
 pub fn record_drawn(rt: &impl Abort, play: &mut RecordedPlay, words: &mut Pcg32, count: usize) {
     for _ in 0..count {
         let cards = play.table().legal();

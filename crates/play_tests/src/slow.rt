@@ -3,7 +3,7 @@
 use cards::Side;
 use play_rules::Table;
 
-/// Whether a side takes so many tricks at this table, with at most so many cards to be played.
+/// Whether a side takes `need` tricks at this table, with at most `cards` cards still to be played.
 fn can_take(table: &Table, side: Side, need: u8, cards: u32) -> bool {
     if table.tricks(side) >= need {
         return true;

@@ -104,7 +104,7 @@ text_with BeforeSection text more = play_text more
 text_with InSection text more = text ++ front_text more
 text_with AfterSection text more = text
 
--- the place after a tag pair, where the flag tells that it is a Play tag
+-- the place after a tag pair, where the flag says that it is a Play tag
 abbrev pub after_pair : Place → Bool → Place
 after_pair BeforeSection true = InSection
 after_pair BeforeSection false = BeforeSection
@@ -116,7 +116,7 @@ after_bracket BeforeSection = BeforeSection
 after_bracket InSection = AfterSection
 after_bracket AfterSection = AfterSection
 
--- what was read of these pieces; the flag tells that a brace comment is open behind them
+-- what was read of these pieces; the flag says whether a brace comment is open behind them
 pub record AreValues (pieces : List Piece) (is_open : Bool) (found : GameText) : Type 0 where
   pub tags : AreTags pieces found.tags
   pub section : found.section.items ≡ play_text pieces
