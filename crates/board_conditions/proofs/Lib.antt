@@ -1,5 +1,5 @@
 pub mod Cycle
-pub mod TitlesNamed
+pub mod KeptNamed
 pub mod Named
 pub mod LinesTaken
 pub mod GamesTaken

@@ -11,8 +11,10 @@ use Rattle.pbn_deals.specs.Pieces.{Piece, Space, Comment, Pair, Data, NoPair, Ha
 use Rattle.pbn_deals.specs.Tags.{is_same_name}
 use Rattle.pbn_deals.proofs.PiecesInTurn.{begin_nil}
 use Rattle.board_conditions.specs.Games.{value_named, first_named}
+use Rattle.board_conditions.specs.Titles.{is_title}
 use Rattle.board_conditions.specs.Values.{AreValues}
-use Rattle.board_conditions.proofs.TitlesNamed.{title-same}
+use Rattle.board_conditions.specs.Words.{says_dealer, says_vulnerability}
+use Rattle.board_conditions.proofs.KeptNamed.{kept-same}
 use Rattle.board_conditions.specs.declared.game_texts.GameText.{GameText}
 
 -- ---- lists of values
@@ -88,12 +90,12 @@ pub stays : (before pieces : List Piece) (was is_open : Bool) (game : GameText) 
 stays before pieces was is_open game none h = record {
   board = h.board ∙ named-same (codes "BOARD") before pieces none;
   deal = h.deal ∙ named-same (codes "DEAL") before pieces none;
-  dealer = h.dealer ∙ named-same (codes "DEALER") before pieces none;
-  vulnerable = h.vulnerable ∙ named-same (codes "VULNERABLE") before pieces none;
-  event = h.event ∙ title-same (codes "EVENT") before pieces (none (codes "EVENT"));
-  section = h.section ∙ title-same (codes "SECTION") before pieces (none (codes "SECTION"));
-  site = h.site ∙ title-same (codes "SITE") before pieces (none (codes "SITE"));
-  date = h.date ∙ title-same (codes "DATE") before pieces (none (codes "DATE"));
+  dealer = h.dealer ∙ kept-same says_dealer (codes "DEALER") before pieces (none (codes "DEALER"));
+  vulnerable = h.vulnerable ∙ kept-same says_vulnerability (codes "VULNERABLE") before pieces (none (codes "VULNERABLE"));
+  event = h.event ∙ kept-same is_title (codes "EVENT") before pieces (none (codes "EVENT"));
+  section = h.section ∙ kept-same is_title (codes "SECTION") before pieces (none (codes "SECTION"));
+  site = h.site ∙ kept-same is_title (codes "SITE") before pieces (none (codes "SITE"));
+  date = h.date ∙ kept-same is_title (codes "DATE") before pieces (none (codes "DATE"));
   opened = refl;
 }
 

@@ -2,14 +2,13 @@
 use Rattle.std.specs.Prelude.{◌≡◌, ℕ, Bool, true, false, List, [], map, Option, None, Some, is_some, unwrap_or}
 use Rattle.std.specs.Prelude.{if◌then◌else◌, codes}
 use Rattle.std.specs.List.{filter, filter_map, flat_map, slice_get, slice_split}
-use Rattle.std.specs.Option.{option_or}
 use Rattle.pbn_deals.specs.Lines.{without_mark}
 use Rattle.pbn_deals.specs.Pieces.{Piece, Space, Comment, Pair, Data, NoPair, Kind, Gap, Escaped, OfGame, rows_of, Line}
 use Rattle.pbn_deals.specs.Pieces.{AreLines}
-use Rattle.pbn_deals.specs.Tags.{is_same_name, is_inherited}
+use Rattle.pbn_deals.specs.Tags.{is_same_name}
 use Rattle.board_conditions.specs.declared.conditions.Conditions.{Conditions}
 use Rattle.board_conditions.specs.Numbers.{number_of, dealers, vulnerabilities, in_turn}
-use Rattle.board_conditions.specs.Words.{dealer_said, vulnerability_said}
+use Rattle.board_conditions.specs.Words.{dealer_said, says_dealer, says_vulnerability, vulnerability_said}
 
 -- ---- games
 abbrev pub Game : Type 0
@@ -41,6 +40,10 @@ value_named capitals (Pair name value bytes) = if is_same_name capitals name the
 value_named capitals (Data bytes) = None
 value_named capitals (NoPair bytes) = None
 
+-- the first value in the tag pairs with this name that is kept
+abbrev pub first_kept : (List ℕ → Bool) → List ℕ → List Piece → Option (List ℕ)
+first_kept is_kept capitals pieces = slice_get (filter is_kept (filter_map (value_named capitals) pieces)) 0
+
 -- the value of the first tag pair with this name
 abbrev pub first_named : List ℕ → List Piece → Option (List ℕ)
 first_named capitals pieces = slice_get (filter_map (value_named capitals) pieces) 0
@@ -55,18 +58,24 @@ abbrev pub name_in : Game → List ℕ
 name_in game = unwrap_or (value_in game (codes "BOARD")) []
 
 -- ---- conditions
--- What the tag's value says. Where there is no tag, or PBN doesn't know the value, the board's number says it; a value
--- that is handed on from another game (`#`) leaves it open.
+-- the values of the game's tags for them, the first of each that says something
+abbrev pub dealer_in : Game → Option (List ℕ)
+dealer_in game = first_kept says_dealer (codes "DEALER") (game_pieces game)
+
+abbrev pub vulnerability_in : Game → Option (List ℕ)
+vulnerability_in game = first_kept says_vulnerability (codes "VULNERABLE") (game_pieces game)
+
+-- What the tag's value says. Without one, the board's number says it. A value that is handed on from another game (`#`),
+-- or that PBN doesn't know, leaves it open.
 abbrev pub settled : {X : Type 0} → (List ℕ → Option X) → Option (List ℕ) → Option X → Option X
 settled said None by_number = by_number
-settled said (Some value) by_number = if is_inherited value then None else option_or (said value) by_number
+settled said (Some value) by_number = said value
 
 abbrev pub conditions_of : Game → Conditions
 conditions_of game = record {
-  dealer = settled dealer_said (value_in game (codes "DEALER")) (in_turn dealers (number_of (name_in game)));
+  dealer = settled dealer_said (dealer_in game) (in_turn dealers (number_of (name_in game)));
   vulnerable =
-      settled vulnerability_said (value_in game (codes "VULNERABLE"))
-      (in_turn vulnerabilities (number_of (name_in game)));
+      settled vulnerability_said (vulnerability_in game) (in_turn vulnerabilities (number_of (name_in game)));
 }
 
 -- the boards of a text are its games with a Deal tag

@@ -1,11 +1,10 @@
 -- Where and when the boards of a text were played, by the tag pairs of its games.
 use Rattle.std.specs.Prelude.{◌≡◌, ℕ, Bool, false, not, ◌||◌, List, [], map, Option, codes, bytes_eq}
-use Rattle.std.specs.List.{filter, filter_map, slice_get}
 use Rattle.std.specs.Option.{option_copied}
 use Rattle.pbn_deals.specs.Lines.{without_mark}
 use Rattle.pbn_deals.specs.Pieces.{Piece, rows_of, Line, AreLines}
 use Rattle.board_conditions.specs.declared.titles.Titles.{Titles}
-use Rattle.board_conditions.specs.Games.{Game, value_named, game_pieces, board_games}
+use Rattle.board_conditions.specs.Games.{Game, first_kept, game_pieces, board_games}
 
 pub record TitleValues : Type 0 where
   pub event : Option (List ℕ)
@@ -19,7 +18,7 @@ is_title value = not (bytes_eq value [] || (bytes_eq value (codes "?") || bytes_
 
 -- the first title in tag pairs with this name, which is given in capitals
 abbrev pub first_title : List ℕ → List Piece → Option (List ℕ)
-first_title capitals pieces = slice_get (filter is_title (filter_map (value_named capitals) pieces)) 0
+first_title = first_kept is_title
 
 abbrev pub title_in : Game → List ℕ → Option (List ℕ)
 title_in game capitals = first_title capitals (game_pieces game)

@@ -4,16 +4,17 @@ use Rattle.std.specs.List.{filter}
 use Rattle.std.specs.Option.{option_copied}
 use Rattle.pbn_deals.specs.Pieces.{Piece, Kind, Line, rows_of, AreLines}
 use Rattle.board_conditions.specs.declared.game_texts.GameText.{GameText}
-use Rattle.board_conditions.specs.Games.{Game, first_named, is_gap_kind, pieces_of, games_of, game_pieces, has_deal}
+use Rattle.board_conditions.specs.Games.{Game, first_kept, first_named, is_gap_kind, pieces_of, games_of, game_pieces, has_deal}
 use Rattle.board_conditions.specs.Games.{board_games}
 use Rattle.board_conditions.specs.Titles.{first_title}
+use Rattle.board_conditions.specs.Words.{says_dealer, says_vulnerability}
 
 -- those of these pieces; the flag tells that a brace comment is open behind them
 pub record AreValues (pieces : List Piece) (is_open : Bool) (found : GameText) : Type 0 where
   pub board : option_copied found.board ≡ first_named (codes "BOARD") pieces
   pub deal : option_copied found.deal ≡ first_named (codes "DEAL") pieces
-  pub dealer : option_copied found.dealer ≡ first_named (codes "DEALER") pieces
-  pub vulnerable : option_copied found.vulnerable ≡ first_named (codes "VULNERABLE") pieces
+  pub dealer : option_copied found.dealer ≡ first_kept says_dealer (codes "DEALER") pieces
+  pub vulnerable : option_copied found.vulnerable ≡ first_kept says_vulnerability (codes "VULNERABLE") pieces
   pub event : option_copied found.event ≡ first_title (codes "EVENT") pieces
   pub section : option_copied found.section ≡ first_title (codes "SECTION") pieces
   pub site : option_copied found.site ≡ first_title (codes "SITE") pieces

@@ -1,20 +1,22 @@
 //! A game of a text, as it is read.
 
-ghost use Rattle.std.specs.Prelude.{◌≡◌, ◌≤◌, ◌∷◌, ◌++◌, [], ℕ, List, All, ◌&&◌, None, Some, if◌then◌else◌};
+ghost use Rattle.std.specs.Prelude.{◌≡◌, ◌≤◌, ◌∷◌, ◌++◌, [], ℕ, List, All, ◌&&◌, None, Some, if◌then◌else◌, codes};
 ghost use Rattle.std.specs.Option.{option_copied};
 ghost use Rattle.pbn_deals.specs.Pieces as seen;
 ghost use Rattle.pbn_deals.specs.Pieces.{Pair};
 ghost use Rattle.pbn_deals.specs.Tags.{is_same_name};
-ghost use Rattle.board_conditions.specs.Games.{first_named};
-ghost use Rattle.board_conditions.specs.Titles.{first_title, is_title};
+ghost use Rattle.board_conditions.specs.Games.{first_kept, first_named};
+ghost use Rattle.board_conditions.specs.Titles.{first_title};
+ghost use Rattle.board_conditions.specs.Words.{says_dealer, says_vulnerability};
 
 use crate::conditions::{Conditions, settled_dealer, settled_vulnerability};
 use crate::numbers::number_of;
 use crate::titles::{Titles, is_title};
+use crate::words::{says_dealer, says_vulnerability};
 use pbn_deals::{LineStart, Piece, first_piece, is_same_name, line_start};
 
-/// A game of a text, as far as it was read: the values of the first tag pairs that have these names, and of titles the
-/// first that is said.
+/// A game of a text, as far as it was read: the values of the first tag pairs with the names of board and deal, and the
+/// first values of the others that say something.
 #[derive(Clone, Copy)]
 pub(crate) struct GameText<'a> {
     /// The name of the board.
@@ -57,13 +59,18 @@ fn first_of<'a>(
     }
 }
 
-/// The title in a tag pair, if its name is this one, given in capitals.
-fn title_in_pair<'a>(capitals: &[u8], name: &[u8], value: &'a [u8]) -> Option<&'a [u8]>
+/// The value in a tag pair, if its name is this one, given in capitals, and it is to be kept.
+fn value_in_pair<'a>(
+    capitals: &[u8],
+    name: &[u8],
+    value: &'a [u8],
+    is_kept: bool,
+) -> Option<&'a [u8]>
     requires { All (λ capital. capital ≤ 90) capitals.now }
     ensures { option_copied result
-        ≡ (if is_same_name capitals.now name.now && is_title value.entry.now then Some value.entry.now else None) }
+        ≡ (if is_same_name capitals.now name.now && is_kept then Some value.entry.now else None) }
 {
-    if is_same_name(capitals, name) && is_title(value) {
+    if is_same_name(capitals, name) && is_kept {
         Some(value)
     } else {
         None
@@ -81,7 +88,31 @@ fn first_title<'a>(
     ensures { (pieces : List seen.Piece) (bytes : List ℕ) → option_copied before.entry ≡ first_title capitals.now pieces
         → option_copied result ≡ first_title capitals.now (pieces ++ Pair name.now value.entry.now bytes ∷ []) }
 {
-    before.or(title_in_pair(capitals, name, value))
+    before.or(value_in_pair(capitals, name, value, is_title(value)))
+}
+
+/// The first dealer, after one tag pair more.
+fn first_dealer<'a>(before: Option<&'a [u8]>, name: &[u8], value: &'a [u8]) -> Option<&'a [u8]>
+    ensures { (pieces : List seen.Piece) (bytes : List ℕ)
+        → option_copied before.entry ≡ first_kept says_dealer (codes "DEALER") pieces
+        → option_copied result
+        ≡ first_kept says_dealer (codes "DEALER") (pieces ++ Pair name.now value.entry.now bytes ∷ []) }
+{
+    before.or(value_in_pair(b"DEALER", name, value, says_dealer(value)))
+}
+
+/// The first vulnerability, after one tag pair more.
+fn first_vulnerability<'a>(
+    before: Option<&'a [u8]>,
+    name: &[u8],
+    value: &'a [u8],
+) -> Option<&'a [u8]>
+    ensures { (pieces : List seen.Piece) (bytes : List ℕ)
+        → option_copied before.entry ≡ first_kept says_vulnerability (codes "VULNERABLE") pieces
+        → option_copied result
+        ≡ first_kept says_vulnerability (codes "VULNERABLE") (pieces ++ Pair name.now value.entry.now bytes ∷ []) }
+{
+    before.or(value_in_pair(b"VULNERABLE", name, value, says_vulnerability(value)))
 }
 
 impl<'a> GameText<'a> {
@@ -120,8 +151,8 @@ impl<'a> GameText<'a> {
             Piece::Pair { name, value, .. } => GameText {
                 board: first_of(b"BOARD", self.board, name, value),
                 deal: first_of(b"DEAL", self.deal, name, value),
-                dealer: first_of(b"DEALER", self.dealer, name, value),
-                vulnerable: first_of(b"VULNERABLE", self.vulnerable, name, value),
+                dealer: first_dealer(self.dealer, name, value),
+                vulnerable: first_vulnerability(self.vulnerable, name, value),
                 event: first_title(b"EVENT", self.event, name, value),
                 section: first_title(b"SECTION", self.section, name, value),
                 site: first_title(b"SITE", self.site, name, value),

@@ -17,13 +17,13 @@ contracts_line-is end value = ap (λ (l : List ℕ). (91 ∷ (codes "ParContract
 -- what is written of each par
 abbrev pub written : List ℕ → Option BoardPar → List ℕ
 written end None = []
-written end (Some (Known score contracts)) = body_line end (tag_text (codes "OptimumScore") (score_text score)) ++ body_line end (tag_text (codes "ParContract") (contracts_text contracts.items))
+written end (Some (Known dealer vulnerable score contracts)) = body_line end (tag_text (codes "OptimumScore") (score_text score)) ++ body_line end (tag_text (codes "ParContract") (contracts_text contracts.items))
 written end (Some NoDealer) = codes "; par unknown: no dealer" ++ end
 written end (Some NoVulnerability) = codes "; par unknown: no vulnerability" ++ end
 
 pub par_text-is : (end : List ℕ) (par : Option BoardPar) → par_text end par ≡ written end par
 unfolding par_text
 par_text-is end None = refl
-par_text-is end (Some (Known score contracts)) = ap (λ (l : List ℕ). body_line end (tag_text (codes "OptimumScore") (score_text score)) ++ l) (append-nil (body_line end (tag_text (codes "ParContract") (contracts_text contracts.items))))
+par_text-is end (Some (Known dealer vulnerable score contracts)) = ap (λ (l : List ℕ). body_line end (tag_text (codes "OptimumScore") (score_text score)) ++ l) (append-nil (body_line end (tag_text (codes "ParContract") (contracts_text contracts.items))))
 par_text-is end (Some NoDealer) = append-nil (codes "; par unknown: no dealer" ++ end)
 par_text-is end (Some NoVulnerability) = append-nil (codes "; par unknown: no vulnerability" ++ end)

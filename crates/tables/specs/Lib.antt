@@ -1,2 +1,3 @@
+pub mod ConditionTags
 pub mod ParText
 pub mod TablesText

@@ -18,7 +18,7 @@ body_line end body = body ++ end
 -- ---- small numbers
 -- the numbers that are printed of a par
 abbrev pub IsSmallPar : BoardPar → Type 0
-IsSmallPar (Known score contracts) =
+IsSmallPar (Known dealer vulnerable score contracts) =
     (unsigned_abs score < 2 ^ 16) × All (λ contract. IsSmallResult contract.outcome) contracts.items
 IsSmallPar NoDealer = ⊤
 IsSmallPar NoVulnerability = ⊤
@@ -27,7 +27,7 @@ IsSmallPar NoVulnerability = ⊤
 -- the lines of a board's par without their ends: the score and the contracts, or what isn't known
 abbrev pub par_bodies : Option BoardPar → List (List ℕ)
 par_bodies None = []
-par_bodies (Some (Known score contracts)) =
+par_bodies (Some (Known dealer vulnerable score contracts)) =
     tag_text (codes "OptimumScore") (score_text score)
     ∷ tag_text (codes "ParContract") (contracts_text contracts.items) ∷ []
 par_bodies (Some NoDealer) = codes "; par unknown: no dealer" ∷ []

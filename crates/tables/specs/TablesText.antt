@@ -14,6 +14,7 @@ use Rattle.cards.specs.Deal.{Deal}
 use Rattle.pbn_deals.specs.declared.boards.Board.{Board}
 use Rattle.pbn_deals.specs.DealText.{deal_text}
 use Rattle.tables.specs.declared.pars.BoardPar.{BoardPar}
+use Rattle.tables.specs.ConditionTags.{conditions_text}
 use Rattle.tables.specs.ParText.{par_text}
 use Rattle.cards.specs.Bytes as ascii
 
@@ -118,11 +119,12 @@ table_text end results =
 unfoldable pub section_text : List ℕ → Printed → List ℕ
 section_text end printed = par_text end printed.par ++ table_text end printed.results
 
--- one board: its name, its deal, its par and its table, and an empty line
+-- one board: its name, its deal, the conditions of its par, its par and its table, and an empty line
 unfoldable pub board_text : Board → Printed → List ℕ
 board_text board printed =
     tag_line (codes "Board") board.name
-    ++ (tag_line (codes "Deal") (deal_value board.deal) ++ (section_text line_feed printed ++ (ascii.line_feed ∷ [])))
+    ++ (tag_line (codes "Deal") (deal_value board.deal)
+    ++ (conditions_text printed.par ++ (section_text line_feed printed ++ (ascii.line_feed ∷ []))))
 
 -- each board with what is printed of it, found by its place
 abbrev pub numbered_text : (ℕ → Printed) → ℕ × Board → List ℕ

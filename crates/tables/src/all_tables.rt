@@ -4,6 +4,7 @@ ghost use Rattle.std.specs.Prelude.{◌≡◌, codes, length, IfOk};
 ghost use Rattle.cards.specs.Devices.{Writes};
 ghost use Rattle.tables.specs.TablesText.{tag_line, deal_value, board_text, tables_text, complete_count};
 
+use crate::conditions::write_conditions;
 use crate::pieces::write_pieces;
 use crate::results::{Report, Results};
 use crate::tables::{count_complete, write_section};
@@ -36,6 +37,7 @@ fn write_board<S: Sink, T: Results>(
 {
     write_pieces(sink, &[b"[Board \"", board.name.as_bytes(), b"\"]\n"])?;
     write_deal(sink, &board.deal)?;
+    write_conditions(sink, results.par(place))?;
     write_section(sink, results, place, b"\n")?;
     write_all(sink, b"\n")
 }

@@ -7,14 +7,16 @@ ghost use Rattle.par.specs.Texts.{score_text, contracts_text};
 
 use crate::pieces::write_line;
 use arrayvec::ArrayVec;
-use cards::{DeviceFault, Sink, write_all};
-use par::{ParContract, write_contracts, write_score};
+use cards::{DeviceFault, Seat, Sink, write_all};
+use par::{ParContract, VulnerableSides, write_contracts, write_score};
 
 /// What is printed of a board's par.
 #[derive(Drop)]
 pub enum BoardPar {
-    /// Par, as a score of North and South, and the par contracts.
+    /// Par under these conditions, as a score of North and South, and the par contracts.
     Known {
+        dealer: Seat,
+        vulnerable: VulnerableSides,
         score: i32,
         contracts: ArrayVec<ParContract, 10>,
     },
@@ -62,7 +64,11 @@ pub(crate) fn write_par<S: Sink>(
         return Ok(());
     };
     match par {
-        BoardPar::Known { score, contracts } => {
+        BoardPar::Known {
+            score,
+            contracts,
+            ..
+        } => {
             write_score_line(sink, *score, end)?;
             write_contracts_line(sink, contracts.as_slice(), end)
         }

@@ -21,7 +21,10 @@ use Rattle.pbn_deals.specs.Reading.{Ends, Scans, at_end, at_tag, at_line_comment
 use Rattle.pbn_deals.specs.DealText.{deal_text}
 use Rattle.tables.specs.declared.pars.BoardPar.{BoardPar}
 use Rattle.tables.specs.declared.pars.BoardPar.TheVariants.{Known, NoDealer, NoVulnerability}
+use Rattle.par.specs.declared.vulnerable_sides.VulnerableSides.{VulnerableSides}
+use Rattle.par.specs.declared.vulnerable_sides.VulnerableSides.TheVariants.{Neither, NorthSouth, EastWest, Both}
 use Rattle.par.specs.Texts.{score_text, contracts_text}
+use Rattle.tables.specs.ConditionTags.{sides_shown, condition_bodies, conditions_text}
 use Rattle.tables.specs.ParText.{tag_text, body_line, IsSmallPar, par_bodies, par_text}
 use Rattle.tables.specs.TablesText.{Results, Printed, section_text, line_feed, tag_line, deal_value, row_text, result_row, entry_row, rows_text, entries, right_in_two, is_complete, published_count, table_tag, incomplete_text, table_text, board_text, numbered_text, tables_text}
 use Rattle.pbn_deals.specs.Printable.{IsBoardDeal, IsPrintable}
@@ -270,9 +273,52 @@ no_vulnerability-idle = record {
 
 pub par-idle : (par : Option BoardPar) → IfSome par IsSmallPar → AllByRecursion IsIdle (par_bodies par)
 par-idle None small = tt
-par-idle (Some (Known score contracts)) small = (score-idle (score_text score) (score-calm score small.0), (contracts-idle (contracts_text contracts.items) (contracts-calm contracts.items small.1), tt))
+par-idle (Some (Known dealer vulnerable score contracts)) small = (score-idle (score_text score) (score-calm score small.0), (contracts-idle (contracts_text contracts.items) (contracts-calm contracts.items small.1), tt))
 par-idle (Some NoDealer) small = (no_dealer-idle, tt)
 par-idle (Some NoVulnerability) small = (no_vulnerability-idle, tt)
+
+-- ---- the lines of par's conditions
+pub dealer_tag_of : (value : List ℕ) → NoQuote value → tag_of (codes "Dealer" ++ (32 ∷ 34 ∷ (value ++ (34 ∷ 93 ∷ [])))) ≡ Some (record { name = codes "Dealer"; value = value; rest = [] })
+dealer_tag_of value h = rw (value_front-is value (93 ∷ []) h, after_value-is value (93 ∷ []) h) refl
+
+pub vulnerable_tag_of : (value : List ℕ) → NoQuote value → tag_of (codes "Vulnerable" ++ (32 ∷ 34 ∷ (value ++ (34 ∷ 93 ∷ [])))) ≡ Some (record { name = codes "Vulnerable"; value = value; rest = [] })
+vulnerable_tag_of value h = rw (value_front-is value (93 ∷ []) h, after_value-is value (93 ∷ []) h) refl
+
+dealer-read : (value : List ℕ) → NoQuote value → (number count : ℕ) (tags : Tags) → Scans number count false tags (tag_text (codes "Dealer") value) (Ends tags false)
+unfolding tag_text
+dealer-read value h number count tags = at_tag refl (dealer_tag_of value h) (other_tag refl refl) at_end
+
+vulnerable-read : (value : List ℕ) → NoQuote value → (number count : ℕ) (tags : Tags) → Scans number count false tags (tag_text (codes "Vulnerable") value) (Ends tags false)
+unfolding tag_text
+vulnerable-read value h number count tags = at_tag refl (vulnerable_tag_of value h) (other_tag refl refl) at_end
+
+pub sides-calm : (sides : VulnerableSides) → is_calm (sides_shown sides) ≡ true
+sides-calm Neither = refl
+sides-calm NorthSouth = refl
+sides-calm EastWest = refl
+sides-calm Both = refl
+
+dealer-idle : (value : List ℕ) → is_calm value ≡ true → IsIdle (tag_text (codes "Dealer") value)
+dealer-idle value calm = record {
+  as_line = tag-line (codes "Dealer") value (calm-no_feed (codes "Dealer") refl) (calm-no_feed value calm);
+  not_escaped = tag_text-not_escaped (codes "Dealer") value;
+  not_blank = tag_text-not_blank (codes "Dealer") value;
+  read = dealer-read value (calm-no_quote value calm);
+}
+
+vulnerable-idle : (value : List ℕ) → is_calm value ≡ true → IsIdle (tag_text (codes "Vulnerable") value)
+vulnerable-idle value calm = record {
+  as_line = tag-line (codes "Vulnerable") value (calm-no_feed (codes "Vulnerable") refl) (calm-no_feed value calm);
+  not_escaped = tag_text-not_escaped (codes "Vulnerable") value;
+  not_blank = tag_text-not_blank (codes "Vulnerable") value;
+  read = vulnerable-read value (calm-no_quote value calm);
+}
+
+pub conditions-idle : (par : Option BoardPar) → AllByRecursion IsIdle (condition_bodies par)
+conditions-idle None = tt
+conditions-idle (Some (Known dealer vulnerable score contracts)) = (dealer-idle (seat_letter dealer) (seat_letter-calm dealer), (vulnerable-idle (sides_shown vulnerable) (sides-calm vulnerable), tt))
+conditions-idle (Some NoDealer) = tt
+conditions-idle (Some NoVulnerability) = tt
 
 bodies_step : (bodies : List (List ℕ)) (rest : List ℕ) (tags : Tags) (count : ℕ) (answer : Result (List Board) PbnFault) → AllByRecursion IsIdle bodies → AnswersText tags count rest answer → AnswersText tags count (flat_map (body_line line_feed) bodies ++ rest) answer
 bodies_step [] rest tags count answer idle more = more
@@ -283,6 +329,10 @@ bodies_step (body ∷ bodies) rest tags count answer idle more =
 pub section_text-is : (printed : Printed) (rest : List ℕ) → section_text line_feed printed ++ rest ≡ flat_map (body_line line_feed) (par_bodies printed.par) ++ (table_text line_feed printed.results ++ rest)
 unfolding section_text par_text
 section_text-is printed rest = append_assoc (flat_map (body_line line_feed) (par_bodies printed.par)) (table_text line_feed printed.results) rest
+
+conditions_step : (par : Option BoardPar) (rest : List ℕ) (tags : Tags) (count : ℕ) (answer : Result (List Board) PbnFault) → AnswersText tags count rest answer → AnswersText tags count (conditions_text par ++ rest) answer
+unfolding conditions_text
+conditions_step par rest tags count answer more = bodies_step (condition_bodies par) rest tags count answer (conditions-idle par) more
 
 section_step : (printed : Printed) (rest : List ℕ) (tags : Tags) (count : ℕ) (answer : Result (List Board) PbnFault) → ((declarer : Seat) (denomination : Trump) → IfSome (printed.results declarer denomination) (λ tricks. tricks ≤ 13)) → IfSome printed.par IsSmallPar → AnswersText tags count rest answer → AnswersText tags count (section_text line_feed printed ++ rest) answer
 section_step printed rest tags count answer small pars more =
@@ -300,17 +350,20 @@ blank_step rest tags count answer more = λ number.
     subst (λ (lines : List (List ℕ)). Answers number None tags count lines (put_boards (boards_of tags) answer)) (sym (lines_of-line [] rest (record { no_feed = All-from_recursion _ [] tt; no_return = refl })))
     (blank_line refl refl (more (number + 1)))
 
-pub board_text-is : (board : Board) (printed : Printed) (rest : List ℕ) → board_text board printed ++ rest ≡ tag_text (codes "Board") board.name ++ 10 ∷ (tag_text (codes "Deal") (deal_value board.deal) ++ 10 ∷ (section_text line_feed printed ++ 10 ∷ rest))
+pub board_text-is : (board : Board) (printed : Printed) (rest : List ℕ) → board_text board printed ++ rest ≡ tag_text (codes "Board") board.name ++ 10 ∷ (tag_text (codes "Deal") (deal_value board.deal) ++ 10 ∷ (conditions_text printed.par ++ (section_text line_feed printed ++ 10 ∷ rest)))
 unfolding board_text
 board_text-is board printed rest =
     let table = section_text line_feed printed ++ (10 ∷ []) in
+    let lower = conditions_text printed.par ++ table in
     let deal = tag_line (codes "Deal") (deal_value board.deal) in
-    append_assoc (tag_line (codes "Board") board.name) (deal ++ table) rest
-    ∙ (tag_line-is (codes "Board") board.name ((deal ++ table) ++ rest)
+    append_assoc (tag_line (codes "Board") board.name) (deal ++ lower) rest
+    ∙ (tag_line-is (codes "Board") board.name ((deal ++ lower) ++ rest)
     ∙ ap (λ (l : List ℕ). tag_text (codes "Board") board.name ++ 10 ∷ l)
-    (append_assoc deal table rest
-    ∙ (tag_line-is (codes "Deal") (deal_value board.deal) (table ++ rest)
-    ∙ ap (λ (l : List ℕ). tag_text (codes "Deal") (deal_value board.deal) ++ 10 ∷ l) (append_assoc (section_text line_feed printed) (10 ∷ []) rest))))
+    (append_assoc deal lower rest
+    ∙ (tag_line-is (codes "Deal") (deal_value board.deal) (lower ++ rest)
+    ∙ ap (λ (l : List ℕ). tag_text (codes "Deal") (deal_value board.deal) ++ 10 ∷ l)
+    (append_assoc (conditions_text printed.par) table rest
+    ∙ ap (λ (l : List ℕ). conditions_text printed.par ++ l) (append_assoc (section_text line_feed printed) (10 ∷ []) rest)))))
 
 board_step : (board : Board) (printed : Printed) (rest : List ℕ) (count : ℕ) (boards : List Board) → IsPrintable board → IsReadable board.deal → ((declarer : Seat) (denomination : Trump) → IfSome (printed.results declarer denomination) (λ tricks. tricks ≤ 13)) → IfSome printed.par IsSmallPar → count < greatest_count → AnswersText no_tags (count + 1) rest (Ok boards) → AnswersText no_tags count (board_text board printed ++ rest) (Ok (board ∷ boards))
 unfolding board_text both_tags
@@ -322,13 +375,15 @@ board_step board printed rest count boards printable readable small pars room mo
     let feed = feedless name (recursion_from_All _ name printable.one_line) in
     let ending : AnswersText tags count (10 ∷ rest) (Ok (board ∷ boards)) = blank_step rest tags count (Ok boards) more in
     let table : AnswersText tags count (section_text line_feed printed ++ 10 ∷ rest) (Ok (board ∷ boards)) = section_step printed (10 ∷ rest) tags count (Ok (board ∷ boards)) small pars ending in
+    let below = conditions_text printed.par ++ (section_text line_feed printed ++ 10 ∷ rest) in
+    let lower : AnswersText tags count below (Ok (board ∷ boards)) = conditions_step printed.par (section_text line_feed printed ++ 10 ∷ rest) tags count (Ok (board ∷ boards)) table in
     let deal_line = tag_text (codes "Deal") value in
-    let deal : AnswersText (name_tags name) count (deal_line ++ 10 ∷ (section_text line_feed printed ++ 10 ∷ rest)) (Ok (board ∷ boards)) =
-    λ number. subst (λ (lines : List (List ℕ)). Answers number None (name_tags name) count lines (Ok (board ∷ boards))) (sym (lines_of-line deal_line (section_text line_feed printed ++ 10 ∷ rest) (tag-line (codes "Deal") value (refl, (refl, (refl, (refl, tt)))) readable.one_line)))
-    (whole_line (tag_text-not_escaped (codes "Deal") value) (tag_text-not_blank (codes "Deal") value) (deal_line-read number count name value board.deal readable.quoteless readable.says room) (table (number + 1))) in
+    let deal : AnswersText (name_tags name) count (deal_line ++ 10 ∷ below) (Ok (board ∷ boards)) =
+    λ number. subst (λ (lines : List (List ℕ)). Answers number None (name_tags name) count lines (Ok (board ∷ boards))) (sym (lines_of-line deal_line below (tag-line (codes "Deal") value (refl, (refl, (refl, (refl, tt)))) readable.one_line)))
+    (whole_line (tag_text-not_escaped (codes "Deal") value) (tag_text-not_blank (codes "Deal") value) (deal_line-read number count name value board.deal readable.quoteless readable.says room) (lower (number + 1))) in
     let board_line = tag_text (codes "Board") name in
-    let first : AnswersText no_tags count (board_line ++ 10 ∷ (deal_line ++ 10 ∷ (section_text line_feed printed ++ 10 ∷ rest))) (Ok (board ∷ boards)) =
-    λ number. subst (λ (lines : List (List ℕ)). Answers number None no_tags count lines (Ok (board ∷ boards))) (sym (lines_of-line board_line (deal_line ++ 10 ∷ (section_text line_feed printed ++ 10 ∷ rest)) (tag-line (codes "Board") name (refl, (refl, (refl, (refl, (refl, tt))))) feed)))
+    let first : AnswersText no_tags count (board_line ++ 10 ∷ (deal_line ++ 10 ∷ below)) (Ok (board ∷ boards)) =
+    λ number. subst (λ (lines : List (List ℕ)). Answers number None no_tags count lines (Ok (board ∷ boards))) (sym (lines_of-line board_line (deal_line ++ 10 ∷ below) (tag-line (codes "Board") name (refl, (refl, (refl, (refl, (refl, tt))))) feed)))
     (whole_line (tag_text-not_escaped (codes "Board") name) (tag_text-not_blank (codes "Board") name) (board_line-read number count name quoteless printable.own_name) (deal (number + 1))) in
     subst (λ (l : List ℕ). Answers number None no_tags count (lines_of l) (Ok (board ∷ boards))) (sym (board_text-is board printed rest)) (first number)
 

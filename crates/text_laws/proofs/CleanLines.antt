@@ -224,7 +224,7 @@ no_vulnerability_counts old e =
 
 pars_leave : (old : Renews) (end : List ℕ) (par : Option BoardPar) (results : Results) → IfSome par (λ par. renews_pars old ≡ true) → LeavesCounts old false (map (with_end end) (par_kinds par) ++ table_lines end results)
 pars_leave old end None results renews = table_leaves old false end results
-pars_leave old end (Some (Known score contracts)) results renews =
+pars_leave old end (Some (Known dealer vulnerable score contracts)) results renews =
     let table = table_leaves old true end results in
     let one = codes "OptimumScore" in
     let two = codes "ParContract" in

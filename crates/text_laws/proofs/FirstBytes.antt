@@ -185,7 +185,7 @@ unfolding tag_text
 section_odd end printed = go printed.par where
   go : (par : Option BoardPar) → OddFirst (map (with_end end) (par_kinds par) ++ table_lines end printed.results)
   go None = table_odd end printed.results
-  go (Some (Known score contracts)) = refl
+  go (Some (Known dealer vulnerable score contracts)) = refl
   go (Some NoDealer) = refl
   go (Some NoVulnerability) = refl
 

@@ -33,6 +33,7 @@ pub mod CalmTexts
 pub mod LinesBack
 pub mod OnePage
 pub mod PageBack
+pub mod PageConditions
 pub mod PageLines
 pub mod ParTexts
 pub mod SmallNumbers

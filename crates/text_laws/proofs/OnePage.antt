@@ -13,7 +13,7 @@ use Rattle.pbn_deals.specs.Lines.{lines_of}
 use Rattle.text_laws.proofs.OneTag.{one_taking}
 use Rattle.tables.specs.TablesText.{Results, Printed, entries, published_count, is_complete}
 use Rattle.text_laws.specs.PageReading.{Row, Table, Rows, Incomplete, Section, Block, page_in}
-use Rattle.text_laws.specs.WrittenOnce.{IsWrittenOnce, SaysResults, SaysSection, SayBoards, SaySame, PagesSayOneThing}
+use Rattle.text_laws.specs.WrittenOnce.{IsWrittenOnce, SaysResults, SaysSection, SayBoards, SaySame, SaySameBlock, PagesSayOneThing}
 use Rattle.text_laws.proofs.PageBack.{table_texts_are_read}
 
 -- ---- a board
@@ -85,7 +85,7 @@ same_section one other section h h' =
 
 -- ---- the boards
 abbrev SaysSameFrom : (ℕ → Printed) → (ℕ → Printed) → ℕ → List Board → Type 0
-SaysSameFrom results results' place boards = (i : ℕ) → i < length boards → SaySame (results (place + i)) (results' (place + i))
+SaysSameFrom results results' place boards = (i : ℕ) → i < length boards → SaySameBlock (results (place + i)) (results' (place + i))
 
 same_boards : (boards others : List Board) (results results' : ℕ → Printed) (place : ℕ) (blocks : List Block) → SayBoards results (enumerate_from place boards) blocks → SayBoards results' (enumerate_from place others) blocks → (boards ≡ others) × SaysSameFrom results results' place boards
 same_boards [] [] results results' place [] h h' = (refl, λ i within. absurd (omega (arith, within)))
@@ -100,11 +100,11 @@ same_boards (board ∷ boards) (other ∷ others) results results' place (block 
     let says' = h'.0 in
     let first = one_board board other (sym says.name ∙ says'.name) (one_deal block.deal board.deal other.deal (says.deal 1) (says'.deal 1)) in
     let more = same_boards boards others results results' (place + 1) blocks h.1 h'.1 in
-    (ap (λ (b : Board). b ∷ boards) first ∙ ap (λ (l : List Board). other ∷ l) more.0, at (same_section (results place) (results' place) block.section says.section says'.section) more.1)
+    (ap (λ (b : Board). b ∷ boards) first ∙ ap (λ (l : List Board). other ∷ l) more.0, at (record { conditions = sym says.conditions ∙ says'.conditions; section = same_section (results place) (results' place) block.section says.section says'.section }) more.1)
   where
-    at : SaySame (results place) (results' place) → SaysSameFrom results results' (place + 1) boards → (i : ℕ) → i < length (board ∷ boards) → SaySame (results (place + i)) (results' (place + i))
-    at one more zero within = let e : place ≡ place + 0 = omega arith in subst (λ n. SaySame (results n) (results' n)) e one
-    at one more (suc i) within = let e : (place + 1) + i ≡ place + suc i = omega arith in subst (λ n. SaySame (results n) (results' n)) e (more i (omega (arith, within)))
+    at : SaySameBlock (results place) (results' place) → SaysSameFrom results results' (place + 1) boards → (i : ℕ) → i < length (board ∷ boards) → SaySameBlock (results (place + i)) (results' (place + i))
+    at one more zero within = let e : place ≡ place + 0 = omega arith in subst (λ n. SaySameBlock (results n) (results' n)) e one
+    at one more (suc i) within = let e : (place + 1) + i ≡ place + suc i = omega arith in subst (λ n. SaySameBlock (results n) (results' n)) e (more i (omega (arith, within)))
 
 pub pages_say_one_thing : PagesSayOneThing
 pages_say_one_thing boards others results results' printable printable' small small' e =
@@ -114,5 +114,5 @@ pages_say_one_thing boards others results results' printable printable' small sm
     let same = same_boards boards others results results' 0 other.0 (subst (λ (b : List Block). SayBoards results (enumerate_from 0 boards) b) blocks one.2) other.2 in
     (same.0, λ place within. from_zero (same.1 place within))
   where
-    from_zero : {place : ℕ} → SaySame (results (0 + place)) (results' (0 + place)) → SaySame (results place) (results' place)
-    from_zero {place} h = let e : 0 + place ≡ place = omega arith in subst (λ n. SaySame (results n) (results' n)) e h
+    from_zero : {place : ℕ} → SaySameBlock (results (0 + place)) (results' (0 + place)) → SaySameBlock (results place) (results' place)
+    from_zero {place} h = let e : 0 + place ≡ place = omega arith in subst (λ n. SaySameBlock (results n) (results' n)) e h

@@ -18,17 +18,19 @@ use Rattle.pbn_deals.specs.DealValue.{words_of}
 use Rattle.pbn_deals.specs.Lines.{lines_of}
 use Rattle.pbn_deals.specs.Printable.{IsPrintable}
 use Rattle.par.specs.Texts.{score_text, contracts_text}
+use Rattle.par.specs.declared.vulnerable_sides.VulnerableSides.{VulnerableSides}
+use Rattle.tables.specs.ConditionTags.{sides_shown, condition_bodies}
 use Rattle.tables.specs.declared.pars.BoardPar.{BoardPar}
 use Rattle.tables.specs.declared.pars.BoardPar.TheVariants.{Known, NoDealer, NoVulnerability}
 use Rattle.tables.specs.ParText.{tag_text, IsSmallPar, par_bodies}
 use Rattle.tables.specs.TablesText.{Results, Printed, section_text, line_feed, deal_value, row_text, right_in_two, entries, is_complete, published_count, table_tag, incomplete_text, table_text, board_text, numbered_text}
 use Rattle.text_laws.specs.ReadBack.{AreTricks}
-use Rattle.text_laws.specs.PageReading.{all_items, Row, seat_named, denomination_named, number_named, row_of_words, row_in, Table, Rows, Incomplete, rows_table, count_of_words, value_of_tag, value_in, table_in, Section, section_in, section_of, section_of_values, section_of_score, Nothing, Values, DealerUnknown, VulnerabilityUnknown, Block, block_in, is_empty_line, has_lines, blocks_of, page_in}
-use Rattle.text_laws.specs.WrittenOnce.{numbers_in, SaysResults, par_said, SaysSection, SaysBoard, SayBoards, TableTextsAreRead}
+use Rattle.text_laws.specs.PageReading.{all_items, Row, seat_named, denomination_named, number_named, row_of_words, row_in, Table, Rows, Incomplete, rows_table, count_of_words, value_of_tag, value_in, table_in, Section, section_in, section_of, section_of_values, section_of_score, Nothing, Values, DealerUnknown, VulnerabilityUnknown, Unsaid, Said, lower_of, lower_of_values, lower_of_dealer, lower_in, Block, block_in, is_empty_line, has_lines, blocks_of, page_in}
+use Rattle.text_laws.specs.WrittenOnce.{numbers_in, SaysResults, par_said, conditions_said, SaysSection, SaysBoard, SayBoards, TableTextsAreRead}
 use Rattle.text_laws.proofs.SmallNumbers.{for_small}
-use Rattle.text_laws.proofs.CalmTexts.{NoQuote, calm-no_quote}
+use Rattle.text_laws.proofs.CalmTexts.{NoQuote, calm-no_quote, seat_letter-calm}
 use Rattle.text_laws.proofs.ParTexts.{score-calm, contracts-calm}
-use Rattle.text_laws.proofs.BoardsBack.{published_count-le, par-idle, board_tag_of, deal_tag_of, score_tag_of, contracts_tag_of, no_quote, IsReadable, readable_deal}
+use Rattle.text_laws.proofs.BoardsBack.{published_count-le, par-idle, board_tag_of, deal_tag_of, score_tag_of, contracts_tag_of, dealer_tag_of, vulnerable_tag_of, sides-calm, no_quote, IsReadable, readable_deal}
 use Rattle.text_laws.proofs.PageLines.{AreSmall, result_lines, entry_lines, complete-lines, incomplete-lines, section-lines, empty-line, board-lines, page-lines}
 use Rattle.tables.proofs.PageBack.{all_known, is_known, known-at}
 
@@ -137,6 +139,7 @@ record ReadsTable (results : Results) : Type 0 where
   table : Table
   lines : (rest : List ℕ) → lines_of (table_text line_feed results ++ rest) ≡ line ∷ (below ++ lines_of rest)
   some_bytes : AllByRecursion (λ line. is_empty_line line ≡ false) (line ∷ below)
+  plain : value_in (codes "Dealer") line ≡ None
   begins : section_in (line ∷ below) ≡ section_of Nothing (table_in line below)
   read : table_in line below ≡ Some table
   says : SaysResults results table
@@ -159,6 +162,15 @@ rows-some_bytes results (entry ∷ some) = go (results entry.0 entry.1) (rows-so
 table_tag-some_bytes : is_empty_line table_tag ≡ false
 unfolding table_tag
 table_tag-some_bytes = refl
+
+-- a table begins with no dealer
+table_tag-plain : value_in (codes "Dealer") table_tag ≡ None
+unfolding table_tag
+table_tag-plain = refl
+
+incomplete-plain : (count : ℕ) → value_in (codes "Dealer") (incomplete_text count) ≡ None
+unfolding incomplete_text
+incomplete-plain count = refl
 
 rows_below : (lines : List (List ℕ)) → table_in table_tag lines ≡ rows_table (all_items (map row_in lines))
 unfolding table_tag
@@ -247,6 +259,7 @@ reads_table results small =
             table = it.0;
             lines = λ rest. complete-lines results rest small t;
             some_bytes = (table_tag-some_bytes, rows-some_bytes results entries);
+            plain = table_tag-plain;
             begins = table_tag-begins (flat_map (entry_lines results) entries);
             read = it.1;
             says = it.2;
@@ -259,6 +272,7 @@ reads_table results small =
             table = it.0;
             lines = λ rest. incomplete-lines results rest f;
             some_bytes = (incomplete-some_bytes (published_count results), tt);
+            plain = incomplete-plain (published_count results);
             begins = incomplete-begins (published_count results) [];
             read = it.1;
             says = it.2;
@@ -269,7 +283,7 @@ pub reads_below : (par : Option BoardPar) (line : List ℕ) (below : List (List 
 reads_below None line below table small begins read = begins ∙ ap (section_of Nothing) read
 reads_below (Some NoDealer) line below table small begins read = ap (section_of DealerUnknown) read
 reads_below (Some NoVulnerability) line below table small begins read = ap (section_of VulnerabilityUnknown) read
-reads_below (Some (Known score contracts)) line below table small begins read =
+reads_below (Some (Known dealer vulnerable score contracts)) line below table small begins read =
     let first = tag_text (codes "OptimumScore") (score_text score) in
     let second = tag_text (codes "ParContract") (contracts_text contracts.items) in
     score-begins (score_text score) (second ∷ line ∷ below)
@@ -281,7 +295,23 @@ par-some_bytes : (par : Option BoardPar) (more : List (List ℕ)) → AllByRecur
 par-some_bytes None more h = h
 par-some_bytes (Some NoDealer) more h = (refl, h)
 par-some_bytes (Some NoVulnerability) more h = (refl, h)
-par-some_bytes (Some (Known score contracts)) more h = (tag-some_bytes (codes "OptimumScore") (score_text score), (tag-some_bytes (codes "ParContract") (contracts_text contracts.items), h))
+par-some_bytes (Some (Known dealer vulnerable score contracts)) more h = (tag-some_bytes (codes "OptimumScore") (score_text score), (tag-some_bytes (codes "ParContract") (contracts_text contracts.items), h))
+
+-- the dealer in the first of these lines
+abbrev first_dealer : List (List ℕ) → Option (List ℕ)
+first_dealer [] = None
+first_dealer (line ∷ lines) = value_in (codes "Dealer") line
+
+-- a section begins with no dealer
+score-plain : (score : List ℕ) → NoQuote score → value_in (codes "Dealer") (tag_text (codes "OptimumScore") score) ≡ None
+unfolding tag_text
+score-plain score h = ap (value_of_tag (codes "Dealer")) (score_tag_of score h)
+
+par-plain : (par : Option BoardPar) (line : List ℕ) (below : List (List ℕ)) → IfSome par IsSmallPar → value_in (codes "Dealer") line ≡ None → first_dealer (par_bodies par ++ line ∷ below) ≡ None
+par-plain None line below small plain = plain
+par-plain (Some NoDealer) line below small plain = refl
+par-plain (Some NoVulnerability) line below small plain = refl
+par-plain (Some (Known dealer vulnerable score contracts)) line below small plain = score-plain (score_text score) (calm-no_quote (score_text score) (score-calm score small.0))
 
 record ReadsSection (printed : Printed) : Type 0 where
   line : List ℕ
@@ -289,17 +319,19 @@ record ReadsSection (printed : Printed) : Type 0 where
   section : Section
   lines : (rest : List ℕ) → lines_of (section_text line_feed printed ++ rest) ≡ line ∷ (below ++ lines_of rest)
   some_bytes : AllByRecursion (λ line. is_empty_line line ≡ false) (line ∷ below)
+  plain : value_in (codes "Dealer") line ≡ None
   read : section_in (line ∷ below) ≡ Some section
   says : SaysSection printed section
 
 -- the lines of par and of a table, of which at least one is there
-reads_lines : (printed : Printed) (section : Section) (lines : List (List ℕ)) (first : List ℕ) (more : List (List ℕ)) → lines ≡ first ∷ more → ((rest : List ℕ) → lines_of (section_text line_feed printed ++ rest) ≡ lines ++ lines_of rest) → AllByRecursion (λ line. is_empty_line line ≡ false) lines → section_in lines ≡ Some section → SaysSection printed section → ReadsSection printed
-reads_lines printed section lines first more is all some_bytes read says = record {
+reads_lines : (printed : Printed) (section : Section) (lines : List (List ℕ)) (first : List ℕ) (more : List (List ℕ)) → lines ≡ first ∷ more → ((rest : List ℕ) → lines_of (section_text line_feed printed ++ rest) ≡ lines ++ lines_of rest) → AllByRecursion (λ line. is_empty_line line ≡ false) lines → first_dealer lines ≡ None → section_in lines ≡ Some section → SaysSection printed section → ReadsSection printed
+reads_lines printed section lines first more is all some_bytes plain read says = record {
   line = first;
   below = more;
   section = section;
   lines = λ rest. all rest ∙ ap (λ (l : List (List ℕ)). l ++ lines_of rest) is;
   some_bytes = subst (λ (l : List (List ℕ)). AllByRecursion (λ line. is_empty_line line ≡ false) l) is some_bytes;
+  plain = subst (λ (l : List (List ℕ)). first_dealer l ≡ None) is plain;
   read = subst (λ (l : List (List ℕ)). section_in l ≡ Some section) is read;
   says = says;
 }
@@ -308,7 +340,7 @@ some_first : (par : Option BoardPar) (line : List ℕ) (below : List (List ℕ))
 some_first None line below = (line, below, refl)
 some_first (Some NoDealer) line below = (_, _, refl)
 some_first (Some NoVulnerability) line below = (_, _, refl)
-some_first (Some (Known score contracts)) line below = (_, _, refl)
+some_first (Some (Known dealer vulnerable score contracts)) line below = (_, _, refl)
 
 reads_section : (printed : Printed) → AreSmall printed.results → IfSome printed.par IsSmallPar → ReadsSection printed
 reads_section printed small pars =
@@ -319,8 +351,35 @@ reads_section printed small pars =
     λ rest. section-lines printed rest (par-idle printed.par pars)
     ∙ (ap (λ (l : List (List ℕ)). par_bodies printed.par ++ l) (t.lines rest) ∙ sym (append_assoc (par_bodies printed.par) (t.line ∷ t.below) (lines_of rest))) in
     reads_lines printed section (par_bodies printed.par ++ t.line ∷ t.below) some.0 some.1 some.2 lines (par-some_bytes printed.par (t.line ∷ t.below) t.some_bytes)
+    (par-plain printed.par t.line t.below pars t.plain)
     (reads_below printed.par t.line t.below t.table pars t.begins t.read)
     (record { par = refl; table = t.says })
+
+-- ---- what is below the Deal tag
+dealer-value : (dealer : Seat) → value_in (codes "Dealer") (tag_text (codes "Dealer") (seat_letter dealer)) ≡ Some (seat_letter dealer)
+unfolding tag_text
+dealer-value dealer = ap (value_of_tag (codes "Dealer")) (dealer_tag_of (seat_letter dealer) (calm-no_quote (seat_letter dealer) (seat_letter-calm dealer)))
+
+vulnerable-value : (sides : VulnerableSides) → value_in (codes "Vulnerable") (tag_text (codes "Vulnerable") (sides_shown sides)) ≡ Some (sides_shown sides)
+unfolding tag_text
+vulnerable-value sides = ap (value_of_tag (codes "Vulnerable")) (vulnerable_tag_of (sides_shown sides) (calm-no_quote (sides_shown sides) (sides-calm sides)))
+
+lower-read : (par : Option BoardPar) (line : List ℕ) (below : List (List ℕ)) (section : Section) → value_in (codes "Dealer") line ≡ None → section_in (line ∷ below) ≡ Some section → lower_in (condition_bodies par ++ line ∷ below) ≡ Some (record { conditions = conditions_said par; section = section })
+lower-read None line below section plain read = ap (λ (value : Option (List ℕ)). lower_of_dealer value (line ∷ below)) plain ∙ ap (lower_of Unsaid) read
+lower-read (Some NoDealer) line below section plain read = ap (λ (value : Option (List ℕ)). lower_of_dealer value (line ∷ below)) plain ∙ ap (lower_of Unsaid) read
+lower-read (Some NoVulnerability) line below section plain read = ap (λ (value : Option (List ℕ)). lower_of_dealer value (line ∷ below)) plain ∙ ap (lower_of Unsaid) read
+lower-read (Some (Known dealer vulnerable score contracts)) line below section plain read =
+    let first = tag_text (codes "Dealer") (seat_letter dealer) in
+    let second = tag_text (codes "Vulnerable") (sides_shown vulnerable) in
+    ap (λ (value : Option (List ℕ)). lower_of_dealer value (first ∷ second ∷ line ∷ below)) (dealer-value dealer)
+    ∙ (ap (λ (value : Option (List ℕ)). lower_of_values (seat_letter dealer) value (line ∷ below)) (vulnerable-value vulnerable)
+    ∙ ap (lower_of (Said (seat_letter dealer) (sides_shown vulnerable))) read)
+
+conditions-some_bytes : (par : Option BoardPar) (more : List (List ℕ)) → AllByRecursion (λ line. is_empty_line line ≡ false) more → AllByRecursion (λ line. is_empty_line line ≡ false) (condition_bodies par ++ more)
+conditions-some_bytes None more h = h
+conditions-some_bytes (Some NoDealer) more h = h
+conditions-some_bytes (Some NoVulnerability) more h = h
+conditions-some_bytes (Some (Known dealer vulnerable score contracts)) more h = (tag-some_bytes (codes "Dealer") (seat_letter dealer), (tag-some_bytes (codes "Vulnerable") (sides_shown vulnerable), h))
 
 cut_block : (line : List ℕ) (lines more : List (List ℕ)) → AllByRecursion (λ line. is_empty_line line ≡ false) (line ∷ lines) → blocks_of ((line ∷ lines) ++ [] ∷ more) ≡ (line ∷ lines) ∷ blocks_of more
 cut_block line lines more h = ap (filter has_lines) (slice_split_at is_empty_line (line ∷ lines) [] more (All-from_recursion _ (line ∷ lines) h) refl)
@@ -341,19 +400,21 @@ reads_board board printed printable readable small pars =
     let board_line = tag_text (codes "Board") name in
     let deal_line = tag_text (codes "Deal") value in
     let t = reads_section printed small pars in
-    let block : Block = record { name = name; deal = value; section = t.section } in
+    let shown = condition_bodies printed.par ++ t.line ∷ t.below in
+    let block : Block = record { name = name; deal = value; conditions = conditions_said printed.par; section = t.section } in
     let quoteless = no_quote name (recursion_from_All _ name printable.no_quote) in
-    let read_one : block_in (board_line ∷ deal_line ∷ t.line ∷ t.below) ≡ Some block = rw (board-value name quoteless, deal-value value readable.quoteless, t.read) refl in
+    let read_one : block_in (board_line ∷ deal_line ∷ shown) ≡ Some block = rw (board-value name quoteless, deal-value value readable.quoteless, lower-read printed.par t.line t.below t.section t.plain t.read) refl in
     record {
       block = block;
       read = λ rest blocks more.
-          let below : lines_of (section_text line_feed printed ++ 10 ∷ rest) ≡ t.line ∷ (t.below ++ [] ∷ lines_of rest) = t.lines (10 ∷ rest) ∙ ap (λ (lines : List (List ℕ)). t.line ∷ (t.below ++ lines)) (empty-line rest) in
-          let lines : lines_of (board_text board printed ++ rest) ≡ (board_line ∷ deal_line ∷ t.line ∷ t.below) ++ [] ∷ lines_of rest = board-lines board printed rest printable readable ∙ ap (λ (lines : List (List ℕ)). board_line ∷ deal_line ∷ lines) below in
-          let cut = cut_block board_line (deal_line ∷ t.line ∷ t.below) (lines_of rest) (tag-some_bytes (codes "Board") name, (tag-some_bytes (codes "Deal") value, t.some_bytes)) in
+          let below : lines_of (section_text line_feed printed ++ 10 ∷ rest) ≡ (t.line ∷ t.below) ++ [] ∷ lines_of rest = t.lines (10 ∷ rest) ∙ ap (λ (lines : List (List ℕ)). t.line ∷ (t.below ++ lines)) (empty-line rest) in
+          let lower : condition_bodies printed.par ++ lines_of (section_text line_feed printed ++ 10 ∷ rest) ≡ shown ++ [] ∷ lines_of rest = ap (λ (lines : List (List ℕ)). condition_bodies printed.par ++ lines) below ∙ sym (append_assoc (condition_bodies printed.par) (t.line ∷ t.below) ([] ∷ lines_of rest)) in
+          let lines : lines_of (board_text board printed ++ rest) ≡ (board_line ∷ deal_line ∷ shown) ++ [] ∷ lines_of rest = board-lines board printed rest printable readable ∙ ap (λ (lines : List (List ℕ)). board_line ∷ deal_line ∷ lines) lower in
+          let cut = cut_block board_line (deal_line ∷ shown) (lines_of rest) (tag-some_bytes (codes "Board") name, (tag-some_bytes (codes "Deal") value, conditions-some_bytes printed.par (t.line ∷ t.below) t.some_bytes)) in
           ap (λ (lines : List (List ℕ)). all_items (map block_in (blocks_of lines))) lines
           ∙ (ap (λ (parts : List (List (List ℕ))). all_items (map block_in parts)) cut
           ∙ rw (read_one, more) refl);
-      says = record { name = refl; deal = readable.says; section = t.says };
+      says = record { name = refl; deal = readable.says; conditions = refl; section = t.says };
     }
 
 -- ---- the page

@@ -8,10 +8,11 @@ use Rattle.cards.specs.declared.suits.Trump.{Trump}
 use Rattle.pbn_deals.specs.declared.boards.Board.{Board}
 use Rattle.pbn_deals.specs.Lines.{lines_of}
 use Rattle.pbn_deals.specs.Printable.{IsPrintable}
+use Rattle.tables.specs.ConditionTags.{condition_bodies, conditions_text}
 use Rattle.tables.specs.ParText.{tag_text, body_line, par_bodies}
 use Rattle.tables.specs.TablesText.{Results, Printed, section_text, line_feed, deal_value, row_text, result_row, entry_row, rows_text, entries, is_complete, published_count, table_tag, incomplete_text, table_text, board_text, numbered_text, tables_text}
 use Rattle.text_laws.proofs.LinesBack.{lines_of-line}
-use Rattle.text_laws.proofs.BoardsBack.{IsIdle, row-idle, line_more, table_tag-idle, incomplete-idle, published_count-le, section_text-is, feedless, tag-line, IsReadable, board_text-is, first_line, first_line-is}
+use Rattle.text_laws.proofs.BoardsBack.{IsIdle, row-idle, line_more, table_tag-idle, incomplete-idle, published_count-le, section_text-is, conditions-idle, feedless, tag-line, IsReadable, board_text-is, first_line, first_line-is}
 
 -- each known result is at most 13
 abbrev pub AreSmall : Results → Type 0
@@ -73,18 +74,21 @@ pub empty-line : (rest : List ℕ) → lines_of (10 ∷ rest) ≡ [] ∷ lines_o
 empty-line rest = lines_of-line [] rest (record { no_feed = All-from_recursion _ [] tt; no_return = refl })
 
 -- the lines of a block
-pub board-lines : (board : Board) (printed : Printed) (rest : List ℕ) → IsPrintable board → IsReadable board.deal → lines_of (board_text board printed ++ rest) ≡ tag_text (codes "Board") board.name ∷ tag_text (codes "Deal") (deal_value board.deal) ∷ lines_of (section_text line_feed printed ++ 10 ∷ rest)
+pub board-lines : (board : Board) (printed : Printed) (rest : List ℕ) → IsPrintable board → IsReadable board.deal → lines_of (board_text board printed ++ rest) ≡ tag_text (codes "Board") board.name ∷ tag_text (codes "Deal") (deal_value board.deal) ∷ (condition_bodies printed.par ++ lines_of (section_text line_feed printed ++ 10 ∷ rest))
+unfolding conditions_text
 board-lines board printed rest printable readable =
     let name = board.name in
     let value = deal_value board.deal in
     let board_line = tag_text (codes "Board") name in
     let deal_line = tag_text (codes "Deal") value in
-    let below = section_text line_feed printed ++ 10 ∷ rest in
+    let lower = section_text line_feed printed ++ 10 ∷ rest in
+    let below = conditions_text printed.par ++ lower in
     let feed = feedless name (recursion_from_All _ name printable.one_line) in
     ap lines_of (board_text-is board printed rest)
     ∙ (lines_of-line board_line (deal_line ++ 10 ∷ below) (tag-line (codes "Board") name (refl, (refl, (refl, (refl, (refl, tt))))) feed)
     ∙ ap (λ (lines : List (List ℕ)). board_line ∷ lines)
-    (lines_of-line deal_line below (tag-line (codes "Deal") value (refl, (refl, (refl, (refl, tt)))) readable.one_line)))
+    (lines_of-line deal_line below (tag-line (codes "Deal") value (refl, (refl, (refl, (refl, tt)))) readable.one_line)
+    ∙ ap (λ (lines : List (List ℕ)). deal_line ∷ lines) (bodies-lines (condition_bodies printed.par) lower (conditions-idle printed.par))))
 
 -- the lines of the page
 pub page-lines : (boards : List Board) (printed : ℕ → Printed) → lines_of (tables_text boards printed) ≡ codes "% PBN 2.1" ∷ lines_of (flat_map (numbered_text printed) (enumerate_from 0 boards))

@@ -128,7 +128,7 @@ module _ (old : Renews) (count : ℕ) where
 
   pars_add : (end : List ℕ) (par : Option BoardPar) (tags : Tags) → AddsLines tags (map (with_end end) (par_kinds par)) tags
   pars_add end None tags = adds_none
-  pars_add end (Some (Known score contracts)) tags = adds_line (adds_pair (λ number. other_tag refl refl) adds_nothing) (adds_line (adds_pair (λ number. other_tag refl refl) adds_nothing) adds_none)
+  pars_add end (Some (Known dealer vulnerable score contracts)) tags = adds_line (adds_pair (λ number. other_tag refl refl) adds_nothing) (adds_line (adds_pair (λ number. other_tag refl refl) adds_nothing) adds_none)
   pars_add end (Some NoDealer) tags = adds_line (adds_silent refl adds_nothing) adds_none
   pars_add end (Some NoVulnerability) tags = adds_line (adds_silent refl adds_nothing) adds_none
 

@@ -153,8 +153,8 @@ record IsParLine (body : List ℕ) (kind : Kind) : Type 0 where
 
 par_lines_are : (par : Option BoardPar) → IfSome par IsSmallPar → AllZip IsParLine (par_bodies par) (par_kinds par)
 par_lines_are None small = tt
-par_lines_are (Some (Known score contracts)) small =
-    let idle = par-idle (Some (Known score contracts)) small in
+par_lines_are (Some (Known dealer vulnerable score contracts)) small =
+    let idle = par-idle (Some (Known dealer vulnerable score contracts)) small in
     (record { read = score_line (score_text score) (score-calm score small.0); idle = idle.0 }, (record { read = contracts_line (contracts_text contracts.items) (contracts-calm contracts.items small.1); idle = idle.1.0 }, tt))
 par_lines_are (Some NoDealer) small = let idle = par-idle (Some NoDealer) small in (record { read = no_dealer_line; idle = idle.0 }, tt)
 par_lines_are (Some NoVulnerability) small = let idle = par-idle (Some NoVulnerability) small in (record { read = no_vulnerability_line; idle = idle.0 }, tt)

@@ -88,7 +88,7 @@ shown_table end results small = go (is_complete results) refl where
 -- the lines of a par
 par-lines : (end : List ℕ) (par : Option BoardPar) → bodies (map (with_end end) (par_kinds par)) ≡ par_bodies par
 par-lines end None = refl
-par-lines end (Some (Known score contracts)) =
+par-lines end (Some (Known dealer vulnerable score contracts)) =
     let one = tag_text (codes "OptimumScore") (score_text score) in
     let two = tag_text (codes "ParContract") (contracts_text contracts.items) in
     ap (λ (l : List ℕ). l ∷ (two ++ []) ∷ []) (append-nil one) ∙ ap (λ (l : List ℕ). one ∷ l ∷ []) (append-nil two)

@@ -1,11 +1,18 @@
--- Each text has one list of conditions and of titles, those of its boards.
-use Rattle.std.specs.Prelude.{◌≡◌, ℕ, List, map, length, Ok}
+-- Each text has one list of conditions and of titles, those of its boards. The text of the tables keeps the conditions
+-- of its pars.
+use Rattle.std.specs.Prelude.{◌≡◌, ℕ, List, map, length, Ok, All, Option, None, Some, ⊤}
+use Rattle.std.specs.List.{AllZip, enumerate_from}
 use Rattle.pbn_deals.specs.declared.boards.Board.{Board}
 use Rattle.pbn_deals.specs.Pieces.{Line, HasLines}
+use Rattle.pbn_deals.specs.Printable.{IsPrintable}
 use Rattle.pbn_deals.specs.Reading.{TextAnswers}
 use Rattle.board_conditions.specs.declared.conditions.Conditions.{Conditions}
 use Rattle.board_conditions.specs.Games.{name_in, conditions_of, board_games, HasConditions}
 use Rattle.board_conditions.specs.Titles.{TitleValues, titles_of, HasTitles, HasFirstTitles}
+use Rattle.tables.specs.declared.pars.BoardPar.{BoardPar}
+use Rattle.tables.specs.declared.pars.BoardPar.TheVariants.{Known, NoDealer, NoVulnerability}
+use Rattle.tables.specs.TablesText.{Printed, tables_text}
+use Rattle.text_laws.specs.ReadBack.{AreTricks}
 
 -- a text has one list of conditions
 pub record HasOneList (text : List ℕ) : Type 0 where
@@ -53,3 +60,23 @@ abbrev pub BoardsHaveTitles : Type 0
 BoardsHaveTitles =
     (text : List ℕ) (boards : List Board) (list : List TitleValues) →
     TextAnswers text (Ok boards) → HasTitles text list → AreTitlesOfBoards text boards list
+
+-- ---- what is printed
+-- the conditions are those from which the par was taken, if it is printed and known
+abbrev pub AreOfPar : Option BoardPar → Conditions → Type 0
+AreOfPar None conditions = ⊤
+AreOfPar (Some (Known dealer vulnerable score contracts)) conditions =
+    conditions ≡ record { dealer = Some dealer; vulnerable = Some vulnerable }
+AreOfPar (Some NoDealer) conditions = ⊤
+AreOfPar (Some NoVulnerability) conditions = ⊤
+
+-- the page, read as a text, has the conditions of each board's par
+abbrev pub KeepsConditions : (ℕ → Printed) → List Board → List ℕ → Type 0
+KeepsConditions printed boards page =
+    (list : List Conditions) → HasConditions page list →
+    AllZip (λ numbered conditions. AreOfPar (printed numbered.0).par conditions) (enumerate_from 0 boards) list
+
+abbrev pub PagesKeepConditions : Type 0
+PagesKeepConditions =
+    (boards : List Board) (printed : ℕ → Printed) →
+    All IsPrintable boards → AreTricks printed → KeepsConditions printed boards (tables_text boards printed)

@@ -157,19 +157,51 @@ section_in (line ∷ below) =
     then section_of VulnerabilityUnknown (table_of_lines below) else
     section_of_score (value_in (codes "OptimumScore") line) (line ∷ below))
 
--- ---- a block: the value of its Board tag, the value of its Deal tag, and its section
+-- ---- the conditions of par: nothing, or the values of the tags Dealer and Vulnerable
+pub data ConditionsSaid : Type 0 where
+  Unsaid : ConditionsSaid
+  Said : List ℕ → List ℕ → ConditionsSaid
+
+-- what is below a Deal tag
+pub record Lower : Type 0 where
+  pub conditions : ConditionsSaid
+  pub section : Section
+
+abbrev pub lower_of : ConditionsSaid → Option Section → Option Lower
+lower_of conditions None = None
+lower_of conditions (Some section) = Some (record { conditions = conditions; section = section })
+
+-- the second value, and the section below it
+abbrev pub lower_of_values : List ℕ → Option (List ℕ) → List (List ℕ) → Option Lower
+lower_of_values dealer None below = None
+lower_of_values dealer (Some vulnerable) below = lower_of (Said dealer vulnerable) (section_in below)
+
+-- a first line with a dealer, and one that begins the section
+abbrev pub lower_of_dealer : Option (List ℕ) → List (List ℕ) → Option Lower
+lower_of_dealer None lines = lower_of Unsaid (section_in lines)
+lower_of_dealer (Some dealer) (line ∷ vulnerable ∷ below) =
+    lower_of_values dealer (value_in (codes "Vulnerable") vulnerable) below
+lower_of_dealer (Some dealer) _ = None
+
+abbrev pub lower_in : List (List ℕ) → Option Lower
+lower_in [] = None
+lower_in (line ∷ below) = lower_of_dealer (value_in (codes "Dealer") line) (line ∷ below)
+
+-- ---- a block: the value of its Board tag, the value of its Deal tag, the conditions of its par, and its section
 pub record Block : Type 0 where
   pub name : List ℕ
   pub deal : List ℕ
+  pub conditions : ConditionsSaid
   pub section : Section
 
-abbrev pub block_of : Option (List ℕ) → Option (List ℕ) → Option Section → Option Block
-block_of (Some name) (Some deal) (Some section) = Some (record { name = name; deal = deal; section = section })
+abbrev pub block_of : Option (List ℕ) → Option (List ℕ) → Option Lower → Option Block
+block_of (Some name) (Some deal) (Some lower) =
+    Some (record { name = name; deal = deal; conditions = lower.conditions; section = lower.section })
 block_of _ _ _ = None
 
 abbrev pub block_in : List (List ℕ) → Option Block
 block_in (board ∷ deal ∷ below) =
-    block_of (value_in (codes "Board") board) (value_in (codes "Deal") deal) (section_in below)
+    block_of (value_in (codes "Board") board) (value_in (codes "Deal") deal) (lower_in below)
 block_in _ = None
 
 -- the blocks: the parts between empty lines that have a line

@@ -7,7 +7,8 @@ mod texts;
 mod written;
 
 pub use conditions::{
-    boards_have_conditions, boards_have_titles, conditions_are_unique, titles_are_unique,
+    boards_have_conditions, boards_have_titles, conditions_are_unique, pages_keep_conditions,
+    titles_are_unique,
 };
 pub use table_texts::{
     boards_are_read_back, pages_say_one_thing, said_boards_are_read_back, table_texts_are_read,

@@ -3,7 +3,6 @@ use Rattle.std.specs.Prelude.{◌≡◌, ℕ, false, List, Option, None, Some, I
 use Rattle.std.specs.List.{AllZip, enumerate_from}
 use Rattle.cards.specs.declared.seats.Seat.{Seat}
 use Rattle.cards.specs.declared.suits.Trump.{Trump}
-use Rattle.par.specs.declared.vulnerable_sides.VulnerableSides.{VulnerableSides}
 use Rattle.par.specs.Par.{IsPar}
 use Rattle.par.specs.ParContracts.{AreParContracts}
 use Rattle.board_conditions.specs.declared.conditions.Conditions.{Conditions}
@@ -16,9 +15,8 @@ use Rattle.tournaments.specs.Pages.{Pars, AreSmallPars}
 
 -- par and the par contracts under these conditions; or the dealer isn't known, or if it is, the vulnerability
 abbrev pub IsParUnder : (Seat → Trump → ℕ) → Conditions → BoardPar → Type 0
-IsParUnder tricks conditions (Known score contracts) =
-    (dealer : Seat) × (vulnerable : VulnerableSides)
-    × (conditions.dealer ≡ Some dealer) × (conditions.vulnerable ≡ Some vulnerable)
+IsParUnder tricks conditions (Known dealer vulnerable score contracts) =
+    (conditions.dealer ≡ Some dealer) × (conditions.vulnerable ≡ Some vulnerable)
     × IsPar tricks dealer vulnerable score × AreParContracts tricks vulnerable score contracts.items
 IsParUnder tricks conditions NoDealer = conditions.dealer ≡ None
 IsParUnder tricks conditions NoVulnerability = IsSome conditions.dealer × (conditions.vulnerable ≡ None)

@@ -74,6 +74,8 @@ fn par_under(tricks: &Tricks, conditions: Conditions) -> BoardPar
     };
     let score = par_of(tricks, dealer, vulnerable);
     BoardPar::Known {
+        dealer,
+        vulnerable,
         score,
         contracts: par_contracts(tricks, vulnerable, score),
     }

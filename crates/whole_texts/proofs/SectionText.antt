@@ -39,7 +39,7 @@ table-text end results = go (is_complete results) where
 -- the lines of a par
 par-text : (end : List ℕ) (par : Option BoardPar) → flat_map line_bytes (map (with_end end) (par_kinds par)) ≡ flat_map (body_line end) (par_bodies par)
 par-text end None = refl
-par-text end (Some (Known score contracts)) =
+par-text end (Some (Known dealer vulnerable score contracts)) =
     let one = tag_text (codes "OptimumScore") (score_text score) in
     let two = tag_text (codes "ParContract") (contracts_text contracts.items) in
     ap (λ (t : List ℕ). (t ++ end) ++ (((two ++ []) ++ end) ++ [])) (append-nil one) ∙ ap (λ (t : List ℕ). (one ++ end) ++ ((t ++ end) ++ [])) (append-nil two)

@@ -73,7 +73,7 @@ par_pair name value = OfGame (Pair name value (tag_text name value) ∷ [])
 -- the lines of a par that is printed, without their ends
 abbrev pub par_kinds : Option BoardPar → List Kind
 par_kinds None = []
-par_kinds (Some (Known score contracts)) =
+par_kinds (Some (Known dealer vulnerable score contracts)) =
     par_pair (codes "OptimumScore") (score_text score)
     ∷ par_pair (codes "ParContract") (contracts_text contracts.items) ∷ []
 par_kinds (Some NoDealer) = OfGame (Comment (codes "; par unknown: no dealer") ∷ []) ∷ []

@@ -19,7 +19,7 @@ returns-in_err-write_score_line-in-Known g c =
     let small = rw c.in-Known.is at (rw c.in-Some.is at c.requires) in
     let kept = to_z-of_z w32 score (fits_signed_from_abs w32 score (omega (arith, small.0))) in
     let begun = subst (λ (s : ℤ). AddsBeginning (g.S.Sink.state c.args.sink.now) (g.S.Sink.state c.write_score_line.new.sink) (body_line end (tag_text (codes "OptimumScore") (score_text s)))) kept c.in_err-write_score_line-in-Known.ensures in
-    rw (c.in-Some.is, c.in-Known.is, par_text-is end (Some (Known score contracts)))
+    rw (c.in-Some.is, c.in-Known.is, par_text-is end (Some (Known c.in-Known.dealer c.in-Known.vulnerable score contracts)))
     (Writes-err c.from_residual.result _ c.from_residual.ensures.1 (AddsBeginning-stop (body_line end (tag_text (codes "ParContract") (contracts_text contracts.items))) begun))
 
 pub returns-in_ok-write_score_line-in-Known : goal.returns-in_ok-write_score_line-in-Known
@@ -30,7 +30,7 @@ returns-in_ok-write_score_line-in-Known g c =
     let small = rw c.in-Known.is at (rw c.in-Some.is at c.requires) in
     let kept = to_z-of_z w32 score (fits_signed_from_abs w32 score (omega (arith, small.0))) in
     let added = subst (λ (s : ℤ). Adds (g.S.Sink.state c.args.sink.now) (g.S.Sink.state c.write_score_line.new.sink) (body_line end (tag_text (codes "OptimumScore") (score_text s)))) kept c.in_ok-write_score_line-in-Known.ensures in
-    rw (c.in-Some.is, c.in-Known.is, par_text-is end (Some (Known score contracts)))
+    rw (c.in-Some.is, c.in-Known.is, par_text-is end (Some (Known c.in-Known.dealer c.in-Known.vulnerable score contracts)))
     (Writes-then c.write_contracts_line.result _ _ added (rw c.as_slice.ensures.value at c.write_contracts_line.ensures))
 
 pub returns-in-NoDealer : goal.returns-in-NoDealer

@@ -1,8 +1,8 @@
-use Rattle.std.proofs.Common.{◌≡◌, [], codes, Option, unwrap_or, sym, ◌∙◌, ap}
+use Rattle.std.proofs.Common.{◌≡◌, [], Option, unwrap_or, sym, ◌∙◌, ap}
 use Rattle.std.specs.Option.{option_copied}
 use Rattle.cards.specs.declared.seats.Seat.{Seat}
 use Rattle.par.specs.declared.vulnerable_sides.VulnerableSides.{VulnerableSides}
-use Rattle.board_conditions.specs.Games.{value_in, name_in, settled}
+use Rattle.board_conditions.specs.Games.{dealer_in, name_in, settled, vulnerability_in}
 use Rattle.board_conditions.specs.Numbers.{number_of, dealers, vulnerabilities, in_cycle, in_turn}
 use Rattle.board_conditions.specs.Words.{dealer_said, vulnerability_said}
 use Rattle.board_conditions.specs.declared.conditions.Conditions.{Conditions}
@@ -22,6 +22,6 @@ returns c = λ game is_open h.
       | in-Some w ↦ w.number-is ∙ (w.number_of-number.ensures.number ∙ ap (λ o. in_cycle (number_of (unwrap_or o []))) (sym (ap option_copied w.in-Some.is) ∙ h.board))
       | in-None w ↦ w.number-is ∙ ap (λ o. in_cycle (number_of (unwrap_or o []))) (sym (ap option_copied w.in-None.is) ∙ h.board)
     ] in
-    let dealer = c.settled_dealer.ensures ∙ (ap (λ o. settled dealer_said o (in_turn dealers number)) h.dealer ∙ ap (settled dealer_said (value_in game (codes "DEALER"))) (dealer_of number some is)) in
-    let vulnerable = c.settled_vulnerability.ensures ∙ (ap (λ o. settled vulnerability_said o (in_turn vulnerabilities number)) h.vulnerable ∙ ap (settled vulnerability_said (value_in game (codes "VULNERABLE"))) (vulnerability_of number some is)) in
-    ap (λ d. made d c.settled_vulnerability.result) dealer ∙ ap (made (settled dealer_said (value_in game (codes "DEALER")) (in_turn dealers some))) vulnerable
+    let dealer = c.settled_dealer.ensures ∙ (ap (λ o. settled dealer_said o (in_turn dealers number)) h.dealer ∙ ap (settled dealer_said (dealer_in game)) (dealer_of number some is)) in
+    let vulnerable = c.settled_vulnerability.ensures ∙ (ap (λ o. settled vulnerability_said o (in_turn vulnerabilities number)) h.vulnerable ∙ ap (settled vulnerability_said (vulnerability_in game)) (vulnerability_of number some is)) in
+    ap (λ d. made d c.settled_vulnerability.result) dealer ∙ ap (made (settled dealer_said (dealer_in game) (in_turn dealers some))) vulnerable
