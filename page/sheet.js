@@ -82,10 +82,10 @@ function isCompass(compass) {
 
 /** The cards of a hand's list, or null. */
 function readHand(list, seat) {
-    const [name, ...items] = isElement(list, "ul") ? elementsOf(list) : [];
+    const [letter, ...items] = isElement(list, "ul") ? elementsOf(list) : [];
     const points = items.pop();
     const suits = items.map(readSuit);
-    const isHand = isElement(name, "li", "read") && textOf(name) === SEAT_NAMES[seat] && suits.length === 4 &&
+    const isHand = isElement(letter, "li", "seat") && textOf(letter) === SEATS[seat] && suits.length === 4 &&
         !suits.includes(null) && isElement(points, "li", "points") && /^[0-9]{1,2}$/.test(textOf(points));
     return isHand ? suits.join(".") : null;
 }
@@ -120,8 +120,8 @@ function isHead(cell) {
 }
 
 /**
- * The tricks of a cell, which is exactly a level, or no text, and one `small`, which has the tricks if there is no
- * level; null if it is not. A mark of this page may come after it.
+ * The tricks of a cell, which is exactly a level, or no text, and one `small`, which has the tricks in parentheses if
+ * there is no level; null if it is not. A mark of this page may come after it.
  */
 function tricksOf(cell) {
     const parts = [...cell.childNodes].filter(part => !marks.has(part));
@@ -132,10 +132,9 @@ function tricksOf(cell) {
         return null;
     }
     const [before, after] = [level?.data ?? "", textOf(small)];
-    if (!/^[0-9]{1,2}$/.test(before + after) || (before !== "" && after !== "")) {
-        return null;
-    }
-    return before === "" ? Number(after) : Number(before) + BOOK;
+    const isTricks = before === "" && /^\([0-9]{1,2}\)$/.test(after);
+    const isLevel = after === "" && /^[0-9]$/.test(before);
+    return isTricks ? Number(after.slice(1, -1)) : isLevel ? Number(before) + BOOK : null;
 }
 
 /** Takes the marks of an article away. */

@@ -14,4 +14,7 @@ BEGIN { RS = "<"; split("C D H S NT", trump, " ") }
 /^\/footer>/ { in_foot = 0 }
 /^th scope="row">/ { declarer = text; column = 0 }
 /^td>/ { level = text; column++ }
-/^small>/ { printf "%d\t%s\t%s\t%s\t%d\n", place, deal, trump[column], declarer, text == "" ? level + 6 : text }
+/^small>/ {
+    gsub(/[()]/, "", text)
+    printf "%d\t%s\t%s\t%s\t%d\n", place, deal, trump[column], declarer, text == "" ? level + 6 : text
+}

@@ -161,7 +161,7 @@ async function lookAtExchange() {
 /** The page is changed instead of the evidence. A check is about what stands in the page. */
 async function lookAtPage() {
     await withPage(() => {}, async page => {
-        await page.value(`${OFFERS}[0].querySelector('td').innerHTML = '<small>13</small>'`);
+        await page.value(`${OFFERS}[0].querySelector('td').innerHTML = '<small>(13)</small>'`);
         // North and East exchange their hands, which makes another deal.
         await page.value(`[1, 2, 3, 4].forEach(suit => (([north, east]) =>
             [north.innerHTML, east.innerHTML] = [east.innerHTML, north.innerHTML])(

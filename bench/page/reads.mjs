@@ -7,7 +7,7 @@ import { gunzipSync, gzipSync } from "node:zlib";
 import { Reader, threadOf, until } from "./reader.mjs";
 
 const HINT = " numbers proved here, on your device. Press a ✓ to see the play. Par is not checked here.";
-const CELL = /<td>([0-9]*)<small>([0-9]*)<\/small>/;
+const CELL = /<td>([0-9]*)<small>((?:\([0-9]+\))?)<\/small>/;
 const [folder, ...names] = process.argv.slice(2);
 let passed = 0, failed = 0;
 
@@ -47,7 +47,7 @@ async function readAll() {
 
 /** Changes of the first table or deal, which a reader would see otherwise than as a sheet has it. */
 const FORMS = [
-    ["table", CELL, "<td><b>5</b><small hidden>9</small>"],
+    ["table", CELL, "<td><b>5</b><small hidden>(9)</small>"],
     ["table", CELL, "<td>3<b>9</b><small></small>"],
     ["table", CELL, "<td><b>5</b>$1<small>$2</small>"],
     ["table", CELL, "<td><b>5</b>3<small></small>"],
@@ -56,6 +56,9 @@ const FORMS = [
     ["table", CELL, "<td>$1<small><b>$2</b></small>"],
     ["table", CELL, "<td>$1<small>$2</small>9"],
     ["table", CELL, "<td>1<small>$2$1</small>"],
+    ["table", CELL, "<td><small>5</small>"],
+    ["table", CELL, "<td><small>(5</small>"],
+    ["table", CELL, "<td>(5)<small></small>"],
     ["table", CELL, "<td>$1<small>$2</small><span class=\"mark\">9</span>"],
     ["table", /<th scope="col">&clubs;/, "<th scope=\"col\" hidden>&clubs;"],
     ["table", /<th scope="row">N/, "<th scope=\"row\" class=\"read\">N"],
@@ -100,7 +103,7 @@ async function readForms() {
 /** The page says a number that the evidence does not. */
 async function readNumber() {
     const change = text => text.replace(CELL, (cell, level, tricks) =>
-        cell.replace(level + "<small>" + tricks, level === "" ? `<small>${Number(tricks) + 1}` :
+        cell.replace(level + "<small>" + tricks, level === "" ? `<small>(${Number(tricks.slice(1, -1)) + 1})` :
             `${Number(level) % 7 + 1}<small>`));
     await withReader(async (reader, board) => {
         await board.check();
@@ -128,7 +131,7 @@ async function readMeanwhile() {
 }
 
 function changeNumber({ cells: [cell] }) {
-    cell.innerHTML = `<small>${(tricksIn(cell) + 1) % 14}</small>`;
+    cell.innerHTML = `<small>(${(tricksIn(cell) + 1) % 14})</small>`;
 }
 
 /** North and East exchange their hands. */
@@ -143,7 +146,7 @@ function changeDeal({ article }) {
 /** The tricks that a cell names. */
 function tricksIn(cell) {
     const [level, tricks] = [cell.textContent, cell.querySelector("small").textContent];
-    return tricks === "" ? Number(level) + 6 : Number(tricks);
+    return tricks === "" ? Number(level) + 6 : Number(tricks.slice(1, -1));
 }
 
 /** The most bytes of a file, packed or not. */

@@ -33,25 +33,26 @@ DEALERS = "NESW"
 SIDES = ["None", "NS", "EW", "All"]
 # An Event, Section, Site or Date with such a value isn't known.
 UNKNOWN = b"", b"?", b"#"
-# Texts by what each board says (` / ` is between boards), the head's event, its site and date, and the headings.
+# Texts by what each board says (` / ` is between boards), the head's event, its site and date, and the headings. A
+# heading has an event only if it isn't that of the boards before, or for the first boards that of the head.
 TITLES = [
     # An event that isn't said or isn't known is that of the board before, and so is then the section.
     ("Event=Club / / Event=Club", "Club", " ", []),
-    ("Event=Club Section=A / / Event=Club Section=B", "Club", " ", ["Club A", "Club B"]),
-    ("Event=Club Section=A / Event=# / Event=? Section=A / Event= Section=B", "Club", " ", ["Club A", "Club B"]),
-    ("Event=Club Section=A / Event=Club / Section=A", "Club", " ", ["Club A"]),
+    ("Event=Club Section=A / / Event=Club Section=B", "Club", " ", [" A", " B"]),
+    ("Event=Club Section=A / Event=# / Event=? Section=A / Event= Section=B", "Club", " ", [" A", " B"]),
+    ("Event=Club Section=A / Event=Club / Section=A", "Club", " ", [" A"]),
     # A section that isn't known begins nothing.
     ("Section=A / Section=# / Section=? / Section= / Section=A / Section=B", "", " ", [" A", " B"]),
     ("Event=Club Section=?", "Club", " ", []),
     # Another event begins without a section.
-    ("Event=Club Section=A / Event=Final / Section=A", "Club", " ", ["Club A", "Final ", "Final A"]),
-    ("Event=Club Section=A / Event=Final Section=# / Event=Club", "Club", " ", ["Club A", "Final ", "Club "]),
-    ("Event=Club Section=A / Event=Final Section=A", "Club", " ", ["Club A", "Final A"]),
+    ("Event=Club Section=A / Event=Final / Section=A", "Club", " ", [" A", "Final ", " A"]),
+    ("Event=Club Section=A / Event=Final Section=# / Event=Club", "Club", " ", [" A", "Final ", "Club "]),
+    ("Event=Club Section=A / Event=Final Section=A", "Club", " ", [" A", "Final A"]),
     # The first value that is known counts, in a board and in the head.
-    ("Event=Club Section=? Section=A / Event=# Event=Final Event=Other", "Club", " ", ["Club A", "Final "]),
+    ("Event=Club Section=? Section=A / Event=# Event=Final Event=Other", "Club", " ", [" A", "Final "]),
     ("/ Event=Club", "Club", " ", []),
     ("Event=? / Event=Club", "Club", " ", []),
-    ("Event=# / Event= / Event=Club Section=A / Event=Final", "Club", " ", ["Club A", "Final "]),
+    ("Event=# / Event= / Event=Club Section=A / Event=Final", "Club", " ", [" A", "Final "]),
     ("Site=Hall Date=2026 / Site=Inn Date=2027", "", "Hall 2026", []),
     ("Site=? Date= / Site=Hall Date=# / Site=Inn Date=2026", "", "Hall 2026", []),
 ]
@@ -157,7 +158,8 @@ def wrong_boards(program, values):
     """What is wrong with the page whose boards have the values."""
     titles = titles_of(values)
     plain = sheet(program, games_text(titles_of([b"%d" % place for place in range(len(values))])))
-    headings = [f"{shown(event)} {shown(section)}" for event, section, _ in titles]
+    # The first event is that of the head, and each other is new.
+    headings = [f"{shown(event) if place else ''} {shown(section)}" for place, (event, section, _) in enumerate(titles)]
     wanted = wanted_head(shown(titles[0][0]), " "), headings, [shown(name) for _, _, name in titles]
     page = sheet(program, games_text(titles))
     return wrong(page, plain, wanted) + wrong_deals(page)

@@ -5,8 +5,8 @@
 # - A sheet read by its elements (reading.py) has to show the tables and pars of `table --par`. So does the tree that
 #   Chromium makes of it (`--dump-dom`).
 # - Each page of A4 and of Letter has to have its number of boards: 36 boards take four pages, and one more if sections
-#   begin within a row. No board may be cut, and no word may be beyond its page. The hands of club.pbn's first board
-#   have to be round its compass (places.py).
+#   begin within a row. No board may be cut, and no word may be beyond its page. Each page has to have the key.
+# - Hands, marks and numbers have to be in their places and be seen, on screens and as for print (places.py).
 set -euo pipefail
 program="$(realpath "$1")"
 kept="$(realpath "${2:-.}")"
@@ -36,13 +36,14 @@ look_at_pages() {
     [[ "$(echo $begun)" == "$boards" ]] || fail "$pdf has" $begun "boards on its pages, not $boards"
     [[ "$(counts_of "$pdf" '\<Par\>')" == "$begun" ]] || fail "$pdf: a page has a part of a board"
     [[ "$(counts_of "$pdf" ♠)" == "$(awk '{ print 5 * $1 }' <<<"$begun")" ]] || fail "$pdf: a page has a part of a hand"
+    [[ "$(counts_of "$pdf" 'Double-dummy results' | sort -u)" == 1 ]] || fail "$pdf: a page has no key"
     bench/sheet/places.py "$pdf" || fail "$pdf: words are in other places"
 }
 
 # Chromium prints on Letter if the page doesn't name its size. The policy refuses a style with another size.
 print_sheet() {
     browse --no-pdf-header-footer --print-to-pdf="$1-letter.pdf" "file://$1.html"
-    sed '/Content-Security-Policy/d; s/@page {/@page { size: A4;/' "$1.html" >"$1-a4.html"
+    sed '/Content-Security-Policy/,/>$/d; s/@page {/@page { size: A4;/' "$1.html" >"$1-a4.html"
     browse --no-pdf-header-footer --print-to-pdf="$1-a4.pdf" "file://$1-a4.html"
     rm "$1-a4.html"
     pdftoppm -r 75 -png "$1-letter.pdf" "$1-letter"
@@ -58,6 +59,7 @@ look() {
     bench/sheet/reading.py --par "$sheet.html" | cmp - "$sheet-pars.pbn" || fail "$sheet.html has other numbers"
     browse --dump-dom "file://$sheet.html" | bench/sheet/reading.py --par --any - | cmp - "$sheet-pars.pbn" ||
         fail "Chromium shows other numbers of $sheet.html"
+    bench/sheet/places.py "$sheet.html" || fail "$sheet.html is laid out otherwise"
     ! command -v tidy >/dev/null || tidy -q -e --drop-empty-elements no "$sheet.html" || fail "$sheet.html has faults"
     print_sheet "$sheet"
     for size in a4 letter; do
@@ -78,9 +80,6 @@ cp bench/sheet/long.pbn "$room/long.pbn"
 bench/sheet/boards.py 36 1 19 >"$room/random.pbn"
 bench/sheet/boards.py 36 1 11 19 >"$room/sections.pbn"
 look "$room/club" 5
-for pdf in "$room"/club-*.pdf; do
-    bench/sheet/places.py "$pdf" "$room/club.html" || fail "$pdf: hands are in other places"
-done
 look "$room/long" 2
 look "$room/random" "9 9 9 9"
 cp "$room/random.dde" "$room/sections.dde"

@@ -17,18 +17,18 @@ from pathlib import Path
 
 # The start tags of a sheet. The policy's has the hash of the style.
 POLICY = ("<meta http-equiv=\"Content-Security-Policy\" "
-          "content=\"default-src 'none'; style-src 'sha256-{}'; base-uri 'none'; form-action 'none'\">")
+          "content=\"default-src 'none';\n  style-src 'sha256-{}'; base-uri 'none'; form-action 'none'\">")
 TAGS = {'<html lang="en">', "<head>", '<meta charset="utf-8">',
         '<meta name="viewport" content="width=device-width, initial-scale=1">', "<title>", "<style>", "<body>",
         "<header>", "<h1>", "<bdi>", "<p>", '<p class="key">', "<main>", "<h2>", "<article>", '<div class="facts">',
         "<b>", '<div class="deal">', '<div class="compass" aria-hidden="true">', "<span>", '<span class="deals">',
-        '<span class="exposed">', '<span class="deals exposed">', "<ul>", '<li class="read">', "<li>",
+        '<span class="exposed">', '<span class="deals exposed">', "<ul>", '<li class="seat">', "<li>",
         '<b class="red">', '<li class="points">', "<footer>", "<table>", "<tr>", '<th scope="col">',
         '<span class="read">', '<th scope="col" class="red">', '<th scope="row">', "<td>", "<small>", "<br>"}
 EMPTY = {"meta", "br"}
 REFERENCES = {"amp": "&", "lt": "<", "gt": ">", "spades": "♠", "hearts": "♥", "diams": "♦", "clubs": "♣"}
 COLUMNS = {"♣": "C", "♦": "D", "♥": "H", "♠": "S", "NT": "NT"}
-SEATS = ["North", "East", "South", "West"]
+SEATS = list("NESW")
 # The seats as a compass has them, and those that are vulnerable, by what the facts say.
 COMPASS = "NWES"
 EXPOSED = {"None": "", "NS": "NS", "EW": "EW", "All": "NESW"}
@@ -110,11 +110,17 @@ def read(page):
     return reader
 
 
-def faults_of(reader):
-    """What is wrong with the form of a page that was read."""
-    style = "".join(reader.top.texts("style"))
-    policy = POLICY.format(base64.b64encode(hashlib.sha256(style.encode()).digest()).decode())
-    unknown = {tag for tag in reader.tags if not tag.startswith("</") and tag not in TAGS and tag != policy}
+def hash_of(style):
+    return base64.b64encode(hashlib.sha256(style.encode()).digest()).decode()
+
+
+def faults_of(reader, tags=frozenset(TAGS), policy=POLICY):
+    """What is wrong with the form of a page that was read. It may have these tags, and has the hashes of its styles."""
+    styles = reader.top.texts("style")
+    if len(styles) != policy.count("{}"):
+        return [f"the page has {len(styles)} styles"]
+    policy = policy.format(*map(hash_of, styles))
+    unknown = {tag for tag in reader.tags if not tag.startswith("</") and tag not in tags and tag != policy}
     faults = reader.faults + [f"another tag than those of a sheet: {tag}" for tag in sorted(unknown)]
     if reader.tags.count(policy) != 1:
         faults.append(f"the policy has to be {policy}")
@@ -133,12 +139,12 @@ def results_of(table):
 
 
 def tricks_of(cell):
-    """The tricks of a cell: the number in its small, or else 6 more than the level before it."""
+    """The tricks of a cell: the number in its small, in parentheses, or else 6 more than the level before it."""
     level = "".join(part for part in cell.parts if isinstance(part, str))
     (small,) = cell.texts("small")
-    if bool(level) == bool(small):
+    if bool(level) == bool(small) or small and small != f"({small[1:-1]})":
         raise ValueError(f"a cell with {level!r} and {small!r}")
-    return int(small) if small else int(level) + 6
+    return int(small[1:-1]) if small else int(level) + 6
 
 
 def par_of(element):
@@ -214,7 +220,9 @@ def board_lines(board, with_par):
     if with_par and board.results and isinstance(board.par, str):
         lines.append(f"; par unknown: no {board.par}")
     elif with_par and board.results:
-        lines += ['[OptimumScore "%s"]' % board.par[0], '[ParContract "%s"]' % board.par[1]]
+        known = dict(fact.split(" ") for fact in board.facts)
+        lines += ['[Dealer "%s"]' % known["Dealer"], '[Vulnerable "%s"]' % known["Vul"],
+                  '[OptimumScore "%s"]' % board.par[0], '[ParContract "%s"]' % board.par[1]]
     if board.results:
         lines.append(r'[OptimumResultTable "Declarer;Denomination\2R;Result\2R"]')
         lines += [f"{declarer} {denomination:>2} {board.results[declarer, denomination]:>2}"

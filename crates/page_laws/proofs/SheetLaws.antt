@@ -33,8 +33,8 @@ module _ (all : List Board) (events : List Event) (pars : Pars) (values : AreVal
           true_table all events place board section.table values here same.table
 
       dealt : (deal : Option Deal) → SaysDeal deal (conditions_at shown place) (shown.printed place) block → IsTrueSection board block.section
-      dealt None said = subst (IsTrueSection board) (sym said.2) tt
-      dealt (Some deal) said = printed block.section said.2
+      dealt None said = subst (IsTrueSection board) (sym said.numbers) tt
+      dealt (Some deal) said = printed block.section said.numbers
 
   true_sections : (place : ℕ) (boards : List Board) (blocks : List Block) → StandAt all place boards → SayBoards shown place boards blocks
       → AllZip (λ board block. IsTrueSection board block.section) boards blocks
@@ -51,7 +51,7 @@ sheet_pages_are_read text terms events pars shown says history small shows =
     let boards = terms.boards in
     let printable = (boards_are_printable text boards says).0 in
     let tricks = are_tricks boards events pars printable history.values small in
-    let (sheet, read, title, said) = sheets_are_read shown (subst AreTricks (sym shows.printed_is) tricks) in
+    let (sheet, read, head, said) = sheets_are_read shown (subst AreTricks (sym shows.printed_is) tricks) in
     let stand : StandAt boards 0 shown.boards = λ i. let e : 0 + i ≡ i = omega arith in
     ap (deal_of boards) e ∙ ap (λ (l : List Board). deal_of l i) (sym shows.boards_are) in
     record {
@@ -60,7 +60,7 @@ sheet_pages_are_read text terms events pars shown says history small shows =
       is = refl;
       sheet = sheet;
       read = read;
-      title = title;
+      head = head;
       boards_said = said;
       values =
           subst (λ (l : List Board). AllZip (λ board block. IsTrueSection board block.section) l sheet.blocks) shows.boards_are

@@ -29,6 +29,7 @@ use Rattle.text_laws.specs.ReadBack.{AreTricks}
 use Rattle.text_laws.specs.PageReading.{Row, Table, Rows, Incomplete, Block}
 use Rattle.text_laws.specs.WrittenOnce.{is_same_denomination, is_row_of, numbers_in, SaysResults, SayBoards}
 use Rattle.text_laws.proofs.PageBack.{table_texts_are_read}
+use Rattle.text_laws.proofs.PageConditions.{pages_keep_conditions}
 use Rattle.tournaments.specs.Pages.{Pars, AreSmallPars}
 use Rattle.page_laws.specs.TablesPages.{IsTrueRow, IsTrueTable, TablesPagesAreRead}
 
@@ -136,10 +137,13 @@ pub tables_pages_are_read : TablesPagesAreRead
 tables_pages_are_read text terms events pars says history small =
     let boards = terms.boards in
     let printable = (boards_are_printable text boards says).0 in
-    let page = table_texts_are_read boards (printed_with pars (book_results boards events)) printable (are_tricks boards events pars printable history.values small) in
+    let printed = printed_with pars (book_results boards events) in
+    let tricks = are_tricks boards events pars printable history.values small in
+    let page = table_texts_are_read boards printed printable tricks in
     record {
       blocks = page.0;
       read = page.1;
       boards_said = page.2;
+      conditions = pages_keep_conditions boards printed printable tricks;
       values = true_tables boards events pars history.values 0 boards page.0 (λ i. let e : 0 + i ≡ i = omega arith in ap (deal_of boards) e) page.2;
     }

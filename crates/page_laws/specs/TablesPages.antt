@@ -11,6 +11,7 @@ use Rattle.lease_book.specs.Histories.{Terms}
 use Rattle.lease_book.specs.TrueHistories.{IsTrueHistory}
 use Rattle.tournaments.specs.BookResults.{book_results}
 use Rattle.tables.specs.TablesText.{printed_with}
+use Rattle.text_laws.specs.ConditionLaws.{KeepsConditions}
 use Rattle.text_laws.specs.PageReading.{Row, Table, Rows, Incomplete, Block, page_in}
 use Rattle.text_laws.specs.WrittenOnce.{SayBoards}
 use Rattle.tournaments.specs.Pages.{Pars, AreSmallPars, history_text}
@@ -28,11 +29,12 @@ IsTrueTable board (Incomplete count) = ⊤
 -- The page is read as one block for each board, in their order, and nothing else. A block has the board's name and its
 -- deal. Then it has its par, if it has one, and twenty rows, one for each declarer and denomination, with the number
 -- that the history publishes, or it says how many of the twenty are published (`SaysBoard`). Each number in it is the
--- double-dummy value.
+-- double-dummy value. The page, read as a text, has the conditions from which its pars were taken.
 pub record IsReadOnce (pars : Pars) (boards : List Board) (events : List Event) (page : List ℕ) : Type 0 where
   pub blocks : List Block
   pub read : page_in (lines_of page) ≡ Some blocks
   pub boards_said : SayBoards (printed_with pars (book_results boards events)) (enumerate_from 0 boards) blocks
+  pub conditions : KeepsConditions (printed_with pars (book_results boards events)) boards page
   pub values : AllZip (λ board block. IsTrueTable board block.section.table) boards blocks
 
 -- the page is the text of all boards with these pars, and is read so

@@ -12,7 +12,8 @@ ghost use Rattle.page_laws.specs.ReplayedTables.{ReplayedTablesAreRead};
 
 /// Take the boards that a text says and a true history over them. Read line by line, their page is one block per board,
 /// in their order, and nothing else. A block has the board's name, its deal, and twenty rows, one for each declarer and
-/// denomination, with the double-dummy values of that deal; or it says how many of the twenty numbers are known.
+/// denomination, with the double-dummy values of that deal; or it says how many of the twenty numbers are known. The
+/// page, read as a text, has the dealers and the vulnerabilities from which its pars were taken.
 ///
 /// [`make_single`](plain_runs::make_single), [`replay_tables`](plain_runs::replay_tables) and `make_tables` of
 /// `board_subcommands` write such a page. On `Ok` their clauses give the text, the terms and the history.
@@ -27,10 +28,10 @@ pub fn whole_pages_are_read()
     ensures { WholePagesAreRead }
 {}
 
-/// Take the boards that a text says and a true history over them. Read by its elements, their sheet is one block per
-/// board, in their order, and no other block. A block has the board's name. If the board has a deal, it also has who
-/// deals and is vulnerable and the four hands, and the double-dummy values of that deal, each once, and par, or how
-/// many of the twenty are known.
+/// Take the boards that a text says and a true history over them. Read by its elements, their sheet is its head, with
+/// one policy, and one block per board, in their order, and no other block. A block has the board's name. If the board
+/// has a deal, it also has who deals and is vulnerable, in words and in the compass, each hand under its seat's letter,
+/// and the double-dummy values of that deal, each once, and par, or how many of the twenty are known.
 pub fn sheet_pages_are_read()
     ensures { SheetPagesAreRead }
 {}

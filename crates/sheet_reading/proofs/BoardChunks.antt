@@ -13,14 +13,15 @@ use Rattle.board_conditions.specs.declared.conditions.Conditions.{Conditions}
 use Rattle.sheet_reading.specs.Pages.{resolved}
 use Rattle.html.specs.Values.{value_text}
 use Rattle.html.specs.Plain.{is_plain}
+use Rattle.tables.specs.ConditionTags.{sides_shown}
 use Rattle.sheets.specs.declared.templates.TheConstants.{FACTS, COMPASS, HANDS}
-use Rattle.sheets.specs.HandText.{seat_name, holding_shown, points_of, hand_value}
-use Rattle.sheets.specs.Facts.{dealer_text, sides_shown, vulnerable_text, is_dealer, is_exposed, seat_text, seats_text, words_text, facts_text}
+use Rattle.sheets.specs.HandText.{holding_shown, points_of, hand_value}
+use Rattle.sheets.specs.Facts.{dealer_text, vulnerable_text, is_dealer, is_exposed, seat_text, seats_text, words_text, facts_text}
 use Rattle.sheets.specs.Boards.{hand_text, hands_text}
 use Rattle.sheet_reading.specs.Elements.{Piece}
 use Rattle.sheet_reading.proofs.Chunks.{Chunk, chunk-append, chunk-nothing, chunk-as}
 use Rattle.sheet_reading.proofs.SaidTexts.{plain-read-as}
-use Rattle.sheet_reading.proofs.HandTexts.{name-read, points-read, holding-read}
+use Rattle.sheet_reading.proofs.HandTexts.{letter-read, points-read, holding-read}
 use Rattle.sheet_reading.proofs.TemplatePieces.{facts_start, facts-chunk, dealer_pieces, dealer-chunk, sides_pieces, sides-chunk, facts_end, compass_start, compass-chunk, seat_pieces, seat-chunk, compass_end, compass_end-chunk, hand_pieces, value_read, hand-chunk}
 
 -- ---- the bidding
@@ -69,48 +70,56 @@ words-chunk conditions =
     (dealer_in-chunk conditions.dealer) (sides_in-chunk conditions.vulnerable)
 
 -- ---- the compass
-abbrev pub seat_in : Seat → List Piece
-seat_in seat = seat_pieces (resolved (value_text (seat_letter seat) ++ []))
+abbrev pub seat_in : Conditions → Seat → List Piece
+seat_in conditions seat =
+    seat_pieces (is_dealer conditions.dealer seat) (is_exposed conditions.vulnerable seat) (seat_letter seat)
 
-seat_in-chunk : (conditions : Conditions) (seat : Seat) → Chunk (seat_text conditions seat) (seat_in seat)
+seat_in-chunk : (conditions : Conditions) (seat : Seat) → Chunk (seat_text conditions seat) (seat_in conditions seat)
 seat_in-chunk conditions seat =
-    seat-chunk (is_dealer conditions.dealer seat) (is_exposed conditions.vulnerable seat) (seat_letter seat)
+    let deals = is_dealer conditions.dealer seat in
+    let exposed = is_exposed conditions.vulnerable seat in
+    chunk-as (seat_text conditions seat) (seat_pieces deals exposed (resolved (value_text (seat_letter seat) ++ [])))
+    (seat_in conditions seat) (ap (seat_pieces deals exposed) (plain-read-as (seat_letter seat) (letter-plain seat)))
+    (seat-chunk deals exposed (seat_letter seat))
 
-abbrev pub seats_in : List Piece
-seats_in = seat_in North ++ (seat_in West ++ (seat_in East ++ seat_in South))
+abbrev pub seats_in : Conditions → List Piece
+seats_in conditions =
+    seat_in conditions North ++ (seat_in conditions West ++ (seat_in conditions East ++ seat_in conditions South))
 
-seats-chunk : (conditions : Conditions) → Chunk (seats_text conditions) seats_in
+seats-chunk : (conditions : Conditions) → Chunk (seats_text conditions) (seats_in conditions)
 unfolding seats_text
 seats-chunk conditions =
-    chunk-append (seat_text conditions North) (seat_text conditions West ++ (seat_text conditions East ++ seat_text conditions South))
-    (seat_in North) (seat_in West ++ (seat_in East ++ seat_in South)) (seat_in-chunk conditions North)
-    (chunk-append (seat_text conditions West) (seat_text conditions East ++ seat_text conditions South)
-    (seat_in West) (seat_in East ++ seat_in South) (seat_in-chunk conditions West)
-    (chunk-append (seat_text conditions East) (seat_text conditions South) (seat_in East) (seat_in South)
+    let text = seat_text conditions in
+    let seat = seat_in conditions in
+    chunk-append (text North) (text West ++ (text East ++ text South)) (seat North) (seat West ++ (seat East ++ seat South))
+    (seat_in-chunk conditions North)
+    (chunk-append (text West) (text East ++ text South) (seat West) (seat East ++ seat South) (seat_in-chunk conditions West)
+    (chunk-append (text East) (text South) (seat East) (seat South)
     (seat_in-chunk conditions East) (seat_in-chunk conditions South)))
 
 -- from the end of the facts to the first hand
-abbrev pub compass_in : List Piece
-compass_in = compass_start ++ (seats_in ++ compass_end)
+abbrev pub compass_in : Conditions → List Piece
+compass_in conditions = compass_start ++ (seats_in conditions ++ compass_end)
 
 abbrev pub facts_in : Conditions → List Piece
-facts_in conditions = facts_start ∷ (words_in conditions ++ (facts_end ∷ compass_in))
+facts_in conditions = facts_start ∷ (words_in conditions ++ (facts_end ∷ compass_in conditions))
 
 pub facts_in-chunk : (conditions : Conditions) → Chunk (facts_text conditions) (facts_in conditions)
 unfolding facts_text
 facts_in-chunk conditions =
     chunk-append FACTS.now (words_text conditions ++ (COMPASS.now ++ (seats_text conditions ++ HANDS.now)))
-    (facts_start ∷ []) (words_in conditions ++ (facts_end ∷ compass_in)) facts-chunk
+    (facts_start ∷ []) (words_in conditions ++ (facts_end ∷ compass_in conditions)) facts-chunk
     (chunk-append (words_text conditions) (COMPASS.now ++ (seats_text conditions ++ HANDS.now))
-    (words_in conditions) (facts_end ∷ compass_in) (words-chunk conditions)
-    (chunk-append COMPASS.now (seats_text conditions ++ HANDS.now) (facts_end ∷ compass_start) (seats_in ++ compass_end)
+    (words_in conditions) (facts_end ∷ compass_in conditions) (words-chunk conditions)
+    (chunk-append COMPASS.now (seats_text conditions ++ HANDS.now) (facts_end ∷ compass_start)
+    (seats_in conditions ++ compass_end)
     compass-chunk
-    (chunk-append (seats_text conditions) HANDS.now seats_in compass_end (seats-chunk conditions) compass_end-chunk)))
+    (chunk-append (seats_text conditions) HANDS.now (seats_in conditions) compass_end (seats-chunk conditions) compass_end-chunk)))
 
 -- ---- the hands
 abbrev pub hand_in : Deal → Seat → List Piece
 hand_in deal seat =
-    hand_pieces (seat_name seat) (holding_shown deal seat Spades) (holding_shown deal seat Hearts)
+    hand_pieces (seat_letter seat) (holding_shown deal seat Spades) (holding_shown deal seat Hearts)
     (holding_shown deal seat Diamonds) (holding_shown deal seat Clubs) (decimal (points_of deal seat))
 
 hand-same : (a b c d e f a' b' c' d' e' f' : List ℕ) → a ≡ a' → b ≡ b' → c ≡ c' → d ≡ d' → e ≡ e' → f ≡ f' →
@@ -131,8 +140,8 @@ hand_in-chunk deal seat =
     (hand_in deal seat)
     (hand-same (value_read values (codes "seat")) (value_read values (codes "spades")) (value_read values (codes "hearts"))
     (value_read values (codes "diamonds")) (value_read values (codes "clubs")) (value_read values (codes "points"))
-    (seat_name seat) (holding_shown deal seat Spades) (holding_shown deal seat Hearts) (holding_shown deal seat Diamonds)
-    (holding_shown deal seat Clubs) (decimal (points_of deal seat)) (name-read deal seat) (holding-read deal seat Spades)
+    (seat_letter seat) (holding_shown deal seat Spades) (holding_shown deal seat Hearts) (holding_shown deal seat Diamonds)
+    (holding_shown deal seat Clubs) (decimal (points_of deal seat)) (letter-read deal seat) (holding-read deal seat Spades)
     (holding-read deal seat Hearts) (holding-read deal seat Diamonds) (holding-read deal seat Clubs) (points-read deal seat))
     (hand-chunk values)
 

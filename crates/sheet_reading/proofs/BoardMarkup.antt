@@ -18,14 +18,15 @@ use Rattle.tables.specs.TablesText.{Results, Printed, published_count, is_comple
 use Rattle.tables.specs.declared.pars.BoardPar.{BoardPar}
 use Rattle.tables.specs.declared.pars.BoardPar.TheVariants.{Known, NoDealer, NoVulnerability}
 use Rattle.tables.proofs.PageBack.{unknown_incomplete}
+use Rattle.tables.specs.ConditionTags.{sides_shown}
 use Rattle.sheets.specs.declared.templates.TheConstants as template
 use Rattle.sheets.specs.HandText.{hand_value}
 use Rattle.sheets.specs.CellText.{cell_value}
-use Rattle.sheets.specs.Facts.{with_value, dealer_text, sides_shown, vulnerable_text, is_dealer, is_exposed, seat_template, seat_text, seats_text, words_text, facts_text}
+use Rattle.sheets.specs.Facts.{with_value, dealer_text, vulnerable_text, is_dealer, is_exposed, seat_template, seat_text, seats_text, words_text, facts_text}
 use Rattle.sheets.specs.Results.{cell_text, cells_text, row_text, rows_text, complete_text, results_text}
 use Rattle.sheets.specs.ParShown.{par_value, par_shown}
 use Rattle.sheets.specs.Boards.{hand_text, hands_text, foot_text, dealt_text, dealt_or_nothing, board_text}
-use Rattle.sheets.specs.Headings.{title_value, begins_group, group_text}
+use Rattle.sheets.specs.Headings.{title_value, begins_group, new_titles, group_text}
 use Rattle.sheet_reading.specs.Markup.{DealShape, is_known, deal_shape}
 use Rattle.sheet_reading.proofs.PlainTemplates as plain
 use Rattle.sheet_reading.proofs.SameMarkup.{SameMarkup, then, same-text, same-nothing, same-template, same-choice}
@@ -39,7 +40,7 @@ pub same-group : (before titles before' titles' : TitleValues) → begins_group 
     SameMarkup (group_text before titles) (group_text before' titles')
 same-group before titles before' titles' e =
     same-choice (begins_group before titles) (begins_group before' titles') e
-    (λ h k. same-template template.GROUP.now plain.group-plain (title_value titles) (title_value titles')) same-nothing
+    (λ h k. same-template template.GROUP.now plain.group-plain (title_value (new_titles before titles)) (title_value (new_titles before' titles'))) same-nothing
 
 -- ---- the facts
 same-dealer : (dealer : Option Seat) → SameMarkup (dealer_text dealer) (dealer_text dealer)
@@ -140,12 +141,12 @@ same-results one other e =
 -- ---- par
 -- par that is known or unknown, by what is said of it
 same-said : (one other : BoardPar) → is_known one ≡ is_known other → SameMarkup (par_shown (Some one)) (par_shown (Some other))
-same-said (Known score contracts) (Known score' contracts') e =
+same-said (Known dealer vulnerable score contracts) (Known dealer' vulnerable' score' contracts') e =
     same-template template.PAR.now plain.par-plain (par_value score contracts.items) (par_value score' contracts'.items)
-same-said (Known score contracts) NoDealer e = absurd (true≢false e)
-same-said (Known score contracts) NoVulnerability e = absurd (true≢false e)
-same-said NoDealer (Known score contracts) e = absurd (true≢false (sym e))
-same-said NoVulnerability (Known score contracts) e = absurd (true≢false (sym e))
+same-said (Known dealer vulnerable score contracts) NoDealer e = absurd (true≢false e)
+same-said (Known dealer vulnerable score contracts) NoVulnerability e = absurd (true≢false e)
+same-said NoDealer (Known dealer vulnerable score contracts) e = absurd (true≢false (sym e))
+same-said NoVulnerability (Known dealer vulnerable score contracts) e = absurd (true≢false (sym e))
 same-said NoDealer NoDealer e = same-value template.PAR_UNKNOWN.now plain.par-unknown-plain _ _
 same-said NoDealer NoVulnerability e = same-value template.PAR_UNKNOWN.now plain.par-unknown-plain _ _
 same-said NoVulnerability NoDealer e = same-value template.PAR_UNKNOWN.now plain.par-unknown-plain _ _

@@ -33,7 +33,7 @@ sides-only (Some sides) = refl
 
 pub facts-only : (conditions : Conditions) → only facts_names (facts_in conditions) ≡ true
 facts-only conditions =
-    only-append facts_names (words_in conditions) (facts_end ∷ compass_in)
+    only-append facts_names (words_in conditions) (facts_end ∷ compass_in conditions)
     (only-append facts_names (dealer_in conditions.dealer) (sides_in conditions.vulnerable)
     (dealer-only conditions.dealer) (sides-only conditions.vulnerable))
     refl
@@ -74,7 +74,7 @@ results-only results = go (is_complete results)
 
 par-only : (par : Option BoardPar) → only foot_names (par_in par) ≡ true
 par-only None = refl
-par-only (Some (Known score contracts)) = refl
+par-only (Some (Known dealer vulnerable score contracts)) = refl
 par-only (Some NoDealer) = refl
 par-only (Some NoVulnerability) = refl
 

@@ -1,6 +1,7 @@
 -- What is read of a board.
 use Rattle.std.proofs.Common.{◌≡◌, ℕ, ◌≤◌, true, false, List, [], ◌∷◌, ◌++◌, map, Option, None, Some, refl, ◌∙◌, ap, subst, append_assoc}
-use Rattle.std.specs.Prelude.{codes, IfSome}
+use Rattle.std.specs.Prelude.{codes, filter, IfSome}
+use Rattle.std.specs.List.{flat_map}
 use Rattle.std.proofs.lemmas.List.{append-nil}
 use Rattle.cards.specs.declared.seats.Seat.{Seat}
 use Rattle.cards.specs.declared.suits.Trump.{Trump}
@@ -16,8 +17,8 @@ use Rattle.sheets.specs.declared.templates.TheConstants.{BOARD, BOARD_END}
 use Rattle.sheets.specs.Facts.{with_value, facts_text}
 use Rattle.sheets.specs.Boards.{hands_text, foot_text, dealt_text, dealt_or_nothing, board_text}
 use Rattle.sheet_reading.specs.Elements.{Piece, before_tag, elements}
-use Rattle.sheet_reading.specs.SheetReading.{only_text, texts_of, facts_in, hands_in, section_in, whole_section, only_section, Block, block_with, block_in}
-use Rattle.sheet_reading.specs.Laws.{said, facts_said, hands_said, SaysDeal, SaysBoard}
+use Rattle.sheet_reading.specs.SheetReading.{only_text, texts_of, facts_in, corners_in, is_of_class, compass_in, hands_in, section_in, whole_section, only_section, Block, block_with, block_in}
+use Rattle.sheet_reading.specs.Laws.{said, facts_said, compass_said, hands_said, SaysDeal, SaysBoard}
 use Rattle.sheet_reading.proofs.Chunks.{Chunk, chunk-append, chunk-nothing, chunk-as}
 use Rattle.sheet_reading.proofs.SaidTexts.{value-said}
 use Rattle.sheet_reading.proofs.ElementLemmas.{lacks, lacks-append, before-lacks, Yields, yields-append, yields-nothing}
@@ -26,7 +27,7 @@ use Rattle.sheet_reading.proofs.TemplatePieces.{piece, line_feed, board_pieces, 
 use Rattle.sheet_reading.proofs.BoardChunks as chunks
 use Rattle.sheet_reading.proofs.FootChunks as foot
 use Rattle.sheet_reading.proofs.BoardNames.{facts_names, facts-only, hand_names, hands-only, foot_names, foot-only, footer_names, foot_in-only, board_names, dealt_in, dealt-lacks}
-use Rattle.sheet_reading.proofs.FactsRead.{words-texts, words-lack, all-hands}
+use Rattle.sheet_reading.proofs.FactsRead.{words-texts, words-lack, compass_content, divisions_in, divisions-yield, compass-read, all-hands}
 use Rattle.sheet_reading.proofs.FootRead.{foot-read}
 
 -- results of at most 13 tricks, and a small par
@@ -62,12 +63,28 @@ module _ (deal : Deal) (conditions : Conditions) (printed : Printed) where
   facts-read : (name : List ℕ) → facts_in (begin name ++ dealt) ≡ facts_said conditions
   facts-read name =
       let words = chunks.words_in conditions in
-      let after = facts_end ∷ chunks.compass_in in
+      let after = facts_end ∷ chunks.compass_in conditions in
       let rest = chunks.hands_in deal ++ foot.foot_in printed in
       let cut : before_tag (codes "/div") ((words ++ after) ++ rest) ≡ words =
       ap (before_tag (codes "/div")) (append_assoc words after rest)
       ∙ (before-lacks (codes "/div") words (after ++ rest) (words-lack conditions) ∙ append-nil words) in
       ap (λ l. texts_of (codes "p") (facts_start ∷ l)) cut ∙ words-texts conditions
+
+  -- ---- the compass
+  divisions : Yields (codes "div") dealt (divisions_in conditions)
+  divisions =
+      let div = codes "div" in
+      let hands = chunks.hands_in deal in
+      let below = foot.foot_in printed in
+      let own : Yields div (hands ++ below) [] =
+      yields-append div hands below [] [] (yields-nothing div hands (only-lacks hand_names div hands refl (hands-only deal)))
+      (yields-nothing div below (only-lacks footer_names div below refl (foot_in-only printed))) in
+      yields-append div (chunks.facts_in conditions) (hands ++ below) (divisions_in conditions) [] (divisions-yield conditions) own
+
+  compass-is : (name : List ℕ) → compass_in (begin name ++ dealt) ≡ compass_said conditions
+  compass-is name =
+      ap (λ l. flat_map corners_in (filter (is_of_class (codes "compass")) l)) divisions.are
+      ∙ (append-nil (corners_in (compass_content conditions)) ∙ compass-read conditions)
 
   -- ---- the hands
   hands-read : (name : List ℕ) → hands_in (begin name ++ dealt) ≡ hands_said deal
@@ -118,14 +135,23 @@ module _ (deal : Deal) (conditions : Conditions) (printed : Printed) where
   pub dealt-read : (name : List ℕ) (section : Section) →
       section_in (footer_start ∷ foot.foot_content printed) ≡ Some section →
       block_in (begin name ++ dealt)
-      ≡ Some (record { name = name; facts = facts_said conditions; hands = hands_said deal; section = Some section })
+      ≡ Some (record {
+        name = name;
+        facts = facts_said conditions;
+        compass = compass_said conditions;
+        hands = hands_said deal;
+        section = Some section;
+      })
   dealt-read name section read =
       let content = begin name ++ dealt in
       ap (λ n. block_with content n (only_section (elements (codes "footer") content))) (name-read name)
       ∙ (ap (block_with content (Some name)) (section-read name section read)
-      ∙ (ap (λ f. Some (record { name = name; facts = f; hands = hands_in content; section = Some section })) (facts-read name)
-      ∙ ap (λ h. Some (record { name = name; facts = facts_said conditions; hands = h; section = Some section }))
-      (hands-read name)))
+      ∙ (ap (λ f. Some (record { name = name; facts = f; compass = compass_in content; hands = hands_in content; section = Some section }))
+      (facts-read name)
+      ∙ (ap (λ c. Some (record { name = name; facts = facts_said conditions; compass = c; hands = hands_in content; section = Some section }))
+      (compass-is name)
+      ∙ ap (λ h. Some (record { name = name; facts = facts_said conditions; compass = compass_said conditions; hands = h; section = Some section }))
+      (hands-read name))))
 
 -- ---- a board, with or without a deal
 abbrev pub dealt_or_none : Option Deal → Conditions → Printed → List Piece
@@ -189,17 +215,23 @@ says-deal : (name : List ℕ) (deal : Option Deal) (conditions : Conditions) (pr
     (block : Block) × (block_in (begin name ++ dealt_or_none deal conditions printed) ≡ Some block) × (block.name ≡ name)
     × SaysDeal deal conditions printed block
 says-deal name None conditions printed small = (
-  record { name = name; facts = []; hands = []; section = None },
-  ap (λ n. Some (record { name = n; facts = []; hands = []; section = None })) (append-nil name),
+  record { name = name; facts = []; compass = []; hands = []; section = None },
+  ap (λ n. Some (record { name = n; facts = []; compass = []; hands = []; section = None })) (append-nil name),
   refl,
-  (refl, refl, refl),
+  record { facts = refl; compass = refl; hands = refl; numbers = refl },
 )
 says-deal name (Some deal) conditions printed small =
     let it = foot-read printed small.at_most in (
-      record { name = name; facts = facts_said conditions; hands = hands_said deal; section = Some it.section },
+      record {
+        name = name;
+        facts = facts_said conditions;
+        compass = compass_said conditions;
+        hands = hands_said deal;
+        section = Some it.section;
+      },
       dealt-read deal conditions printed name it.section it.read,
       refl,
-      (refl, refl, it.says),
+      record { facts = refl; compass = refl; hands = refl; numbers = it.says },
     )
 
 pub board-read : (board : Board) (conditions : Conditions) (printed : Printed) → IsSmall printed →

@@ -37,7 +37,7 @@ flat-append (first ∷ one) other = ap (λ t. first.0 ∷ first.1 ∷ t) (flat-a
 
 pieces-append : (one other : List Tagged) → pieces_in (flat (one ++ other)) ≡ pieces_in (flat one) ++ pieces_in (flat other)
 pieces-append [] other = refl
-pieces-append (first ∷ one) other = ap (λ t. record { name = tag_name first.0; text = resolved first.1 } ∷ t) (pieces-append one other)
+pieces-append (first ∷ one) other = ap (λ t. record { tag = first.0; name = tag_name first.0; text = resolved first.1 } ∷ t) (pieces-append one other)
 
 -- ---- chunks
 pub record Chunk (page : List ℕ) (pieces : List Piece) : Type 0 where

@@ -20,9 +20,9 @@ use Rattle.sheet_reading.specs.Pages.{resolved}
 use Rattle.html.specs.Values.{value_text}
 use Rattle.html.specs.Templates.{filled}
 use Rattle.html.specs.Plain.{is_plain}
-use Rattle.html.proofs.Each.{Each}
+use Rattle.html.proofs.Each.{Each, each-append}
 use Rattle.sheets.specs.declared.templates.TheConstants.{TABLE, ROW, CELL, ROW_END, TABLE_END, INCOMPLETE, PAR, PAR_UNKNOWN, FOOT, FOOT_END}
-use Rattle.sheets.specs.CellText.{level_shown, tricks_shown, cell_place, cell_value}
+use Rattle.sheets.specs.CellText.{level_shown, in_parentheses, tricks_shown, cell_place, cell_value}
 use Rattle.sheets.specs.Facts.{with_value}
 use Rattle.sheets.specs.Results.{columns, cell_text, entry_text, cells_text, row_text, rows_text, complete_text, results_text}
 use Rattle.sheets.specs.Boards.{foot_text}
@@ -40,9 +40,12 @@ shown-free : (n : ℕ) (b : Bool) → n < 2 ^ 64 → Each (λ byte. byte ≢ 38)
 shown-free n true h = decimal-free n h
 shown-free n false h = tt
 
-hidden-free : (n : ℕ) (b : Bool) → n < 2 ^ 64 → Each (λ byte. byte ≢ 38) (cond b [] (decimal n))
+hidden-free : (n : ℕ) (b : Bool) → n < 2 ^ 64 → Each (λ byte. byte ≢ 38) (cond b [] (in_parentheses (decimal n)))
 hidden-free n true h = tt
-hidden-free n false h = decimal-free n h
+hidden-free n false h = (
+  (λ e. omega (arith, e)),
+  each-append (λ byte. byte ≢ 38) (decimal n) (41 ∷ []) (decimal-free n h) ((λ e. omega (arith, e)), tt),
+)
 
 level-read : (tricks : ℕ) → tricks ≤ 13 → value_read (cell_value tricks) (codes "level") ≡ level_shown tricks
 level-read tricks h =
@@ -162,7 +165,7 @@ par-free (byte ∷ bytes) h =
 
 abbrev pub par_in : Option BoardPar → List Piece
 par_in None = []
-par_in (Some (Known score contracts)) = par_pieces (score_text score) (contracts_text contracts.items)
+par_in (Some (Known dealer vulnerable score contracts)) = par_pieces (score_text score) (contracts_text contracts.items)
 par_in (Some NoDealer) = unknown_pieces (codes "dealer")
 par_in (Some NoVulnerability) = unknown_pieces (codes "vulnerability")
 
@@ -173,7 +176,7 @@ lack-chunk word h =
 
 pub par_in-chunk : (par : Option BoardPar) → IfSome par IsSmallPar → Chunk (par_shown par) (par_in par)
 par_in-chunk None small = chunk-nothing
-par_in-chunk (Some (Known score contracts)) small =
+par_in-chunk (Some (Known dealer vulnerable score contracts)) small =
     let values = par_value score contracts.items in
     let score_place = par_place (codes "score") in
     let contracts_place = par_place (codes "contracts") in

@@ -14,15 +14,14 @@ use Rattle.text_laws.specs.WrittenOnce.{par_said, SaysSection}
 use Rattle.sheet_reading.specs.Elements.{Piece, elements}
 use Rattle.sheet_reading.specs.SheetReading.{par_in, only_par, section_with, section_of_parts, section_in}
 use Rattle.sheet_reading.proofs.ElementLemmas.{Yields, yields-append}
-use Rattle.sheet_reading.proofs.TemplatePieces.{footer_start}
+use Rattle.sheet_reading.proofs.TemplatePieces.{piece, footer_start}
 use Rattle.sheet_reading.proofs.FootChunks.{par_in as par_pieces_of, results_in, foot_content}
 use Rattle.sheet_reading.proofs.TableRead.{paragraphs_before, ReadsTable, results-read}
 
 -- ---- par
 abbrev par_content : List ℕ → List ℕ → List Piece
 par_content score contracts =
-    record { name = codes "p"; text = codes "Par " } ∷ record { name = codes "b"; text = score }
-    ∷ record { name = codes "/b"; text = [] } ∷ record { name = codes "br"; text = contracts } ∷ []
+    piece (codes "p") (codes "Par ") ∷ piece (codes "b") score ∷ piece (codes "/b") [] ∷ piece (codes "br") contracts ∷ []
 
 values-read : (score contracts : List ℕ) → par_in (par_content score contracts) ≡ Some (Values score contracts)
 values-read score contracts =
@@ -44,7 +43,7 @@ par-read None = record {
   have_paragraphs = record { closed = refl; are = refl };
   read = refl;
 }
-par-read (Some (Known score contracts)) =
+par-read (Some (Known dealer vulnerable score contracts)) =
     let written = contracts_text contracts.items in
     record {
       paragraphs = par_content (score_text score) written ∷ [];

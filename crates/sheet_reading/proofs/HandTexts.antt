@@ -10,12 +10,13 @@ use Rattle.cards.specs.declared.suits.Suit.TheVariants.{Spades, Hearts, Diamonds
 use Rattle.cards.specs.declared.pack.Rank.{Rank}
 use Rattle.cards.specs.declared.pack.Rank.TheVariants.{Two, Three, Four, Five, Six, Seven, Eight, Nine, Ten, Jack}
 use Rattle.cards.specs.declared.pack.Rank.TheVariants.{Queen, King, Ace}
+use Rattle.cards.specs.Seats.{seat_letter}
 use Rattle.cards.specs.Pack.{card_of}
 use Rattle.cards.specs.Deal.{Deal, holder_of, is_held_by}
 use Rattle.sheet_reading.specs.Pages.{resolved}
 use Rattle.html.specs.Values.{value_text}
 use Rattle.html.proofs.Each.{Each, each-append}
-use Rattle.sheets.specs.HandText.{rank_shown, ranks_falling, card_shown, cards_shown, holding_shown, is_void, suit_points, points_of, seat_name, hand_place, hand_value_at, hand_value}
+use Rattle.sheets.specs.HandText.{rank_shown, ranks_falling, card_shown, cards_shown, holding_shown, is_void, suit_points, points_of, hand_place, hand_value_at, hand_value}
 use Rattle.sheets.proofs.HandLemmas.{hand-text}
 use Rattle.sheet_reading.proofs.SaidTexts.{read-as, decimal-free}
 
@@ -71,18 +72,18 @@ points-few deal seat =
     omega (arith, few deal seat Spades, few deal seat Hearts, few deal seat Diamonds, few deal seat Clubs)
 
 -- ---- any of the places
-name-free : (seat : Seat) → Free (seat_name seat)
-name-free North = (greater 78 (omega arith), (greater 111 (omega arith), (greater 114 (omega arith), (greater 116 (omega arith), (greater 104 (omega arith), tt)))))
-name-free East = (greater 69 (omega arith), (greater 97 (omega arith), (greater 115 (omega arith), (greater 116 (omega arith), tt))))
-name-free South = (greater 83 (omega arith), (greater 111 (omega arith), (greater 117 (omega arith), (greater 116 (omega arith), (greater 104 (omega arith), tt)))))
-name-free West = (greater 87 (omega arith), (greater 101 (omega arith), (greater 115 (omega arith), (greater 116 (omega arith), tt))))
+letter-free : (seat : Seat) → Free (seat_letter seat)
+letter-free North = (greater 78 (omega arith), tt)
+letter-free East = (greater 69 (omega arith), tt)
+letter-free South = (greater 83 (omega arith), tt)
+letter-free West = (greater 87 (omega arith), tt)
 
-pub name-read : (deal : Deal) (seat : Seat) →
-    resolved (value_text (hand_value deal seat (codes "seat")) ++ []) ≡ seat_name seat
-name-read deal seat =
+pub letter-read : (deal : Deal) (seat : Seat) →
+    resolved (value_text (hand_value deal seat (codes "seat")) ++ []) ≡ seat_letter seat
+letter-read deal seat =
     let place = hand_place (codes "seat") in
-    read-as (hand_value deal seat (codes "seat")) (seat_name seat) (hand-text deal seat (codes "seat") place place refl refl)
-    (name-free seat)
+    read-as (hand_value deal seat (codes "seat")) (seat_letter seat) (hand-text deal seat (codes "seat") place place refl refl)
+    (letter-free seat)
 
 pub points-read : (deal : Deal) (seat : Seat) →
     resolved (value_text (hand_value deal seat (codes "points")) ++ []) ≡ decimal (points_of deal seat)

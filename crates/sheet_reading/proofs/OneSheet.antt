@@ -107,15 +107,15 @@ no-section printed section e h = subst (λ (s : Option Section). SaysPrinted pri
 same-deals : (one other : Option Deal) (its others : Conditions) (printed printed' : Printed) (block : Block) →
     SaysDeal one its printed block → SaysDeal other others printed' block → AreSameDeals one other its others printed printed'
 same-deals None None its others printed printed' block h k = tt
-same-deals None (Some other) its others printed printed' block h k = no-section printed' block.section h.2 k.2
-same-deals (Some one) None its others printed printed' block h k = no-section printed block.section k.2 h.2
+same-deals None (Some other) its others printed printed' block h k = no-section printed' block.section h.numbers k.numbers
+same-deals (Some one) None its others printed printed' block h k = no-section printed block.section k.numbers h.numbers
 same-deals (Some one) (Some other) its others printed printed' block h k =
-    let facts = sym h.0 ∙ k.0 in
+    let facts = sym h.facts ∙ k.facts in
     record {
-      holders = same-holders one other (sym h.1 ∙ k.1);
+      holders = same-holders one other (sym h.hands ∙ k.hands);
       dealers = same-dealer its others facts;
       vulnerable = same-sides its others facts;
-      numbers = same-printed printed printed' block.section h.2 k.2;
+      numbers = same-printed printed printed' block.section h.numbers k.numbers;
     }
 
 -- ---- the boards
@@ -143,7 +143,7 @@ sheets_say_one_thing one other small small' e =
     let read = sheets_are_read one small in
     let read' = sheets_are_read other small' in
     let same : read.0 ≡ read'.0 = some_same (sym read.1 ∙ (ap sheet_in e ∙ read'.1)) in (
-      sym read.2 ∙ (ap (λ sheet. sheet.title) same ∙ read'.2),
+      sym read.2.title ∙ (ap (λ sheet. sheet.title) same ∙ read'.2.title),
       same-boards one other 0 one.boards other.boards read'.0.blocks
           (subst (λ (sheet : Sheet). SayBoards one 0 one.boards sheet.blocks) same read.3) read'.3,
     )

@@ -10,34 +10,33 @@ use Rattle.text_laws.specs.PageReading.{all_items, put_item}
 use Rattle.html.specs.Templates.{filled}
 use Rattle.sheets.specs.declared.templates.TheConstants.{GROUP, END}
 use Rattle.sheets.specs.Boards.{board_text}
-use Rattle.sheets.specs.Headings.{title_shown, title_value, begins_group, group_text}
+use Rattle.sheets.specs.Headings.{title_shown, title_value, begins_group, new_titles, group_text}
 use Rattle.sheets.specs.Pages.{titles_at, boards_text, head_text, without_section, sheet_text}
 use Rattle.sheets.specs.Markup.{Shown, page_of}
 use Rattle.sheet_reading.specs.Elements.{Piece, elements}
-use Rattle.sheet_reading.specs.SheetReading.{only_text, Block, block_in, Sheet, sheet_with, sheet_of}
+use Rattle.sheet_reading.specs.SheetReading.{only_text, Block, block_in, policies_in, Sheet, notes_in, sheet_with, sheet_of}
 use Rattle.sheet_reading.specs.Laws.{title_said, conditions_at, SayBoards, SheetsAreRead}
 use Rattle.sheet_reading.proofs.Chunks.{Chunk, chunk-append, chunk-nothing, chunk-pieces}
 use Rattle.sheet_reading.proofs.SaidTexts.{value-said}
 use Rattle.sheet_reading.proofs.ElementLemmas.{lacks, lacks-append, Yields, yields-append, yields-nothing}
 use Rattle.sheet_reading.proofs.TemplatePieces.{piece, group_pieces, value_read, group-chunk, page_end, page_end-chunk}
-use Rattle.sheet_reading.proofs.HeadRead.{title_words, head_in, head-chunk}
+use Rattle.sheet_reading.proofs.HeadRead.{title_words, head_in, head-chunk, policy-read, notes-read}
 use Rattle.sheet_reading.proofs.BoardRead.{IsSmall, article_content, board_in, board_in-chunk, board_in-article, board_in-lacks, board-read}
 
 -- ---- the heading of a group
+abbrev heading_in : (List ℕ → List ℕ) → List Piece
+heading_in values = group_pieces (value_read values (codes "event")) (value_read values (codes "section"))
+
 abbrev group_in : TitleValues → TitleValues → List Piece
-group_in before titles =
-    cond (begins_group before titles)
-    (group_pieces (value_read (title_value titles) (codes "event")) (value_read (title_value titles) (codes "section"))) []
+group_in before titles = cond (begins_group before titles) (heading_in (title_value (new_titles before titles))) []
 
 group_in-chunk : (before titles : TitleValues) → Chunk (group_text before titles) (group_in before titles)
-group_in-chunk before titles = go (begins_group before titles)
+group_in-chunk before titles = go (begins_group before titles) (title_value (new_titles before titles))
   where
-    go : (begins : Bool) →
-        Chunk (cond begins (filled (title_value titles) GROUP.now) [])
-        (cond begins (group_pieces (value_read (title_value titles) (codes "event"))
-        (value_read (title_value titles) (codes "section"))) [])
-    go true = group-chunk (title_value titles)
-    go false = chunk-nothing
+    go : (begins : Bool) (values : List ℕ → List ℕ) →
+        Chunk (cond begins (filled values GROUP.now) []) (cond begins (heading_in values) [])
+    go true values = group-chunk values
+    go false values = chunk-nothing
 
 -- it has no article and no title
 record IsHeading (pieces : List Piece) : Type 0 where
@@ -45,13 +44,12 @@ record IsHeading (pieces : List Piece) : Type 0 where
   no_title : lacks (codes "title") pieces ≡ true
 
 group_in-is : (before titles : TitleValues) → IsHeading (group_in before titles)
-group_in-is before titles = go (begins_group before titles)
+group_in-is before titles = go (begins_group before titles) (title_value (new_titles before titles))
   where
-    go : (begins : Bool) →
-        IsHeading (cond begins (group_pieces (value_read (title_value titles) (codes "event"))
-        (value_read (title_value titles) (codes "section"))) [])
-    go true = record { no_article = refl; no_title = refl }
-    go false = record { no_article = refl; no_title = refl }
+    go : (begins : Bool) (values : List ℕ → List ℕ) →
+        IsHeading (cond begins (heading_in values) [])
+    go true values = record { no_article = refl; no_title = refl }
+    go false values = record { no_article = refl; no_title = refl }
 
 -- ---- the boards
 small-at : (printed : ℕ → Printed) (place : ℕ) → AreTricks printed → IsSmall (printed place)
@@ -144,14 +142,17 @@ pub sheets_are_read : SheetsAreRead
 sheets_are_read shown small =
     let head = shown.head in
     let it = reads_boards shown (without_section head) 0 shown.boards small in
-    let pieces = head_in head ++ (it.pieces ++ page_end) in
-    let sheet : Sheet = record { title = title_said head; blocks = it.blocks } in
+    let others = it.pieces ++ page_end in
+    let pieces = head_in head ++ others in
+    let sheet : Sheet =
+    record { title = title_said head; notes = notes_in pieces; policies = policies_in pieces; blocks = it.blocks } in
     let read : sheet_of pieces ≡ Some sheet =
-    ap (λ t. sheet_with t (all_items (map block_in (elements (codes "article") pieces)))) (title-of head it.pieces it.no_title)
-    ∙ (ap (λ l. sheet_with (Some (title_said head)) (all_items (map block_in l))) (articles-of head it.pieces it.contents it.articles)
-    ∙ ap (sheet_with (Some (title_said head))) it.read) in (
+    ap (λ t. sheet_with pieces t (all_items (map block_in (elements (codes "article") pieces)))) (title-of head it.pieces it.no_title)
+    ∙ (ap (λ l. sheet_with pieces (Some (title_said head)) (all_items (map block_in l)))
+    (articles-of head it.pieces it.contents it.articles)
+    ∙ ap (sheet_with pieces (Some (title_said head))) it.read) in (
       sheet,
       ap sheet_of (chunk-pieces (page_of shown) pieces (page-chunk shown it.pieces it.chunk)) ∙ read,
-      refl,
+      record { title = refl; notes = notes-read head others; policy = policy-read head others },
       it.says,
     )

@@ -16,7 +16,7 @@ use Rattle.text_laws.specs.WrittenOnce.{numbers_in, SaysResults}
 use Rattle.text_laws.proofs.SmallNumbers.{for_small}
 use Rattle.text_laws.proofs.PageBack.{fewer}
 use Rattle.text_laws.proofs.BoardsBack.{published_count-le}
-use Rattle.sheets.specs.CellText.{level_shown, tricks_shown}
+use Rattle.sheets.specs.CellText.{level_shown, in_parentheses, tricks_shown}
 use Rattle.sheets.specs.Results.{columns}
 use Rattle.sheet_reading.specs.Elements.{Piece, before_tag, elements}
 use Rattle.sheet_reading.specs.SheetReading.{tricks_in, rows_of, rows_in, table_of_lines, count_in, only_par, section_with, section_of_parts}
@@ -32,14 +32,14 @@ cell_at tricks = cell_content (level_shown tricks) (tricks_shown tricks)
 level-number : (n : ℕ) → n ≤ 20 → tricks_in (cell_content (decimal n) []) ≡ Some (n + 6)
 level-number = for_small (λ n text. tricks_in (cell_content text []) ≡ Some (n + 6)) refl refl refl refl refl refl refl refl refl refl refl refl refl refl refl refl refl refl refl refl refl
 
-tricks-number : (n : ℕ) → n ≤ 20 → tricks_in (cell_content [] (decimal n)) ≡ Some n
-tricks-number = for_small (λ n text. tricks_in (cell_content [] text) ≡ Some n) refl refl refl refl refl refl refl refl refl refl refl refl refl refl refl refl refl refl refl refl refl
+tricks-number : (n : ℕ) → n ≤ 20 → tricks_in (cell_content [] (in_parentheses (decimal n))) ≡ Some n
+tricks-number = for_small (λ n text. tricks_in (cell_content [] (in_parentheses text)) ≡ Some n) refl refl refl refl refl refl refl refl refl refl refl refl refl refl refl refl refl refl refl refl refl
 
 cell-read : (tricks : ℕ) → tricks ≤ 13 → tricks_in (cell_at tricks) ≡ Some tricks
 cell-read tricks h = go (nat_lt 6 tricks) refl
   where
     go : (makes : Bool) → nat_lt 6 tricks ≡ makes →
-        tricks_in (cell_content (cond makes (decimal (tricks - 6)) []) (cond makes [] (decimal tricks))) ≡ Some tricks
+        tricks_in (cell_content (cond makes (decimal (tricks - 6)) []) (cond makes [] (in_parentheses (decimal tricks)))) ≡ Some tricks
     go true e =
         let more = ltb-true 6 tricks e in
         let back : tricks - 6 + 6 ≡ tricks = omega (arith, more) in

@@ -13,8 +13,20 @@ use Rattle.sheet_reading.specs.Elements.{Piece}
 use Rattle.sheet_reading.specs.SheetReading.{suit_sign}
 use Rattle.sheet_reading.proofs.Chunks.{Chunk, chunk-constant, chunk-filled}
 
+-- a tag with these words after its name
+abbrev pub piece_with : List ℕ → List ℕ → List ℕ → Piece
+piece_with words name text = record { tag = 60 ∷ (name ++ (words ++ 62 ∷ [])); name = name; text = text }
+
 abbrev pub piece : List ℕ → List ℕ → Piece
-piece name text = record { name = name; text = text }
+piece name text = piece_with [] name text
+
+-- the words of an attribute
+abbrev pub attribute : List ℕ → List ℕ → List ℕ
+attribute name value = 32 ∷ (name ++ (61 ∷ 34 ∷ (value ++ 34 ∷ [])))
+
+-- a tag of a class
+abbrev pub of_class : List ℕ → List ℕ → List ℕ → Piece
+of_class value name text = piece_with (attribute (codes "class") value) name text
 
 abbrev pub line_feed : List ℕ
 line_feed = 10 ∷ []
@@ -36,7 +48,7 @@ board_end-chunk = chunk-constant BOARD_END.now (board_end ∷ []) refl refl refl
 
 -- ---- the bidding
 abbrev pub facts_start : Piece
-facts_start = piece (codes "div") []
+facts_start = of_class (codes "facts") (codes "div") []
 
 pub facts-chunk : Chunk FACTS.now (facts_start ∷ [])
 facts-chunk = chunk-constant FACTS.now (facts_start ∷ []) refl refl refl
@@ -62,26 +74,41 @@ sides-chunk sides =
 abbrev pub facts_end : Piece
 facts_end = piece (codes "/div") line_feed
 
+abbrev pub deal_tag : Piece
+deal_tag = of_class (codes "deal") (codes "div") line_feed
+
+abbrev pub compass_tag : Piece
+compass_tag =
+    piece_with (attribute (codes "class") (codes "compass") ++ attribute (codes "aria-hidden") (codes "true")) (codes "div") []
+
 abbrev pub compass_start : List Piece
-compass_start = piece (codes "div") line_feed ∷ piece (codes "div") [] ∷ []
+compass_start = deal_tag ∷ compass_tag ∷ []
 
 pub compass-chunk : Chunk COMPASS.now (facts_end ∷ compass_start)
 compass-chunk = chunk-constant COMPASS.now (facts_end ∷ compass_start) refl refl refl
 
-abbrev pub seat_pieces : List ℕ → List Piece
-seat_pieces seat = piece (codes "span") seat ∷ piece (codes "/span") [] ∷ []
+-- the words of a seat's tag
+abbrev pub seat_words : Bool → Bool → List ℕ
+seat_words false false = []
+seat_words true false = attribute (codes "class") (codes "deals")
+seat_words false true = attribute (codes "class") (codes "exposed")
+seat_words true true = attribute (codes "class") (codes "deals exposed")
+
+abbrev pub seat_pieces : Bool → Bool → List ℕ → List Piece
+seat_pieces deals exposed seat =
+    piece_with (seat_words deals exposed) (codes "span") seat ∷ piece (codes "/span") [] ∷ []
 
 pub seat-chunk : (deals exposed : Bool) (seat : List ℕ) →
-    Chunk (with_value (seat_template deals exposed) seat) (seat_pieces (resolved (value_text seat ++ [])))
+    Chunk (with_value (seat_template deals exposed) seat) (seat_pieces deals exposed (resolved (value_text seat ++ [])))
 unfolding filled is_template
 seat-chunk false false seat =
-    chunk-filled (λ place. seat) (seat_template false false) (seat_pieces (resolved (value_text seat ++ []))) refl refl refl
+    chunk-filled (λ place. seat) (seat_template false false) (seat_pieces false false (resolved (value_text seat ++ []))) refl refl refl
 seat-chunk true false seat =
-    chunk-filled (λ place. seat) (seat_template true false) (seat_pieces (resolved (value_text seat ++ []))) refl refl refl
+    chunk-filled (λ place. seat) (seat_template true false) (seat_pieces true false (resolved (value_text seat ++ []))) refl refl refl
 seat-chunk false true seat =
-    chunk-filled (λ place. seat) (seat_template false true) (seat_pieces (resolved (value_text seat ++ []))) refl refl refl
+    chunk-filled (λ place. seat) (seat_template false true) (seat_pieces false true (resolved (value_text seat ++ []))) refl refl refl
 seat-chunk true true seat =
-    chunk-filled (λ place. seat) (seat_template true true) (seat_pieces (resolved (value_text seat ++ []))) refl refl refl
+    chunk-filled (λ place. seat) (seat_template true true) (seat_pieces true true (resolved (value_text seat ++ []))) refl refl refl
 
 abbrev pub compass_end : List Piece
 compass_end = piece (codes "/div") [] ∷ []
@@ -93,12 +120,12 @@ compass_end-chunk = chunk-constant HANDS.now compass_end refl refl refl
 abbrev pub hand_pieces : List ℕ → List ℕ → List ℕ → List ℕ → List ℕ → List ℕ → List Piece
 hand_pieces seat spades hearts diamonds clubs points =
     piece (codes "ul") line_feed
-    ∷ piece (codes "li") seat ∷ piece (codes "/li") line_feed
+    ∷ of_class (codes "seat") (codes "li") seat ∷ piece (codes "/li") line_feed
     ∷ piece (codes "li") [] ∷ piece (codes "b") (suit_sign 0xA0) ∷ piece (codes "/b") spades ∷ piece (codes "/li") line_feed
-    ∷ piece (codes "li") [] ∷ piece (codes "b") (suit_sign 0xA5) ∷ piece (codes "/b") hearts ∷ piece (codes "/li") line_feed
-    ∷ piece (codes "li") [] ∷ piece (codes "b") (suit_sign 0xA6) ∷ piece (codes "/b") diamonds ∷ piece (codes "/li") line_feed
+    ∷ piece (codes "li") [] ∷ of_class (codes "red") (codes "b") (suit_sign 0xA5) ∷ piece (codes "/b") hearts ∷ piece (codes "/li") line_feed
+    ∷ piece (codes "li") [] ∷ of_class (codes "red") (codes "b") (suit_sign 0xA6) ∷ piece (codes "/b") diamonds ∷ piece (codes "/li") line_feed
     ∷ piece (codes "li") [] ∷ piece (codes "b") (suit_sign 0xA3) ∷ piece (codes "/b") clubs ∷ piece (codes "/li") line_feed
-    ∷ piece (codes "li") points ∷ piece (codes "/li") line_feed
+    ∷ of_class (codes "points") (codes "li") points ∷ piece (codes "/li") line_feed
     ∷ piece (codes "/ul") [] ∷ []
 
 abbrev pub value_read : (List ℕ → List ℕ) → List ℕ → List ℕ
@@ -128,15 +155,24 @@ foot-chunk = chunk-constant FOOT.now (hands_end ++ footer_start ∷ []) refl ref
 abbrev pub table_start : Piece
 table_start = piece (codes "table") line_feed
 
+-- a head of a column, or of a row
+abbrev pub head_cell : List ℕ → List ℕ → Piece
+head_cell scope text = piece_with (attribute (codes "scope") scope) (codes "th") text
+
+abbrev pub red_head : List ℕ → Piece
+red_head text =
+    piece_with (attribute (codes "scope") (codes "col") ++ attribute (codes "class") (codes "red")) (codes "th") text
+
 abbrev pub heading_line : List Piece
 heading_line =
     piece (codes "tr") line_feed
-    ∷ piece (codes "th") [] ∷ piece (codes "span") (codes "Declarer") ∷ piece (codes "/span") [] ∷ piece (codes "/th") line_feed
-    ∷ piece (codes "th") (suit_sign 0xA3) ∷ piece (codes "/th") line_feed
-    ∷ piece (codes "th") (suit_sign 0xA6) ∷ piece (codes "/th") line_feed
-    ∷ piece (codes "th") (suit_sign 0xA5) ∷ piece (codes "/th") line_feed
-    ∷ piece (codes "th") (suit_sign 0xA0) ∷ piece (codes "/th") line_feed
-    ∷ piece (codes "th") (codes "NT") ∷ piece (codes "/th") line_feed ∷ []
+    ∷ head_cell (codes "col") [] ∷ of_class (codes "read") (codes "span") (codes "Declarer") ∷ piece (codes "/span") []
+    ∷ piece (codes "/th") line_feed
+    ∷ head_cell (codes "col") (suit_sign 0xA3) ∷ piece (codes "/th") line_feed
+    ∷ red_head (suit_sign 0xA6) ∷ piece (codes "/th") line_feed
+    ∷ red_head (suit_sign 0xA5) ∷ piece (codes "/th") line_feed
+    ∷ head_cell (codes "col") (suit_sign 0xA0) ∷ piece (codes "/th") line_feed
+    ∷ head_cell (codes "col") (codes "NT") ∷ piece (codes "/th") line_feed ∷ []
 
 abbrev pub line_end : Piece
 line_end = piece (codes "/tr") []
@@ -145,7 +181,7 @@ pub table-chunk : Chunk TABLE.now (table_start ∷ (heading_line ++ line_end ∷
 table-chunk = chunk-constant TABLE.now (table_start ∷ (heading_line ++ line_end ∷ [])) refl refl refl
 
 abbrev pub line_start : List ℕ → List Piece
-line_start declarer = piece (codes "tr") line_feed ∷ piece (codes "th") declarer ∷ piece (codes "/th") [] ∷ []
+line_start declarer = piece (codes "tr") line_feed ∷ head_cell (codes "row") declarer ∷ piece (codes "/th") [] ∷ []
 
 pub line-chunk : (declarer : List ℕ) → Chunk (with_value ROW.now declarer) (line_start (resolved (value_text declarer ++ [])))
 unfolding filled is_template

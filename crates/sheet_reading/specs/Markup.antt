@@ -30,7 +30,7 @@ pub record BoardShape : Type 0 where
 
 -- whether par is known
 abbrev pub is_known : BoardPar → Bool
-is_known (Known score contracts) = true
+is_known (Known dealer vulnerable score contracts) = true
 is_known NoDealer = false
 is_known NoVulnerability = false
 

@@ -1,7 +1,7 @@
--- How a sheet is read: a title, and a block for each article of its page. Nothing here looks at how a sheet is written.
+-- How a sheet is read: its head, and a block for each article. Nothing here looks at how a sheet is written.
 -- The page is refused if an article has no name or two. It is refused too if a footer has a table or a paragraph that
 -- can't be read, or a paragraph out of place.
-use Rattle.std.specs.Prelude.{ℕ, ◌+◌, List, [], ◌∷◌, ◌++◌, map, codes}
+use Rattle.std.specs.Prelude.{ℕ, ◌+◌, ◌==◌, Bool, false, ◌&&◌, List, [], ◌∷◌, ◌++◌, map, filter, codes}
 use Rattle.std.specs.Prelude.{Option, None, Some, if◌then◌else◌, bytes_eq}
 use Rattle.std.specs.List.{flat_map}
 use Rattle.cards.specs.declared.seats.Seat.{Seat}
@@ -11,7 +11,9 @@ use Rattle.cards.specs.declared.suits.Trump.TheVariants as trump
 use Rattle.text_laws.specs.PageReading.{all_items, put_item, Row, row_of, seat_named, number_named, Table, rows_table}
 use Rattle.text_laws.specs.PageReading.{count_table, ParSaid, Nothing, Values, DealerUnknown, VulnerabilityUnknown}
 use Rattle.text_laws.specs.PageReading.{Section, section_of}
-use Rattle.sheet_reading.specs.Elements.{Piece, pieces_of, end_of, before_tag, elements, text_in}
+use Rattle.sheet_reading.specs.Elements.{attribute_in, Piece, pieces_of, has_class}
+use Rattle.sheet_reading.specs.Elements.{end_of, before_tag, elements, text_in}
+use Rattle.cards.specs.Bytes as ascii
 
 -- ---- one element of a name
 abbrev pub first_of : List (List Piece) → List Piece
@@ -52,12 +54,27 @@ abbrev pub tricks_of_level : Option ℕ → Option ℕ
 tricks_of_level None = None
 tricks_of_level (Some level) = Some (level + 6)
 
--- The number of tricks if a cell has one, or else those of the level that makes. A cell with both numbers is refused.
+-- ---- a number in parentheses
+abbrev pub up_to_close : List ℕ → List ℕ
+up_to_close [] = []
+up_to_close (byte ∷ bytes) = if byte == ascii.close_paren then [] else byte ∷ up_to_close bytes
+
+abbrev pub parenthesized : List ℕ → List ℕ
+parenthesized text = ascii.open_paren ∷ (text ++ ascii.close_paren ∷ [])
+
+-- the parentheses hold the number, and the text is no more than that
+abbrev pub number_in_parentheses : List ℕ → Option ℕ
+number_in_parentheses [] = None
+number_in_parentheses (byte ∷ bytes) =
+    if bytes_eq (byte ∷ bytes) (parenthesized (up_to_close bytes)) then number_named (up_to_close bytes) else None
+
+-- The number of tricks if a cell has one, in parentheses, or else those of the level that makes. A cell with both
+-- numbers is refused.
 abbrev pub tricks_or_level : Option (List ℕ) → List ℕ → Option ℕ
 tricks_or_level None text = None
 tricks_or_level (Some []) text = tricks_of_level (number_named text)
 tricks_or_level (Some (byte ∷ bytes)) text =
-    if bytes_eq text (byte ∷ bytes) then number_named (byte ∷ bytes) else None
+    if bytes_eq text (byte ∷ bytes) then number_in_parentheses (byte ∷ bytes) else None
 
 abbrev pub tricks_in : List Piece → Option ℕ
 tricks_in cell = tricks_or_level (only_text_of (codes "small") cell) (text_in cell)
@@ -144,10 +161,34 @@ section_in footer =
     section_of_parts (elements (codes "table") footer)
     (elements (codes "p") (before_tag (end_of (codes "table")) footer)) (elements (codes "p") footer)
 
--- ---- a block: its name, who deals and who is vulnerable, the hands, and its section, if it has one
+-- ---- a compass: its seats, each with the marks of the dealer and of a vulnerable seat, if it has them
+pub record Corner : Type 0 where
+  pub seat : List ℕ
+  pub deals : Bool
+  pub exposed : Bool
+
+abbrev pub corner_in : List Piece → List Corner
+corner_in [] = []
+corner_in (span ∷ pieces) =
+    record {
+      seat = text_in (span ∷ pieces);
+      deals = has_class (codes "deals") span;
+      exposed = has_class (codes "exposed") span;
+    } ∷ []
+
+abbrev pub corners_in : List Piece → List Corner
+corners_in compass = flat_map corner_in (elements (codes "span") compass)
+
+abbrev pub is_of_class : List ℕ → List Piece → Bool
+is_of_class name [] = false
+is_of_class name (piece ∷ pieces) = has_class name piece
+
+-- ---- a block: its name, who deals and who is vulnerable, in words and round the compass, the hands, and its section,
+-- if it has one
 pub record Block : Type 0 where
   pub name : List ℕ
   pub facts : List (List ℕ)
+  pub compass : List Corner
   pub hands : List (List (List ℕ))
   pub section : Option Section
 
@@ -155,12 +196,23 @@ pub record Block : Type 0 where
 abbrev pub facts_in : List Piece → List (List ℕ)
 facts_in article = texts_of (codes "p") (first_of (elements (codes "div") article))
 
+-- the seats of each compass
+abbrev pub compass_in : List Piece → List Corner
+compass_in article = flat_map corners_in (filter (is_of_class (codes "compass")) (elements (codes "div") article))
+
+-- of each list of a hand its lines, of which the first has the seat's letter
 abbrev pub hands_in : List Piece → List (List (List ℕ))
 hands_in article = map (texts_of (codes "li")) (elements (codes "ul") article)
 
 abbrev pub block_with : List Piece → Option (List ℕ) → Option (Option Section) → Option Block
 block_with article (Some name) (Some section) =
-    Some (record { name = name; facts = facts_in article; hands = hands_in article; section = section })
+    Some (record {
+      name = name;
+      facts = facts_in article;
+      compass = compass_in article;
+      hands = hands_in article;
+      section = section;
+    })
 block_with article _ _ = None
 
 -- a section that is there has to be read
@@ -177,18 +229,44 @@ abbrev pub block_in : List Piece → Option Block
 block_in article =
     block_with article (only_text_of (codes "h2") article) (only_section (elements (codes "footer") article))
 
--- ---- a page: its title and its articles
+-- ---- the policies of a page (Content Security Policy Level 3, 3.3)
+abbrev pub is_policy : Option (List ℕ) → Bool
+is_policy None = false
+is_policy (Some header) = bytes_eq header (codes "Content-Security-Policy")
+
+abbrev pub said_or_nothing : Option (List ℕ) → List ℕ
+said_or_nothing None = []
+said_or_nothing (Some text) = text
+
+abbrev pub policy_in : Piece → List (List ℕ)
+policy_in piece =
+    if bytes_eq piece.name (codes "meta") && is_policy (attribute_in (codes "http-equiv") piece.tag)
+    then said_or_nothing (attribute_in (codes "content") piece.tag) ∷ []
+    else []
+
+-- those before the first style
+abbrev pub policies_in : List Piece → List (List ℕ)
+policies_in pieces = flat_map policy_in (before_tag (codes "style") pieces)
+
+-- ---- a page: its title, the paragraphs of its first header, its policies and its articles
 pub record Sheet : Type 0 where
   pub title : List ℕ
+  pub notes : List (List ℕ)
+  pub policies : List (List ℕ)
   pub blocks : List Block
 
-abbrev pub sheet_with : Option (List ℕ) → Option (List Block) → Option Sheet
-sheet_with (Some title) (Some blocks) = Some (record { title = title; blocks = blocks })
-sheet_with _ _ = None
+abbrev pub notes_in : List Piece → List (List ℕ)
+notes_in pieces = texts_of (codes "p") (first_of (elements (codes "header") pieces))
+
+abbrev pub sheet_with : List Piece → Option (List ℕ) → Option (List Block) → Option Sheet
+sheet_with pieces (Some title) (Some blocks) =
+    Some (record { title = title; notes = notes_in pieces; policies = policies_in pieces; blocks = blocks })
+sheet_with pieces _ _ = None
 
 abbrev pub sheet_of : List Piece → Option Sheet
 sheet_of pieces =
-    sheet_with (only_text_of (codes "title") pieces) (all_items (map block_in (elements (codes "article") pieces)))
+    sheet_with pieces (only_text_of (codes "title") pieces)
+    (all_items (map block_in (elements (codes "article") pieces)))
 
 abbrev pub sheet_in : List ℕ → Option Sheet
 sheet_in page = sheet_of (pieces_of page)

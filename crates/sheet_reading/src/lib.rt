@@ -15,10 +15,11 @@ pub use pages::{
     pages_add, plain_values_stay, templates_are_plain, values_are_read, values_are_texts,
 };
 
-/// A sheet is read, element by element, as its title and one block for each board, in their order, and no other block.
-/// A block has the board's name. If the board has a deal, the block also has who deals and who is vulnerable, the four
-/// hands, the results and the par. Each result of a complete table is read once, for its declarer and denomination. A
-/// result is at most 13 tricks.
+/// A sheet is read, element by element, as its head and one block for each board, in their order, and no other block.
+/// The head has the title, the site and date, the key, and one policy, which lets a browser load nothing. A block has
+/// the board's name. If the board has a deal, the block also has who deals and who is vulnerable, in words and in the
+/// compass, each hand under the letter of its seat, the results and the par. Each result of a complete table is read
+/// once, for its declarer and denomination. A result is at most 13 tricks.
 pub fn sheets_are_read()
     ensures { SheetsAreRead }
 {}

@@ -4,8 +4,8 @@ use Rattle.std.specs.Fmt.{decimal}
 use Rattle.html.specs.Values.{value_text}
 use Rattle.sheets.specs.declared.cells.CellPlace.{CellPlace}
 use Rattle.sheets.specs.declared.cells.CellPlace.TheVariants.{Level, Tricks}
-use Rattle.sheets.specs.CellText.{level_shown, tricks_shown, cell_place, cell_value_at, cell_value}
-use Rattle.sheets.proofs.PlainTexts.{decimal-stays, nothing-stays}
+use Rattle.sheets.specs.CellText.{level_shown, in_parentheses, tricks_shown, cell_place, cell_value_at, cell_value}
+use Rattle.sheets.proofs.PlainTexts.{decimal-stays, nothing-stays, parentheses-stay}
 
 level-stays : (tricks : ℕ) (makes : Bool) → tricks < 256 →
     value_text (cond makes (decimal (tricks - 6)) []) ≡ cond makes (decimal (tricks - 6)) []
@@ -13,9 +13,9 @@ level-stays tricks true h = decimal-stays (tricks - 6) (omega (arith, h))
 level-stays tricks false h = nothing-stays
 
 tricks-stay : (tricks : ℕ) (makes : Bool) → tricks < 256 →
-    value_text (cond makes [] (decimal tricks)) ≡ cond makes [] (decimal tricks)
+    value_text (cond makes [] (in_parentheses (decimal tricks))) ≡ cond makes [] (in_parentheses (decimal tricks))
 tricks-stay tricks true h = nothing-stays
-tricks-stay tricks false h = decimal-stays tricks (omega (arith, h))
+tricks-stay tricks false h = parentheses-stay tricks (omega (arith, h))
 
 pub level-text : (tricks : ℕ) (name : List ℕ) (found : Option CellPlace) → tricks < 256 →
     found ≡ cell_place name → found ≡ Some Level → value_text (cell_value tricks name) ≡ level_shown tricks

@@ -10,14 +10,15 @@ use Rattle.cards.specs.declared.suits.Suit.TheVariants.{Spades, Hearts, Diamonds
 use Rattle.cards.specs.declared.pack.Rank.{Rank}
 use Rattle.cards.specs.declared.pack.Rank.TheVariants.{Two, Three, Four, Five, Six, Seven, Eight, Nine, Ten, Jack}
 use Rattle.cards.specs.declared.pack.Rank.TheVariants.{Queen, King, Ace}
+use Rattle.cards.specs.Seats.{seat_letter}
 use Rattle.cards.specs.Pack.{card_of}
 use Rattle.cards.specs.Deal.{Deal, holder_of, is_held_by}
 use Rattle.html.specs.Values.{value_text}
 use Rattle.html.specs.Plain.{is_plain}
 use Rattle.html.proofs.PlainTexts.{plain-stays}
 use Rattle.sheets.specs.declared.hands.HandPlace.{HandPlace}
-use Rattle.sheets.specs.declared.hands.HandPlace.TheVariants.{Name, Holding, Points}
-use Rattle.sheets.specs.HandText.{rank_shown, ranks_falling, card_shown, cards_shown, is_void, suit_points, points_of, seat_name, hand_place, hand_value_at, hand_value}
+use Rattle.sheets.specs.declared.hands.HandPlace.TheVariants.{Letter, Holding, Points}
+use Rattle.sheets.specs.HandText.{rank_shown, ranks_falling, card_shown, cards_shown, is_void, suit_points, points_of, hand_place, hand_value_at, hand_value}
 use Rattle.sheets.proofs.PlainTexts.{plain-append, decimal-stays, nothing-stays}
 
 rank-plain : (rank : Rank) → is_plain (rank_shown rank) ≡ true
@@ -72,15 +73,15 @@ points-few deal seat =
     omega (arith, few deal seat Spades, few deal seat Hearts, few deal seat Diamonds, few deal seat Clubs)
 
 -- ---- all places
-name-plain : (seat : Seat) → is_plain (seat_name seat) ≡ true
-name-plain North = refl
-name-plain East = refl
-name-plain South = refl
-name-plain West = refl
+letter-plain : (seat : Seat) → is_plain (seat_letter seat) ≡ true
+letter-plain North = refl
+letter-plain East = refl
+letter-plain South = refl
+letter-plain West = refl
 
 hand-stays : (deal : Deal) (seat : Seat) (place : Option HandPlace) →
     value_text (hand_value_at deal seat place) ≡ hand_value_at deal seat place
-hand-stays deal seat (Some Name) = plain-stays (seat_name seat) (name-plain seat)
+hand-stays deal seat (Some Letter) = plain-stays (seat_letter seat) (letter-plain seat)
 hand-stays deal seat (Some (Holding suit)) = holding-stays deal seat suit (is_void deal seat suit)
 hand-stays deal seat (Some Points) = decimal-stays (points_of deal seat) (points-few deal seat)
 hand-stays deal seat None = nothing-stays

@@ -10,6 +10,7 @@ use Rattle.std.proofs.lemmas.Str.Parse.{digit_at}
 use Rattle.html.specs.Values.{value_text}
 use Rattle.html.specs.Plain.{is_plain_byte, is_plain}
 use Rattle.html.proofs.PlainTexts.{plain-stays}
+use Rattle.sheets.specs.CellText.{in_parentheses}
 
 pub plain-append : (one other : List ℕ) → is_plain one ≡ true → is_plain other ≡ true → is_plain (one ++ other) ≡ true
 plain-append one other a b =
@@ -36,8 +37,15 @@ digits-plain (byte ∷ bytes) h =
     let range = digit_at (byte ∷ bytes) 0 h (omega arith) in
     and_from (is_plain_byte byte) (is_plain bytes) (digit-plain byte range.0 (omega (arith, range.1))) (digits-plain bytes h.1)
 
+decimal-plain : (n : ℕ) → n < 2 ^ 64 → is_plain (decimal n) ≡ true
+decimal-plain n h = digits-plain (decimal n) (decimal_is_IsNumeral n h).0.1
+
 pub decimal-stays : (n : ℕ) → n < 2 ^ 64 → value_text (decimal n) ≡ decimal n
-decimal-stays n h = plain-stays (decimal n) (digits-plain (decimal n) (decimal_is_IsNumeral n h).0.1)
+decimal-stays n h = plain-stays (decimal n) (decimal-plain n h)
+
+pub parentheses-stay : (n : ℕ) → n < 2 ^ 64 → value_text (in_parentheses (decimal n)) ≡ in_parentheses (decimal n)
+parentheses-stay n h =
+    plain-stays (in_parentheses (decimal n)) (plain-append (decimal n) (41 ∷ []) (decimal-plain n h) refl)
 
 pub nothing-stays : value_text [] ≡ []
 nothing-stays = plain-stays [] refl

@@ -1,15 +1,15 @@
 -- What a sheet shows of who deals and who is vulnerable, in words and round the compass.
-use Rattle.std.specs.Prelude.{ℕ, Bool, true, false, List, [], ◌++◌, codes, Option, None, Some}
+use Rattle.std.specs.Prelude.{ℕ, Bool, true, false, List, [], ◌++◌, Option, None, Some}
 use Rattle.cards.specs.declared.seats.Seat.{Seat}
 use Rattle.cards.specs.declared.seats.Seat.TheVariants.{North, East, South, West}
 use Rattle.cards.specs.Seats.{seat_letter, side_of, is_same_seat}
 use Rattle.par.specs.declared.scores.Vulnerability.{Vulnerability}
 use Rattle.par.specs.declared.scores.Vulnerability.TheVariants.{NotVulnerable, Vulnerable}
 use Rattle.par.specs.declared.vulnerable_sides.VulnerableSides.{VulnerableSides}
-use Rattle.par.specs.declared.vulnerable_sides.VulnerableSides.TheVariants as sides
 use Rattle.par.specs.VulnerableSides.{vulnerability_of}
 use Rattle.board_conditions.specs.declared.conditions.Conditions.{Conditions}
 use Rattle.html.specs.Templates.{filled}
+use Rattle.tables.specs.ConditionTags.{sides_shown}
 use Rattle.sheets.specs.declared.templates.TheConstants.{FACTS, DEALER, VULNERABLE, COMPASS}
 use Rattle.sheets.specs.declared.templates.TheConstants.{SEAT, DEALS, EXPOSED, DEALS_EXPOSED, HANDS}
 
@@ -21,13 +21,6 @@ with_value template value = filled (λ place. value) template
 abbrev pub dealer_text : Option Seat → List ℕ
 dealer_text None = []
 dealer_text (Some dealer) = with_value DEALER.now (seat_letter dealer)
-
--- as PBN names them
-abbrev pub sides_shown : VulnerableSides → List ℕ
-sides_shown sides.Neither = codes "None"
-sides_shown sides.NorthSouth = codes "NS"
-sides_shown sides.EastWest = codes "EW"
-sides_shown sides.Both = codes "All"
 
 abbrev pub vulnerable_text : Option VulnerableSides → List ℕ
 vulnerable_text None = []

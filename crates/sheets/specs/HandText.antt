@@ -1,18 +1,19 @@
--- What a sheet shows of a hand: for each suit its cards, the ranks falling, and its honour points.
+-- What a sheet shows of a hand: the letter of its seat, for each suit its cards, the ranks falling, and its honour
+-- points.
 use Rattle.std.specs.Prelude.{ℕ, ◌+◌, Bool, not, List, [], ◌∷◌, codes, if◌then◌else◌, bytes_eq, Option, None, Some}
 use Rattle.std.specs.List.{flat_map, list_all}
 use Rattle.std.specs.Fmt.{decimal}
 use Rattle.cards.specs.declared.seats.Seat.{Seat}
-use Rattle.cards.specs.declared.seats.Seat.TheVariants.{North, East, South, West}
 use Rattle.cards.specs.declared.suits.Suit.{Suit}
 use Rattle.cards.specs.declared.suits.Suit.TheVariants.{Spades, Hearts, Diamonds, Clubs}
 use Rattle.cards.specs.declared.pack.Rank.{Rank}
 use Rattle.cards.specs.declared.pack.Rank.TheVariants.{Two, Three, Four, Five, Six, Seven, Eight, Nine, Ten, Jack}
 use Rattle.cards.specs.declared.pack.Rank.TheVariants.{Queen, King, Ace}
+use Rattle.cards.specs.Seats.{seat_letter}
 use Rattle.cards.specs.Pack.{card_of}
 use Rattle.cards.specs.Deal.{Deal, holder_of, is_held_by}
 use Rattle.sheets.specs.declared.hands.HandPlace.{HandPlace}
-use Rattle.sheets.specs.declared.hands.HandPlace.TheVariants.{Name, Holding, Points}
+use Rattle.sheets.specs.declared.hands.HandPlace.TheVariants.{Letter, Holding, Points}
 
 -- a rank as players write it
 abbrev pub rank_shown : Rank → List ℕ
@@ -68,15 +69,9 @@ points_of deal seat =
     + suit_points deal seat Diamonds + suit_points deal seat Clubs
 
 -- ---- the places of a hand's template
-abbrev pub seat_name : Seat → List ℕ
-seat_name North = codes "North"
-seat_name East = codes "East"
-seat_name South = codes "South"
-seat_name West = codes "West"
-
 abbrev pub hand_place : List ℕ → Option HandPlace
 hand_place name =
-    if bytes_eq name (codes "seat") then Some Name else
+    if bytes_eq name (codes "seat") then Some Letter else
     (if bytes_eq name (codes "spades") then Some (Holding Spades) else
     (if bytes_eq name (codes "hearts") then Some (Holding Hearts) else
     (if bytes_eq name (codes "diamonds") then Some (Holding Diamonds) else
@@ -85,7 +80,7 @@ hand_place name =
     None)))))
 
 abbrev pub hand_value_at : Deal → Seat → Option HandPlace → List ℕ
-hand_value_at deal seat (Some Name) = seat_name seat
+hand_value_at deal seat (Some Letter) = seat_letter seat
 hand_value_at deal seat (Some (Holding suit)) = holding_shown deal seat suit
 hand_value_at deal seat (Some Points) = decimal (points_of deal seat)
 hand_value_at deal seat None = []

@@ -51,5 +51,12 @@ titles_after before titles = record titles {
 abbrev pub begins_group : TitleValues → TitleValues → Bool
 begins_group before titles = is_new before.event titles.event || is_new before.section titles.section
 
+-- what a heading shows: an event only if it is new
+abbrev pub new_titles : TitleValues → TitleValues → TitleValues
+new_titles before titles = record titles {
+  event = if is_new before.event titles.event then titles.event else None;
+}
+
 abbrev pub group_text : TitleValues → TitleValues → List ℕ
-group_text before titles = if begins_group before titles then filled (title_value titles) GROUP.now else []
+group_text before titles =
+    if begins_group before titles then filled (title_value (new_titles before titles)) GROUP.now else []

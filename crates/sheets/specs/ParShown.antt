@@ -40,6 +40,6 @@ par_value score contracts name = par_value_at score contracts (par_place name)
 -- ---- par, or what isn't known of the board
 abbrev pub par_shown : Option BoardPar → List ℕ
 par_shown None = []
-par_shown (Some (Known score contracts)) = filled (par_value score contracts.items) PAR.now
+par_shown (Some (Known dealer vulnerable score contracts)) = filled (par_value score contracts.items) PAR.now
 par_shown (Some NoDealer) = with_value PAR_UNKNOWN.now (codes "dealer")
 par_shown (Some NoVulnerability) = with_value PAR_UNKNOWN.now (codes "vulnerability")

@@ -17,8 +17,8 @@ use cards::{DeviceFault, Layout, Seat, Sink, write_all};
 use pbn_deals::Board;
 use tables::Results;
 
-/// Writes the four hands.
-fn write_hands<S: Sink>(sink: &mut S, layout: &Layout) -> Result<(), DeviceFault>
+/// Writes the four hands, clockwise from North.
+pub fn write_hands<S: Sink>(sink: &mut S, layout: &Layout) -> Result<(), DeviceFault>
     ensures { Writes (S.state sink.old) (S.state sink.new) (hands_text layout.now) result }
 {
     write_hand(sink, layout, Seat::North)?;

@@ -1,21 +1,22 @@
 //! A result in a table.
 
 ghost use Rattle.std.specs.Prelude.{◌≡◌, ◌<◌};
+ghost use Rattle.std.specs.Fmt.{decimal};
 ghost use Rattle.cards.specs.Devices.{Writes};
 ghost use Rattle.html.specs.Templates.{filled};
-ghost use Rattle.sheets.specs.CellText.{level_shown, tricks_shown, cell_place, cell_value};
+ghost use Rattle.sheets.specs.CellText.{level_shown, in_parentheses, tricks_shown, cell_place, cell_value};
 ghost use Rattle.sheets.specs.declared.templates.TheConstants as template;
 
 use crate::names::is_named;
 use crate::templates::CELL;
-use cards::{DeviceFault, Sink, write_number};
+use cards::{DeviceFault, Sink, write_all, write_number};
 use html::{Values, write_filled};
 
 /// A place of a cell's template.
 enum CellPlace {
     /// The level that makes.
     Level,
-    /// The tricks, if no level makes.
+    /// The tricks in parentheses, if no level makes.
     Tricks,
 }
 
@@ -43,14 +44,23 @@ fn write_level<S: Sink>(sink: &mut S, tricks: u8) -> Result<(), DeviceFault>
     }
 }
 
-/// Writes how many tricks there are, if no level makes.
+/// Writes a number in parentheses.
+fn write_in_parentheses<S: Sink>(sink: &mut S, number: u8) -> Result<(), DeviceFault>
+    ensures { Writes (S.state sink.old) (S.state sink.new) (in_parentheses (decimal number)) result }
+{
+    write_all(sink, b"(")?;
+    write_number(sink, number as u64)?;
+    write_all(sink, b")")
+}
+
+/// Writes the tricks in parentheses, if no level makes.
 fn write_tricks<S: Sink>(sink: &mut S, tricks: u8) -> Result<(), DeviceFault>
     ensures { Writes (S.state sink.old) (S.state sink.new) (tricks_shown tricks) result }
 {
     if tricks > 6 {
         Ok(())
     } else {
-        write_number(sink, tricks as u64)
+        write_in_parentheses(sink, tricks)
     }
 }
 

@@ -2,7 +2,7 @@
 
 ghost use Rattle.std.specs.Prelude.{◌≡◌};
 ghost use Rattle.cards.specs.Devices.{Writes};
-ghost use Rattle.sheets.specs.Facts.{dealer_text, sides_shown, vulnerable_text, is_dealer, is_exposed};
+ghost use Rattle.sheets.specs.Facts.{dealer_text, vulnerable_text, is_dealer, is_exposed};
 ghost use Rattle.sheets.specs.Facts.{seat_template, seat_text, seats_text, words_text, facts_text};
 
 use crate::templates::{
@@ -12,6 +12,7 @@ use crate::values::{write_with, write_with_seat};
 use board_conditions::Conditions;
 use cards::{DeviceFault, Seat, Sink, write_all};
 use par::{Vulnerability, VulnerableSides};
+use tables::sides_shown;
 
 /// Writes who deals, if that is known.
 fn write_dealer<S: Sink>(sink: &mut S, dealer: Option<Seat>) -> Result<(), DeviceFault>
@@ -20,18 +21,6 @@ fn write_dealer<S: Sink>(sink: &mut S, dealer: Option<Seat>) -> Result<(), Devic
     match dealer {
         Some(dealer) => write_with_seat(sink, DEALER, dealer),
         None => Ok(()),
-    }
-}
-
-/// The vulnerable sides as PBN names them.
-fn sides_shown(sides: VulnerableSides) -> &'static [u8]
-    ensures { result.now ≡ sides_shown sides }
-{
-    match sides {
-        VulnerableSides::Neither => b"None",
-        VulnerableSides::NorthSouth => b"NS",
-        VulnerableSides::EastWest => b"EW",
-        VulnerableSides::Both => b"All",
     }
 }
 

@@ -1,11 +1,12 @@
-//! A hand, with its honour points.
+//! A hand: the letter of its seat, its cards, and its honour points.
 
 ghost use Rattle.std.specs.Prelude.{◌≡◌, ◌≤◌};
 ghost use Rattle.cards.specs.Deal.{holder_of, is_held_by};
+ghost use Rattle.cards.specs.Seats.{seat_letter};
 ghost use Rattle.cards.specs.Devices.{Writes};
 ghost use Rattle.html.specs.Templates.{filled};
 ghost use Rattle.sheets.specs.HandText.{rank_shown, card_shown, cards_shown, is_void, holding_shown, points_if};
-ghost use Rattle.sheets.specs.HandText.{suit_points, points_of, seat_name, hand_place, hand_value};
+ghost use Rattle.sheets.specs.HandText.{suit_points, points_of, hand_place, hand_value};
 ghost use Rattle.sheets.specs.declared.templates.TheConstants as template;
 
 use crate::names::is_named;
@@ -17,7 +18,7 @@ use html::{Values, write_filled};
 const VOID: &[u8] = b"\xE2\x80\x93";
 
 /// A rank as players write it.
-fn rank_shown(rank: Rank) -> &'static [u8]
+pub fn rank_shown(rank: Rank) -> &'static [u8]
     ensures { result.now ≡ rank_shown rank }
 {
     if rank == Rank::Ten {
@@ -138,22 +139,17 @@ fn points_of(layout: &Layout, seat: Seat) -> u8
         + suit_points(layout, seat, Suit::Clubs)
 }
 
-/// The seat's name.
-fn seat_name(seat: Seat) -> &'static [u8]
-    ensures { result.now ≡ seat_name seat }
+/// The seat's letter.
+fn seat_letter(seat: Seat) -> &'static [u8]
+    ensures { result.now ≡ seat_letter seat }
 {
-    match seat {
-        Seat::North => b"North",
-        Seat::East => b"East",
-        Seat::South => b"South",
-        Seat::West => b"West",
-    }
+    seat.letter().as_bytes()
 }
 
 /// A place of a hand's template.
 enum HandPlace {
-    /// The seat's name.
-    Name,
+    /// The seat's letter.
+    Letter,
     /// The cards of a suit.
     Holding(Suit),
     /// The honour points.
@@ -165,7 +161,7 @@ fn hand_place(name: &[u8]) -> Option<HandPlace>
     ensures { result ≡ hand_place name.now }
 {
     if is_named(name, b"seat") {
-        Some(HandPlace::Name)
+        Some(HandPlace::Letter)
     } else if is_named(name, b"spades") {
         Some(HandPlace::Holding(Suit::Spades))
     } else if is_named(name, b"hearts") {
@@ -193,7 +189,7 @@ impl Values for HandValues<'_> {
 
     fn write<S: Sink>(&self, sink: &mut S, name: &[u8]) -> Result<(), DeviceFault> {
         match hand_place(name) {
-            Some(HandPlace::Name) => write_all(sink, seat_name(self.seat)),
+            Some(HandPlace::Letter) => write_all(sink, seat_letter(self.seat)),
             Some(HandPlace::Holding(suit)) => write_holding(sink, self.layout, self.seat, suit),
             Some(HandPlace::Points) => write_number(sink, points_of(self.layout, self.seat) as u64),
             None => Ok(()),

@@ -7,7 +7,7 @@ ghost use Rattle.html.specs.Templates.{filled};
 ghost use Rattle.html.specs.Values.{value_text};
 ghost use Rattle.board_conditions.specs.Titles.{titles_said};
 ghost use Rattle.sheets.specs.Headings.{title_place, title_at, title_shown, title_value, is_new, begins_group};
-ghost use Rattle.sheets.specs.Headings.{group_text, titles_after};
+ghost use Rattle.sheets.specs.Headings.{new_titles, group_text, titles_after};
 
 use crate::names::is_named;
 use crate::templates::GROUP;
@@ -139,6 +139,18 @@ fn begins_group(before: Titles<'_>, titles: Titles<'_>) -> bool
     is_new(before.event, titles.event) || is_new(before.section, titles.section)
 }
 
+/// What a heading shows: an event only if it is new.
+fn new_titles<'a>(before: Titles<'_>, titles: Titles<'a>) -> Titles<'a>
+    ensures { titles_said result ≡ new_titles (titles_said before.entry) (titles_said titles.entry) }
+{
+    let event = if is_new(before.event, titles.event) {
+        titles.event
+    } else {
+        None
+    };
+    Titles { event, ..titles }
+}
+
 /// Writes the heading of another event or section, if it begins.
 pub(crate) fn write_group<S: Sink>(
     sink: &mut S,
@@ -149,7 +161,7 @@ pub(crate) fn write_group<S: Sink>(
         (group_text (titles_said before.entry) (titles_said titles.entry)) result }
 {
     if begins_group(before, titles) {
-        write_titles(sink, GROUP, titles)
+        write_titles(sink, GROUP, new_titles(before, titles))
     } else {
         Ok(())
     }

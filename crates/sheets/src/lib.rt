@@ -13,4 +13,7 @@ mod results;
 pub mod templates;
 mod values;
 
+pub use boards::write_hands;
+pub use hands::rank_shown;
 pub use pages::write_page;
+pub use values::{write_with, write_with_number, write_with_seat};

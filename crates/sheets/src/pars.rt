@@ -76,7 +76,11 @@ pub(crate) fn write_par<S: Sink>(sink: &mut S, par: Option<&BoardPar>) -> Result
         return Ok(());
     };
     match par {
-        BoardPar::Known { score, contracts } => {
+        BoardPar::Known {
+            score,
+            contracts,
+            ..
+        } => {
             let values = ParValues {
                 score: *score,
                 contracts: contracts.as_slice(),

@@ -90,7 +90,7 @@ pub(crate) fn write_results<S: Sink, T: Results>(
 {
     let known = count_results(results, board);
     if known < 20 {
-        write_with_number(sink, INCOMPLETE, known)
+        write_with_number(sink, INCOMPLETE, known as u64)
     } else {
         write_complete(sink, results, board)
     }

@@ -1,7 +1,8 @@
 //! The templates of a sheet: HTML with places `{name}` for values.
 //!
-//! The style is the text of an element, and HEAD has its hash. How a sheet is read by its elements (`sheet_reading`)
-//! follows the tags and the words here.
+//! The style is the text of an element, and HEAD has its hash, which `bench/sheet/hash.py` puts there. How a sheet is
+//! read by its elements (`sheet_reading`) follows the tags and the words here. In what place a browser puts a hand, and
+//! whether it shows it, the style alone says.
 
 ghost use Rattle.sheets.specs.Places.{ValuesStandBetweenTags};
 
@@ -10,7 +11,8 @@ pub const HEAD: &[u8] = br#"<!DOCTYPE html>
 <html lang="en">
 <head>
 <meta charset="utf-8">
-<meta http-equiv="Content-Security-Policy" content="default-src 'none'; style-src 'sha256-RESXpx7uYCC7WK1/EfTLLN1dhQSn24NVVkkDJJWbj5w='; base-uri 'none'; form-action 'none'">
+<meta http-equiv="Content-Security-Policy" content="default-src 'none';
+  style-src 'sha256-ohKmwkAUd72clqJphImkSWhmV57ePUukjBq2XQOMVLE='; base-uri 'none'; form-action 'none'">
 <meta name="viewport" content="width=device-width, initial-scale=1">
 <title>Hand record {event}</title>
 <style>"#;
@@ -22,26 +24,31 @@ body { font: 13px/1.2 "DejaVu Sans Condensed", "Helvetica Neue", Arial, sans-ser
   max-width: 198mm; margin: 0 auto; padding: 2mm 1mm }
 body > header { display: flex; flex-wrap: wrap; align-items: baseline; justify-content: space-between; gap: 0 1em;
   border-bottom: 2px solid #234; padding-bottom: 1mm; margin: 0 1mm 2mm; overflow-wrap: anywhere }
-h1 { font-size: 17px } .key { width: 100%; font-size: 10.5px }
+h1 { font-size: 17px } .key { width: 100%; font-size: 11px }
 main { orphans: 1; widows: 1 }
 main > h2 { font-size: 15px; margin: 0 1mm 1mm; break-after: avoid; overflow-wrap: anywhere }
-article { border: 1px solid #678; border-radius: 3px; padding: 1.5mm 2mm 1mm; margin: 0 1mm 2mm; break-inside: avoid;
-  display: inline-grid; vertical-align: top; width: calc(100% / 3 - 2mm); min-height: 77.5mm;
+article { border: 1px solid #678; border-radius: 3px; padding: 1mm 1.5mm; margin: 0 1mm 2mm; break-inside: avoid;
+  display: inline-grid; vertical-align: top; width: calc(100% / 3 - 2mm); min-height: 78mm;
   grid-template: "name facts" auto "deal deal" 1fr "foot foot" auto / 1fr auto }
 article h2 { grid-area: name; font-size: 18px; line-height: 1.1; overflow-wrap: anywhere }
-.facts { grid-area: facts; text-align: right; font-size: 10.5px }
+.facts { grid-area: facts; text-align: right; font-size: 11px; line-height: 20px }
+.facts p { display: inline-block; margin-left: .8em }
 .deal { grid-area: deal; align-self: center; position: relative; display: grid; gap: 0 1mm; align-items: center;
-  grid-template: ". N N" auto "W x E" auto ". S S" auto / minmax(0, 1fr) 14mm minmax(0, 1fr) }
-.deal ul { list-style: none; word-break: break-all }
-.deal li { padding-left: 1.2em; text-indent: -1.2em }
-.deal b { display: inline-block; width: 1.2em; text-indent: 0; font-weight: normal }
-.deal .points { position: absolute; width: 2em; padding: 0; text-indent: 0; text-align: center; font-size: 10.5px }
-ul:nth-of-type(1) .points { top: 1mm; left: 5mm } ul:nth-of-type(2) .points { top: 4.5mm; left: 9mm }
-ul:nth-of-type(3) .points { top: 8mm; left: 5mm } ul:nth-of-type(4) .points { top: 4.5mm; left: 1mm }
+  grid-template: ". N N" auto "W x E" auto ". S S" auto / minmax(0, 1fr) 12mm minmax(0, 1fr) }
+.deal ul { list-style: none; padding-left: 12px; word-break: break-all }
+.deal li { padding-left: 1em; text-indent: -1em }
+.deal b { display: inline-block; width: 1em; text-indent: 0; font-weight: normal }
+.deal .seat { float: left; width: 12px; margin-left: -12px; padding: 0; text-indent: 0; font-size: 11px;
+  line-height: 16px; font-weight: bold }
+.deal .points, .deal::after { position: absolute; width: 2em; padding: 0; text-indent: 0; text-align: center;
+  font-size: 11px }
+.deal::after { content: "HCP"; top: 4.5mm; left: 5mm; font-size: 8px; line-height: 13px; width: 22px }
+ul:nth-of-type(1) .points { top: .8mm; left: 5mm } ul:nth-of-type(2) .points { top: 4.5mm; left: 10mm }
+ul:nth-of-type(3) .points { top: 8.2mm; left: 5mm } ul:nth-of-type(4) .points { top: 4.5mm; left: 0 }
 .red { color: #b00 }
 ul:nth-of-type(1) { grid-area: N } ul:nth-of-type(2) { grid-area: E }
 ul:nth-of-type(3) { grid-area: S } ul:nth-of-type(4) { grid-area: W }
-.compass { grid-area: x; width: 14mm; height: 14mm; display: grid; font-size: 10px; border: 1px solid #678;
+.compass { grid-area: x; width: 12mm; height: 12mm; display: grid; font-size: 10px; border: 1px solid #678;
   background: #eef4ef; grid-template: repeat(3, 1fr) / repeat(3, 1fr) }
 .compass span { display: grid; place-items: center; border: 0 solid #b00 }
 .compass span:nth-child(1) { grid-area: 1 / 1 / 2 / 4 } .compass span:nth-child(2) { grid-area: 1 / 1 / 4 / 2 }
@@ -50,15 +57,21 @@ ul:nth-of-type(3) { grid-area: S } ul:nth-of-type(4) { grid-area: W }
 .compass .exposed:nth-child(3) { border-right-width: 3px } .compass .exposed:nth-child(4) { border-bottom-width: 3px }
 .compass .deals { background: radial-gradient(circle, #234 2mm, #0000 2.1mm); color: #fff; font-weight: bold }
 footer { grid-area: foot; display: flex; justify-content: space-between; align-items: end; gap: 1mm;
-  border-top: 1px solid #9ab; padding-top: .5mm; font-size: 11px }
-footer p { text-align: right; overflow-wrap: anywhere }
+  border-top: 1px solid #9ab; padding-top: .5mm; line-height: 1.12 }
+footer p { text-align: right; overflow-wrap: anywhere; font-size: 11px }
 table { border-collapse: collapse; flex: none }
-td, th { width: 5mm; text-align: center } th { font-weight: normal }
-td { font-weight: bold } td small { color: #666; font-size: 10px; font-weight: normal }
+td, th { width: 1.5em; text-align: center } th { font-weight: normal }
+th[scope="row"] { width: 1.1em; text-align: left }
+td { font-weight: bold } td small { color: #555; font-size: .92em; font-weight: normal }
 .read { position: absolute; width: 1px; height: 1px; overflow: hidden; clip-path: inset(50%) }
 @media screen and (max-width: 185mm) { article { width: calc(50% - 2mm) } }
 @media screen and (max-width: 125mm) { article { width: calc(100% - 2mm); min-height: 0 } }
-@media print { body { max-width: none; padding: 0 } * { print-color-adjust: exact; -webkit-print-color-adjust: exact } }"#;
+@media print {
+  body { max-width: none; padding: 0 } * { print-color-adjust: exact; -webkit-print-color-adjust: exact }
+  main { -webkit-box-decoration-break: clone; box-decoration-break: clone; padding-bottom: 5mm }
+  article { min-height: calc((100vh - 24mm) / 3 - 2mm) } footer { font-size: calc(100vh / 76) }
+  .key { position: fixed; bottom: 0; left: 1mm }
+}"#;
 
 /// From the style to the first board.
 pub const BODY: &[u8] = br#"</style>
@@ -67,11 +80,12 @@ pub const BODY: &[u8] = br#"</style>
 <header>
 <h1>Hand record <bdi>{event}</bdi></h1>
 <p><bdi>{site}</bdi> <bdi>{date}</bdi></p>
-<p class="key">Double-dummy results: in bold the level that declarer makes, otherwise the tricks. Disc: dealer. Red side: vulnerable.</p>
+<p class="key">Double-dummy results. Bold: the level that declarer makes. (6): tricks, if no level makes.
+HCP: honour points. Disc: dealer. Red side: vulnerable.</p>
 </header>
 <main>"#;
 
-/// The heading of the boards of another event or section.
+/// The heading of the boards of another event or section, with what is new of the two.
 pub const GROUP: &[u8] = br#"<h2><bdi>{event}</bdi> <bdi>{section}</bdi></h2>"#;
 
 /// The beginning of a board.
@@ -107,9 +121,9 @@ pub const DEALS_EXPOSED: &[u8] = br#"<span class="deals exposed">{seat}</span>"#
 /// From the compass to the first hand.
 pub const HANDS: &[u8] = br#"</div>"#;
 
-/// A hand, with its honour points.
+/// A hand: the letter of its seat, its cards, and its honour points.
 pub const HAND: &[u8] = br#"<ul>
-<li class="read">{seat}</li>
+<li class="seat">{seat}</li>
 <li><b>&spades;</b>{spades}</li>
 <li><b class="red">&hearts;</b>{hearts}</li>
 <li><b class="red">&diams;</b>{diamonds}</li>
@@ -136,7 +150,7 @@ pub const TABLE: &[u8] = br#"<table>
 pub const ROW: &[u8] = br#"<tr>
 <th scope="row">{declarer}</th>"#;
 
-/// A result: the level that makes, or the tricks if there is none.
+/// A result: the level that makes, or the tricks in parentheses if there is none.
 pub const CELL: &[u8] = br#"<td>{level}<small>{tricks}</small></td>"#;
 
 /// The end of a row.

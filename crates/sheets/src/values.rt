@@ -1,6 +1,6 @@
 //! A template with one value.
 
-ghost use Rattle.std.specs.Prelude.{◌≡◌, ◌<◌};
+ghost use Rattle.std.specs.Prelude.{◌≡◌, ◌<◌, ◌^◌};
 ghost use Rattle.std.specs.Fmt.{decimal};
 ghost use Rattle.cards.specs.Devices.{Writes};
 ghost use Rattle.cards.specs.Seats.{seat_letter};
@@ -24,18 +24,14 @@ impl Values for OneValue<'_> {
 }
 
 /// Writes a template with this value in each of its places.
-pub(crate) fn write_with<S: Sink>(
-    sink: &mut S,
-    template: &[u8],
-    value: &[u8],
-) -> Result<(), DeviceFault>
+pub fn write_with<S: Sink>(sink: &mut S, template: &[u8], value: &[u8]) -> Result<(), DeviceFault>
     ensures { Writes (S.state sink.old) (S.state sink.new) (with_value template.now value.now) result }
 {
     write_filled(sink, template, &OneValue { value })
 }
 
 /// Writes a template with a seat's letter in each of its places.
-pub(crate) fn write_with_seat<S: Sink>(
+pub fn write_with_seat<S: Sink>(
     sink: &mut S,
     template: &[u8],
     seat: Seat,
@@ -48,13 +44,13 @@ pub(crate) fn write_with_seat<S: Sink>(
 /// One number for every place.
 #[derive(Drop)]
 struct OneNumber {
-    number: u8,
+    number: u64,
 }
 
 /// The number.
-fn number_of(one: &OneNumber) -> u8
+fn number_of(one: &OneNumber) -> u64
     ensures value { result ≡ one.now.number }
-    ensures byte { result < 256 }
+    ensures below { result < 2 ^ 64 }
 {
     one.number
 }
@@ -65,15 +61,15 @@ impl Values for OneNumber {
     ghost values = { λ one place. decimal one.number };
 
     fn write<S: Sink>(&self, sink: &mut S, _name: &[u8]) -> Result<(), DeviceFault> {
-        write_number(sink, number_of(self) as u64)
+        write_number(sink, number_of(self))
     }
 }
 
 /// Writes a template with this number in each of its places.
-pub(crate) fn write_with_number<S: Sink>(
+pub fn write_with_number<S: Sink>(
     sink: &mut S,
     template: &[u8],
-    number: u8,
+    number: u64,
 ) -> Result<(), DeviceFault>
     ensures { Writes (S.state sink.old) (S.state sink.new) (with_value template.now (decimal number)) result }
 {

@@ -2,17 +2,17 @@ use Rattle.std.proofs.Common.{ℕ, List, None, Some, sym, ◌∙◌, ap, subst}
 use Rattle.std.specs.Fmt.{decimal}
 use Rattle.cards.specs.Devices.{Writes, Adds}
 use Rattle.cards.proofs.WriteLemmas.{Adds-none}
-use Rattle.sheets.specs.declared.hands.HandPlace.TheVariants.{Name, Holding, Points}
+use Rattle.sheets.specs.declared.hands.HandPlace.TheVariants.{Letter, Holding, Points}
 use Rattle.sheets.proofs.HandLemmas.{hand-text}
 use Rattle.sheets.proofs.hands.HandValuesValues.write.Goals as goal
 
-pub returns-in-Some-Name : goal.returns-in-Some-Name
-returns-in-Some-Name g c =
+pub returns-in-Some-Letter : goal.returns-in-Some-Letter
+returns-in-Some-Letter g c =
     let deal = c.args.self.now.layout.now in
     let seat = c.args.self.now.seat in
     subst (λ (text : List ℕ). Writes (g.S.Sink.state c.args.sink.now) (g.S.Sink.state c.write_all.new.sink) text c.write_all.result)
-    (c.seat_name.ensures ∙ sym (hand-text deal seat c.args.name.now c.hand_place.result (Some Name) c.hand_place.ensures
-    (c.in-Some-Name.is ∙ ap (λ p. Some p) c.in-Some-Name.field-0-is)))
+    (c.seat_letter.ensures ∙ sym (hand-text deal seat c.args.name.now c.hand_place.result (Some Letter) c.hand_place.ensures
+    (c.in-Some-Letter.is ∙ ap (λ p. Some p) c.in-Some-Letter.field-0-is)))
     c.write_all.ensures
 
 pub returns-in-Some-Holding : goal.returns-in-Some-Holding

@@ -8,5 +8,5 @@ pub returns : goal.returns
 returns g c =
     let n = c.number_of.ensures in
     subst (λ (text : List ℕ). Writes (g.S.Sink.state c.args.sink.now) (g.S.Sink.state c.write_number.new.sink) text c.write_number.result)
-    (ap decimal n.value ∙ sym (decimal-stays c.args.self.now.number (omega (arith, rw n.value at n.byte))))
+    (ap decimal n.value ∙ sym (decimal-stays c.args.self.now.number (omega (arith, rw n.value at n.below))))
     c.write_number.ensures
