@@ -6,3 +6,4 @@ pub mod Lowest
 pub mod PlayedOut
 pub mod Standing
 pub mod UniqueProofs
+pub mod LossLaws

@@ -2,11 +2,13 @@
 #![tactic(auto)]
 
 mod layouts;
+mod losses;
 mod pars;
 mod single_cards;
 mod values_after;
 
 pub use layouts::{plain_value_is_unique, plain_value_is_value, value_is_unique};
+pub use losses::lines_say_losses;
 pub use pars::{par_has_contracts, par_is_unique};
 pub use single_cards::{best_card_is_value, card_value_is_unique, card_value_is_value_after};
 pub use values_after::{

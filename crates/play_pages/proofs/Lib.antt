@@ -1,0 +1,8 @@
+mod RecordedLaws
+mod LineLaws
+mod FoundLaws
+mod PlayLaws
+mod TaskLaws
+mod NoteLaws
+pub mod Places
+mod PieceLaws

@@ -1,0 +1,6 @@
+pub mod Lines
+pub mod Answers
+pub mod Tasks
+pub mod Texts
+pub mod Counts
+pub mod Making

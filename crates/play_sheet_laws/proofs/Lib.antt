@@ -1,0 +1,3 @@
+mod PlainTemplates
+mod TableMarkup
+mod GameMarkup
