@@ -81,7 +81,7 @@ pub cards_read : (b : Bool) (text rest : List ℕ) (old pushed new : List Card) 
 cards_read true text rest old pushed new card some cut push adds = added_cards text rest old pushed new card cut push adds
 cards_read false text rest old pushed new card some cut push none = λ more few. lacked_cards text rest old pushed more card some cut push none few
 
-one_cards : (cards others : List Card) → cards_text cards ≡ cards_text others → cards ≡ others
+pub one_cards : (cards others : List Card) → cards_text cards ≡ cards_text others → cards ≡ others
 one_cards [] [] e = refl
 one_cards [] (d ∷ ds) e = absurd (let long : 0 ≡ length (cards_text (d ∷ ds)) = ap length e in omega arith)
 one_cards (c ∷ cs) [] e = absurd (let long : length (cards_text (c ∷ cs)) ≡ 0 = ap length e in omega arith)
@@ -134,7 +134,7 @@ rank-lacks Queen = All-from_recursion (λ x. x ≢ 10) (codes "Q") (omega arith,
 rank-lacks King = All-from_recursion (λ x. x ≢ 10) (codes "K") (omega arith, tt)
 rank-lacks Ace = All-from_recursion (λ x. x ≢ 10) (codes "A") (omega arith, tt)
 
-cards-lack : (cards : List Card) → Lacks 10 (cards_text cards)
+pub cards-lack : (cards : List Card) → Lacks 10 (cards_text cards)
 cards-lack [] = All-nil (λ x. x ≢ 10)
 cards-lack (card ∷ more) =
     All-cons (λ x. x ≢ 10) 32 _ (omega arith)

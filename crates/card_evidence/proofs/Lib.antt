@@ -1,6 +1,6 @@
-mod LineLemmas
+pub mod LineLemmas
 mod NumberLemmas
-mod CardLemmas
+pub mod CardLemmas
 mod WriteParts
 mod TrickLemmas
 pub mod ClaimLemmas

@@ -11,7 +11,7 @@ use cards::{Card, rank_of, suit_of};
 use certificate_graph::after_prefix;
 
 /// Returns the card at the beginning of the text, and the rest of the text.
-pub(crate) fn read_card(text: &[u8]) -> Option<(Card, &[u8])>
+pub fn read_card(text: &[u8]) -> Option<(Card, &[u8])>
     ensures { ReadsForm (λ _. ⊤) (λ card rest. card_text card ++ rest) text.now result }
 {
     let [suit, rank, rest @ ..] = text else {

@@ -14,6 +14,9 @@ mod section_writing;
 mod sections;
 mod trick_reading;
 
+pub use card_reading::read_card;
+pub use lines::read_line;
 pub use section_reading::read_card_section;
-pub use section_writing::write_card_section;
+pub use section_writing::{write_card_section, write_leader};
 pub use sections::CardSection;
+pub use trick_reading::{read_leader, read_trump};

@@ -7,7 +7,7 @@ use certificate_graph::after_prefix;
 use evidence::cut_at;
 
 /// Returns the word of the line of this name, and the rest of the text.
-pub(crate) fn read_line<'a>(text: &'a [u8], name: &[u8]) -> Option<(&'a [u8], &'a [u8])>
+pub fn read_line<'a>(text: &'a [u8], name: &[u8]) -> Option<(&'a [u8], &'a [u8])>
     ensures { ReadsLine name.now text.now result }
 {
     let Some(rest) = after_prefix(text, name) else {

@@ -27,7 +27,7 @@ fn write_deal<S: Sink>(sink: &mut S, layout: &Layout) -> Result<(), DeviceFault>
 }
 
 /// Writes the line of the leader.
-fn write_leader<S: Sink>(sink: &mut S, leader: Seat) -> Result<(), DeviceFault>
+pub fn write_leader<S: Sink>(sink: &mut S, leader: Seat) -> Result<(), DeviceFault>
     ensures { Writes (S.state sink.old) (S.state sink.new) (leader_line leader []) result }
 {
     write_all(sink, b"leader ")?;

@@ -47,7 +47,7 @@ fn layout_of(alloc: Global, word: &[u8]) -> Result<Option<Layout>, OutOfMemory>
 }
 
 /// Returns the trump whose line is at the beginning of the text, and the rest of the text.
-fn read_trump(text: &[u8]) -> Option<(Trump, &[u8])>
+pub fn read_trump(text: &[u8]) -> Option<(Trump, &[u8])>
     ensures { ReadsForm (λ _. ⊤) trump_text text.now result }
 {
     let Some((word, rest)) = read_line(text, b"trump ") else {
@@ -60,7 +60,7 @@ fn read_trump(text: &[u8]) -> Option<(Trump, &[u8])>
 }
 
 /// Returns the leader whose line is at the beginning of the text, and the rest of the text.
-fn read_leader(text: &[u8]) -> Option<(Seat, &[u8])>
+pub fn read_leader(text: &[u8]) -> Option<(Seat, &[u8])>
     ensures { ReadsForm (λ _. ⊤) leader_line text.now result }
 {
     let Some((word, rest)) = read_line(text, b"leader ") else {

@@ -1,0 +1,7 @@
+mod NumberLemmas
+mod PlayLemmas
+mod ClaimLemmas
+mod SectionLemmas
+mod WriteParts
+mod WholeLemmas
+mod AnswerLemmas

@@ -1,0 +1,14 @@
+use Rattle.cards.proofs.WriteLemmas.{AddsBeginning-stop, AddsBeginning-then, Writes-then, Writes-err}
+use Rattle.play_evidence.proofs.section_writing.write_played.Goals as goal
+
+pub returns-in_err-write_all : goal.returns-in_err-write_all
+returns-in_err-write_all g c = Writes-err c.from_residual.result _ c.from_residual.ensures.1 (AddsBeginning-stop _ c.in_err-write_all.ensures)
+
+pub returns-in_err-write_cards : goal.returns-in_err-write_cards
+returns-in_err-write_cards g c =
+    Writes-err c.from_residual-in_err-write_cards.result _ c.from_residual-in_err-write_cards.ensures.1
+    (AddsBeginning-then c.in_ok-write_all.ensures (AddsBeginning-stop _ c.in_err-write_cards.ensures))
+
+pub returns : goal.returns
+returns g c =
+    Writes-then c.write_all-2.result _ _ c.in_ok-write_all.ensures (Writes-then c.write_all-2.result _ _ c.in_ok-write_cards.ensures c.write_all-2.ensures)
