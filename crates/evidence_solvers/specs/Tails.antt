@@ -1,6 +1,6 @@
 -- What is added to the end of a file.
-use Rattle.std.specs.Prelude.{◌≡◌, ℕ, Bool, true, false, not, List, [], ◌∷◌, take, length}
-use Rattle.std.specs.Prelude.{nat_eq, nat_le, ◌-◌, ◌≤◌, if◌then◌else◌, ⊤}
+use Rattle.std.specs.Prelude.{◌≡◌, ◌||◌, ℕ, Bool, true, false, not, List, [], ◌∷◌, take, length}
+use Rattle.std.specs.Prelude.{nat_eq, nat_le, ◌-◌, ◌≤◌, if◌then◌else◌}
 use Rattle.std.specs.Prelude.{Option, None, Some, Result, Ok, Err}
 use Rattle.std.proofs.Common.{Vec, Global}
 use Rattle.cards.specs.Devices.{AddsWhereTold, StaysWhereTold}
@@ -42,27 +42,29 @@ AddsOne contents old new text =
     (missed : Bool) × WritesOnce contents old.file new.file text old.has_failed missed
     × (missed ≡ true → new.has_failed ≡ true)
 
--- what is done with a text, or that memory ran out for it, which is noted
+-- what is done with a text, or why there is none, which is noted
 abbrev pub AddsText : {F : Type 0} → (F → Option (List ℕ)) → Tail F → Tail F
-    → Result (Option (Vec ℕ Global)) NoMemory → Type 0
-AddsText contents old new (Ok (Some text)) = AddsOne contents old new text.items × (new.lacks_text ≡ old.lacks_text)
+    → Result (Option (Vec ℕ Global)) KeepFault → Type 0
+AddsText contents old new (Ok (Some text)) = AddsOne contents old new text.items × (new.lacks ≡ old.lacks)
 AddsText contents old new (Ok None) = new ≡ old
-AddsText contents old new (Err fault) = new ≡ record old { lacks_text = true }
+AddsText contents old new (Err fault) = new ≡ record old { lacks = Err fault }
+
+-- why a text is lacking, after memory may have run out
+abbrev pub lacks_after : Result Unit NoMemory → Result Unit KeepFault → Result Unit KeepFault
+lacks_after (Ok done) lacks = lacks
+lacks_after (Err fault) lacks = Err OutOfMemory
 
 -- the moment of the last sync after a text was added: this one if ten seconds have passed, else the one before
-abbrev pub synced_after : ℕ → ℕ → Result (Option (Vec ℕ Global)) NoMemory → ℕ
+abbrev pub synced_after : ℕ → ℕ → Result (Option (Vec ℕ Global)) KeepFault → ℕ
 synced_after synced now (Ok (Some text)) = if nat_le 10 (now - synced) then now else synced
 synced_after synced now (Ok None) = synced
 synced_after synced now (Err fault) = synced
 
--- what is said of a file at the end: that writing failed, or else that a text is lacking
-abbrev pub said_of : Bool → Bool → Result Unit KeepFault
+-- what is said of a file at the end: that writing failed, or else why a text is lacking
+abbrev pub said_of : Bool → Result Unit KeepFault → Result Unit KeepFault
 said_of true lacks = Err Write
-said_of false true = Err OutOfMemory
-said_of false false = Ok tt
+said_of false lacks = lacks
 
 -- that, but the last sync may fail too
-abbrev pub EndsAs : Bool → Bool → Result Unit KeepFault → Type 0
-EndsAs failed lacks (Ok done) = (failed ≡ false) × (lacks ≡ false)
-EndsAs failed lacks (Err OutOfMemory) = (failed ≡ false) × (lacks ≡ true)
-EndsAs failed lacks (Err Write) = ⊤
+abbrev pub EndsAs : Bool → Result Unit KeepFault → Result Unit KeepFault → Type 0
+EndsAs failed lacks kept = (missed : Bool) × (kept ≡ said_of (failed || missed) lacks)

@@ -6,16 +6,25 @@
 
 mod access;
 mod added;
+mod attempts;
+mod claims;
+mod closed;
 mod faults;
 mod held;
 mod keeping;
+mod lengths;
+mod moments;
 mod opening;
+mod pending;
+mod syncs;
 mod tails;
 mod texts;
 
 pub use access::Access;
+pub use closed::Closed;
 pub use faults::KeepFault;
 pub use held::Held;
 pub use keeping::Keeping;
+pub use lengths::FileLength;
 pub use opening::{Opened, open_evidence};
-pub use tails::{Closed, Tail};
+pub use tails::Tail;

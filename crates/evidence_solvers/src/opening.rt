@@ -1,13 +1,15 @@
 //! A file of evidence, opened.
 
-ghost use Rattle.std.specs.Prelude.{◌≡◌, true, false, IfOk, SomeIff};
-ghost use Rattle.std.specs.Fs.{asks_read, asks_append, asks_create, asks_create_new, asks_truncate, file_type};
-ghost use Rattle.std.specs.Fs.{IsFile, metadata_len};
-ghost use Rattle.evidence_solvers.specs.Opening.{IsBegun, IsLineEnd, IsOpened};
+ghost use Rattle.std.specs.Prelude.{◌≡◌, true, false, IfOk};
+ghost use Rattle.std.specs.Fs.{asks_read, asks_append, asks_create, asks_create_new, asks_truncate};
+ghost use Rattle.evidence_solvers.specs.Opening.{IsBegun, IsLineEnd, IsOpened, LoseNothing, access_of};
+ghost use Rattle.evidence_solvers.specs.declared.access.Access.TheVariants.{ReadOnly};
 
 use crate::access::Access;
+use crate::attempts::{OpenedAs, Unopened, open_as};
+use crate::lengths::{FileLength, length_of};
 use crate::tails::Tail;
-use std::fs::{Files, Metadata, OpenFile, OpenOptions};
+use std::fs::{Files, OpenOptions};
 use std::io;
 use std::io::{Read, Seek, SeekFrom, Take};
 use streams::{CannotOpen, why_of};
@@ -21,6 +23,8 @@ pub struct Opened<F> {
     pub tail: Tail<F>,
     /// Whether it can be added to. If not, each write to the tail fails.
     pub access: Access,
+    /// How many bytes it had.
+    pub length: FileLength,
 }
 
 /// How a file is opened to be added to: each write goes to its end, and nothing that it holds is lost. A missing file
@@ -31,27 +35,28 @@ fn to_be_added_to() -> OpenOptions
     ensures made { asks_create result ≡ true }
     ensures also_old { asks_create_new result ≡ false }
     ensures none_lost { asks_truncate result ≡ false }
+    ensures so { LoseNothing result }
 {
     let mut how = OpenOptions::new();
     how.read(true).append(true).create(true);
     how
 }
 
-/// How many bytes a regular file has. `None` for anything else, such as a pipe or a folder.
-fn regular_length(metadata: &Metadata) -> Option<u64>
-    ensures { SomeIff result (IsFile (file_type metadata.now)) (metadata_len metadata.now) }
+/// How a file is opened only to be read: nothing is made.
+fn to_be_read() -> OpenOptions
+    ensures alone { access_of result ≡ ReadOnly }
+    ensures so { LoseNothing result }
 {
-    if !metadata.is_file() {
-        return None;
-    }
-    Some(metadata.len())
+    let mut how = OpenOptions::new();
+    how.read(true);
+    how
 }
 
 /// Whether a file of this length, which is at its beginning, begins as a PBN text does: with a directive or a tag pair.
-fn begins_pbn<F: Read>(file: &mut F, length: u64) -> io::Result<bool>
-    ensures { IfOk result (IsBegun F.remaining file.old file.new length) }
+fn begins_pbn<F: Read>(file: &mut F, length: FileLength) -> io::Result<bool>
+    ensures { IfOk result (IsBegun F.remaining file.old file.new length.bytes) }
 {
-    if length == 0 {
+    if length.bytes() == 0 {
         return Ok(false);
     }
     let mut first = [0u8; 1];
@@ -60,30 +65,32 @@ fn begins_pbn<F: Read>(file: &mut F, length: u64) -> io::Result<bool>
 }
 
 /// Whether the last line of a file of this length has its end.
-fn ends_line<F: Read + Seek>(file: &mut F, length: u64) -> io::Result<bool>
-    ensures { IfOk result (IsLineEnd F.stream_position F.remaining file.old file.new length) }
+fn ends_line<F: Read + Seek>(file: &mut F, length: FileLength) -> io::Result<bool>
+    ensures { IfOk result (IsLineEnd F.stream_position F.remaining file.old file.new length.bytes) }
 {
-    if length == 0 {
+    if length.bytes() == 0 {
         return Ok(true);
     }
-    file.seek(SeekFrom::Start(length.saturating_sub(1)))?;
+    file.seek(SeekFrom::Start(length.bytes().saturating_sub(1)))?;
     let mut last = [0u8; 1];
     file.read_exact(&mut last)?;
     Ok(last[0] == b'\n')
 }
 
 /// Opens a file to be read and to be added to. If the system lets nothing be added, it is opened to be read.
-fn open_end<R: Files>(files: &R, path: &str) -> Result<(R::File, Access), CannotOpen> {
-    let why = match to_be_added_to().open(files, path) {
-        Ok(end) => return Ok((end, Access::ReadAndAdd)),
-        Err(fault) => why_of(fault.kind()),
+fn open_end<R: Files>(files: &R, path: &str) -> Result<OpenedAs<R::File>, Unopened>
+    ensures { IfOk result (λ opened. LoseNothing opened.how) }
+{
+    let refused = match open_as(files, to_be_added_to(), path) {
+        Ok(end) => return Ok(end),
+        Err(refused) => refused,
     };
-    if !matches!(why, CannotOpen::Denied) {
-        return Err(why);
+    if !refused.is_denied() {
+        return Err(refused.alone());
     }
-    match OpenOptions::new().read(true).open(files, path) {
-        Ok(end) => Ok((end, Access::ReadOnly)),
-        Err(_) => Err(why),
+    match open_as(files, to_be_read(), path) {
+        Ok(end) => Ok(end),
+        Err(reading) => Err(refused.with(reading)),
     }
 }
 
@@ -93,13 +100,11 @@ fn open_end<R: Files>(files: &R, path: &str) -> Result<(R::File, Access), Cannot
 pub fn open_evidence<R: Files>(files: &R, path: &str) -> Result<Opened<R::File>, CannotOpen>
     ensures { IfOk result (IsOpened R.File.stream_position R.File.remaining R.File.contents) }
 {
-    let (mut end, access) = open_end(files, path)?;
-    let Ok(metadata) = end.metadata() else {
-        return Err(CannotOpen::Refused);
+    let (mut end, access) = match open_end(files, path) {
+        Ok(end) => end.into_parts(),
+        Err(unopened) => return Err(unopened.why()),
     };
-    let Some(length) = regular_length(&metadata) else {
-        return Err(CannotOpen::NotAFile);
-    };
+    let length = length_of(&end)?;
     match begins_pbn(&mut end, length) {
         Ok(false) => {}
         Ok(true) => return Err(CannotOpen::PbnText),
@@ -108,15 +113,16 @@ pub fn open_evidence<R: Files>(files: &R, path: &str) -> Result<Opened<R::File>,
     let Ok(ends_line) = ends_line(&mut end, length) else {
         return Err(CannotOpen::Refused);
     };
-    let front = match OpenOptions::new().read(true).open(files, path) {
+    let front = match to_be_read().open(files, path) {
         Ok(front) => front,
         Err(fault) => return Err(why_of(fault.kind())),
     };
     let stays = ends_line || access.is_read_only();
     let written = u64::from(!stays);
     Ok(Opened {
-        front: front.take(length.saturating_add(written)),
+        front: front.take(length.bytes().saturating_add(written)),
         tail: Tail::new(end, stays),
         access,
+        length,
     })
 }

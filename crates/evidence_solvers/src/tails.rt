@@ -1,12 +1,14 @@
 //! The end of a file of evidence, to which texts are added.
 
-ghost use Rattle.std.specs.Prelude.{◌≡◌, ◌||◌, false, is_err};
-ghost use Rattle.evidence_solvers.specs.Tails.{WritesOnce, EndsLastLine, AddsText, EndsAs, said_of, synced_after};
+ghost use Rattle.std.specs.Prelude.{◌≡◌, ◌||◌, false, Ok};
+ghost use Rattle.evidence_solvers.specs.Tails.{WritesOnce, EndsLastLine, AddsText, EndsAs, lacks_after, synced_after};
 
+use crate::closed::Closed;
 use crate::faults::KeepFault;
+use crate::moments::Moment;
+use crate::syncs::{LastSync, Synced, sync};
 use cards::OutOfMemory;
 use std::fs::OpenFile;
-use std::io;
 use std::io::Write;
 
 /// How many seconds pass between two syncs at the least.
@@ -18,32 +20,22 @@ pub struct Tail<F> {
     file: F,
     /// A text was not written whole, or a sync failed: nothing more is written.
     has_failed: bool,
-    /// A text was left out, because memory ran out.
-    lacks_text: bool,
-    /// The moment of the last sync, in seconds.
-    synced: u64,
-}
-
-/// A file to which nothing more is added.
-#[derive(Drop)]
-pub struct Closed<F> {
-    /// The file.
-    pub file: F,
-    /// Whether it has every text that was to be added.
-    pub kept: Result<(), KeepFault>,
+    /// Why the last text was left out that was left out, if any was.
+    lacks: Result<(), KeepFault>,
+    synced: LastSync,
 }
 
 impl<F: Write + OpenFile> Tail<F> {
     /// The end of a file. If the last line of the file has no end, a line feed is written.
     pub(crate) fn new(file: F, ends_line: bool) -> Tail<F>
         ensures line { EndsLastLine F.contents file result.file ends_line result.has_failed }
-        ensures text { result.lacks_text ≡ false }
+        ensures text { result.lacks ≡ Ok tt }
     {
         let mut tail = Tail {
             file,
             has_failed: false,
-            lacks_text: false,
-            synced: 0,
+            lacks: Ok(()),
+            synced: LastSync::none(),
         };
         if !ends_line {
             tail.write_text(b"\n");
@@ -66,30 +58,38 @@ impl<F: Write + OpenFile> Tail<F> {
         };
     }
 
-    /// Notes the result of a sync at this moment.
-    fn note_sync(&mut self, now: u64, done: &io::Result<()>)
-        ensures { self.new ≡ record self.old { has_failed = self.old.has_failed || is_err done.now; synced = now } }
+    /// Notes the result of a sync.
+    fn note_sync(&mut self, done: &Synced)
+        ensures { self.new ≡ record self.old { has_failed = self.old.has_failed || done.now.failed } }
     {
-        self.synced = now;
-        self.has_failed = self.has_failed || done.is_err();
+        self.has_failed = self.has_failed || done.failed();
+    }
+
+    /// Notes that memory ran out, if it did.
+    pub(crate) fn note_memory(&mut self, done: Result<(), OutOfMemory>)
+        ensures { self.new ≡ record self.old { lacks = lacks_after done self.old.lacks } }
+    {
+        if done.is_err() {
+            self.lacks = Err(KeepFault::OutOfMemory);
+        }
     }
 
     /// Adds a text, if there is one. Then the file is synced, unless ten seconds have not passed since the last sync.
-    /// The moment is in seconds.
-    pub(crate) fn add(&mut self, text: Result<Option<Vec<u8>>, OutOfMemory>, now: u64)
+    pub(crate) fn add(&mut self, text: Result<Option<Vec<u8>>, KeepFault>, now: Moment)
         ensures text { AddsText F.contents self.old self.new text }
-        ensures sync { self.new.synced ≡ synced_after self.old.synced now text }
+        ensures sync { self.new.synced.seconds ≡ synced_after self.old.synced.seconds now.seconds text }
     {
         match text {
             Ok(Some(text)) => {
                 self.write_text(text.as_slice());
-                if now.saturating_sub(self.synced) >= SYNC_SECONDS {
-                    let done = self.file.sync_data();
-                    self.note_sync(now, &done);
+                if now.seconds().saturating_sub(self.synced.seconds()) >= SYNC_SECONDS {
+                    let done = sync(&self.file);
+                    self.note_sync(&done);
+                    self.synced = LastSync::after(&done, now);
                 }
             }
             Ok(None) => {}
-            Err(OutOfMemory) => self.lacks_text = true,
+            Err(fault) => self.lacks = Err(fault),
         }
     }
 }
@@ -97,35 +97,18 @@ impl<F: Write + OpenFile> Tail<F> {
 impl<F: Write + OpenFile + Drop> Tail<F> {
     /// Syncs the file, and says whether it lacks a text.
     pub(crate) fn close(self) -> Closed<F>
-        ensures kept { EndsAs self.has_failed self.lacks_text result.kept }
+        ensures kept { EndsAs self.has_failed self.lacks result.kept }
         ensures file { result.file ≡ self.file }
     {
         let mut tail = self;
-        let done = tail.file.sync_data();
-        let now = tail.synced;
-        tail.note_sync(now, &done);
+        let done = sync(&tail.file);
+        tail.note_sync(&done);
         let Tail {
             file,
             has_failed,
-            lacks_text,
+            lacks,
             synced: _,
         } = tail;
-        Closed {
-            file,
-            kept: kept_unless(has_failed, lacks_text),
-        }
+        Closed::after(done, file, has_failed, lacks)
     }
-}
-
-/// Whether a file has every text that was to be added. If a write failed and memory ran out, the failed write is told.
-fn kept_unless(has_failed: bool, lacks_text: bool) -> Result<(), KeepFault>
-    ensures { result ≡ said_of has_failed lacks_text }
-{
-    if has_failed {
-        return Err(KeepFault::Write);
-    }
-    if lacks_text {
-        return Err(KeepFault::OutOfMemory);
-    }
-    Ok(())
 }

@@ -83,16 +83,17 @@ impl Clock for Steps {
 /// A solver around this one whose answers are kept on a disk.
 pub fn keeping_of<'a, R: Wait>(
     rt: &'a R,
+    alloc: Global,
     clock: &'a Steps,
     inner: &'a Counts<'a>,
     tail: Tail<Open<'a, R>>,
 ) -> DiskKeeping<'a, R> {
-    Keeping::new(rt, clock, inner, tail)
+    Keeping::new(rt, alloc, clock, inner, tail)
 }
 
 /// Whether the file has all that was to be added to it.
 pub fn kept<R: Wait>(keeping: DiskKeeping<'_, R>) -> Result<(), KeepFault> {
-    keeping.close().kept
+    keeping.close(&[]).into_parts().1
 }
 
 /// A file of a disk, opened, or why it can't be.

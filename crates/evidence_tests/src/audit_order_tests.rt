@@ -3,7 +3,7 @@
 use crate::audited::{Shown, audit};
 use crate::expect::expect_eq;
 use crate::pieces::Piece::{Both, Fewer, Hearts, Line, Ruffs, Runs};
-use crate::pieces::{Piece, evidence_of};
+use crate::pieces::{Piece, evidence_of, large_section};
 use evidence::Damage;
 use std::alloc::Global;
 use std::process::Abort;
@@ -54,4 +54,13 @@ fn which_sections_count(rt: HostRuntime) {
     for &(pieces, shown, damage) in &ROWS {
         expect_shown(&rt, rt.alloc(), pieces, shown, damage);
     }
+}
+
+/// A section of over 4 MiB, whose nodes are checked by several threads.
+#[test]
+fn large_sections(rt: HostRuntime) {
+    let evidence = large_section(&rt, rt.alloc());
+    let got = audit(&rt, rt.alloc(), evidence.as_bytes(), 1_000_000);
+    expect_eq(&rt, &(evidence.len() > 4_194_304), &true);
+    expect_eq(&rt, &got, &(Shown::by(false, true), NO_DAMAGE));
 }

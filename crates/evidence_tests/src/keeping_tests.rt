@@ -2,11 +2,13 @@
 
 use crate::asking::{Counts, Steps, expect_tricks, keeping_of, kept, tail_of, tricks_of_north};
 use crate::disks::Disk;
-use crate::expect::expect_eq;
+use crate::expect::{expect, expect_eq};
 use crate::untrue_sections::{layout, nines, section};
-use cards::Layout;
+use cards::{Layout, Seat, Suit, Trump};
 use certificate_graph::Solver;
+use checker::Shown;
 use evidence_solvers::KeepFault;
+use lease_book::{Asked, Entry, Event, HandedIn, Reply};
 use std::alloc::Global;
 use std::process::Abort;
 use std::sync::Wait;
@@ -26,7 +28,7 @@ fn keep_five<R: Wait + Abort>(
     let text = section(rt, alloc, 9);
     let inner = Counts::of(text.as_str());
     let clock = Steps::new(step);
-    let keeping = keeping_of(rt, &clock, &inner, tail_of(rt, disk));
+    let keeping = keeping_of(rt, alloc, &clock, &inner, tail_of(rt, disk));
     for _turn in 0..5u8 {
         expect_tricks(rt, alloc, &keeping, &layout, 9);
     }
@@ -100,6 +102,62 @@ fn full_disk(rt: HostRuntime) {
     }
 }
 
+/// An answer that is no section is handed on, and at the end it is said that it was left out: here the graphs are of
+/// another denomination than the one that was asked for.
+#[test]
+fn no_section(rt: HostRuntime) {
+    let alloc = rt.alloc();
+    let text = section(&rt, alloc, 9);
+    let disk = Disk::new(&rt, Vec::new(alloc), usize::MAX);
+    let inner = Counts::of(text.as_str());
+    let clock = Steps::new(1);
+    let keeping = keeping_of(&rt, alloc, &clock, &inner, tail_of(&rt, &disk));
+    let trump = Trump::Suit(Suit::Spades);
+    let found = keeping.solve(alloc, &layout(&rt, alloc), &[Seat::North], trump, 1);
+    expect(&rt, matches!(found, Ok(Some(_))));
+    expect_eq(&rt, &kept(keeping), &Err(KeepFault::TooLong));
+    disk.expect_bytes(b"");
+}
+
+/// The event that publishes so many tricks of North in no-trump.
+fn published(layout: Layout, k: u8) -> Event {
+    let shown = Shown {
+        layout,
+        declarer: Seat::North,
+        trump: Trump::Nt,
+        k,
+    };
+    Event {
+        asked: Asked::HandIn {
+            lease: 1,
+            entry: Entry {
+                board: 0,
+                declarer: Seat::North,
+                trump: Trump::Nt,
+            },
+            evidence: HandedIn::Shows(shown),
+        },
+        reply: Reply::Published(k),
+    }
+}
+
+/// After an answer of nine tricks was kept, all is there if nine were published. If eight were, a part is missing.
+#[test]
+fn published_numbers(rt: HostRuntime) {
+    let alloc = rt.alloc();
+    let layout = layout(&rt, alloc);
+    let text = section(&rt, alloc, 9);
+    for (k, wanted) in [(9, Ok(())), (8, Err(KeepFault::Write))] {
+        let disk = Disk::new(&rt, Vec::new(alloc), usize::MAX);
+        let inner = Counts::of(text.as_str());
+        let clock = Steps::new(1);
+        let keeping = keeping_of(&rt, alloc, &clock, &inner, tail_of(&rt, &disk));
+        expect_tricks(&rt, alloc, &keeping, &layout, 9);
+        let (_file, kept) = keeping.close(&[published(layout, k)]).into_parts();
+        expect_eq(&rt, &kept, &wanted);
+    }
+}
+
 /// Whether the answer to each of six questions claims nine tricks.
 fn six_answers<S: Solver>(alloc: Global, solver: &S, layout: &Layout) -> bool {
     let mut all = true;
@@ -134,7 +192,7 @@ fn expect_twelve<R: Abort + Threads + Wait + Sync>(
     let disk = Disk::new(rt, Vec::new(alloc), usize::MAX);
     let inner = Counts::of(text);
     let clock = Steps::new(1);
-    let keeping = keeping_of(rt, &clock, &inner, tail_of(rt, &disk));
+    let keeping = keeping_of(rt, alloc, &clock, &inner, tail_of(rt, &disk));
     expect_eq(rt, &ask_at_once(rt, alloc, &keeping, layout), &(true, true));
     expect_eq(rt, &kept(keeping), &Ok(()));
     disk.expect_bytes(twelve.as_bytes());

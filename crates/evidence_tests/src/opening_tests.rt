@@ -102,7 +102,7 @@ fn pbn_files(rt: HostRuntime) {
 fn expect_lost<'a, R: Abort + Wait>(rt: &'a R, alloc: Global, tail: Tail<Open<'a, R>>, text: &str) {
     let inner = Counts::of(text);
     let clock = Steps::new(1);
-    let keeping = keeping_of(rt, &clock, &inner, tail);
+    let keeping = keeping_of(rt, alloc, &clock, &inner, tail);
     expect_tricks(rt, alloc, &keeping, &layout(rt, alloc), 9);
     expect_eq(rt, &kept(keeping), &Err(KeepFault::Write));
 }
@@ -138,7 +138,7 @@ fn added_sections(rt: HostRuntime) {
     expect_eq(&rt, &opened.access, &Access::ReadAndAdd);
     let inner = Counts::of(text.as_str());
     let clock = Steps::new(1);
-    let keeping = keeping_of(&rt, &clock, &inner, opened.tail);
+    let keeping = keeping_of(&rt, alloc, &clock, &inner, opened.tail);
     expect_tricks(&rt, alloc, &keeping, &layout(&rt, alloc), 13);
     expect_eq(&rt, &parts_of(&rt, alloc, opened.front), &(1, 0));
     expect_eq(&rt, &kept(keeping), &Ok(()));
@@ -152,8 +152,8 @@ fn add_by_turns<R: Abort + Wait>(rt: &R, alloc: Global, disk: &Disk<'_, R>, text
     let (one, other) = (tail_of(rt, disk), tail_of(rt, disk));
     let (eight, nine) = (Counts::of(texts[0]), Counts::of(texts[1]));
     let clock = Steps::new(1);
-    let keeping = keeping_of(rt, &clock, &eight, one);
-    let beside = keeping_of(rt, &clock, &nine, other);
+    let keeping = keeping_of(rt, alloc, &clock, &eight, one);
+    let beside = keeping_of(rt, alloc, &clock, &nine, other);
     for _turn in 0..2u8 {
         expect_tricks(rt, alloc, &keeping, &layout, 8);
         expect_tricks(rt, alloc, &beside, &layout, 9);

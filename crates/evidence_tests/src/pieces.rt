@@ -54,6 +54,18 @@ fn text_as_it_is(piece: Piece) -> &'static str {
     }
 }
 
+/// The last node of the second section.
+const LAST: &str = "E 1 0.1.0.0/ 1.0.0.0/ 0.0.1.0/ 0.0.0.1/ Sx(DxCx(Hx{}))\n";
+
+/// The second section with so many copies of its last node that it has over 4 MiB. It shows the same.
+pub fn large_section(rt: &impl Abort, alloc: Global) -> String {
+    let mut text = got(rt, RUNS.replacen(alloc, "nodes 13", "nodes 80013", 1));
+    for _copy in 0..80_000u32 {
+        got(rt, text.push_str(LAST));
+    }
+    text
+}
+
 /// The pieces in one text.
 pub fn evidence_of(rt: &impl Abort, alloc: Global, pieces: &[Piece]) -> String {
     let mut text = String::new(alloc);
