@@ -26,12 +26,16 @@ use Rattle.farm.specs.declared.relays.RelayEnds.{RelayEnds}
 use Rattle.lease_book.specs.Moments.{MayTell}
 use Rattle.certificate_graph.specs.Solvers.{MayFind}
 use Rattle.farm.specs.Working.{IsNew, IsOnDuty}
-use Rattle.farm.specs.Flows.{given, settled, of_group, of_found, of_claim, all_lent, all_found, all_claimed}
-use Rattle.farm.specs.Posts.{IsNewLender, IsNewSolver, IsNewChecker, IsNewClerk, HasLent, HasSolved, HasChecked, HasSettled, CanBeManned, AreManned}
+use Rattle.farm.specs.Flows.{given, settled, given_up, handed_in, of_group, of_found, of_claim, all_lent, all_found, all_claimed}
+use Rattle.farm.specs.Asks.{all_answered, all_vain}
+use Rattle.farm.specs.Posts.{IsNewLender, IsNewSolver, IsNewChecker, IsNewClerk, HasLent, HasSolved, HasChecked, HasSettled, AsksTaken, CanBeManned, AreManned, steps_at}
 use Rattle.farm.specs.Relaying.{AreOpened, AreAllEndsOf, IsRelayed}
 use Rattle.farm.specs.Running.{AreNewPosts, HaveEnded, HaveWorked}
 use Rattle.farm.proofs.Beside.{carried, each_after, as_many, same_of_each}
-use Rattle.farm.proofs.Sums.{sums_below, sum_of_nothing, sum_of_parts}
+use Rattle.farm.proofs.Sums.{sums_below, sum_of_nothing, sum_of_parts, sum_of_zeros}
+use Rattle.farm.proofs.Flows.{settled_parts}
+use Rattle.farm.proofs.Gathering.{AreGathered, gathered, asked_parts, settled_at}
+use Rattle.farm.proofs.Leased.{AreGivenIn, ungiven, none_lent_ungiven, taken_given}
 
 module _ {X : Type 0} (P : X → Type 0) where
   all_left : (xs ys : List X) → All P (xs ++ ys) → All P xs
@@ -58,6 +62,14 @@ also_part P Q N g make (x ∷ xs) one other =
     (make x (All-head P x xs one) (All-head Q (g x) (map g xs) other))
     (also_part P Q N g make xs (All-tail P x xs one) (All-tail Q (g x) (map g xs) other))
 
+-- what holds of things by two facts
+both_of : {X : Type 0} (P Q N : X → Type 0) → ((x : X) → P x → Q x → N x) → (xs : List X) → All P xs → All Q xs → All N xs
+both_of P Q N make [] one other = All-nil N
+both_of P Q N make (x ∷ xs) one other =
+    All-cons N x xs
+    (make x (All-head P x xs one) (All-head Q x xs other))
+    (both_of P Q N make xs (All-tail P x xs one) (All-tail Q x xs other))
+
 -- and of a part of things that it holds of
 to_parts : {X Y : Type 0} (P : Y → Type 0) (f : X → Y) (xs : List X) → All (λ x. P (f x)) xs → All P (map f xs)
 to_parts P f [] all = All-nil P
@@ -78,7 +90,8 @@ as_many_parts R f xs ys l m l_is m_is are =
 -- posts at new chairs with new ends are new
 module _ (settings : Settings) (desk : Desk) (relays : Relays) (chairs : List Chair) (ends : RelayEnds)
     (lender : LenderPost) (posts : Posts)
-    (new : All (IsNew desk) chairs) (opened : AreOpened settings relays ends) (manned : AreManned chairs ends lender posts) where
+    (new : All (IsNew desk) chairs) (opened : AreOpened settings relays ends) (manned : AreManned chairs ends lender posts)
+    (no_steps : All (λ (p : SolverPost). p.steps ≡ 0) posts.solvers.items) where
   abbrev Others : List Chair
   Others = map (λ (p : SolverPost). p.chair) posts.solvers.items ++ map (λ (p : ClerkPost). p.chair) posts.clerks.items
 
@@ -96,18 +109,23 @@ module _ (settings : Settings) (desk : Desk) (relays : Relays) (chairs : List Ch
         none_put = All-head None lender.groups [] (subst (λ (l : List (Putter Group)). All None l) manned.lent opened.groups.none_put);
       }
 
-  -- a solver's post without its second end
+  -- a solver's post without its second end, and without its count
   abbrev NewTaker : SolverPost → Type 0
   NewTaker post = IsNew desk post.chair × (taken_by post.groups ≡ [])
+
+  abbrev NewEnds : SolverPost → Type 0
+  NewEnds post = NewTaker post × (put_by post.found ≡ [])
 
   pub new_posts : AreNewPosts desk posts
   new_posts = record {
     solvers =
-        also_part NewTaker (λ (p : Putter FoundBundle). put_by p ≡ []) (IsNewSolver desk) (λ (p : SolverPost). p.found) (λ p both none. record { chair = both.0; none_taken = both.1; none_put = none }) posts.solvers.items
+        both_of NewEnds (λ (p : SolverPost). p.steps ≡ 0) (IsNewSolver desk) (λ p new none. record { chair = new.0.0; none_taken = new.0.1; none_put = new.1; no_steps = none }) posts.solvers.items
+        (also_part NewTaker (λ (p : Putter FoundBundle). put_by p ≡ []) NewEnds (λ (p : SolverPost). p.found) (λ p both none. (both, none)) posts.solvers.items
         (of_parts (IsNew desk) (λ (t : Taker Group). taken_by t ≡ []) NewTaker (λ (p : SolverPost). p.chair) (λ (p : SolverPost). p.groups) (λ p chair none. (chair, none)) posts.solvers.items
         (all_left (IsNew desk) _ _ new_chairs)
         (subst (λ (l : List (Taker Group)). All (λ (t : Taker Group). taken_by t ≡ []) l) manned.groups opened.groups.none_taken))
-        (subst (λ (l : List (Putter FoundBundle)). All (λ (p : Putter FoundBundle). put_by p ≡ []) l) manned.finds opened.found.none_put);
+        (subst (λ (l : List (Putter FoundBundle)). All (λ (p : Putter FoundBundle). put_by p ≡ []) l) manned.finds opened.found.none_put))
+        no_steps;
     checkers =
         of_parts (λ (t : Taker FoundBundle). taken_by t ≡ []) (λ (p : Putter CheckedClaim). put_by p ≡ []) IsNewChecker (λ (p : CheckerPost). p.found) (λ (p : CheckerPost). p.claims) (λ p none no. record { none_taken = none; none_put = no }) posts.checkers.items
         (subst (λ (l : List (Taker FoundBundle)). All (λ (t : Taker FoundBundle). taken_by t ≡ []) l) manned.found opened.found.none_taken)
@@ -208,44 +226,94 @@ module _ {S G C : Type 0} (may_tell : C → MayTell) (may_find : S → MayFind) 
       let a = ap (sum_by f) apart.chairs_are in
       omega (arith, sum_by-cons f lent.chair AllOthers, sum_by-append f (map chair_of Solved) (map desk_chair_of Settled), sum_of_parts f chair_of Solved, sum_of_parts f desk_chair_of Settled)
 
-  -- what was settled was given
-  leases : IsRelayed back → (weight : ℕ → ℕ) → sum_by (λ chair. settled weight (receipts_in chair)) after ≤ sum_by (λ chair. given weight (receipts_in chair)) after
-  leases relayed weight =
-      let S1 : SolverPost → ℕ = λ p. settled weight (receipts_in p.chair) in
-      let G1 : SolverPost → ℕ = λ p. given weight (receipts_in p.chair) in
-      let F : SolverPost → ℕ = λ p. all_found weight (put_by p.found) in
-      let L : SolverPost → ℕ = λ p. all_lent weight (taken_by p.groups) in
-      let T : CheckerPost → ℕ = λ p. all_found weight (taken_by p.found) in
-      let Q : CheckerPost → ℕ = λ p. all_claimed weight (put_by p.claims) in
-      let S2 : ClerkPost → ℕ = λ p. settled weight (receipts_in p.chair) in
-      let G2 : ClerkPost → ℕ = λ p. given weight (receipts_in p.chair) in
-      let K : ClerkPost → ℕ = λ p. all_claimed weight (taken_by p.claims) in
-      let none2 : CheckerPost → ℕ = λ p. 0 in
-      let none3 : ClerkPost → ℕ = λ p. 0 in
-      let checked = worked.checkers.items in
-      let solvers = sums_below S1 F G1 L Solved (each_after (HasSolved may_tell may_find crew) (λ p. S1 p + F p ≤ G1 p + L p) (λ x y has. let own = has.leases weight in omega arith) before.solvers.items Solved ended.solvers) in
-      let checkers = sums_below Q none2 T none2 checked (each_after HasChecked (λ p. Q p + none2 p ≤ T p + none2 p) (λ x y has. let own = has.leases weight in omega arith) before.checkers.items checked ended.checkers) in
-      let clerks = sums_below S2 none3 G2 K Settled (each_after (HasSettled may_tell crew) (λ p. S2 p + none3 p ≤ G2 p + K p) (λ x y has. let own = has.leases weight in omega arith) before.clerks.items Settled ended.clerks) in
-      let n2 = sum_of_nothing checked in
-      let n3 = sum_of_nothing Settled in
-      let own = has_lent.leases weight in
-      let groups = relayed.groups (of_group weight) in
-      let P : Putter Group → ℕ = λ p. all_lent weight (put_by p) in
-      let l1 = ap (sum_by P) apart.lent in
-      let l2 = sum_by-cons P lent.groups [] in
-      let l3 = ap (sum_by (λ (t : Taker Group). all_lent weight (taken_by t))) apart.groups ∙ sum_of_parts (λ (t : Taker Group). all_lent weight (taken_by t)) (λ (p : SolverPost). p.groups) Solved in
-      let found = relayed.found (of_found weight) in
-      let claims = relayed.claims (of_claim weight) in
-      let f1 = ap (sum_by (λ (p : Putter FoundBundle). all_found weight (put_by p))) apart.finds ∙ sum_of_parts (λ (p : Putter FoundBundle). all_found weight (put_by p)) (λ (p : SolverPost). p.found) Solved in
-      let f2 = ap (sum_by (λ (t : Taker FoundBundle). all_found weight (taken_by t))) apart.found ∙ sum_of_parts (λ (t : Taker FoundBundle). all_found weight (taken_by t)) (λ (p : CheckerPost). p.found) checked in
-      let f3 = ap (sum_by (λ (p : Putter CheckedClaim). all_claimed weight (put_by p))) apart.claims ∙ sum_of_parts (λ (p : Putter CheckedClaim). all_claimed weight (put_by p)) (λ (p : CheckerPost). p.claims) checked in
-      let f4 = ap (sum_by (λ (t : Taker CheckedClaim). all_claimed weight (taken_by t))) apart.heard ∙ sum_of_parts (λ (t : Taker CheckedClaim). all_claimed weight (taken_by t)) (λ (p : ClerkPost). p.claims) Settled in
-      let s = sum_apart (λ chair. settled weight (receipts_in chair)) in
-      let g = sum_apart (λ chair. given weight (receipts_in chair)) in
-      omega arith
+  -- the calls of all solvers
+  abbrev Gathered : Type 0
+  Gathered = AreGathered may_find crew Solved
 
-  pub have_worked : IsRelayed back → HaveWorked may_tell crew chairs after
-  have_worked relayed =
+  asked : Gathered
+  asked = gathered may_find crew Solved (each_after (HasSolved may_tell may_find crew) (AsksTaken may_find crew) (λ x y has. has.asks) before.solvers.items Solved ended.solvers)
+
+  -- the groups that solvers took are of leases that the lender was given
+  groups_given : IsRelayed back → All (AreGivenIn (receipts_in lent.chair)) Solved
+  groups_given relayed =
+      let receipts = receipts_in lent.chair in
+      let P : Putter Group → ℕ = λ p. sum_by (ungiven receipts) (put_by p) in
+      let T : Taker Group → ℕ = λ t. sum_by (ungiven receipts) (taken_by t) in
+      let none = none_lent_ungiven receipts (put_by lent.groups) has_lent.lends.each in
+      let groups = relayed.groups (ungiven receipts) in
+      let put = ap (sum_by P) apart.lent in
+      let only = sum_by-cons P lent.groups [] in
+      let took = ap (sum_by T) apart.groups ∙ sum_of_parts T (λ (p : SolverPost). p.groups) Solved in
+      let nothing : sum_by (λ (p : SolverPost). sum_by (ungiven receipts) (taken_by p.groups)) Solved ≡ 0 = omega arith in
+      taken_given receipts Solved nothing
+
+  module _ (weight : ℕ → ℕ) where
+    -- the lender gave nothing up and handed nothing in, and clerks gave nothing up
+    lender_none : (given_up weight (receipts_in lent.chair) ≡ 0) × (handed_in weight (receipts_in lent.chair) ≡ 0)
+    lender_none =
+        let none = (has_lent.leases weight).settled_none in
+        let parts = settled_parts weight (receipts_in lent.chair) in
+        (omega arith, omega arith)
+
+    clerks_none : sum_by (λ (p : ClerkPost). given_up weight (receipts_in p.chair)) Settled ≡ 0
+    clerks_none = sum_of_zeros (λ (p : ClerkPost). given_up weight (receipts_in p.chair)) Settled
+        (each_after (HasSettled may_tell crew) (λ p. given_up weight (receipts_in p.chair) ≡ 0) (λ x y has. (has.leases weight).given_up_none) before.clerks.items Settled ended.clerks)
+
+    -- the leases given up are those in vain
+    gave_up : sum_by (λ chair. given_up weight (receipts_in chair)) after ≡ all_vain weight asked.asks
+    gave_up =
+        let s = sum_apart (λ chair. given_up weight (receipts_in chair)) in
+        let first = lender_none.0 in
+        let solvers = asked.gave_up weight in
+        let clerks = clerks_none in
+        omega arith
+
+    module _ (relayed : IsRelayed back) where
+      -- the claims handed in are of answers
+      claims_below : sum_by (λ chair. handed_in weight (receipts_in chair)) after ≤ all_answered weight asked.asks
+      claims_below =
+          let T : CheckerPost → ℕ = λ p. all_found weight (taken_by p.found) in
+          let Q : CheckerPost → ℕ = λ p. all_claimed weight (put_by p.claims) in
+          let H : ClerkPost → ℕ = λ p. handed_in weight (receipts_in p.chair) in
+          let K : ClerkPost → ℕ = λ p. all_claimed weight (taken_by p.claims) in
+          let none2 : CheckerPost → ℕ = λ p. 0 in
+          let none3 : ClerkPost → ℕ = λ p. 0 in
+          let checked = worked.checkers.items in
+          let checkers = sums_below Q none2 T none2 checked (each_after HasChecked (λ p. Q p + none2 p ≤ T p + none2 p) (λ x y has. let own = has.leases weight in omega arith) before.checkers.items checked ended.checkers) in
+          let clerks = sums_below H none3 K none3 Settled (each_after (HasSettled may_tell crew) (λ p. H p + none3 p ≤ K p + none3 p) (λ x y has. let own = (has.leases weight).handed_in_all in omega arith) before.clerks.items Settled ended.clerks) in
+          let n2 = sum_of_nothing checked in
+          let n3 = sum_of_nothing Settled in
+          let found = relayed.found (of_found weight) in
+          let claims = relayed.claims (of_claim weight) in
+          let f1 = ap (sum_by (λ (p : Putter FoundBundle). all_found weight (put_by p))) apart.finds ∙ sum_of_parts (λ (p : Putter FoundBundle). all_found weight (put_by p)) (λ (p : SolverPost). p.found) Solved in
+          let f2 = ap (sum_by (λ (t : Taker FoundBundle). all_found weight (taken_by t))) apart.found ∙ sum_of_parts (λ (t : Taker FoundBundle). all_found weight (taken_by t)) (λ (p : CheckerPost). p.found) checked in
+          let f3 = ap (sum_by (λ (p : Putter CheckedClaim). all_claimed weight (put_by p))) apart.claims ∙ sum_of_parts (λ (p : Putter CheckedClaim). all_claimed weight (put_by p)) (λ (p : CheckerPost). p.claims) checked in
+          let f4 = ap (sum_by (λ (t : Taker CheckedClaim). all_claimed weight (taken_by t))) apart.heard ∙ sum_of_parts (λ (t : Taker CheckedClaim). all_claimed weight (taken_by t)) (λ (p : ClerkPost). p.claims) Settled in
+          let s = sum_apart (λ chair. handed_in weight (receipts_in chair)) in
+          let first = lender_none.1 in
+          let solvers = asked.handed_in_none weight in
+          let answers = asked.found weight in
+          omega arith
+
+      -- what was settled was given
+      leases : sum_by (λ chair. settled weight (receipts_in chair)) after ≤ sum_by (λ chair. given weight (receipts_in chair)) after
+      leases =
+          let own = (has_lent.leases weight).lends in
+          let groups = relayed.groups (of_group weight) in
+          let P : Putter Group → ℕ = λ p. all_lent weight (put_by p) in
+          let l1 = ap (sum_by P) apart.lent in
+          let l2 = sum_by-cons P lent.groups [] in
+          let l3 = ap (sum_by (λ (t : Taker Group). all_lent weight (taken_by t))) apart.groups ∙ sum_of_parts (λ (t : Taker Group). all_lent weight (taken_by t)) (λ (p : SolverPost). p.groups) Solved in
+          let taken = asked.taken weight in
+          let parts = asked_parts weight asked.asks in
+          let up = gave_up in
+          let claims = claims_below in
+          let s = settled_at weight after in
+          let g = sum_apart (λ chair. given weight (receipts_in chair)) in
+          omega arith
+
+  pub have_worked : (steps : ℕ) → steps ≡ steps_at Solved → IsRelayed back → HaveWorked may_tell may_find crew chairs after steps
+  have_worked steps steps_are relayed =
       let there : Contains (lent.chair ∷ AllOthers) lent.chair = Contains-append_left (lent.chair ∷ []) AllOthers lent.chair (Contains-push [] lent.chair) in
       record {
         duty = subst (λ (l : List Chair). All (IsOnDuty may_tell crew) l) (sym apart.chairs_are)
@@ -262,7 +330,15 @@ module _ {S G C : Type 0} (may_tell : C → MayTell) (may_find : S → MayFind) 
             ∙ (λ i. first i ∷ others i)
             ∙ sym (ap (map number_of) manned.chairs_are);
         idle = (lent.chair, subst (λ (l : List Chair). Contains l lent.chair) (sym apart.chairs_are) there, has_lent.idle);
-        leases = leases relayed;
+        leases = λ weight. leases weight relayed;
+        asks = asked.asks;
+        asked = asked.asked;
+        lender = lent.chair;
+        is_one = subst (λ (l : List Chair). Contains l lent.chair) (sym apart.chairs_are) there;
+        given = asked.given (receipts_in lent.chair) (groups_given relayed);
+        gave_up = gave_up;
+        handed_in = λ weight. claims_below weight relayed;
+        counted = steps_are ∙ asked.counted;
       }
     where
       numbers_apart : (solved : List SolverPost) (settled : List ClerkPost) → map number_of (map chair_of solved ++ map desk_chair_of settled) ≡ map (λ (p : SolverPost). number_of p.chair) solved ++ map (λ (p : ClerkPost). number_of p.chair) settled

@@ -1,27 +1,23 @@
 -- Groups, messages, claims and hand-ins, one after another.
-use Rattle.std.proofs.Common.{◌≡◌, ℕ, ◌+◌, ◌<◌, ◌≤◌, Bool, not, List, [], ◌∷◌, ◌++◌, Option, Some, None, All, Contains, refl, sym, ap, ◌∙◌, subst, inl, inr, ⊎_elim, append_assoc, append-nil, arith, take, drop, length, get_or, take-append-drop}
+use Rattle.std.proofs.Common.{◌≡◌, ℕ, ◌+◌, ◌<◌, ◌≤◌, Bool, not, List, [], ◌∷◌, ◌++◌, Some, None, All, Contains, refl, sym, ap, ◌∙◌, subst, inl, inr, ⊎_elim, append_assoc, append-nil, arith, take, drop, length, get_or, take-append-drop}
 use Rattle.std.proofs.lemmas.List.{take_more}
+use Rattle.std.proofs.lemmas.List.Sums.{sum_by_push}
 use Rattle.std.proofs.lemmas.List.Elements.{All-nil, All-cons, All-push, All-append, All-weaker, All-filter, Contains-push, Contains-append_left, Contains-append_right}
-use Rattle.cards.specs.Deal.{Deal}
 use Rattle.lease_book.specs.declared.events.Asked.TheVariants.{Lease}
 use Rattle.lease_book.specs.declared.events.Reply.TheVariants.{Given}
 use Rattle.lease_book.specs.Histories.{Terms}
 use Rattle.lease_desk.specs.declared.receipts.Receipt.{Receipt}
-use Rattle.lease_desk.specs.Desks.{receipts_in}
-use Rattle.farm_relay.specs.Relays.{put_by}
 use Rattle.certificate_graph.specs.declared.bundles.Bundle.{Bundle}
-use Rattle.certificate_graph.specs.Solvers.{MayFind}
 use Rattle.checker.specs.declared.pairs.CheckedPair.{CheckedPair}
 use Rattle.checker.specs.Pairs.{IsPairOf}
 use Rattle.farm.specs.declared.tasks.Task.{Task}
 use Rattle.farm.specs.declared.tasks.Group.{Group}
 use Rattle.farm.specs.declared.tasks.FoundBundle.{FoundBundle}
 use Rattle.farm.specs.declared.tasks.CheckedClaim.{CheckedClaim}
-use Rattle.farm.specs.declared.posts.LenderPost.{LenderPost}
 use Rattle.farm.specs.Groups.{group_of, others_of, is_with}
-use Rattle.farm.specs.Posts.{PutsGroup, LendsOwn}
+use Rattle.farm.specs.Flows.{of_tasks, of_group, all_lent}
 use Rattle.farm.specs.Requests.{IsNextTask, FreesLeases, WasGiven, AreGiven, Continues, HandsIn, AreHandedIn}
-use Rattle.farm.specs.Findings.{IsLentUnder, PutsFound, IsFoundUnder, IsClaimFor, PutsClaim, AreClaimsFor, PutsClaims, IsClaimUnder}
+use Rattle.farm.specs.Findings.{PutsTasks, IsLentUnder, IsClaimFor, PutsClaim, AreClaimsFor, PutsClaims, IsClaimUnder}
 
 -- ---- receipts that go on
 pub same_receipts : (receipts : List Receipt) → Continues receipts receipts
@@ -92,54 +88,32 @@ lent_still before after on group is = record {
 }
 
 -- the receipts go on
-pub lends_on : (old new : LenderPost) → Continues (receipts_in old.chair) (receipts_in new.chair) → put_by new.groups ≡ put_by old.groups → LendsOwn old → LendsOwn new
-lends_on old new on same lends =
-    let Of : Group → Type 0 = IsLentUnder (receipts_in new.chair) in
-    record {
-      each = subst (λ (l : List Group). All Of l) (sym same)
-          (All-weaker (IsLentUnder (receipts_in old.chair)) Of (lent_still (receipts_in old.chair) (receipts_in new.chair) on) (put_by old.groups) lends.each);
-    }
+pub lent_on : (before after : List Receipt) (groups : List Group) → Continues before after → All (IsLentUnder before) groups → All (IsLentUnder after) groups
+lent_on before after groups on all = All-weaker (IsLentUnder before) (IsLentUnder after) (lent_still before after on) groups all
 
 -- one group more was put, or none was
-pub lends_more : (tasks chosen : List Task) (old new : LenderPost) → chosen ≡ group_of tasks → Continues (receipts_in old.chair) (receipts_in new.chair) → AreGiven (receipts_in old.chair) tasks → PutsGroup chosen old new → LendsOwn old → LendsOwn new
-lends_more tasks chosen old new is on given puts lends =
-    let Of : Group → Type 0 = IsLentUnder (receipts_in new.chair) in
-    let still : All Of (put_by old.groups) = All-weaker (IsLentUnder (receipts_in old.chair)) Of (lent_still (receipts_in old.chair) (receipts_in new.chair) on) (put_by old.groups) lends.each in
-    record {
-      each = ⊎_elim
-          (λ (none : put_by new.groups ≡ put_by old.groups). subst (λ (l : List Group). All Of l) (sym none) still)
-          (λ one.
-          let last : Of one.0 = record {
-            tasks = tasks;
-            given = given_on (receipts_in old.chair) (receipts_in new.chair) tasks on given;
-            are = one.1 ∙ is;
-          } in
-          subst (λ (l : List Group). All Of l) (sym one.2) (All-push Of (put_by old.groups) one.0 still last))
-          puts;
-    }
+pub lends_more : (receipts : List Receipt) (tasks chosen : List Task) (before after : List Group) → chosen ≡ group_of tasks → AreGiven receipts tasks → PutsTasks chosen before after → All (IsLentUnder receipts) before → All (IsLentUnder receipts) after
+lends_more receipts tasks chosen before after is given puts all =
+    let Of : Group → Type 0 = IsLentUnder receipts in
+    ⊎_elim
+    (λ none. subst (λ (l : List Group). All Of l) (sym none.1) all)
+    (λ one.
+    let last : Of one.0 = record { tasks = tasks; given = given; are = one.1 ∙ is } in
+    subst (λ (l : List Group). All Of l) (sym one.2) (All-push Of before one.0 all last))
+    puts
 
--- ---- messages to checkers
-module _ (may_find : MayFind) (deals : List (Option Deal)) (budget : ℕ) where
-  found_still : (groups : List Group) (group : Group) (message : FoundBundle) → IsFoundUnder may_find deals budget groups message → IsFoundUnder may_find deals budget (groups ++ group ∷ []) message
-  found_still groups group message is = record {
-    group = is.group;
-    is_one = Contains-append_left groups (group ∷ []) is.group is.is_one;
-    answers = is.answers;
-  }
-
-  -- one message more was put for one group more, or none was
-  pub finds_more : (taken now : List Group) (group : Group) (before after : List FoundBundle) → now ≡ taken ++ group ∷ [] → PutsFound may_find deals budget group.tasks.items before after → All (IsFoundUnder may_find deals budget taken) before → All (IsFoundUnder may_find deals budget now) after
-  finds_more taken now group before after took puts all =
-      let With : List Group → List FoundBundle → Type 0 = λ groups messages. All (IsFoundUnder may_find deals budget groups) messages in
-      let Of : FoundBundle → Type 0 = IsFoundUnder may_find deals budget (taken ++ group ∷ []) in
-      let still : All Of before = All-weaker (IsFoundUnder may_find deals budget taken) Of (found_still taken group) before all in
-      subst (λ (g : List Group). With g after) (sym took)
-      (⊎_elim
-      (λ (none : after ≡ before). subst (λ (l : List FoundBundle). All Of l) (sym none) still)
-      (λ one.
-      let last : Of one.0 = record { group = group; is_one = Contains-push taken group; answers = one.1 } in
-      subst (λ (l : List FoundBundle). All Of l) (sym one.2) (All-push Of before one.0 still last))
-      puts)
+pub lent_more : (weight : ℕ → ℕ) (tasks : List Task) (before after : List Group) → PutsTasks tasks before after → all_lent weight after ≡ all_lent weight before + of_tasks weight tasks
+lent_more weight tasks before after puts =
+    ⊎_elim
+    (λ none.
+    let same = ap (all_lent weight) none.1 in
+    let nothing = ap (of_tasks weight) none.0 in
+    omega arith)
+    (λ one.
+    let more = ap (all_lent weight) one.2 in
+    let tasks_are = ap (of_tasks weight) one.1 in
+    omega (arith, sum_by_push (of_group weight) before one.0))
+    puts
 
 -- ---- claims to clerks
 module _ (bundle : Bundle) (pair : CheckedPair) where

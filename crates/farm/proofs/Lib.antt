@@ -9,3 +9,7 @@ mod Runs
 mod RoundLaws
 mod Sharing
 mod Findings
+mod Asks
+mod Leased
+mod Gathering
+mod Searching

@@ -1,11 +1,11 @@
 -- What follows from the chairs of a run for the history of its book.
-use Rattle.std.proofs.Common.{◌≡◌, ℕ, ◌+◌, ◌-◌, ◌<◌, ◌≤◌, List, ◌++◌, Contains, All, length, count_by, refl, sym, ap, ◌∙◌, subst, ⊎_elim, arith, get_or}
+use Rattle.std.proofs.Common.{◌≡◌, ℕ, ◌+◌, ◌-◌, ◌<◌, ◌≤◌, List, [], ◌++◌, Contains, All, length, count_by, sum_by, refl, sym, ap, ◌∙◌, subst, ⊎_elim, arith, get_or}
 use Rattle.std.proofs.lemmas.Bool.{eqb-true, eq-eqb, cases_lt}
 use Rattle.std.proofs.lemmas.List.{length-append, get_or-append-add}
 use Rattle.std.proofs.lemmas.Option.{get_or_from_slice_get, slice_get_within}
 use Rattle.std.proofs.lemmas.List.Elements.{All-weaker, All-contains, Contains-push, Contains-append_left}
 use Rattle.lease_book.specs.declared.events.Asked.TheVariants.{Lease}
-use Rattle.lease_book.specs.declared.events.Reply.TheVariants.{Nothing}
+use Rattle.lease_book.specs.declared.events.Reply.TheVariants.{Nothing, Given}
 use Rattle.lease_book.specs.declared.events.Event.{Event}
 use Rattle.lease_book.specs.Histories.{Terms}
 use Rattle.lease_book.specs.Books.{Ledger}
@@ -16,9 +16,14 @@ use Rattle.lease_desk.specs.Desks.{IsClosed, receipts_in}
 use Rattle.farm.specs.declared.crews.Crew.{Crew}
 use Rattle.lease_book.specs.Moments.{MayTell, IsTimed, AreTimed}
 use Rattle.lease_book.specs.TrueHistories.{IsGivenOut}
+use Rattle.certificate_graph.specs.Solvers.{MayFind}
+use Rattle.farm.specs.Leases.{given_up_by, handed_in_by}
+use Rattle.farm.specs.Asks.{Ask, IsAsked, all_steps}
+use Rattle.farm.specs.Searched.{AreAskedFor, IsLeased}
 use Rattle.farm.specs.Rounds.{IsRound}
+use Rattle.farm.proofs.Gathering.{settled_at}
 use Rattle.farm.specs.Working.{IsOnDuty}
-use Rattle.farm.specs.Requests.{EndsIdle}
+use Rattle.farm.specs.Requests.{WasGiven, EndsIdle}
 use Rattle.lease_book.specs.Settling.{given_by, settled_by, AreSettledOnce}
 use Rattle.farm.specs.Running.{HaveWorked}
 use Rattle.farm.proofs.Chairs.{All-shown, counted_is_there, above_zero, zero_each, one_if, uncounted}
@@ -31,9 +36,9 @@ saw_nothing receipts idle =
     let between : Contains idle.between told = subst (λ (l : List Receipt). Contains l told) (sym idle.nothing.1) (Contains-push idle.before told) in
     (idle.asked, idle.nothing.0, subst (λ (l : List Receipt). Contains l told) (sym idle.none_freed.1) (Contains-append_left idle.between _ told between))
 
-module _ {S G C : Type 0} (may_tell : C → MayTell) (crew : Crew S G C) where
-  module _ (terms : Terms) (start : List Event) (first chairs closed : List Chair) (book : Ledger)
-      (have : HaveWorked may_tell crew first chairs) (is : IsClosed terms start chairs book closed) where
+module _ {S G C : Type 0} (may_tell : C → MayTell) (may_find : S → MayFind) (crew : Crew S G C) where
+  module _ (terms : Terms) (start : List Event) (first chairs closed : List Chair) (book : Ledger) (steps : ℕ)
+      (have : HaveWorked may_tell may_find crew first chairs steps) (is : IsClosed terms start chairs book closed) where
     long : length book.events ≡ length start + length is.later
     long = ap (λ (l : List Event). length l) is.events_are ∙ length-append start is.later
 
@@ -74,6 +79,18 @@ module _ {S G C : Type 0} (may_tell : C → MayTell) (crew : Crew S G C) where
         (λ (late : length start ≤ told.place). late)
         (cases_lt told.place (length start))
 
+    -- the event of a receipt of these chairs is one since the desk was opened
+    told_later : (chair : Chair) (told : Receipt) → Contains chairs chair → Contains (receipts_in chair) told → Contains is.later told.event
+    told_later chair told there has =
+        let stand = All-shown (λ shown. All (Stands book.events) shown.1) closed chairs (sym is.same) is.stand in
+        let stands : Stands book.events told = All-contains (Stands book.events) (receipts_in chair) told (All-contains (λ (c : Chair). All (Stands book.events) (receipts_in c)) chairs chair stand there) has in
+        let late = is_late chair told there has in
+        let within = slice_get_within book.events told.place told.event stands in
+        let whole = long in
+        let i : ℕ = told.place - length start in
+        let place : length start + i ≡ told.place = omega arith in
+        (i, omega arith, later_at i told.event ∙ ap (λ k. get_or book.events k told.event) place ∙ get_or_from_slice_get book.events told.place told.event told.event stands)
+
     -- one of the chairs saw that no entry was open
     given_out : IsGivenOut is.later
     given_out =
@@ -82,14 +99,7 @@ module _ {S G C : Type 0} (may_tell : C → MayTell) (crew : Crew S G C) where
         let nothing = saw_nothing (receipts_in chair) have.idle.2 in
         let event : Event = record { asked = Lease nothing.0; reply = Nothing } in
         let told : Receipt = record { place = nothing.1; event = event } in
-        let stand = All-shown (λ shown. All (Stands book.events) shown.1) closed chairs (sym is.same) is.stand in
-        let stands : Stands book.events told = All-contains (Stands book.events) (receipts_in chair) told (All-contains (λ (c : Chair). All (Stands book.events) (receipts_in c)) chairs chair stand there) nothing.2 in
-        let late = is_late chair told there nothing.2 in
-        let within = slice_get_within book.events nothing.1 event stands in
-        let whole = long in
-        let i : ℕ = nothing.1 - length start in
-        let place : length start + i ≡ nothing.1 = omega arith in
-        (nothing.0, (i, omega arith, later_at i event ∙ ap (λ k. get_or book.events k event) place ∙ get_or_from_slice_get book.events nothing.1 event event stands))
+        (nothing.0, told_later chair told there nothing.2)
 
     -- what the chairs settled together, the events do
     settled_once : AreSettledOnce is.later
@@ -99,7 +109,37 @@ module _ {S G C : Type 0} (may_tell : C → MayTell) (crew : Crew S G C) where
         let h = have.leases weight in
         omega arith
 
-    pub is_round : (old : Ledger) → terms ≡ old.terms → start ≡ old.events → IsRound (may_tell crew.means.clock.now) old book
+    -- what was asked for
+    searched : AreAskedFor (IsAsked (may_find crew.means.solver.now) crew.deals.now crew.settings.budget) is.later (all_steps have.asks)
+    searched = record {
+      asks = have.asks;
+      asked = have.asked;
+      leased = All-weaker (λ (a : Ask). All (WasGiven (receipts_in have.lender)) a.tasks) (λ (a : Ask). All (IsLeased is.later) a.tasks)
+          (λ a all. All-weaker (WasGiven (receipts_in have.lender)) (IsLeased is.later)
+          (λ task given. (given.1, given.2, told_later have.lender (record { place = given.0; event = record { asked = Lease given.1; reply = Given task.lease task.entry given.2 } }) have.is_one given.3))
+          a.tasks all)
+          have.asks have.given;
+      back = [];
+      given_up = λ weight.
+          let up = of_closed (λ (e : Event). given_up_by weight e.asked) terms start chairs closed book is in
+          let vain = have.gave_up weight in
+          let none : sum_by weight [] ≡ 0 = refl in
+          omega arith;
+      handed_in = λ weight.
+          let under = of_closed (λ (e : Event). handed_in_by weight e.asked) terms start chairs closed book is in
+          let claims = have.handed_in weight in
+          omega arith;
+      settled = λ weight.
+          let given = of_closed (λ (e : Event). given_by weight e.asked e.reply) terms start chairs closed book is in
+          let under = of_closed (λ (e : Event). handed_in_by weight e.asked) terms start chairs closed book is in
+          let vain = have.gave_up weight in
+          let both = settled_at weight chairs in
+          let all = have.leases weight in
+          omega arith;
+      steps_are = refl;
+    }
+
+    pub is_round : (old : Ledger) → terms ≡ old.terms → start ≡ old.events → IsRound (may_tell crew.means.clock.now) (IsAsked (may_find crew.means.solver.now) crew.deals.now crew.settings.budget) old book steps
     is_round old terms_are start_is = record {
       terms_are = is.terms_are ∙ terms_are;
       later = is.later;
@@ -107,4 +147,7 @@ module _ {S G C : Type 0} (may_tell : C → MayTell) (crew : Crew S G C) where
       given_out = given_out;
       timed = timed;
       settled = settled_once;
+      all = all_steps have.asks;
+      asked = searched;
+      counted = have.counted;
     }

@@ -22,3 +22,12 @@ sum_of_parts f g [] = refl
 sum_of_parts f g (x ∷ xs) =
     let rest = sum_of_parts f g xs in
     omega (arith, sum_by-cons f (g x) (map g xs), sum_by-cons (λ y. f (g y)) x xs)
+
+-- a sum of nothing each
+pub sum_of_zeros : {X : Type 0} (f : X → ℕ) (xs : List X) → All (λ x. f x ≡ 0) xs → sum_by f xs ≡ 0
+sum_of_zeros f [] all = refl
+sum_of_zeros {X = X} f (x ∷ xs) all =
+    let Of : X → Type 0 = λ y. f y ≡ 0 in
+    let one = All-head Of x xs all in
+    let rest = sum_of_zeros f xs (All-tail Of x xs all) in
+    omega (arith, sum_by-cons f x xs)

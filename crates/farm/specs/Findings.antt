@@ -1,12 +1,8 @@
--- The lender's groups for solvers, the messages of solvers to checkers, and the claims of checkers to clerks.
-use Rattle.std.specs.Prelude.{◌≡◌, ◌⊎◌, ℕ, List, [], ◌∷◌, ◌++◌, Option, None, Some, Contains, filter, slice_get}
-use Rattle.std.specs.Option.{option_flatten}
-use Rattle.cards.specs.Deal.{Deal}
-use Rattle.cards.specs.declared.suits.Trump.{Trump}
+-- The lender's groups for solvers, the answers of the solver, and the claims of checkers to clerks.
+use Rattle.std.specs.Prelude.{◌≡◌, ◌⊎◌, List, [], ◌∷◌, ◌++◌, Some, Contains}
 use Rattle.certificate_graph.specs.declared.bundles.Bundle.{Bundle}
 use Rattle.certificate_graph.specs.declared.bundles.Claim.{Claim}
 use Rattle.certificate_graph.specs.Bundles.{claim_for}
-use Rattle.certificate_graph.specs.Solvers.{MayFind}
 use Rattle.farm.specs.declared.tasks.Task.{Task}
 use Rattle.farm.specs.declared.tasks.Group.{Group}
 use Rattle.farm.specs.declared.tasks.FoundBundle.{FoundBundle}
@@ -14,13 +10,15 @@ use Rattle.farm.specs.declared.tasks.CheckedClaim.{CheckedClaim}
 use Rattle.checker.specs.declared.pairs.CheckedPair.{CheckedPair}
 use Rattle.checker.specs.Pairs.{IsPairOf, IsClaimedOf}
 use Rattle.lease_desk.specs.declared.receipts.Receipt.{Receipt}
-use Rattle.farm.specs.Groups.{group_of, declarers_in, is_claimed}
+use Rattle.farm.specs.Groups.{group_of}
+use Rattle.farm.specs.Asks.{Ask, claimed_in, found_in}
 use Rattle.farm.specs.Requests.{AreGiven}
 
--- a group of these leases was put, or none was
+-- a group of these leases was put; without a lease none was
 abbrev pub PutsTasks : List Task → List Group → List Group → Type 0
 PutsTasks tasks before after =
-    (after ≡ before) ⊎ ((group : Group) × (group.tasks.items ≡ tasks) × (after ≡ before ++ group ∷ []))
+    ((tasks ≡ []) × (after ≡ before))
+    ⊎ ((group : Group) × (group.tasks.items ≡ tasks) × (after ≡ before ++ group ∷ []))
 
 -- Leases of one board and denomination: those that one search serves together with the first of some leases that these
 -- receipts show as given.
@@ -29,35 +27,23 @@ pub record IsLentUnder (receipts : List Receipt) (group : Group) : Type 0 where
   pub given : AreGiven receipts tasks
   pub are : group.tasks.items ≡ group_of tasks
 
--- the solver may find this for leases of one denomination on a deal; without a deal it finds nothing
-abbrev pub IsFoundOn : MayFind → ℕ → List Task → Trump → Option Deal → Option Bundle → Type 0
-IsFoundOn may_find budget group trump None found = found ≡ None
-IsFoundOn may_find budget group trump (Some deal) found = may_find deal (declarers_in group) trump budget found
+-- the message for the checkers of an answer: its bundle, and the leases that it has a claim for
+pub record IsMessageOf (ask : Ask) (message : FoundBundle) : Type 0 where
+  pub found : found_in ask.answer ≡ Some message.bundle
+  pub tasks_are : message.tasks.items ≡ claimed_in ask
 
--- the solver may find this on the deal of the leases' board, for their declarers and denomination, within the budget
-abbrev pub IsFoundFor : MayFind → List (Option Deal) → ℕ → List Task → Option Bundle → Type 0
-IsFoundFor may_find deals budget [] found = found ≡ None
-IsFoundFor may_find deals budget (first ∷ group) found =
-    IsFoundOn may_find budget (first ∷ group) first.entry.trump
-    (option_flatten (slice_get deals first.entry.board)) found
+-- a message with these leases and this bundle was put; without a lease none was
+abbrev pub PutsLeases : List Task → Bundle → List FoundBundle → List FoundBundle → Type 0
+PutsLeases tasks bundle before after =
+    ((tasks ≡ []) × (after ≡ before))
+    ⊎ ((message : FoundBundle) × (message.tasks.items ≡ tasks) × (message.bundle ≡ bundle)
+    × (after ≡ before ++ message ∷ []))
 
-module _ (may_find : MayFind) (deals : List (Option Deal)) (budget : ℕ) where
-  -- A message for a group of leases. Its bundle is one that the solver may find for the group, and its tasks are the
-  -- leases of the group that the bundle has a claim for.
-  pub record IsFoundIn (group : List Task) (message : FoundBundle) : Type 0 where
-    pub found : IsFoundFor may_find deals budget group (Some message.bundle)
-    pub tasks_are : message.tasks.items ≡ filter (is_claimed message.bundle) group
-
-  -- one message for a group was put, or none was
-  abbrev pub PutsFound : List Task → List FoundBundle → List FoundBundle → Type 0
-  PutsFound group before after =
-      (after ≡ before) ⊎ ((message : FoundBundle) × IsFoundIn group message × (after ≡ before ++ message ∷ []))
-
-  -- a message for one of these groups
-  pub record IsFoundUnder (groups : List Group) (message : FoundBundle) : Type 0 where
-    pub group : Group
-    pub is_one : Contains groups group
-    pub answers : IsFoundIn group.tasks.items message
+-- a message of one of these answers
+pub record IsFoundBy (asks : List Ask) (message : FoundBundle) : Type 0 where
+  pub ask : Ask
+  pub is_one : Contains asks ask
+  pub answers : IsMessageOf ask message
 
 -- the claim for a lease: the first claim that the bundle has for its declarer
 pub record IsClaimFor (bundle : Bundle) (pair : CheckedPair) (task : Task) (checked : CheckedClaim) : Type 0 where

@@ -3,8 +3,11 @@ pub mod Runs
 pub mod Rounds
 pub mod Requests
 pub mod Working
-pub mod Flows
+pub mod Leases
 pub mod Groups
+pub mod Asks
+pub mod Searched
+pub mod Flows
 pub mod Findings
 pub mod Posts
 pub mod Relaying

@@ -1,5 +1,5 @@
 -- The facts about a post before and after the work.
-use Rattle.std.specs.Prelude.{◌≡◌, ℕ, ◌+◌, true, List, [], ◌∷◌, ◌++◌, All, map, length}
+use Rattle.std.specs.Prelude.{◌≡◌, ℕ, ◌+◌, ◌⊎◌, true, List, [], ◌∷◌, ◌++◌, All, map, length, sum_by}
 use Rattle.lease_desk.specs.declared.chairs.Chair.{Chair}
 use Rattle.lease_desk.specs.declared.desk.Desk.{Desk}
 use Rattle.lease_desk.specs.Desks.{receipts_in, terms_of}
@@ -18,8 +18,11 @@ use Rattle.lease_book.specs.Moments.{MayTell}
 use Rattle.certificate_graph.specs.Solvers.{MayFind}
 use Rattle.farm.specs.Working.{IsNew, StaysOnDuty}
 use Rattle.farm.specs.Requests.{AreHandedIn, EndsIdle}
-use Rattle.farm.specs.Findings.{PutsTasks, IsLentUnder, PutsFound, IsFoundUnder, IsClaimUnder}
-use Rattle.farm.specs.Flows.{SettlesOwn, SettlesTaken, ClaimsOwn, SettlesClaims}
+use Rattle.farm.specs.declared.tasks.FoundBundle.{FoundBundle}
+use Rattle.farm.specs.Findings.{IsLentUnder, IsMessageOf, IsFoundBy, IsClaimUnder}
+use Rattle.farm.specs.Asks.{Ask, IsAsked, claimed_in, vain_in, steps_in}
+use Rattle.farm.specs.Asks.{all_answered, all_vain, all_steps, as_counted}
+use Rattle.farm.specs.Flows.{LendsAll, GaveUp, ClaimsOwn, SettlesClaims, of_tasks, all_found}
 
 -- posts at which nobody has worked
 pub record IsNewLender (desk : Desk) (post : LenderPost) : Type 0 where
@@ -30,6 +33,7 @@ pub record IsNewSolver (desk : Desk) (post : SolverPost) : Type 0 where
   pub chair : IsNew desk post.chair
   pub none_taken : taken_by post.groups ≡ []
   pub none_put : put_by post.found ≡ []
+  pub no_steps : post.steps ≡ 0
 
 pub record IsNewChecker (post : CheckerPost) : Type 0 where
   pub none_taken : taken_by post.found ≡ []
@@ -39,27 +43,44 @@ pub record IsNewClerk (desk : Desk) (post : ClerkPost) : Type 0 where
   pub chair : IsNew desk post.chair
   pub none_taken : taken_by post.claims ≡ []
 
--- one group of these leases was put, or none was
-abbrev pub PutsGroup : List Task → LenderPost → LenderPost → Type 0
-PutsGroup tasks old new = PutsTasks tasks (put_by old.groups) (put_by new.groups)
-
 -- each group that the lender put is of leases that it was given
 pub record LendsOwn (post : LenderPost) : Type 0 where
   pub each : All (IsLentUnder (receipts_in post.chair)) (put_by post.groups)
 
-module _ {S G C : Type 0} (may_find : S → MayFind) (crew : Crew S G C) where
-  -- one message for a group of leases was put, or none was
-  abbrev pub PutsOne : List Task → SolverPost → SolverPost → Type 0
-  PutsOne group old new =
-      PutsFound (may_find crew.means.solver.now) crew.deals.now crew.settings.budget group (put_by old.found)
-      (put_by new.found)
+-- What a solver does after a call: it gives up the leases in vain, and puts the others with the answer, if there are
+-- any. It counts the leases that ran out of steps.
+pub record Answers (ask : Ask) (old new : SolverPost) : Type 0 where
+  pub puts :
+      ((claimed_in ask ≡ []) × (put_by new.found ≡ put_by old.found))
+      ⊎ ((message : FoundBundle) × IsMessageOf ask message × (put_by new.found ≡ put_by old.found ++ message ∷ []))
+  pub gives_up :
+      (weight : ℕ → ℕ)
+      → GaveUp weight (receipts_in old.chair) (receipts_in new.chair) (of_tasks weight (vain_in ask))
+  pub steps : as_counted new.steps ≡ as_counted (old.steps + steps_in ask)
 
-  -- each message that a solver put is for a group that it took
-  pub record FindsTaken (post : SolverPost) : Type 0 where
-    pub each :
-        All
-        (IsFoundUnder (may_find crew.means.solver.now) crew.deals.now crew.settings.budget (taken_by post.groups))
-        (put_by post.found)
+module _ {S G C : Type 0} (may_find : S → MayFind) (crew : Crew S G C) where
+  -- the solver was called once for these leases, and its answer was acted on
+  pub record AsksFor (group : List Task) (old new : SolverPost) : Type 0 where
+    pub ask : Ask
+    pub tasks_are : ask.tasks ≡ group
+    pub asked : IsAsked (may_find crew.means.solver.now) crew.deals.now crew.settings.budget ask
+    pub answers : Answers ask old new
+
+  -- The solver was called once for each group that was taken. The messages put are of its answers, and all leases with a
+  -- claim are in them. The leases in vain were given up, no others, and nothing else was asked for at the desk. Those
+  -- that ran out of steps were counted.
+  pub record AsksTaken (post : SolverPost) : Type 0 where
+    pub asks : List Ask
+    pub asked : All (IsAsked (may_find crew.means.solver.now) crew.deals.now crew.settings.budget) asks
+    pub groups : map (λ ask. ask.tasks) asks ≡ map (λ group. group.tasks.items) (taken_by post.groups)
+    pub finds : All (IsFoundBy asks) (put_by post.found)
+    pub found : (weight : ℕ → ℕ) → all_found weight (put_by post.found) ≡ all_answered weight asks
+    pub gave_up : (weight : ℕ → ℕ) → GaveUp weight [] (receipts_in post.chair) (all_vain weight asks)
+    pub steps : as_counted post.steps ≡ as_counted (all_steps asks)
+
+-- what solvers counted, as far as a count goes
+abbrev pub steps_at : List SolverPost → ℕ
+steps_at solvers = as_counted (sum_by (λ post. post.steps) solvers)
 
 -- each claim that a checker put is for a message that it took
 pub record ClaimsTaken (post : CheckerPost) : Type 0 where
@@ -107,11 +128,12 @@ module _ {S G C : Type 0} (may_tell : C → MayTell) (crew : Crew S G C) where
     pub chair : StaysOnDuty may_tell crew old.chair new.chair
     pub claims : TakesAtSame old.claims new.claims
 
-  -- The lender works until no entry is open and no lease has run out. It puts or settles the leases that it is given.
+  -- The lender works until no entry is open and no lease has run out. It puts the leases that it is given, and settles
+  -- none.
   pub record HasLent (old new : LenderPost) : Type 0 where
     pub stays : StaysLender old new
     pub idle : EndsIdle (receipts_in new.chair)
-    pub leases : (weight : ℕ → ℕ) → SettlesOwn weight new
+    pub leases : (weight : ℕ → ℕ) → LendsAll weight new
     pub lends : LendsOwn new
 
   -- a clerk works until it takes an end mark, and hands in the claims that it takes, in their order
@@ -122,13 +144,11 @@ module _ {S G C : Type 0} (may_tell : C → MayTell) (crew : Crew S G C) where
     pub hands_in : HandsInTaken (terms_of crew.desk.now) old new
 
 module _ {S G C : Type 0} (may_tell : C → MayTell) (may_find : S → MayFind) (crew : Crew S G C) where
-  -- A solver works until it takes an end mark. It puts or settles the leases that it takes, and each message is one
-  -- that the solver may find for a group of them.
+  -- a solver works until it takes an end mark, and asks for each group that it takes
   pub record HasSolved (old new : SolverPost) : Type 0 where
     pub stays : StaysSolver may_tell crew old new
     pub ended : marks_of new.groups ≡ marks_of old.groups + 1
-    pub leases : (weight : ℕ → ℕ) → SettlesTaken weight new
-    pub finds : FindsTaken may_find crew new
+    pub asks : AsksTaken may_find crew new
 
 -- the post has the same ends of the same relays
 pub record StaysChecker (old new : CheckerPost) : Type 0 where

@@ -17,8 +17,10 @@ use Rattle.farm.specs.declared.settings.Settings.{Settings}
 use Rattle.farm.specs.declared.started.Started.{Started}
 use Rattle.lease_book.specs.Moments.{MayTell}
 use Rattle.farm.specs.Working.{IsOnDuty}
-use Rattle.farm.specs.Requests.{EndsIdle}
-use Rattle.farm.specs.Flows.{given, settled}
+use Rattle.farm.specs.Requests.{WasGiven, EndsIdle}
+use Rattle.certificate_graph.specs.Solvers.{MayFind}
+use Rattle.farm.specs.Asks.{Ask, IsAsked, all_answered, all_vain, all_steps, as_counted}
+use Rattle.farm.specs.Flows.{given, settled, given_up, handed_in}
 use Rattle.farm.specs.Posts.{IsNewLender, IsNewSolver, IsNewChecker, IsNewClerk, AreManned}
 use Rattle.farm.specs.Relaying.{AreOpened}
 
@@ -64,13 +66,25 @@ pub record HaveEnded (solves : SolverPost → SolverPost → Type 0) (checks : C
   pub checkers : AreBeside checks before.checkers.items after.checkers.items
   pub clerks : AreBeside settles before.clerks.items after.clerks.items
 
-module _ {S G C : Type 0} where
+module _ {S G C : Type 0} (may_tell : C → MayTell) (may_find : S → MayFind) (crew : Crew S G C) where
   -- The chairs that come back are the same ones, at the same desk. One of them saw that no entry was open and no lease
-  -- had run out. Together they settled leases that they were given.
-  pub record HaveWorked (may_tell : C → MayTell) (crew : Crew S G C) (before after : List Chair) : Type 0 where
+  -- had run out. Together they settled leases that they were given. The solver was called for leases that one of them
+  -- was given: the leases given up are those of calls in vain, and those under which something was handed in are of
+  -- calls whose answers have a claim for them. Those that ran out of steps were counted.
+  pub record HaveWorked (before after : List Chair) (steps : ℕ) : Type 0 where
     pub duty : All (IsOnDuty may_tell crew) after
     pub numbers : map number_of after ≡ map number_of before
     pub idle : (chair : Chair) × Contains after chair × EndsIdle (receipts_in chair)
     pub leases :
         (weight : ℕ → ℕ) → sum_by (λ chair. settled weight (receipts_in chair)) after
         ≤ sum_by (λ chair. given weight (receipts_in chair)) after
+    pub asks : List Ask
+    pub asked : All (IsAsked (may_find crew.means.solver.now) crew.deals.now crew.settings.budget) asks
+    pub lender : Chair
+    pub is_one : Contains after lender
+    pub given : All (λ ask. All (WasGiven (receipts_in lender)) ask.tasks) asks
+    pub gave_up :
+        (weight : ℕ → ℕ) → sum_by (λ chair. given_up weight (receipts_in chair)) after ≡ all_vain weight asks
+    pub handed_in :
+        (weight : ℕ → ℕ) → sum_by (λ chair. handed_in weight (receipts_in chair)) after ≤ all_answered weight asks
+    pub counted : steps ≡ as_counted (all_steps asks)

@@ -25,8 +25,7 @@ impl<S: Solver, G: Gate, C: Clock> Work<LenderPost, Halt> for Crew<'_, S, G, C> 
     fn work<R: Threads + Wait + Sync>(&self, rt: &R, post: &mut LenderPost) -> Result<(), Halt> {
         let outcome = lend_all(rt, self, post);
         post.groups.finish(rt);
-        outcome?;
-        Ok(())
+        outcome
     }
 }
 
@@ -42,8 +41,7 @@ impl<S: Solver, G: Gate, C: Clock> Work<SolverPost, Halt> for Crew<'_, S, G, C> 
     fn work<R: Threads + Wait + Sync>(&self, rt: &R, post: &mut SolverPost) -> Result<(), Halt> {
         let outcome = solve_all(rt, self, post);
         post.found.finish(rt);
-        outcome?;
-        Ok(())
+        outcome
     }
 }
 

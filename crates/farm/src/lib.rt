@@ -30,9 +30,11 @@ mod solving;
 mod started;
 mod tasks;
 mod telling;
+mod unclaimed;
 
 pub use faults::FarmFault;
 pub use lease_book::Clock;
 pub use means::Means;
 pub use rounds::{resume_farm, run_farm};
 pub use settings::{MOST_ENTRIES, MOST_THREADS, MOST_TRIES, Settings, SettingsFault};
+pub use unclaimed::Unclaimed;

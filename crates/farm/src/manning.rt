@@ -1,6 +1,6 @@
 //! From chairs and ends of relays to posts, and back.
 
-ghost use Rattle.std.specs.Prelude.{◌≡◌, ◌+◌, ◌≤◌, [], ◌∷◌, ◌++◌, IfOk, length, map};
+ghost use Rattle.std.specs.Prelude.{◌≡◌, ◌+◌, ◌≤◌, [], ◌∷◌, ◌++◌, All, IfOk, length, map};
 ghost use Rattle.farm.specs.Posts.{AreManned, CanBeManned};
 
 use crate::posts::{CheckerPost, ClerkPost, LenderPost, Posts, SolverPost};
@@ -41,6 +41,7 @@ fn solver_posts(
         ++ chairs.new.items) }
     ensures groups { IfOk result (λ posts. groups.items ≡ map (λ post. post.groups) posts.items) }
     ensures finds { IfOk result (λ posts. finds.items ≡ map (λ post. post.found) posts.items) }
+    ensures steps { IfOk result (λ posts. All (λ post. post.steps ≡ 0) posts.items) }
 {
     let mut posts = Vec::with_capacity(alloc, finds.len())?;
     let mut groups = VecDeque::from(groups);
@@ -55,6 +56,7 @@ fn solver_posts(
             chair,
             groups: taker,
             found,
+            steps: 0,
         })?;
     }
     Ok(posts)
@@ -183,7 +185,8 @@ impl Posts {
         ends: RelayEnds,
     ) -> Result<(LenderPost, Posts), AllocError>
         requires { CanBeManned chairs.items ends }
-        ensures { IfOk result (λ made. AreManned chairs.items ends made.0 made.1) }
+        ensures manned { IfOk result (λ made. AreManned chairs.items ends made.0 made.1) }
+        ensures steps { IfOk result (λ made. All (λ post. post.steps ≡ 0) made.1.solvers.items) }
     {
         let RelayEnds {
             lent,

@@ -3,8 +3,8 @@
 ghost use Rattle.std.specs.Prelude.{ℕ, IfOk, OnOk};
 ghost use Rattle.lease_desk.specs.Desks.{receipts_in};
 ghost use Rattle.farm.specs.Working.{IsOnDuty, StaysOnDuty};
-ghost use Rattle.farm.specs.Requests.{IsNextTask, FreesLeases, GivesUp, Continues};
-ghost use Rattle.farm.specs.Flows.{Moves, of_tasks};
+ghost use Rattle.farm.specs.Requests.{IsNextTask, FreesLeases, GivesUp};
+ghost use Rattle.farm.specs.Flows.{GaveUp, of_tasks};
 
 use crate::crews::Crew;
 use crate::lease_lock::LeaseGuard;
@@ -75,8 +75,7 @@ pub(crate) fn give_up_all<S, G, C: Clock, R: Wait>(
     requires { IsOnDuty C.may_tell crew.now chair.old }
     ensures stays { StaysOnDuty C.may_tell crew.now chair.old chair.new }
     ensures leases { OnOk result ((weight : ℕ → ℕ) →
-        Moves weight (receipts_in chair.old) (receipts_in chair.new) (of_tasks weight tasks.now.items) 0) }
-    ensures receipts { OnOk result (Continues (receipts_in chair.old) (receipts_in chair.new)) }
+        GaveUp weight (receipts_in chair.old) (receipts_in chair.new) (of_tasks weight tasks.now.items)) }
 {
     let guard = crew.lease_lock.lock(rt);
     let tasks = tasks.as_slice();

@@ -2,13 +2,14 @@
 
 ghost use Rattle.std.specs.Prelude.{◌≡◌, ◌+◌, All, IfOk, length};
 ghost use Rattle.farm.specs.Working.{IsNew};
+ghost use Rattle.farm.specs.Asks.{IsAsked};
 ghost use Rattle.farm.specs.Rounds.{IsRound};
 ghost use Rattle.farm.specs.Running.{MayBegin, AreOpenedPosts, HaveEnded, HaveWorked};
 
 use crate::crews::Crew;
 use crate::lease_lock::LeaseLock;
 use crate::means::Means;
-use crate::posts::{CheckerPost, ClerkPost, LenderPost, Posts, SolverPost};
+use crate::posts::{CheckerPost, ClerkPost, LenderPost, Posts, SolverPost, steps_at};
 use crate::relays::Relays;
 use crate::settings::Settings;
 use crate::started::{Started, end_all, join_all, start_all};
@@ -134,25 +135,27 @@ fn open_posts<S, G, C>(crew: &Crew<'_, S, G, C>, chairs: Vec<Chair>) -> Result<O
     Ok((relays, lender, posts))
 }
 
-/// Works at all chairs, the lender's first and then the solvers', and returns them.
+/// Works at all chairs, the lender's first and then the solvers'. Returns them, and how many leases ran out of steps.
 fn work_all<S: Solver + Sync, G: Gate + Sync, C: Clock + Sync, R: Threads + Wait + Sync>(
     rt: &R,
     crew: &Crew<'_, S, G, C>,
     chairs: Vec<Chair>,
-) -> Result<Vec<Chair>, Halt>
+) -> Result<(Vec<Chair>, u64), Halt>
     requires new { All (IsNew crew.now.desk.now) chairs.items }
     requires count { length chairs.items ≡ crew.now.settings.solvers + crew.now.settings.checkers + 1 }
-    ensures { IfOk result (λ worked. HaveWorked C.may_tell crew.now chairs.items worked.items) }
+    ensures { IfOk result (λ worked. HaveWorked C.may_tell S.may_find crew.now chairs.items worked.0.items worked.1) }
 {
     let opened = open_posts(crew, chairs)?;
     let (relays, lender, posts) = work_as(rt, crew, opened)?;
+    let steps = steps_at(posts.solvers.as_slice());
     let (chairs, ends) = posts.apart(crew.alloc, lender)?;
     relays.close(rt, ends)?;
-    Ok(chairs)
+    Ok((chairs, steps))
 }
 
 /// Opens a desk over the book. One lender works in this thread, and in threads of their own as many solvers and
-/// checkers as the settings say, and as many clerks as checkers. Returns the book when all have ended.
+/// checkers as the settings say, and as many clerks as checkers. When all have ended it returns the book, and how many
+/// leases ran out of steps.
 ///
 /// The lender leases entries, batch by batch, each at the clock's moment, and puts those of one board and denomination
 /// together for the solvers. If no entry is open it frees the leases that have run out, and ends if there is none. A
@@ -172,8 +175,9 @@ pub(crate) fn work_round<
     deals: &[Option<Layout>],
     settings: Settings,
     means: &Means<'_, S, G, C>,
-) -> Result<Book, Halt>
-    ensures { IfOk result (IsRound (C.may_tell means.now.clock.now) book) }
+) -> Result<(Book, u64), Halt>
+    ensures { IfOk result (λ worked. IsRound (C.may_tell means.now.clock.now)
+        (IsAsked (S.may_find means.now.solver.now) deals.now settings.budget) book worked.0 worked.1) }
 {
     let count = settings.solvers + settings.checkers + 1;
     let (desk, chairs) = Desk::over(rt, alloc, book, count)?;
@@ -186,8 +190,8 @@ pub(crate) fn work_round<
         means: *means,
         lease_lock: &lease_lock,
     };
-    let chairs = work_all(rt, &crew, chairs)?;
+    let (chairs, steps) = work_all(rt, &crew, chairs)?;
     drop(crew);
     let Closed { book, chairs: _ } = desk.close(rt, chairs);
-    Ok(book)
+    Ok((book, steps))
 }

@@ -23,7 +23,8 @@ pub fn book_of<S: Solver + Sync, G: Gate + Sync, C: Clock + Sync, R: Threads + W
 ) -> Book {
     let settings = settings.expect(rt, "settings");
     let boards = boards_of(rt, alloc, deals);
-    run_farm(rt, alloc, boards, settings, means).expect(rt, "a run")
+    let (book, _unclaimed) = run_farm(rt, alloc, boards, settings, means).expect(rt, "a run");
+    book
 }
 
 /// The book of a run with a gate that lets all pass, and a clock that stands still.

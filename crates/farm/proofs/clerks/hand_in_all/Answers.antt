@@ -19,11 +19,16 @@ loop-preserved g c =
       record { chair = record { duty = handed.stays.duty; number = handed.stays.number ∙ i.0.chair.number }; claims = took.same ∙ i.0.claims },
       took.marks refl ∙ i.1,
       λ weight.
-          let own = i.2 weight in
+          let own_all = (i.2 weight).handed_in_all in
+          let own_up = (i.2 weight).given_up_none in
+          let own_given = (i.2 weight).given_none in
           let moved = handing_in_moves weight terms claim had has handed.told in
+          let more = moved.0 in
+          let up = moved.1 in
+          let given = moved.2 in
           let taken = ap (all_claimed weight) took.some in
           let one = sum_by_push (of_claim weight) (taken_by c.loop.post.claims) claim in
-          omega arith,
+          record { handed_in_all = omega arith; given_up_none = omega arith; given_none = omega arith },
       record {
         claims = i.3.claims ++ claim ∷ [];
         taken = took.some ∙ ap (λ l. l ++ claim ∷ []) i.3.taken ∙ append_assoc _ i.3.claims (claim ∷ []);

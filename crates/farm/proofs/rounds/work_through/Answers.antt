@@ -1,17 +1,20 @@
 use Rattle.std.proofs.Common.{refl}
-use Rattle.farm.proofs.RoundLaws.{stays, finishes, on_then, round_on, back_on}
+use Rattle.farm.specs.Asks.{IsAsked}
+use Rattle.farm.proofs.RoundLaws.{goes_none, goes_more, finishes}
 use Rattle.farm.proofs.rounds.work_through.Goals as goal
 
 pub loop-round-init : goal.loop-round-init
-loop-round-init g c = stays (g.C.Clock.may_tell c.args.means.now.clock.now) c.args.book
+loop-round-init g c = goes_none (g.C.Clock.may_tell c.args.means.now.clock.now) (IsAsked (g.S.Solver.may_find c.args.means.now.solver.now) c.args.deals.now c.args.settings.budget) c.args.book
 
 pub returns-then-is_idle : goal.returns-then-is_idle
 returns-then-is_idle g c =
     let told = g.C.Clock.may_tell c.args.means.now.clock.now in
-    finishes told c.args.book c.loop-round.book c.in_ok-book.book c.take_back_all.new.book c.loop-round.invariant c.in_ok-book.ensures c.in_ok-take_back_all.ensures (c.if-is_idle.ensures.done refl) c.is_true_history.ensures
+    let asked = IsAsked (g.S.Solver.may_find c.args.means.now.solver.now) c.args.deals.now c.args.settings.budget in
+    let goes = goes_more told asked c.args.book c.loop-round.book c.in_ok-worked.worked c.take_back_all.new.book c.loop-round.steps c.in_ok-worked.more c.saturating_add-steps.result c.saturating_add-steps.ensures c.loop-round.invariant c.in_ok-worked.ensures c.in_ok-take_back_all.ensures in
+    finishes told asked c.args.book c.loop-round.book c.in_ok-worked.worked c.take_back_all.new.book c.loop-round.steps c.in_ok-worked.more c.saturating_add-steps.result goes c.in_ok-worked.ensures c.in_ok-take_back_all.ensures (c.if-is_idle.ensures.done refl) c.is_true_history.ensures
 
 pub loop-round-preserved : goal.loop-round-preserved
 loop-round-preserved g c =
     let told = g.C.Clock.may_tell c.args.means.now.clock.now in
-    on_then told c.args.book c.loop-round.book c.take_back_all.new.book c.loop-round.invariant
-    (on_then told c.loop-round.book c.in_ok-book.book c.take_back_all.new.book (round_on told c.loop-round.book c.in_ok-book.book c.in_ok-book.ensures) (back_on told c.in_ok-book.book c.take_back_all.new.book c.in_ok-take_back_all.ensures))
+    let asked = IsAsked (g.S.Solver.may_find c.args.means.now.solver.now) c.args.deals.now c.args.settings.budget in
+    goes_more told asked c.args.book c.loop-round.book c.in_ok-worked.worked c.take_back_all.new.book c.loop-round.steps c.in_ok-worked.more c.saturating_add-steps.result c.saturating_add-steps.ensures c.loop-round.invariant c.in_ok-worked.ensures c.in_ok-take_back_all.ensures

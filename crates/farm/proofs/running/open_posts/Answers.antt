@@ -8,7 +8,7 @@ of-requires g c =
 pub returns : goal.returns
 returns g c =
     let opened = c.in_ok-relays.ensures in
-    let manned = c.in_ok-lender.ensures in
+    let manned = c.in_ok-lender.ensures.manned in
     let settings = c.args.crew.now.settings in
     let desk = c.args.crew.now.desk.now in
     let lender = c.in_ok-lender.lender in
@@ -16,6 +16,6 @@ returns g c =
       ends = c.in_ok-relays.ends;
       opened = opened;
       manned = manned;
-      new_lender = new_lender settings desk c.in_ok-relays.relays c.args.chairs.items c.in_ok-relays.ends lender c.in_ok-lender.posts c.requires.new opened manned;
-      new = new_posts settings desk c.in_ok-relays.relays c.args.chairs.items c.in_ok-relays.ends lender c.in_ok-lender.posts c.requires.new opened manned;
+      new_lender = new_lender settings desk c.in_ok-relays.relays c.args.chairs.items c.in_ok-relays.ends lender c.in_ok-lender.posts c.requires.new opened manned c.in_ok-lender.ensures.steps;
+      new = new_posts settings desk c.in_ok-relays.relays c.args.chairs.items c.in_ok-relays.ends lender c.in_ok-lender.posts c.requires.new opened manned c.in_ok-lender.ensures.steps;
     }
