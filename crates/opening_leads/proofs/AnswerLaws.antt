@@ -1,5 +1,6 @@
 -- The leads of a contract, from the judgement of an answer.
-use Rattle.std.proofs.Common.{List, All, Option, Some, None, MatchOption, option_map}
+use Rattle.std.proofs.Common.{◌≡◌, List, All, Some, Result, Ok, Err}
+use Rattle.std.specs.Prelude.{MatchResult}
 use Rattle.cards.specs.declared.seats.Seat.{Seat}
 use Rattle.cards.specs.declared.suits.Trump.{Trump}
 use Rattle.cards.specs.Deal.{Deal}
@@ -9,18 +10,23 @@ use Rattle.card_values.specs.declared.faults.CardFault.{CardFault}
 use Rattle.card_values.specs.declared.values.CardValue.{CardValue}
 use Rattle.card_values.specs.CardValues.{AreCardValues}
 use Rattle.card_values.specs.Judging.{IsClaimed, IsCardFault}
-use Rattle.opening_leads.specs.Leads.{before_lead}
-use Rattle.opening_leads.specs.Answers.{AreGraphsOf, AreShownLeads}
+use Rattle.opening_leads.specs.Leads.{before_lead, with_values}
+use Rattle.opening_leads.specs.declared.rows.Lack.{Lack}
+use Rattle.opening_leads.specs.Answers.{AreGraphsOf, AreShownLeads, lack_by}
 
 module _ {V : Type 0} (items : V → List CardValue) (bundle : CardBundle) (graphs : CardGraphs) (are : AreGraphsOf bundle graphs)
     (deal : Deal) (declarer : Seat) (trump : Trump) where
-  pub shown_row : (row : Option V)
-      → MatchOption row
-      ((fault : CardFault) × IsCardFault (before_lead deal declarer trump) graphs bundle.claims.items fault)
+  pub shown_row : (row : Result V Lack)
+      → MatchResult row
       (λ values. AreCardValues (before_lead deal declarer trump) (items values)
       × All (IsClaimed (before_lead deal declarer trump) graphs bundle.claims.items) (items values))
-      → AreShownLeads (Some bundle) deal declarer trump (option_map items row)
-  shown_row None judged =
-      record { values = tt; shown = record { graphs = graphs; graphs_are = are; fault = judged.0; has = judged.1 } }
-  shown_row (Some values) judged =
+      (λ lack. (fault : CardFault) × (lack ≡ lack_by fault)
+      × IsCardFault (before_lead deal declarer trump) graphs bundle.claims.items fault)
+      → AreShownLeads (Ok (Some bundle)) deal declarer trump (with_values items row)
+  shown_row (Err lack) judged =
+      record {
+        values = tt;
+        shown = record { graphs = graphs; graphs_are = are; fault = judged.0; lack_is = judged.1; has = judged.2 };
+      }
+  shown_row (Ok values) judged =
       record { values = judged.0; shown = record { graphs = graphs; graphs_are = are; claimed = judged.1 } }

@@ -1,5 +1,5 @@
 -- The text of opening leads that is made of a text of boards.
-use Rattle.std.specs.Prelude.{◌≡◌, ℕ, List, Result, Ok, Err, ⊤}
+use Rattle.std.specs.Prelude.{◌≡◌, ℕ, ◌-◌, List, length, count_by, is_some, Result, Ok, Err, ⊤}
 use Rattle.std.proofs.Common.{Vec, Global}
 use Rattle.cards.specs.Devices.{Device, Adds, AddsBeginning, one_more}
 use Rattle.streams.specs.Inputs.{IsReadToEnd, Loses}
@@ -11,10 +11,11 @@ use Rattle.pbn_deals.specs.Reading.{TextAnswers}
 use Rattle.certificate_graph.specs.Solvers.{MayFindCards}
 use Rattle.opening_leads.specs.declared.faults.LeadFault.{LeadFault}
 use Rattle.opening_leads.specs.declared.faults.LeadFault.TheVariants.{OutOfMemory, Read, Pbn, Write}
-use Rattle.opening_leads.specs.declared.making.LeadReport.{LeadReport}
+use Rattle.opening_leads.specs.declared.counts.LeadReport.{LeadReport}
 use Rattle.opening_leads.specs.Leads.{Leads}
 use Rattle.opening_leads.specs.Answers.{AreFoundOn}
-use Rattle.opening_leads.specs.Texts.{leads_text, missing_count}
+use Rattle.opening_leads.specs.Texts.{counted_rows, leads_text, missing_count}
+use Rattle.opening_leads.specs.declared.rows.Counted.TheVariants as counted
 
 -- The source was read to its end, these are the boards of its text, and the leads are those that were found for them.
 pub record FindsLeads (may_find : MayFindCards) (budget : ℕ) (old new : Device) (boards : List Board)
@@ -25,13 +26,26 @@ pub record FindsLeads (may_find : MayFindCards) (budget : ℕ) (old new : Device
   pub read : TextAnswers text (Ok boards)
   pub found : AreFoundOn may_find budget boards leads
 
--- the leads were written, and the report counts the rows that are missing
+-- how many boards have no deal
+abbrev pub undealt_count : List Board → ℕ
+undealt_count boards = length boards - count_by (λ board. is_some board.deal) boards
+
+-- the report counts the boards, and the rows that are missing with the reasons why
+pub record IsReportOf (boards : List Board) (leads : ℕ → Leads) (report : LeadReport) : Type 0 where
+  pub boards_are : report.boards ≡ length boards
+  pub undealt : report.undealt ≡ undealt_count boards
+  pub missing : report.missing ≡ missing_count boards leads
+  pub steps : report.steps ≡ counted_rows counted.Steps boards leads
+  pub memory : report.memory ≡ counted_rows counted.Memory boards leads
+  pub refused : report.refused ≡ counted_rows counted.Refused boards leads
+
+-- the leads were written, and this is the report of them
 pub record WritesLeads (may_find : MayFindCards) (budget : ℕ) (old new : Devices) (report : LeadReport) : Type 0 where
   pub boards : List Board
   pub leads : ℕ → Leads
   pub finds : FindsLeads may_find budget old.source new.source boards leads
   pub written : Adds old.sink new.sink (leads_text boards leads)
-  pub missing : report.missing ≡ missing_count boards leads
+  pub reported : IsReportOf boards leads report
 
 -- a beginning of the text was written, and then the sink failed
 pub record BeginsLeads (may_find : MayFindCards) (budget : ℕ) (old new : Devices) : Type 0 where

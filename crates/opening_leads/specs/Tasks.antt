@@ -1,6 +1,6 @@
 -- The search as tasks, which several threads work on: one for each board and denomination.
-use Rattle.std.specs.Prelude.{◌≡◌, ℕ, ◌+◌, ◌*◌, ◌⊎◌, List, All, Contains, Option, None, Some, option_map, IfSome}
-use Rattle.std.specs.Prelude.{Result, IfOk, slice_index_or}
+use Rattle.std.specs.Prelude.{◌≡◌, ℕ, ◌+◌, ◌*◌, ◌⊎◌, List, All, Contains, Option, None, Some, IfSome}
+use Rattle.std.specs.Prelude.{Result, Err, IfOk, slice_index_or}
 use Rattle.std.specs.declared.alloc.AllocError.{AllocError}
 use Rattle.std.proofs.Common.{Vec, Global}
 use Rattle.cards.specs.declared.seats.Seat.{Seat}
@@ -9,29 +9,30 @@ use Rattle.cards.specs.declared.suits.Trump.{Trump}
 use Rattle.cards.specs.Orders.{trump_number}
 use Rattle.certificate_graph.specs.Solvers.{MayFindCards}
 use Rattle.pbn_deals.specs.declared.boards.Board.{Board}
-use Rattle.card_values.specs.declared.values.CardValue.{CardValue}
 use Rattle.opening_leads.specs.declared.rows.DeclarerRows.{DeclarerRows}
-use Rattle.opening_leads.specs.Leads.{Leads, deal_at}
+use Rattle.opening_leads.specs.declared.rows.Lack.{Lack}
+use Rattle.opening_leads.specs.declared.rows.Lack.TheVariants as lack
+use Rattle.opening_leads.specs.Leads.{LeadRow, Leads, deal_at, with_values}
 use Rattle.opening_leads.specs.Answers.{AreFoundLeads}
 
--- no row is known
-abbrev pub no_rows : DeclarerRows
-no_rows = record { north = None; east = None; south = None; west = None }
+-- no row is known, for this reason
+abbrev pub lacking_rows : Lack → DeclarerRows
+lacking_rows why = record { north = Err why; east = Err why; south = Err why; west = Err why }
 
 -- the row of a declarer
-abbrev pub row_in : DeclarerRows → Seat → Option (List CardValue)
-row_in rows North = option_map (λ values. values.items) rows.north
-row_in rows East = option_map (λ values. values.items) rows.east
-row_in rows South = option_map (λ values. values.items) rows.south
-row_in rows West = option_map (λ values. values.items) rows.west
+abbrev pub row_in : DeclarerRows → Seat → LeadRow
+row_in rows North = with_values (λ values. values.items) rows.north
+row_in rows East = with_values (λ values. values.items) rows.east
+row_in rows South = with_values (λ values. values.items) rows.south
+row_in rows West = with_values (λ values. values.items) rows.west
 
 -- the number of a task
 abbrev pub task_of : ℕ → Trump → ℕ
 task_of board trump = 5 * board + trump_number trump
 
 -- the row of a declarer, if the task was done
-abbrev pub row_if : Option DeclarerRows → Seat → Option (List CardValue)
-row_if None declarer = None
+abbrev pub row_if : Option DeclarerRows → Seat → LeadRow
+row_if None declarer = Err lack.Deal
 row_if (Some rows) declarer = row_in rows declarer
 
 -- what was found, by the numbers of the tasks, as the leads of boards

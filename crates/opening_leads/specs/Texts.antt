@@ -1,6 +1,6 @@
 -- The text of the opening leads of boards: below each board's tags a row for each contract whose leads are known.
 use Rattle.std.specs.Prelude.{ℕ, ◌-◌, List, [], ◌∷◌, ◌++◌, codes, count_by, sum_by, decimal, nat_lt}
-use Rattle.std.specs.Prelude.{Option, None, Some, is_some, if◌then◌else◌}
+use Rattle.std.specs.Prelude.{Option, None, Some, Ok, Err, if◌then◌else◌}
 use Rattle.std.specs.List.{flat_map, enumerate_from}
 use Rattle.cards.specs.declared.seats.Seat.{Seat}
 use Rattle.cards.specs.declared.suits.Trump.{Trump}
@@ -11,7 +11,9 @@ use Rattle.pbn_deals.specs.declared.boards.Board.{Board}
 use Rattle.tables.specs.TablesText.{declarers, denominations, right_in_two, tag_line, deal_value, ended_line}
 use Rattle.card_values.specs.declared.values.CardValue.{CardValue}
 use Rattle.card_values.specs.Texts.{groups_text}
-use Rattle.opening_leads.specs.Leads.{Leads}
+use Rattle.opening_leads.specs.Leads.{LeadRow, Leads, is_counted}
+use Rattle.opening_leads.specs.declared.rows.Counted.{Counted}
+use Rattle.opening_leads.specs.declared.rows.Counted.TheVariants.{Known}
 use Rattle.cards.specs.Bytes as ascii
 
 -- ---- rows
@@ -21,9 +23,9 @@ row_text declarer denomination values =
     seat_letter declarer ++ (ascii.blank ∷ right_in_two (trump_letters denomination)
     ++ (groups_text values ++ codes "\n"))
 
-abbrev pub known_row : Seat → Trump → Option (List CardValue) → List ℕ
-known_row declarer denomination None = []
-known_row declarer denomination (Some values) = row_text declarer denomination values
+abbrev pub known_row : Seat → Trump → LeadRow → List ℕ
+known_row declarer denomination (Err lack) = []
+known_row declarer denomination (Ok values) = row_text declarer denomination values
 
 abbrev pub row_of : Leads → Seat → Trump → List ℕ
 row_of leads declarer denomination = known_row declarer denomination (leads declarer denomination)
@@ -37,13 +39,18 @@ unfoldable pub rows_text : Leads → List ℕ
 rows_text leads = flat_map (declarer_rows leads) declarers
 
 -- ---- rows that are missing
--- how many rows of a declarer are known
-unfoldable pub known_of : Leads → Seat → ℕ
-known_of leads declarer = count_by (λ denomination. is_some (leads declarer denomination)) denominations
+-- how many rows of a declarer are counted
+unfoldable pub counted_of : Counted → Leads → Seat → ℕ
+counted_of counted leads declarer =
+    count_by (λ denomination. is_counted counted (leads declarer denomination)) denominations
 
 -- how many of the twenty rows of a board
-unfoldable pub known_count : Leads → ℕ
-known_count leads = sum_by (known_of leads) declarers
+unfoldable pub row_count : Counted → Leads → ℕ
+row_count counted leads = sum_by (counted_of counted leads) declarers
+
+-- how many of them are known
+abbrev pub known_count : Leads → ℕ
+known_count leads = row_count Known leads
 
 -- how many rows are known, in a line
 unfoldable pub known_text : ℕ → List ℕ
@@ -62,6 +69,16 @@ missing_of (Some deal) leads = 20 - known_count leads
 unfoldable pub missing_count : List Board → (ℕ → Leads) → ℕ
 missing_count boards leads =
     sum_by (λ numbered. missing_of numbered.1.deal (leads numbered.0)) (enumerate_from 0 boards)
+
+-- how many rows are counted, if the board has a deal
+abbrev pub counted_on : Counted → Option Deal → Leads → ℕ
+counted_on counted None leads = 0
+counted_on counted (Some deal) leads = row_count counted leads
+
+-- how many rows of all boards are counted
+unfoldable pub counted_rows : Counted → List Board → (ℕ → Leads) → ℕ
+counted_rows counted boards leads =
+    sum_by (λ numbered. counted_on counted numbered.1.deal (leads numbered.0)) (enumerate_from 0 boards)
 
 -- ---- boards
 -- the heading of the rows

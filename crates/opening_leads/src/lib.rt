@@ -5,6 +5,7 @@
 //! threads, and writes a row for each contract whose leads the solver's answer shows.
 #![tactic(auto)]
 
+mod counts;
 mod faults;
 mod finding;
 mod making;
@@ -12,5 +13,6 @@ mod rows;
 mod threads;
 mod writing;
 
+pub use counts::LeadReport;
 pub use faults::LeadFault;
-pub use making::{LeadLimits, LeadReport, make_leads};
+pub use making::{LeadLimits, LeadMeans, make_leads};

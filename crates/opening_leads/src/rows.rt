@@ -1,16 +1,56 @@
 //! The rows that are known.
 
-ghost use Rattle.std.specs.Prelude.{◌≡◌, ◌<◌, ◌^◌, is_some, option_map};
+ghost use Rattle.std.specs.Prelude.{◌≡◌, ◌<◌, ◌^◌};
 ghost use Rattle.cards.specs.Orders.{trump_number};
-ghost use Rattle.opening_leads.specs.Tasks.{no_rows, row_in, leads_in};
+ghost use Rattle.opening_leads.specs.Leads.{is_counted, with_values};
+ghost use Rattle.opening_leads.specs.Tasks.{lacking_rows, row_in, leads_in};
 
 use arrayvec::ArrayVec;
 use card_values::CardValue;
 use cards::{Seat, Trump};
 use std::marker::Model;
 
-/// The leads against a contract, each with the tricks that the defenders take after it, if they are known.
-pub(crate) type Row = Option<ArrayVec<CardValue, 13>>;
+/// Why the leads against a contract are not known.
+#[derive(Clone, Copy)]
+pub(crate) enum Lack {
+    /// The board has no deal.
+    Deal,
+    /// The steps ran out: there is no answer, or it has no claim for one of the leads.
+    Steps,
+    /// Memory ran out in the search.
+    Memory,
+    /// The answer was refused: its certificates don't show what it claims for one of the leads.
+    Refused,
+}
+
+/// Which rows are counted.
+#[derive(Clone, Copy)]
+pub(crate) enum Counted {
+    /// Those that are known.
+    Known,
+    /// Those for which the steps ran out.
+    Steps,
+    /// Those for which memory ran out.
+    Memory,
+    /// Those whose answer was refused.
+    Refused,
+}
+
+/// The leads against a contract, each with the tricks that the defenders take after it, or why they are not known.
+pub(crate) type Row = Result<ArrayVec<CardValue, 13>, Lack>;
+
+/// Whether a row is counted.
+fn is_counted(counted: Counted, row: Result<&[CardValue], Lack>) -> bool
+    ensures { result ≡ is_counted counted (with_values (λ values. values.now) row.entry) }
+{
+    match (counted, row) {
+        (Counted::Known, Ok(_)) => true,
+        (Counted::Steps, Err(Lack::Steps)) => true,
+        (Counted::Memory, Err(Lack::Memory)) => true,
+        (Counted::Refused, Err(Lack::Refused)) => true,
+        _ => false,
+    }
+}
 
 /// The rows of a board in one denomination, by declarer.
 #[derive(Drop)]
@@ -22,21 +62,21 @@ pub(crate) struct DeclarerRows {
 }
 
 impl DeclarerRows {
-    /// No row is known.
-    pub(crate) fn none() -> DeclarerRows
-        ensures { result ≡ no_rows }
+    /// No row is known, for this reason.
+    pub(crate) fn lacking(lack: Lack) -> DeclarerRows
+        ensures { result ≡ lacking_rows lack }
     {
         DeclarerRows {
-            north: None,
-            east: None,
-            south: None,
-            west: None,
+            north: Err(lack),
+            east: Err(lack),
+            south: Err(lack),
+            west: Err(lack),
         }
     }
 
-    /// The leads against a declarer, if they are known.
-    pub(crate) fn row(&self, declarer: Seat) -> Option<&[CardValue]>
-        ensures { option_map (λ values. values.now) result ≡ row_in self.now declarer }
+    /// The leads against a declarer, or why they are not known.
+    pub(crate) fn row(&self, declarer: Seat) -> Result<&[CardValue], Lack>
+        ensures { with_values (λ values. values.now) result ≡ row_in self.now declarer }
     {
         let row = match declarer {
             Seat::North => &self.north,
@@ -45,8 +85,8 @@ impl DeclarerRows {
             Seat::West => &self.west,
         };
         match row {
-            Some(values) => Some(values.as_slice()),
-            None => None,
+            Ok(values) => Ok(values.as_slice()),
+            Err(lack) => Err(*lack),
         }
     }
 }
@@ -86,22 +126,33 @@ impl LeadTable {
         LeadTable { found }
     }
 
-    /// The leads against a contract on a board, by its place from 0, if they are known.
-    pub(crate) fn row(&self, board: usize, declarer: Seat, trump: Trump) -> Option<&[CardValue]>
+    /// The leads against a contract on a board, by its place from 0, or why they are not known.
+    pub(crate) fn row(
+        &self,
+        board: usize,
+        declarer: Seat,
+        trump: Trump,
+    ) -> Result<&[CardValue], Lack>
         requires { board < 2 ^ 32 }
-        ensures { option_map (λ values. values.now) result ≡ leads_in self.now board declarer trump }
+        ensures { with_values (λ values. values.now) result ≡ leads_in self.now board declarer trump }
     {
         match self.found.get(5 * board + trump_number(trump)) {
             Some(Some(rows)) => rows.row(declarer),
-            Some(None) | None => None,
+            Some(None) | None => Err(Lack::Deal),
         }
     }
 
-    /// Whether the leads against a contract are known on a board, by its place from 0.
-    pub(crate) fn is_known(&self, board: usize, declarer: Seat, trump: Trump) -> bool
+    /// Whether the row of a contract on a board, by its place from 0, is counted.
+    pub(crate) fn counts(
+        &self,
+        board: usize,
+        declarer: Seat,
+        trump: Trump,
+        counted: Counted,
+    ) -> bool
         requires { board < 2 ^ 32 }
-        ensures { result ≡ is_some (leads_in self.now board declarer trump) }
+        ensures { result ≡ is_counted counted (leads_in self.now board declarer trump) }
     {
-        self.row(board, declarer, trump).is_some()
+        is_counted(counted, self.row(board, declarer, trump))
     }
 }

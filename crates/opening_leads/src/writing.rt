@@ -1,22 +1,21 @@
 //! The leads of boards as a text.
 
-ghost use Rattle.std.specs.Prelude.{◌≡◌, ◌<◌, ◌≤◌, ◌*◌, ◌^◌, ◌∷◌, ◌++◌, codes, length, option_map, MatchOption};
+ghost use Rattle.std.specs.Prelude.{◌≡◌, ◌<◌, ◌≤◌, ◌^◌, ◌∷◌, codes, length};
 ghost use Rattle.cards.specs.Devices.{Writes};
 ghost use Rattle.cards.specs.Pack.{trump_letters};
 ghost use Rattle.tables.specs.TablesText.{right_in_two, tag_line};
+ghost use Rattle.opening_leads.specs.Leads.{with_values};
 ghost use Rattle.opening_leads.specs.Tasks.{leads_in};
-ghost use Rattle.opening_leads.specs.Texts.{row_text, known_row, declarer_rows, rows_text, known_of, known_count};
+ghost use Rattle.opening_leads.specs.Texts.{row_text, known_row, declarer_rows, rows_text};
 ghost use Rattle.opening_leads.specs.Texts.{known_text, incomplete_text, leads_tag, headed_text, section_text};
-ghost use Rattle.opening_leads.specs.Texts.{board_text, leads_text, missing_of, missing_count};
+ghost use Rattle.opening_leads.specs.Texts.{board_text, leads_text};
 
-use crate::rows::LeadTable;
+use crate::counts::{CONTRACTS, count_rows};
+use crate::rows::{Counted, Lack, LeadTable};
 use card_values::{CardValue, write_groups};
 use cards::{DeviceFault, Layout, Seat, Sink, Suit, Trump, write_all, write_number};
 use pbn_deals::{Board, BoardName};
 use tables::{DECLARERS, write_deal};
-
-/// How many contracts a board has.
-const CONTRACTS: u8 = 20;
 
 /// Returns the letters of a denomination, right in two places, after a blank.
 fn right_letters(trump: Trump) -> &'static [u8; 3]
@@ -52,14 +51,14 @@ fn write_known_row<S: Sink>(
     sink: &mut S,
     declarer: Seat,
     trump: Trump,
-    values: Option<&[CardValue]>,
+    row: Result<&[CardValue], Lack>,
 ) -> Result<(), DeviceFault>
     ensures { Writes (S.state sink.old) (S.state sink.new)
-        (known_row declarer trump (option_map (λ values. values.now) values.entry)) result }
+        (known_row declarer trump (with_values (λ values. values.now) row.entry)) result }
 {
-    match values {
-        Some(values) => write_row(sink, declarer, trump, values),
-        None => Ok(()),
+    match row {
+        Ok(values) => write_row(sink, declarer, trump, values),
+        Err(_) => Ok(()),
     }
 }
 
@@ -90,36 +89,6 @@ fn write_rows<S: Sink>(sink: &mut S, table: &LeadTable, board: usize) -> Result<
         write_declarer_rows(sink, table, board, declarer)?;
     }
     Ok(())
-}
-
-/// How many rows of a declarer are known on a board, by its place from 0.
-#[tactic(auto, unfolding(crate::specs::Texts::known_of))]
-fn count_declarer_rows(table: &LeadTable, board: usize, declarer: Seat) -> u8
-    requires { board < 2 ^ 32 }
-    ensures count { result ≡ known_of (leads_in table.now board) declarer }
-    ensures at_most_5 { result ≤ 5 }
-{
-    let mut count = 0;
-    for trump in Trump::ALL {
-        if table.is_known(board, declarer, trump) {
-            count += 1;
-        }
-    }
-    count
-}
-
-/// How many of the twenty rows of a board are known, by its place from 0.
-#[tactic(auto, unfolding(crate::specs::Texts::known_count))]
-fn count_known(table: &LeadTable, board: usize) -> u8
-    requires { board < 2 ^ 32 }
-    ensures count { result ≡ known_count (leads_in table.now board) }
-    ensures at_most_20 { result ≤ 20 }
-{
-    let mut count = 0;
-    for declarer in DECLARERS {
-        count += count_declarer_rows(table, board, declarer);
-    }
-    count
 }
 
 /// Writes how many rows are known.
@@ -162,7 +131,7 @@ fn write_headed<S: Sink>(sink: &mut S, table: &LeadTable, board: usize) -> Resul
 {
     write_tag(sink)?;
     write_rows(sink, table, board)?;
-    write_incomplete(sink, count_known(table, board))
+    write_incomplete(sink, count_rows(table, board, Counted::Known))
 }
 
 /// Writes the leads of a board, by its place from 0, if it has this deal.
@@ -222,29 +191,4 @@ pub(crate) fn write_leads<S: Sink>(
         write_board(sink, table, place, board)?;
     }
     Ok(())
-}
-
-/// How many rows of a board are missing, by its place from 0, if it has this deal.
-fn count_missing_on(table: &LeadTable, place: usize, deal: &Option<Layout>) -> usize
-    requires { place < 2 ^ 32 }
-    ensures count { result ≡ missing_of deal.now (leads_in table.now place) }
-    ensures at_most_20 { result ≤ 20 }
-{
-    match deal {
-        Some(_) => (CONTRACTS - count_known(table, place)) as usize,
-        None => 0,
-    }
-}
-
-/// How many rows of the boards are missing.
-#[tactic(auto, unfolding(crate::specs::Texts::missing_count))]
-pub(crate) fn count_missing(boards: &[Board], table: &LeadTable) -> usize
-    requires { length boards.now ≤ 4096 }
-    ensures { result ≡ missing_count boards.now (leads_in table.now) }
-{
-    let mut missing = 0;
-    for (place, board) in boards.iter().enumerate() {
-        missing += count_missing_on(table, place, &board.deal);
-    }
-    missing
 }

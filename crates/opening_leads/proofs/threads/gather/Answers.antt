@@ -7,7 +7,7 @@ use Rattle.opening_leads.proofs.threads.gather.Goals as goal
 pub loop-share-preserved : goal.loop-share-preserved
 loop-share-preserved g c =
     let inv = c.loop-share.invariant in
-    let may_find = g.S.CardSolver.may_find_cards c.args.solver.now in
+    let may_find = g.S.CardSolver.may_find_cards c.args.means.now.solver.now in
     let boards = c.args.boards.now in
     let right = IsShare may_find c.args.budget boards in
     let left = All-pop right c.loop-share.shares.items c.pop.new.self.items (Some c.in-Some.share) c.in-Some.ensures.items inv.left in

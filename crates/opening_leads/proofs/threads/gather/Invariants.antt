@@ -7,8 +7,8 @@ use Rattle.opening_leads.proofs.threads.gather.Given as goal
 abbrev pub invariant-loop-share : goal.invariant-loop-share
 invariant-loop-share g l = record {
   len : vec_len l.noted ≡ 5 * length l.boards;
-  noted : AreNoted (g.S.CardSolver.may_find_cards l.solver) l.budget l.boards l.noted.items;
-  left : All (IsShare (g.S.CardSolver.may_find_cards l.solver) l.budget l.boards) l.shares.items;
+  noted : AreNoted (g.S.CardSolver.may_find_cards l.means.solver.now) l.budget l.boards l.noted.items;
+  left : All (IsShare (g.S.CardSolver.may_find_cards l.means.solver.now) l.budget l.boards) l.shares.items;
 }
 
 abbrev pub decreases-loop-share : goal.decreases-loop-share

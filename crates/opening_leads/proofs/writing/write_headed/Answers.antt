@@ -21,6 +21,6 @@ returns-in_err-write_rows g c =
 pub returns : goal.returns
 unfolding headed_text
 returns g c =
-    let last = rw c.count_known.ensures.count at c.write_incomplete.ensures in
+    let last = rw c.count_rows.ensures.count at c.write_incomplete.ensures in
     Writes-then c.write_incomplete.result _ _ c.in_ok-write_tag.ensures
     (Writes-then c.write_incomplete.result _ _ c.in_ok-write_rows.ensures last)

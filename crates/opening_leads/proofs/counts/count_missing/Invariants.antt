@@ -3,7 +3,7 @@ use Rattle.std.proofs.Common.{◌≡◌, ◌≤◌, ◌*◌, take, sum_by}
 use Rattle.std.specs.List.{enumerate_from}
 use Rattle.opening_leads.specs.Tasks.{leads_in}
 use Rattle.opening_leads.specs.Texts.{missing_of}
-use Rattle.opening_leads.proofs.writing.count_missing.Given as goal
+use Rattle.opening_leads.proofs.counts.count_missing.Given as goal
 
 abbrev pub invariant-loop-place : goal.invariant-loop-place
 invariant-loop-place l = record {

@@ -4,25 +4,25 @@ use Rattle.std.proofs.lemmas.List.FromFn.{length-enumerate_from}
 use Rattle.std.proofs.lemmas.List.Sums.{sum_by_more}
 use Rattle.pbn_deals.specs.declared.boards.Board.{Board}
 use Rattle.opening_leads.specs.Tasks.{leads_in}
-use Rattle.opening_leads.specs.Texts.{missing_of, missing_count}
+use Rattle.opening_leads.specs.Texts.{counted_on, counted_rows}
 use Rattle.opening_leads.proofs.BoardLaws.{place_within, board_at}
-use Rattle.opening_leads.proofs.writing.count_missing.Goals as goal
+use Rattle.opening_leads.proofs.counts.count_all.Goals as goal
 
 pub loop-place-preserved : goal.loop-place-preserved
 loop-place-preserved c =
     let boards = c.args.boards.now in
-    let missing : ℕ × Board → ℕ = λ numbered. missing_of numbered.1.deal (leads_in c.args.table.now numbered.0) in
+    let counted : ℕ × Board → ℕ = λ numbered. counted_on c.args.counted numbered.1.deal (leads_in c.args.table.now numbered.0) in
     let place = c.loop-place.place in
     let board = c.index-boards-place.result in
     let is = c.index-boards-place.is in
-    let more = sum_by_more missing (enumerate_from 0 boards) place (0, board) (place_within boards place board (omega arith) is) in
-    let there = ap missing (board_at boards place board (omega arith) is) in
+    let more = sum_by_more counted (enumerate_from 0 boards) place (0, board) (place_within boards place board (omega arith) is) in
+    let there = ap counted (board_at boards place board (omega arith) is) in
     record { counted = omega (arith, more, there); bound = omega arith }
 
 pub returns : goal.returns
-unfolding missing_count
+unfolding counted_rows
 returns c =
     let boards = c.args.boards.now in
-    let missing : ℕ × Board → ℕ = λ numbered. missing_of numbered.1.deal (leads_in c.args.table.now numbered.0) in
+    let counted : ℕ × Board → ℕ = λ numbered. counted_on c.args.counted numbered.1.deal (leads_in c.args.table.now numbered.0) in
     c.loop-place.invariant.counted
-    ∙ ap (sum_by missing) (take_all c.loop-place.place (enumerate_from 0 boards) (omega (arith, length-enumerate_from 0 boards)))
+    ∙ ap (sum_by counted) (take_all c.loop-place.place (enumerate_from 0 boards) (omega (arith, length-enumerate_from 0 boards)))
