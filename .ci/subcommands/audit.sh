@@ -12,18 +12,19 @@ ended=0
 said="$("$program" audit --whole "$EVIDENCE" <examples/suits.pbn | cmp - <(whole_of suits) 2>&1)" || ended=$?
 expect "an audit as a whole" 0 ""
 run audit "$EVIDENCE" <<<"$BOARD"
-expect "an audit of a board without a deal" 3 "$UNDEALT"$'\n% PBN 2.1\n'"$BOARD"$'\n; table incomplete: 0 of 20'
+expect "an audit of a board without a deal" 3 $'% PBN 2.1\n'"$BOARD"$'\n; table incomplete: 0 of 20\n\n'"$UNDEALT"
 run audit <(echo "$FOREIGN") <examples/suits.pbn
-expect "an audit by foreign evidence" 3 "$UNSHOWN"$'\n% PBN 2.1\n'"$(
-    cat examples/suits.pbn)"$'\n; table incomplete: 0 of 20'
-# The error output has its line first, since the output's are kept until the end.
+expect "an audit by foreign evidence" 3 $'% PBN 2.1\n'"$(
+    cat examples/suits.pbn)"$'\n; table incomplete: 0 of 20\n\n'"$UNSHOWN"
+# The page is handed on before anything is said of it.
 run audit <(echo "$FOREIGN"; echo "DDE 1"; head -n 3 "$EVIDENCE") </dev/null
 expect "an audit by damaged evidence" 0 \
-    $'ddfarm: evidence: 2 sections are damaged, the first at byte 254\n'"$NO_BOARD"$'\n% PBN 2.1'
+    $'% PBN 2.1\nddfarm: evidence: 2 sections are damaged, the first at byte 254\n'"$NO_BOARD"
 last="$(grep -b '^DDE 1$' "$EVIDENCE" | tail -n 1 | cut -d : -f 1)"
 run audit <(head -c -1 "$EVIDENCE") <examples/suits.pbn
-expect "an audit by evidence that was cut off" 3 "ddfarm: evidence: 1 section is damaged, at byte $last"$'\n'"$(
-    echo "$UNSHOWN"; echo "% PBN 2.1"; cat examples/suits.pbn; echo "; table incomplete: 16 of 20")"
+expect "an audit by evidence that was cut off" 3 "$(
+    echo "% PBN 2.1"; cat examples/suits.pbn; echo "; table incomplete: 16 of 20"; echo
+    echo "ddfarm: evidence: 1 section is damaged, at byte $last"; echo "$UNSHOWN")"
 run audit . <examples/suits.pbn
 expect "an audit by a directory" 1 "ddfarm: evidence: $UNREAD"
 run audit "$EVIDENCE/suits" <examples/suits.pbn
@@ -41,8 +42,8 @@ ended=0; said="$("$program" audit <(echo x) </dev/null 2>/dev/full)" || ended=$?
 expect "a full error output of an audit" 0 "% PBN 2.1"
 
 run audit --par "$EVIDENCE" examples/suits.pbn
-expect "an audit with pars" 0 "$(sed '/^\[Deal/a [OptimumScore "NS 1510"]\n[ParContract "NS 7S"]' \
-    examples/suits-tables.pbn)"
+expect "an audit with pars" 0 "$(sed '/^\[Deal/a [Dealer "N"]\n[Vulnerable "None"]\n[OptimumScore "NS 1510"]\
+[ParContract "NS 7S"]' examples/suits-tables.pbn)"
 for lacks in dealer vulnerability; do
     said="$(sed "s/^\[Board.*/[Dealer \"${lacks/dealer/?}\"]/; s/\"vulnerability\"/\"E\"/" examples/suits.pbn |
         "$program" audit --par "$EVIDENCE" 2>&1)" && ended=0 || ended=$?

@@ -1,5 +1,7 @@
 # A part of .ci/program: the sheets of `table --sheet` and `audit --sheet`, read by their elements, and by Chromium if
 # it is installed.
+ended=0; said="$(bench/sheet/hash.py --check 2>&1)" || ended=$?
+expect "the hash of the style" 0 ""
 ended=0
 said="$("$program" audit --sheet "$EVIDENCE" examples/suits.pbn | bench/sheet/reading.py - |
     cmp - examples/suits-tables.pbn 2>&1)" || ended=$?
@@ -27,7 +29,7 @@ done
 run table --sheet <<<"{"
 expect "a refused text on a sheet" 2 "ddfarm: line 1: $OPEN_COMMENT"
 ended=0; said="$("$program" table --sheet <<<"$BOARD" 2>&1 >/dev/full)" || ended=$?
-expect "a full output of a sheet" 1 "$UNDEALT"$'\n'"$WRITING"
+expect "a full output of a sheet" 1 "$WRITING"
 ended=0; said="$(bench/sheet/hostile.py "$program" 2>&1 >/dev/null)" || ended=$?
 expect "values that look like markup" 0 ""
 if [[ -n "$(type -P chromium)" ]]; then
@@ -37,6 +39,12 @@ if [[ -n "$(type -P chromium)" ]]; then
     said="$(timeout 100 chromium --headless --no-sandbox --disable-gpu --dump-dom "file://$page" 2>/dev/null |
         bench/sheet/reading.py --any - | cmp - examples/suits-tables.pbn 2>&1)" || ended=$?
     expect "a sheet in Chromium" 0 ""
+    # Where Chromium puts hands, marks and numbers, on screens and as for print, and whether they are seen.
+    ended=0; said="$(bench/sheet/places.py "$page" 2>&1)" || ended=$?
+    expect "places on a sheet" 0 ""
+    "$program" table --sheet <examples/club.pbn >"$page"
+    ended=0; said="$(bench/sheet/places.py "$page" 2>&1)" || ended=$?
+    expect "places on a sheet with pars" 0 ""
     rm "$page"
 else
     echo "program: no sheet is tried in Chromium: chromium is not installed" >&2

@@ -28,8 +28,8 @@ done
 head -c -2 "$kept" >"$room/cut.dde"
 run table --evidence "$room/cut.dde" <examples/suits.pbn
 expect "tables by evidence that was cut off" 0 "$(
-    echo "ddfarm: evidence: 1 section is damaged, at byte $(grep -b '^DDE 1$' "$kept" | tail -n 1 | cut -d : -f 1)"
-    cat examples/suits-tables.pbn)"
+    cat examples/suits-tables.pbn
+    echo "ddfarm: evidence: 1 section is damaged, at byte $(grep -b '^DDE 1$' "$kept" | tail -n 1 | cut -d : -f 1)")"
 ended=0
 said="$("$program" audit "$room/cut.dde" <examples/suits.pbn 2>/dev/null |
     cmp - examples/suits-tables.pbn 2>&1)" || ended=$?
@@ -78,14 +78,14 @@ said="$(<"$room/own.pbn")"
 expect "a PBN file that stays as it was" 0 '[Event "Club"]'
 chmod a-w "$kept"
 run_bound table --evidence "$kept" <examples/suits.pbn
-expect "evidence that can only be read" 0 "$READ_ONLY"$'\n'"$(cat examples/suits-tables.pbn)"
+expect "evidence that can only be read" 0 "$(cat examples/suits-tables.pbn)"$'\n\n'"$READ_ONLY"
 run_bound table --evidence "$kept" <examples/club.pbn
-expect "evidence that can't be added to" 1 "$READ_ONLY"$'\n'"$UNWRITTEN"$'\n'"$(cat examples/club-tables.pbn)"
+expect "evidence that can't be added to" 1 "$(cat examples/club-tables.pbn)"$'\n\n'"$READ_ONLY"$'\n'"$UNWRITTEN"
 chmod 0 "$kept"
 run_bound table --evidence "$kept" <examples/suits.pbn
 expect "evidence that may not be read" 1 "$(unopened evidence "$kept" "permission denied")"
 ended=0
 said="$(trap '' XFSZ; ulimit -f 1; exec "$program" table --evidence "$room/full.dde" <examples/suits.pbn 2>&1)" ||
     ended=$?
-expect "evidence that finds no room" 1 "$UNWRITTEN"$'\n'"$(cat examples/suits-tables.pbn)"
+expect "evidence that finds no room" 1 "$(cat examples/suits-tables.pbn)"$'\n\n'"$UNWRITTEN"
 rm -rf "$room"

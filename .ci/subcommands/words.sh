@@ -7,7 +7,7 @@ expect "the options with a number" 0 "$(cut -d '|' -f 1,2 <<<"$OPTIONS" | sort)"
 while IFS='|' read -r -u 3 option value first last; do
     for number in "$first" "$last"; do
         run table "--$option" "$number" </dev/null
-        expect "--$option $number" 0 "$NO_BOARD"$'\n% PBN 2.1'
+        expect "--$option $number" 0 $'% PBN 2.1\n'"$NO_BOARD"
     done
     for number in $([[ "$first" == 0 ]] || echo $((first - 1))) $((last + 1)) 9223372036854775807; do
         run table "--$option=$number" </dev/null

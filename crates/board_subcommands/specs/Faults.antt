@@ -55,6 +55,7 @@ said (fault.Boards file.Read) = codes "boards: reading failed"
 said (fault.Evidence (file.Open why)) = codes "evidence: cannot open"
 said (fault.Evidence file.Read) = codes "evidence: reading failed"
 said (fault.Unkept keep.OutOfMemory) = codes "evidence: out of memory"
+said (fault.Unkept keep.TooLong) = codes "evidence: a piece is too long"
 said (fault.Unkept keep.Write) = codes "evidence: writing failed"
 
 -- a file that can't be opened
@@ -66,6 +67,7 @@ opening _ = None
 -- evidence that was not kept
 abbrev pub keep_explanation : KeepFault → List ℕ
 keep_explanation keep.OutOfMemory = codes "the numbers are written, but memory ran out for some of their evidence"
+keep_explanation keep.TooLong = codes "the numbers are written, but evidence of over 512 MiB in one piece is not kept"
 keep_explanation keep.Write = codes "the numbers are written, but some of their evidence is not in the file"
 
 -- nothing explains faults whose line says all

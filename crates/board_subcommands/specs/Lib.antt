@@ -9,3 +9,4 @@ pub mod PageOptions
 pub mod Table
 pub mod Audit
 pub mod Leads
+pub mod Plays

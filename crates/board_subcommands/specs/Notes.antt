@@ -4,7 +4,7 @@ use Rattle.std.specs.Fmt.{decimal}
 use Rattle.cards.specs.Devices.{Device}
 use Rattle.board_subcommands.specs.declared.notes.Searches.{Searches}
 use Rattle.board_subcommands.specs.declared.notes.Lacking.{Lacking}
-use Rattle.board_subcommands.specs.declared.notes.Lacking.TheVariants.{Nothing, Searched, Unshown}
+use Rattle.board_subcommands.specs.declared.notes.Lacking.TheVariants.{Nothing, Searched, Unshown, Rows}
 use Rattle.board_subcommands.specs.declared.notes.Notes.{Notes}
 use Rattle.board_subcommands.specs.Counted.{counted}
 use Rattle.run_ends.specs.Telling.{IsTold}
@@ -78,6 +78,20 @@ unshown_text tables =
     ++ (codes "the evidence does not show all results" ++ 10
     ∷ codes "  table --evidence searches the rest and adds it to the file" ++ ascii.line_feed ∷ [])
 
+-- rows of leads are missing after searches
+abbrev pub counted_rows : ℕ → List ℕ
+counted_rows rows =
+    codes "ddfarm: note: " ++ counted rows (codes "1 row is missing: ") (codes " rows are missing: ")
+
+-- what helps them
+abbrev pub lead_advice : Searches → List ℕ
+lead_advice searches =
+    text_if (nat_lt 0 searches.steps) (codes "  --budget gives a search more steps\n")
+    ++ text_if (nat_lt 0 searches.memory) (codes "  use fewer --solvers or give more memory\n")
+
+abbrev pub missing_text : ℕ → Searches → List ℕ
+missing_text rows searches = counted_rows rows ++ (counts_text searches ++ lead_advice searches)
+
 -- ---- what is printed
 -- a text, if it holds
 abbrev pub TellsIf : Bool → List ℕ → Device → Device → Type 0
@@ -89,11 +103,12 @@ abbrev pub TellsUndealt : ℕ → Device → Device → Type 0
 TellsUndealt count errors errors' =
     ((count ≡ 0) × (errors' ≡ errors)) ⊎ ((0 < count) × IsTold errors errors' (undealt_text count))
 
--- which tables are incomplete, if any are
+-- which tables are incomplete, if any are, or which rows are missing
 abbrev pub TellsLacking : Lacking → Device → Device → Type 0
 TellsLacking Nothing errors errors' = errors' ≡ errors
 TellsLacking (Searched tables searches) errors errors' = IsTold errors errors' (searched_text tables searches)
 TellsLacking (Unshown tables) errors errors' = IsTold errors errors' (unshown_text tables)
+TellsLacking (Rows rows searches) errors errors' = IsTold errors errors' (missing_text rows searches)
 
 -- all notes, one after the other
 pub record TellsNotes (notes : Notes) (errors errors' : Device) : Type 0 where

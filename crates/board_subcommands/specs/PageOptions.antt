@@ -1,5 +1,5 @@
--- The options for which page of tables is written.
-use Rattle.std.specs.Prelude.{◌≡◌, ◌&&◌, ℕ, Bool, true, false, List, [], ◌∷◌, Some, codes}
+-- The options for which page is written.
+use Rattle.std.specs.Prelude.{◌≡◌, ◌&&◌, ◌||◌, ℕ, Bool, true, false, List, [], ◌∷◌, Some, codes}
 use Rattle.clap.specs.Words.{Row, Rule, Text, first_of}
 use Rattle.command_words.specs.Rules.{flag}
 use Rattle.command_words.specs.Says.{SaysFlag, flag_letters, is_said}
@@ -16,6 +16,10 @@ whole_option = codes "whole"
 -- whether a page to print is written
 abbrev pub sheet_option : List ℕ
 sheet_option = codes "sheet"
+
+-- whether just the cards of plays that lose tricks are written
+abbrev pub mistakes_option : List ℕ
+mistakes_option = codes "mistakes"
 
 -- whether the boards' pars stand before their tables
 abbrev pub par_option : List ℕ
@@ -46,6 +50,6 @@ pub record SaysPage (said : List Row) (page : Page) : Type 0 where
   pub sheet : SaysFlag said sheet_option (is_sheet page.form)
   pub par : first_of par_option said ≡ Some (par_letters page.par)
 
--- the words ask for two pages: for the input with its tables, and for a sheet
+-- the words ask for two pages: for the input with its tables or just the mistakes of plays, and for a sheet
 abbrev pub asks_for_both : List Row → Bool
-asks_for_both said = is_said said whole_option && is_said said sheet_option
+asks_for_both said = is_said said sheet_option && (is_said said whole_option || is_said said mistakes_option)

@@ -3,16 +3,16 @@
 ghost use Rattle.std.specs.Prelude.{◌≡◌, None, option_map};
 ghost use Rattle.run_ends.specs.Telling.{IsTold};
 ghost use Rattle.run_ends.specs.declared.statuses.Status.TheVariants.{Failed};
-ghost use Rattle.board_subcommands.specs.Ends.{Ends, EndsRead, file_named, told};
+ghost use Rattle.board_subcommands.specs.Ends.{Ends, EndsDone, EndsRead, file_named, told};
 ghost use Rattle.board_subcommands.specs.FinishedRuns.{shelf_fault};
 
 use crate::damage_lines::tell_damage;
 use crate::faults::BoardFault;
 use crate::finished_runs::FinishedRun;
 use crate::notes::tell_notes;
-use cards::Sink;
+use cards::{DeviceFault, Sink};
 use evidence_solvers::KeepFault;
-use run_ends::{FileFault, Status, tell};
+use run_ends::{FileFault, Output, Status, tell};
 use streams::InputFault;
 
 /// The names of the files that a run was given.
@@ -34,27 +34,42 @@ fn file_named(names: FileNames<'_>, fault: BoardFault) -> Option<&str>
     }
 }
 
-/// Writes what there is to say of a run, and answers how it ends.
-pub(crate) fn end<E: Sink>(
+/// Writes what there is to say of a run, and answers how it ends. The output of a run that was done hands on all first:
+/// if it can't, nothing else is said.
+pub(crate) fn end<O: Output, E: Sink>(
     answer: Result<FinishedRun, BoardFault>,
     names: FileNames<'_>,
+    output: &mut O,
     errors: &mut E,
 ) -> Status
-    ensures { Ends names.entry answer (E.state errors.old) (E.state errors.new) result }
+    ensures { Ends names.entry answer (O.state output.old) (O.state output.new) (O.handed_on output.new)
+        (E.state errors.old) (E.state errors.new) result }
 {
     match answer {
-        Ok(outcome) => {
-            tell_damage(outcome.damage, errors);
-            tell_notes(outcome.notes, errors);
-            end_done(outcome, errors)
-        }
+        Ok(outcome) => match output.hand_on() {
+            Ok(()) => end_done(outcome, errors),
+            Err(DeviceFault) => tell(
+                BoardFault::Write,
+                file_named(names, BoardFault::Write),
+                errors,
+            ),
+        },
         Err(fault) => tell(fault, file_named(names, fault), errors),
     }
 }
 
+/// Writes what there is to say of a run that was done, and answers how it ends.
+fn end_done<E: Sink>(outcome: FinishedRun, errors: &mut E) -> Status
+    ensures { EndsDone outcome (E.state errors.old) (E.state errors.new) result }
+{
+    tell_damage(outcome.damage, errors);
+    tell_notes(outcome.notes, errors);
+    end_read(outcome, errors)
+}
+
 /// Tells what hindered that all evidence was read or kept, the reading before the keeping, and answers how the run
 /// ends.
-fn end_done<E: Sink>(outcome: FinishedRun, errors: &mut E) -> Status
+fn end_read<E: Sink>(outcome: FinishedRun, errors: &mut E) -> Status
     ensures { EndsRead outcome.read outcome.kept outcome.status (E.state errors.old) (E.state errors.new) result }
 {
     match outcome.read {

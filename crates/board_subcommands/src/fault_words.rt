@@ -35,6 +35,9 @@ pub(crate) fn write_said<E: Sink>(fault: BoardFault, errors: &mut E) -> Result<(
         BoardFault::Evidence(FileFault::Open(_)) => write_all(errors, b"evidence: cannot open"),
         BoardFault::Evidence(FileFault::Read) => write_all(errors, b"evidence: reading failed"),
         BoardFault::Unkept(KeepFault::OutOfMemory) => write_all(errors, b"evidence: out of memory"),
+        BoardFault::Unkept(KeepFault::TooLong) => {
+            write_all(errors, b"evidence: a piece is too long")
+        }
         BoardFault::Unkept(KeepFault::Write) => write_all(errors, b"evidence: writing failed"),
     }
 }
@@ -70,6 +73,8 @@ fn keep_explanation(fault: KeepFault) -> &'static str
     match fault {
         KeepFault::OutOfMemory =>
             "the numbers are written, but memory ran out for some of their evidence",
+        KeepFault::TooLong =>
+            "the numbers are written, but evidence of over 512 MiB in one piece is not kept",
         KeepFault::Write =>
             "the numbers are written, but some of their evidence is not in the file",
     }

@@ -14,6 +14,7 @@ pub mod leads;
 mod named_boards;
 mod notes;
 mod page_options;
+pub mod plays;
 mod reports;
 pub mod table;
 

@@ -3,8 +3,8 @@
 ghost use Rattle.std.specs.Prelude.{◌≡◌};
 ghost use Rattle.cards.specs.Devices.{Writes};
 ghost use Rattle.board_subcommands.specs.Notes.{TellsIf, TellsLacking, TellsNotes, TellsUndealt, advice_line};
-ghost use Rattle.board_subcommands.specs.Notes.{counted_tables, counts_text, text_if};
-ghost use Rattle.board_subcommands.specs.Notes.{searched_text, undealt_text, unshown_text, quiet_notes};
+ghost use Rattle.board_subcommands.specs.Notes.{counted_rows, counted_tables, counts_text, lead_advice, text_if};
+ghost use Rattle.board_subcommands.specs.Notes.{missing_text, searched_text, undealt_text, unshown_text, quiet_notes};
 
 use crate::counted::write_counted;
 use cards::{DeviceFault, Sink, write_all, write_number};
@@ -14,13 +14,13 @@ use cards::{DeviceFault, Sink, write_all, write_number};
 pub(crate) struct Searches {
     /// How many ran out of steps.
     pub(crate) steps: u64,
-    /// How many ran out of memory.
+    /// How many ran out of memory, or were lost when a thread after them did.
     pub(crate) memory: u64,
     /// How many answers the checker refused.
     pub(crate) refused: u64,
 }
 
-/// How many tables of boards with a deal are incomplete, and why.
+/// How many tables of boards with a deal are incomplete, or rows of leads are missing, and why.
 #[derive(Clone, Copy)]
 pub(crate) enum Lacking {
     /// None.
@@ -29,6 +29,8 @@ pub(crate) enum Lacking {
     Searched(u64, Searches),
     /// So many: evidence doesn't show all results of theirs.
     Unshown(u64),
+    /// So many rows of leads: they were searched in vain.
+    Rows(u64, Searches),
 }
 
 /// What is said of a run that was done and is no fault.
@@ -40,7 +42,7 @@ pub(crate) struct Notes {
     pub(crate) undealt: u64,
     /// Whether the file of evidence can only be read.
     pub(crate) read_only: bool,
-    /// Which tables are incomplete.
+    /// Which tables are incomplete, or which rows are missing.
     pub(crate) lacking: Lacking,
 }
 
@@ -104,7 +106,7 @@ fn write_undealt<E: Sink>(count: u64, errors: &mut E) -> Result<(), DeviceFault>
     write_all(errors, b" no deal, so there is no table\n")
 }
 
-/// Writes which tables are incomplete, if any are.
+/// Writes which tables are incomplete, if any are, or which rows are missing.
 fn tell_lacking<E: Sink>(lacking: Lacking, errors: &mut E)
     ensures { TellsLacking lacking (E.state errors.old) (E.state errors.new) }
 {
@@ -115,6 +117,9 @@ fn tell_lacking<E: Sink>(lacking: Lacking, errors: &mut E)
         }
         Lacking::Unshown(tables) => {
             let _ = write_unshown(tables, errors);
+        }
+        Lacking::Rows(rows, searches) => {
+            let _ = write_missing(rows, searches, errors);
         }
     }
 }
@@ -204,6 +209,39 @@ fn write_table_count<E: Sink>(tables: u64, errors: &mut E) -> Result<(), DeviceF
         tables,
         b"1 table is incomplete: ",
         b" tables are incomplete: ",
+        errors,
+    )
+}
+
+/// Writes how many rows of leads are missing after searches.
+fn write_missing<E: Sink>(rows: u64, searches: Searches, errors: &mut E) -> Result<(), DeviceFault>
+    ensures { Writes (E.state errors.old) (E.state errors.new) (missing_text rows searches) result }
+{
+    write_row_count(rows, errors)?;
+    write_counts(searches, errors)?;
+    write_lead_advice(searches, errors)
+}
+
+/// Writes how many rows are missing, as the beginning of a note.
+fn write_row_count<E: Sink>(rows: u64, errors: &mut E) -> Result<(), DeviceFault>
+    ensures { Writes (E.state errors.old) (E.state errors.new) (counted_rows rows) result }
+{
+    write_all(errors, b"ddfarm: note: ")?;
+    write_counted(rows, b"1 row is missing: ", b" rows are missing: ", errors)
+}
+
+/// Writes what helps searches for leads that found nothing.
+fn write_lead_advice<E: Sink>(searches: Searches, errors: &mut E) -> Result<(), DeviceFault>
+    ensures { Writes (E.state errors.old) (E.state errors.new) (lead_advice searches) result }
+{
+    write_if(
+        searches.steps > 0,
+        b"  --budget gives a search more steps\n",
+        errors,
+    )?;
+    write_if(
+        searches.memory > 0,
+        b"  use fewer --solvers or give more memory\n",
         errors,
     )
 }

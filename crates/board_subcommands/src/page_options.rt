@@ -1,4 +1,4 @@
-//! The options for which page of tables is written.
+//! The options for which page is written.
 
 ghost use Rattle.std.specs.Prelude.{◌≡◌, ◌↔◌, Some, is_some};
 ghost use Rattle.clap.specs.Words.{found_of, rows_of};
@@ -19,6 +19,12 @@ pub(crate) const WHOLE: FlagOption = FlagOption {
 pub(crate) const SHEET: FlagOption = FlagOption {
     name: "sheet",
     help: "Writes a page of HTML to print: each board's hands, table and par",
+};
+
+/// Whether just the cards of plays that lose tricks are written.
+pub(crate) const MISTAKES: FlagOption = FlagOption {
+    name: "mistakes",
+    help: "Writes of each play only the cards that lose tricks, and the totals",
 };
 
 /// Whether the boards' pars stand before their tables.
@@ -61,12 +67,17 @@ fn form_of(whole: bool, sheet: bool) -> Option<PageForm>
     }
 }
 
-/// Returns what is said of words that ask for two pages: for the input with its tables, and for a sheet.
+/// Returns what is said of words that ask for two pages: for the input with its tables or just the mistakes of plays,
+/// and for a sheet.
 pub fn conflict(said: &ArgMatches<'_>) -> Option<&'static str>
     ensures { is_some result ≡ asks_for_both (rows_of (found_of said.now)) }
 {
-    if is_said(said, WHOLE.name) && is_said(said, SHEET.name) {
+    if !is_said(said, SHEET.name) {
+        None
+    } else if is_said(said, WHOLE.name) {
         Some("the argument '--whole' cannot be used with '--sheet'")
+    } else if is_said(said, MISTAKES.name) {
+        Some("the argument '--mistakes' cannot be used with '--sheet'")
     } else {
         None
     }

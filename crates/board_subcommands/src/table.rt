@@ -7,9 +7,10 @@ mod making;
 mod options;
 mod pages;
 mod runs;
-mod searches;
 
 pub use kept_files::KeptFiles;
 pub use making::make_tables;
+pub(crate) use options::PROGRESS;
 pub use options::{TableOptions, definition, options_of};
-pub use runs::run;
+pub(crate) use pages::Unwatched;
+pub use runs::{TableRun, run};

@@ -17,6 +17,6 @@ program = record {
   subs = [];
 }
 
--- the program's words: one of the nine subcommands has to be named
+-- the program's words: one of the subcommands has to be named
 abbrev pub command_line : Letters → App
 command_line letters = record { top = record program.top { is_leaf = false }; subs = shapes letters }

@@ -16,7 +16,7 @@ use Rattle.command_line.specs.Faults.{told}
 use Rattle.run_ends.specs.Statuses.{status_code}
 use Rattle.run_ends.specs.Telling.{IsTold}
 use Rattle.command_line.specs.Outputs.{EndsStreams, Shows}
-use Rattle.command_line.specs.Subcommands.{MayOpen, MaySolve, RunsSubcommand}
+use Rattle.command_line.specs.Subcommands.{LeftFiles, MayOpen, MaySolve, RunsSubcommand}
 use Rattle.cards.specs.Bytes as ascii
 
 -- help or the version is asked for
@@ -69,24 +69,25 @@ pub data EndsWords (said : Option (List ℕ)) (old new : RunDevices) (kind : Err
 
 -- the words ask for a subcommand, which is done, or there is none; `clap` doesn't tell what its errors say
 pub data MeetsWords (may_solve : MaySolve) (may_tell : MayTell) (may_open : MayOpen) (words : List (List ℕ))
-    (processors : ℕ) (old new : RunDevices) (status : Status)
+    (processors : ℕ) (old new : RunDevices) (handed_on : Option (List ℕ)) (status : Status)
     : Type 0 where
   is_done : (letters : Letters) → AreLetters letters → (asked : Subcommand) → AskFor letters words processors asked
-      → RunsSubcommand may_solve may_tell may_open asked old new status
-      → MeetsWords may_solve may_tell may_open words processors old new status
+      → (left : LeftFiles) → RunsSubcommand may_solve may_tell may_open asked left old new handed_on status
+      → MeetsWords may_solve may_tell may_open words processors old new handed_on status
   is_none : (letters : Letters) → AreLetters letters → (kind : ErrorKind) → HasNone letters words processors kind
       → EndsWords None old new kind status
-      → MeetsWords may_solve may_tell may_open words processors old new status
+      → MeetsWords may_solve may_tell may_open words processors old new handed_on status
 
 -- the exit status is the number of the status that the run ends with
 abbrev pub ExitsBy : (Status → Type 0) → ℕ → Type 0
 ExitsBy Ends code = (status : Status) × Ends status × (code ≡ status_code status)
 
 -- what a run of the program does, by what it does for its words: that, and then the output is flushed and closed
-pub record RunsProgram (Meets : RunDevices → RunDevices → Status → Type 0) (old new : RunDevices)
+pub record RunsProgram (Meets : RunDevices → RunDevices → Option (List ℕ) → Status → Type 0) (old new : RunDevices)
     (below : Option (List ℕ)) (ended : ℕ)
     : Type 0 where
   pub between : RunDevices
+  pub handed_on : Option (List ℕ)
   pub code : ℕ
-  pub meets : ExitsBy (Meets old between) code
+  pub meets : ExitsBy (Meets old between handed_on) code
   pub closes : EndsStreams between new below code ended

@@ -5,6 +5,7 @@ use Rattle.command_words.specs.declared.commands.Letters.{Letters}
 use Rattle.board_subcommands.specs.Table.Options as table
 use Rattle.board_subcommands.specs.Audit.Options as audit
 use Rattle.board_subcommands.specs.Leads.Options as leads
+use Rattle.board_subcommands.specs.Plays.Options as plays
 use Rattle.deal_subcommands.specs.Solve.Options as solve
 use Rattle.deal_subcommands.specs.Check.Options as check
 use Rattle.deal_subcommands.specs.Line.Options as line
@@ -17,20 +18,25 @@ use Rattle.command_words.specs.declared.reading.LayoutWords.{LayoutWords}
 use Rattle.board_subcommands.specs.declared.table.options.TableOptions.{TableOptions}
 use Rattle.board_subcommands.specs.declared.audit.options.AuditOptions.{AuditOptions}
 use Rattle.board_subcommands.specs.declared.leads.options.LeadsOptions.{LeadsOptions}
+use Rattle.board_subcommands.specs.declared.plays.options.PlaysOptions.{PlaysOptions}
 use Rattle.deal_subcommands.specs.declared.solve.options.SolveOptions.{SolveOptions}
 use Rattle.deal_subcommands.specs.declared.play.options.PlayOptions.{PlayOptions}
 use Rattle.deal_subcommands.specs.declared.card_tricks.options.CardsOptions.{CardsOptions}
 use Rattle.command_line.specs.declared.subcommands.Subcommand.{Subcommand}
-use Rattle.command_line.specs.declared.subcommands.Subcommand.TheVariants.{Table, Audit, Leads, Solve, Check, Line, Play, Cards, Plain}
+use Rattle.command_line.specs.declared.subcommands.Subcommand.TheVariants.{Table, Audit, Leads, Plays, Solve, Check, Line, Play, Cards, Plain}
 use Rattle.lease_book.specs.Moments.{MayTell}
 use Rattle.certificate_graph.specs.Solvers.{MayFind, MayFindCards}
+use Rattle.play_claims.specs.Solvers.{MayFindPlay}
+use Rattle.cards.specs.Devices.{Device}
 use Rattle.streams.specs.RunStreams.{RunDevices}
 use Rattle.run_ends.specs.NamedFiles.{Opens}
 use Rattle.run_ends.specs.declared.statuses.Status.{Status}
 use Rattle.board_subcommands.specs.Table.KeptFiles.{OpensToKeep}
+use Rattle.board_subcommands.specs.Table.Kept.{Left}
 use Rattle.board_subcommands.specs.Table.Runs.{RunsTable}
 use Rattle.board_subcommands.specs.Audit.Runs.{RunsAudit}
 use Rattle.board_subcommands.specs.Leads.Runs.{RunsLeads}
+use Rattle.board_subcommands.specs.Plays.Runs.{RunsPlays}
 use Rattle.deal_subcommands.specs.Solve.Runs.{RunsSolve}
 use Rattle.deal_subcommands.specs.Check.Runs.{RunsCheck}
 use Rattle.deal_subcommands.specs.Line.Runs.{RunsLine}
@@ -38,9 +44,9 @@ use Rattle.deal_subcommands.specs.Play.Runs.{RunsPlay}
 use Rattle.deal_subcommands.specs.CardTricks.Runs.{RunsCards}
 use Rattle.deal_subcommands.specs.Plain.Runs.{RunsPlain}
 
--- the nine subcommands
+-- the ten subcommands
 abbrev pub shapes : Letters → List Shape
-shapes letters = table.shape ∷ audit.shape ∷ leads.shape ∷ solve.shape letters ∷ check.shape letters
+shapes letters = table.shape ∷ audit.shape ∷ leads.shape ∷ plays.shape ∷ solve.shape letters ∷ check.shape letters
     ∷ line.shape letters ∷ play.shape letters ∷ cards.shape letters ∷ plain.shape letters ∷ []
 
 -- the subcommands by their names
@@ -48,6 +54,7 @@ pub data Name : Type 0 where
   table_name : Name
   audit_name : Name
   leads_name : Name
+  plays_name : Name
   solve_name : Name
   check_name : Name
   line_name : Name
@@ -60,6 +67,7 @@ name_of text =
     if bytes_eq text (codes "table") then Some table_name else
     if bytes_eq text (codes "audit") then Some audit_name else
     if bytes_eq text (codes "leads") then Some leads_name else
+    if bytes_eq text (codes "plays") then Some plays_name else
     if bytes_eq text (codes "solve") then Some solve_name else
     if bytes_eq text (codes "check") then Some check_name else
     if bytes_eq text (codes "line") then Some line_name else
@@ -75,6 +83,8 @@ SaysNamed (Some audit_name) said processors asked =
     (options : AuditOptions) × (asked ≡ Audit options) × audit.Says said options
 SaysNamed (Some leads_name) said processors asked =
     (options : LeadsOptions) × (asked ≡ Leads options) × leads.Says said processors options
+SaysNamed (Some plays_name) said processors asked =
+    (options : PlaysOptions) × (asked ≡ Plays options) × plays.Says said processors options
 SaysNamed (Some solve_name) said processors asked =
     (options : SolveOptions) × (asked ≡ Solve options) × solve.Says said options
 SaysNamed (Some check_name) said processors asked =
@@ -96,10 +106,11 @@ abbrev pub SaysMatched : Option (Text × List Row) → ℕ → Subcommand → Ty
 SaysMatched (Some matched) processors asked = Says matched.0 matched.1 processors asked
 SaysMatched None processors asked = ⊥
 
--- what a solver may find of declarers, and of cards
+-- what a solver may find of declarers, of cards, and of recorded plays
 pub record MaySolve : Type 1 where
   pub answers : MayFind
   pub cards : MayFindCards
+  pub plays : MayFindPlay
 
 -- What may come of the opening of a file that is to be read, of one that is to be read and added to, and of the making
 -- of a new one.
@@ -108,21 +119,33 @@ pub record MayOpen : Type 1 where
   pub to_keep : OpensToKeep
   pub to_make : Opens
 
--- A whole run, by what the solver may find, the clock may tell and the opening of a file may come to. What can't be done
--- is reported on the error output.
-abbrev pub RunsSubcommand : MaySolve → MayTell → MayOpen → Subcommand → RunDevices → RunDevices → Status → Type 0
-RunsSubcommand may_solve may_tell may_open (Table options) old new status =
-    RunsTable may_tell may_open.to_read may_open.to_keep options old new status
-RunsSubcommand may_solve may_tell may_open (Audit options) old new status =
-    RunsAudit may_open.to_read options old new status
-RunsSubcommand may_solve may_tell may_open (Leads options) old new status =
-    RunsLeads may_solve.cards may_open.to_read options old new status
-RunsSubcommand may_solve may_tell may_open (Solve options) old new status =
+-- What a run leaves of files of evidence: what the file has that it added to, where it tells that, and what the file is
+-- that it made.
+pub record LeftFiles : Type 0 where
+  pub kept : Left
+  pub made : Option Device
+
+-- A whole run, by what the solver may find, the clock may tell and the opening of a file may come to, and by what the
+-- output has handed on. What can't be done is reported on the error output.
+abbrev pub RunsSubcommand : MaySolve → MayTell → MayOpen → Subcommand → LeftFiles → RunDevices → RunDevices
+    → Option (List ℕ) → Status → Type 0
+RunsSubcommand may_solve may_tell may_open (Table options) left old new handed_on status =
+    RunsTable may_solve.answers may_tell may_open.to_read may_open.to_keep options left.kept old new handed_on status
+RunsSubcommand may_solve may_tell may_open (Audit options) left old new handed_on status =
+    RunsAudit may_open.to_read options old new handed_on status
+RunsSubcommand may_solve may_tell may_open (Leads options) left old new handed_on status =
+    RunsLeads may_solve.cards may_open.to_read options old new handed_on status
+RunsSubcommand may_solve may_tell may_open (Plays options) left old new handed_on status =
+    RunsPlays may_solve.plays may_open.to_read options old new handed_on status
+RunsSubcommand may_solve may_tell may_open (Solve options) left old new handed_on status =
     RunsSolve may_solve.answers options old new status
-RunsSubcommand may_solve may_tell may_open (Check options) old new status = RunsCheck options old new status
-RunsSubcommand may_solve may_tell may_open (Line options) old new status = RunsLine options old new status
-RunsSubcommand may_solve may_tell may_open (Play options) old new status =
+RunsSubcommand may_solve may_tell may_open (Check options) left old new handed_on status =
+    RunsCheck options old new status
+RunsSubcommand may_solve may_tell may_open (Line options) left old new handed_on status =
+    RunsLine options old new status
+RunsSubcommand may_solve may_tell may_open (Play options) left old new handed_on status =
     RunsPlay may_open.to_read options old new status
-RunsSubcommand may_solve may_tell may_open (Cards options) old new status =
-    RunsCards may_solve.cards may_open.to_read may_open.to_make options old new status
-RunsSubcommand may_solve may_tell may_open (Plain options) old new status = RunsPlain options old new status
+RunsSubcommand may_solve may_tell may_open (Cards options) left old new handed_on status =
+    RunsCards may_solve.cards may_open.to_read may_open.to_make options old new left.made handed_on status
+RunsSubcommand may_solve may_tell may_open (Plain options) left old new handed_on status =
+    RunsPlain options old new status

@@ -19,7 +19,8 @@ use clap::error::ErrorKind;
 use deal_subcommands::card_tricks::NewFiles;
 use farm::{Clock, Means};
 use lease_book::Gate;
-use run_ends::{NamedFiles, Status, tell};
+use play_claims::PlaySolver;
+use run_ends::{NamedFiles, Output, Status, tell};
 use std::alloc::Global;
 use std::convert::AsStr;
 use std::fmt::Display;
@@ -40,11 +41,11 @@ const REFUSED: &str = "ddfarm: the command line is refused\n";
 pub fn run_command<
     'a,
     S: AsStr,
-    P: Solver + CardSolver + Sync,
+    P: Solver + CardSolver + PlaySolver + Sync,
     G: Gate + Sync,
     C: Clock + Sync,
     I: Source,
-    O: Sink,
+    O: Output,
     E: Sink,
     R: Threads + Wait + Sync + NamedFiles + KeptFiles + NewFiles,
 >(
@@ -56,11 +57,16 @@ pub fn run_command<
     streams: &mut Streams<I, O, E>,
 ) -> u8
     ensures { ExitsBy (MeetsWords
-        (record { answers = P.may_find means.now.solver.now; cards = P.may_find_cards means.now.solver.now })
+        (record {
+          answers = P.may_find means.now.solver.now;
+          cards = P.may_find_cards means.now.solver.now;
+          plays = P.may_find_play means.now.solver.now;
+        })
         (C.may_tell means.now.clock.now)
         (record { to_read = R.may_open rt.now; to_keep = R.may_keep rt.now; to_make = R.may_make rt.now })
         (map S.text words.entry.now) processors
-        (devices_of I.state O.state E.state streams.old) (devices_of I.state O.state E.state streams.new)) result }
+        (devices_of I.state O.state E.state streams.old) (devices_of I.state O.state E.state streams.new)
+        (O.handed_on streams.new.output)) result }
 {
     run_read(
         rt,
@@ -73,11 +79,11 @@ pub fn run_command<
 
 /// Does what was read of the words of a command line, as [`run_command`] does.
 fn run_read<
-    P: Solver + CardSolver + Sync,
+    P: Solver + CardSolver + PlaySolver + Sync,
     G: Gate + Sync,
     C: Clock + Sync,
     I: Source,
-    O: Sink,
+    O: Output,
     E: Sink,
     R: Threads + Wait + Sync + NamedFiles + KeptFiles + NewFiles,
 >(
@@ -88,14 +94,18 @@ fn run_read<
     streams: &mut Streams<I, O, E>,
 ) -> u8
     ensures { (words : List (List ℕ)) → (processors : ℕ) → AreReadAs words processors read.entry → ExitsBy (MeetsWords
-        (record { answers = P.may_find means.now.solver.now; cards = P.may_find_cards means.now.solver.now })
+        (record {
+          answers = P.may_find means.now.solver.now;
+          cards = P.may_find_cards means.now.solver.now;
+          plays = P.may_find_play means.now.solver.now;
+        })
         (C.may_tell means.now.clock.now)
         (record { to_read = R.may_open rt.now; to_keep = R.may_keep rt.now; to_make = R.may_make rt.now })
         words processors (devices_of I.state O.state E.state streams.old)
-        (devices_of I.state O.state E.state streams.new)) result }
+        (devices_of I.state O.state E.state streams.new) (O.handed_on streams.new.output)) result }
 {
     match read {
-        Ok(asked) => run_subcommand(rt, alloc, asked, means, streams).code(),
+        Ok(asked) => run_subcommand(rt, alloc, asked, means, streams).0.code(),
         Err(error) => {
             let kind = error.kind();
             tell_words(alloc, kind, error, streams).code()
@@ -106,7 +116,7 @@ fn run_read<
 /// Does what was read of the words of a command line, as [`run_command`] does. Then it flushes the output, as
 /// [`close_output`] does, and answers the exit status.
 pub fn run_program<
-    P: Solver + CardSolver + Sync,
+    P: Solver + CardSolver + PlaySolver + Sync,
     G: Gate + Sync,
     C: Clock + Sync,
     I: Source,
@@ -122,7 +132,11 @@ pub fn run_program<
 ) -> u8
     ensures { (words : List (List ℕ)) → (processors : ℕ) → AreReadAs words processors read.entry
         → RunsProgram (MeetsWords
-        (record { answers = P.may_find means.now.solver.now; cards = P.may_find_cards means.now.solver.now })
+        (record {
+          answers = P.may_find means.now.solver.now;
+          cards = P.may_find_cards means.now.solver.now;
+          plays = P.may_find_play means.now.solver.now;
+        })
         (C.may_tell means.now.clock.now)
         (record { to_read = R.may_open rt.now; to_keep = R.may_keep rt.now; to_make = R.may_make rt.now })
         words processors)

@@ -5,4 +5,5 @@ pub mod Valuing
 pub mod Kept
 pub mod Refusals
 pub mod Audit
+pub mod LastFlush
 pub mod Runs

@@ -2,6 +2,7 @@
 
 mod audit;
 mod kept;
+mod last_flush;
 mod new_files;
 mod options;
 mod played;
@@ -14,5 +15,5 @@ pub use kept::{KeptCards, find_kept};
 pub use new_files::NewFiles;
 pub use options::{CardProof, CardsOptions, PlayedWords, conflict, definition, options_of};
 pub use played::WordPlace;
-pub use runs::run;
+pub use runs::{CardsRun, run};
 pub use valuing::{find_cards, value_cards};

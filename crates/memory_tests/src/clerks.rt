@@ -231,7 +231,7 @@ fn outcome_of_run<R: Threads + Wait + Clock + Sync>(
         clock: &StandsStill,
     };
     match run_farm(rt, alloc, boards, settings, &means) {
-        Ok(book) if is_whole(&book) => Outcome::Answer,
+        Ok((book, _)) if is_whole(&book) => Outcome::Answer,
         Ok(_) => Outcome::Incomplete,
         Err(FarmFault::OutOfMemory) => Outcome::OutOfMemory,
         Err(FarmFault::NoThread) => Outcome::NoThread,

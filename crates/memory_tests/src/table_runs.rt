@@ -5,7 +5,7 @@ use crate::spending::Spending;
 use crate::texts::HEAD;
 use board_subcommands::table::{TableOptions, make_tables};
 use cards::{Buffer, Bytes, Seat, Side, Suit, Trump};
-use farm::{Means, Settings};
+use farm::{Means, Settings, Unclaimed};
 use lease_book::{Book, Entry};
 use partition_solver::Partition;
 use settings_support::one_of_each;
@@ -103,7 +103,7 @@ fn made<R: Threads + Wait + Sync>(
     solver: &Partition,
     source: &mut Bytes<'_>,
     sink: &mut Buffer,
-) -> Result<(Report, Book), MakeFault> {
+) -> Result<(Report, Book, Unclaimed), MakeFault> {
     let means = Means {
         solver,
         gate: &LetsPass,
@@ -138,7 +138,7 @@ pub fn tables<R: Threads + Wait + Sync>(
     let made = made(rt, alloc, settings, &solver, &mut source, &mut sink);
     let left = spending.left(alloc);
     let outcome = match made {
-        Ok((report, book)) => written(alloc, report, &book, sink.bytes())?,
+        Ok((report, book, _)) => written(alloc, report, &book, sink.bytes())?,
         Err(fault) => refused(fault, sink.bytes()),
     };
     Ok(Told::Called(outcome, left))

@@ -5,17 +5,19 @@ use crate::expect::{End, ROOM, expect_ended, got, joined_text, means, memory, so
 use crate::file_runs::{disk_of, expect_held};
 use crate::solve_tests::STEPS;
 use board_subcommands::leads::LeadsOptions;
-use cards::{Bytes, Seat, Trump};
+use cards::{Bytes, Card, Layout, Seat, Trump};
+use certificate_graph::{Bundle, CardBundle, CardSolver, Solver};
 use command_line::{Subcommand, run_subcommand};
 use deal_subcommands::card_tricks::{CardProof, CardsOptions, PlayedWords};
 use partition_solver::Partition;
+use play_claims::{PlayBundle, PlaySolver};
 use run_ends::Status;
-use std::alloc::Global;
+use std::alloc::{AllocError, Global};
 use std::process::Abort;
 use std::sync::Wait;
 use std::thread::Threads;
 use test_support::four_suits::BOARD;
-use test_support::idle::LetsPass;
+use test_support::idle::{FindsNothing, LetsPass};
 
 /// A board without a deal, below another.
 const NO_DEAL: &str = "
@@ -24,11 +26,12 @@ const NO_DEAL: &str = "
 ";
 
 /// Does a run over a disk, with a file of two boards, and an input that fails if it is read.
-fn expect_done<R: Abort + Threads + Wait + Sync>(
+fn expect_done_by<R: Abort + Threads + Wait + Sync, P: Solver + CardSolver + PlaySolver + Sync>(
     rt: &R,
     alloc: Global,
     asked: Subcommand<'_>,
     disk: &Disk,
+    solver: &P,
     wanted: End<'_>,
 ) {
     let boards = joined_text(rt, alloc, &[BOARD, NO_DEAL]);
@@ -40,14 +43,75 @@ fn expect_done<R: Abort + Threads + Wait + Sync>(
     };
     let input = Bytes::failing_after(b"", 1, 0);
     let mut streams = memory(rt, alloc, input, (ROOM, 3), (ROOM, 7));
-    let solver = Partition::new();
-    let means = means(&solver, &LetsPass);
-    let status = run_subcommand(&system, alloc, asked, &means, &mut streams);
+    let means = means(solver, &LetsPass);
+    let status = run_subcommand(&system, alloc, asked, &means, &mut streams).0;
     expect_ended(rt, status, &streams, wanted);
 }
 
+/// Does such a run with the search.
+fn expect_done<R: Abort + Threads + Wait + Sync>(
+    rt: &R,
+    alloc: Global,
+    asked: Subcommand<'_>,
+    disk: &Disk,
+    wanted: End<'_>,
+) {
+    expect_done_by(rt, alloc, asked, disk, &Partition::new(), wanted);
+}
+
+/// The search, which leaves out what it claims of one card.
+#[derive(Drop)]
+struct LeavesOut;
+
+impl Solver for LeavesOut {
+    fn solve(
+        &self,
+        _alloc: Global,
+        _layout: &Layout,
+        _declarers: &[Seat],
+        _trump: Trump,
+        _budget: u64,
+    ) -> Result<Option<Bundle>, AllocError> {
+        Ok(None)
+    }
+}
+
+impl CardSolver for LeavesOut {
+    fn solve_cards(
+        &self,
+        alloc: Global,
+        layout: &Layout,
+        leaders: &[Seat],
+        trump: Trump,
+        played: &[Card],
+        budget: u64,
+    ) -> Result<Option<CardBundle>, AllocError> {
+        let solver = Partition::new();
+        let found = solver.solve_cards(alloc, layout, leaders, trump, played, budget)?;
+        let Some(mut bundle) = found else {
+            return Ok(None);
+        };
+        let _ = bundle.claims.pop();
+        Ok(Some(bundle))
+    }
+}
+
+impl PlaySolver for LeavesOut {
+    fn solve_play(
+        &self,
+        alloc: Global,
+        layout: &Layout,
+        leader: Seat,
+        trump: Trump,
+        cards: &[Card],
+        budget: u64,
+    ) -> Result<PlayBundle, AllocError> {
+        FindsNothing.solve_play(alloc, layout, leader, trump, cards, budget)
+    }
+}
+
 /// The cards that may be played in a finesse without trumps, after those that these words name.
-fn finesse<'a>(played: [Option<&'a str>; 3], proof: CardProof<'a>) -> CardsOptions<'a> {
+pub fn finesse<'a>(played: [Option<&'a str>; 3], proof: CardProof<'a>) -> CardsOptions<'a> {
     CardsOptions {
         layout: "N:AQ... 65... 32... K4...",
         leader: Seat::South,
@@ -63,10 +127,10 @@ fn finesse<'a>(played: [Option<&'a str>; 3], proof: CardProof<'a>) -> CardsOptio
 }
 
 /// The words for the two of spades and the four.
-const TWO_PLAYED: [Option<&str>; 3] = [Some("S2"), Some("S4"), None];
+pub const TWO_PLAYED: [Option<&str>; 3] = [Some("S2"), Some("S4"), None];
 
 /// The cards after these, for North.
-const NORTH: &str = "N to play\n2  SQ\n1  SA\n";
+pub const NORTH: &str = "N to play\n2  SQ\n1  SA\n";
 
 /// The words for the cards played, and the text of the cards after them. If West plays low, North wins with the queen
 /// and then with the ace. If North plays the ace first, West's king wins the second trick.
@@ -100,6 +164,24 @@ fn finesses(rt: HostRuntime) {
             expect_done(&rt, alloc, asked, &disk, (Status::Done, printed, ""));
         }
     }
+}
+
+/// What is told if a card has no number.
+const NO_ANSWER: &str = "ddfarm: no answer
+  --budget gives the search more steps
+";
+
+/// If one card has no claim, nothing is printed or kept, and the status is that of a missing answer.
+#[test]
+fn missing_claims(rt: HostRuntime) {
+    let alloc = rt.alloc();
+    let disk = disk_of(&rt, alloc, b"", ROOM, u64::MAX);
+    for proof in [CardProof::Dropped, CardProof::Kept(EVIDENCE)] {
+        let asked = Subcommand::Cards(finesse(TWO_PLAYED, proof));
+        let wanted = (Status::Incomplete, "", NO_ANSWER);
+        expect_done_by(&rt, alloc, asked, &disk, &LeavesOut, wanted);
+    }
+    expect_held(&rt, alloc, &disk, b"");
 }
 
 /// The evidence of North's cards, as it is kept.
@@ -164,7 +246,7 @@ fn files_that_are_of_no_use(rt: HostRuntime) {
 }
 
 /// The lines that follow if not all evidence is in the file.
-const WRITING_FILE: &str = "ddfarm: evidence: writing failed
+pub const WRITING_FILE: &str = "ddfarm: evidence: writing failed
   the numbers are written, but some of their evidence is not in the file
 ";
 
@@ -223,6 +305,9 @@ fn leads_text(rt: &impl Abort, alloc: Global) -> String {
     joined_text(rt, alloc, &[text.as_str(), NO_DEAL, "\n"])
 }
 
+/// What is told of the board without a deal.
+const UNDEALT: &str = "ddfarm: note: 1 board has no deal, so there is no table\n";
+
 /// The leads of a file with boards, by one thread and by several.
 #[test]
 fn opening_leads(rt: HostRuntime) {
@@ -233,9 +318,10 @@ fn opening_leads(rt: HostRuntime) {
         let asked = Subcommand::Leads(LeadsOptions {
             solvers,
             budget: STEPS,
+            progress: false,
             boards: Some(BOARDS),
         });
-        let wanted = (Status::Done, printed.as_str(), "");
+        let wanted = (Status::Done, printed.as_str(), UNDEALT);
         expect_done(&rt, alloc, asked, &disk, wanted);
     }
 }

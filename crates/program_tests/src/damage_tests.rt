@@ -171,7 +171,7 @@ fn check<R: NamedFiles + KeptFiles + NewFiles + Threads + Wait + Sync>(
         gate: &LetsPass,
         clock: &StandsStill,
     };
-    run_subcommand(rt, alloc, asked, &means, streams)
+    run_subcommand(rt, alloc, asked, &means, streams).0
 }
 
 /// The answer with this in the finesse's place.

@@ -28,7 +28,7 @@ fn made_of<R: Threads + Wait + Sync>(
 ) -> Result<Report, MakeFault> {
     let solver = Partition::new();
     match make_tables(rt, alloc, options, &means(&solver, &LetsPass), source, sink) {
-        Ok((report, _)) => Ok(report),
+        Ok((report, _, _)) => Ok(report),
         Err(fault) => Err(fault),
     }
 }

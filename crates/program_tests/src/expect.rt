@@ -124,7 +124,7 @@ pub fn run_on<
     streams: &mut Memory<'_>,
 ) -> Status {
     let solver = OnlyTables { solver };
-    run_subcommand(rt, alloc, run, &means(&solver, gate), streams)
+    run_subcommand(rt, alloc, run, &means(&solver, gate), streams).0
 }
 
 /// What is on an output, as text.

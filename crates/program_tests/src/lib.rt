@@ -32,6 +32,8 @@ mod par_pages;
 #[cfg(test)]
 mod plain_tests;
 #[cfg(test)]
+mod play_run_tests;
+#[cfg(test)]
 mod progress_tests;
 #[cfg(test)]
 mod sections;

@@ -49,7 +49,7 @@ const OLD_LEFT: &str = " ; by hand
 ";
 
 /// The tags of a game before its deal, and the lines of its par.
-const GAMES: [(&str, &str); 14] = [
+const GAMES: [(&str, &str); 17] = [
     ("[Board \"1\"]\n", NOT_VULNERABLE),
     ("[Board \"2\"]\n", VULNERABLE),
     ("[Board \"3\"]\n", NOT_VULNERABLE),
@@ -64,6 +64,12 @@ const GAMES: [(&str, &str); 14] = [
     ("[Vulnerable \"NS\"]\n", NO_DEALER),
     ("[Board \"1\"]\n[Dealer \"#\"]\n", NO_DEALER),
     ("[Board \"x\"]\n[Dealer \"North\"]\n", NO_DEALER),
+    (
+        "[Board \"1\"]\n[Dealer \" w\"]\n[Vulnerable \"?\"]\n[Vulnerable \"all\"]\n",
+        VULNERABLE,
+    ),
+    ("[Board \"1\"]\n[Dealer \"North\"]\n", NO_DEALER),
+    ("[Board \"1\"]\n[Vulnerable \"N-S\"]\n", NO_VULNERABILITY),
 ];
 
 /// The tables of the input on this page.
@@ -127,14 +133,30 @@ fn old_pars(rt: HostRuntime) {
     );
 }
 
-/// The tables alone: the par stands before the table, and there is none where the table is incomplete.
+/// The tags of a board without a number go along with its par, as PBN names them.
+#[test]
+fn tags_alone(rt: HostRuntime) {
+    let alloc = rt.alloc();
+    let page = (PageForm::Tables, ParTags::With);
+    let named = "% PBN 2.1\n[Board \"x\"]\n";
+    let given = "[Dealer \" w\"]\n[Vulnerable \"both\"]\n";
+    let tags = "[Dealer \"W\"]\n[Vulnerable \"All\"]\n";
+    let wanted = [named, DEAL, tags, VULNERABLE, table(&rt), "\n\n"];
+    expect_page(&rt, alloc, page, &[named, given, DEAL], &wanted);
+    expect_page(&rt, alloc, page, &wanted, &wanted);
+}
+
+/// The tables alone: the par stands before the table, and there is none where the table is incomplete. Before the par
+/// stand the dealer and the vulnerability from which it was taken, so the page comes of itself too.
 #[test]
 fn tables_alone(rt: HostRuntime) {
     let alloc = rt.alloc();
     let head = "% PBN 2.1\n[Board \"1\"]\n";
     let page = (PageForm::Tables, ParTags::With);
-    let wanted = [head, DEAL, NOT_VULNERABLE, table(&rt), "\n\n"];
+    let tags = "[Dealer \"N\"]\n[Vulnerable \"None\"]\n";
+    let wanted = [head, DEAL, tags, NOT_VULNERABLE, table(&rt), "\n\n"];
     expect_page(&rt, alloc, page, &[head, DEAL], &wanted);
+    expect_page(&rt, alloc, page, &wanted, &wanted);
     let asked = tables_on(&rt, page);
     let text = joined_text(&rt, alloc, &[head, DEAL]);
     let wanted = joined_text(&rt, alloc, &[head, DEAL, "; table incomplete: 0 of 20\n\n"]);

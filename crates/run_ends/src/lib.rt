@@ -6,12 +6,14 @@
 
 mod explanations;
 mod named_files;
+mod outputs;
 mod refusals;
 mod statuses;
 mod telling;
 
 pub use explanations::{file_explanation, text_explanation};
 pub use named_files::{FileFault, NamedFiles};
+pub use outputs::Output;
 pub use refusals::{write_refusal, write_text_refusal};
 pub use statuses::Status;
 pub use telling::{Fault, end, tell};

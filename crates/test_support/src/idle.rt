@@ -3,6 +3,7 @@
 use cards::{Card, Layout, Seat, Trump};
 use certificate_graph::{Bundle, CardBundle, CardSolver, Solver};
 use lease_book::{Clock, Gate};
+use play_claims::{PlayBundle, PlaySolver};
 use std::alloc::{AllocError, Global};
 
 /// A solver that finds nothing.
@@ -36,7 +37,21 @@ impl CardSolver for FindsNothing {
     }
 }
 
-/// Answers for tables as a solver does, and finds nothing for cards.
+impl PlaySolver for FindsNothing {
+    fn solve_play(
+        &self,
+        _alloc: Global,
+        _layout: &Layout,
+        _leader: Seat,
+        _trump: Trump,
+        _cards: &[Card],
+        _budget: u64,
+    ) -> Result<PlayBundle, AllocError> {
+        Err(AllocError)
+    }
+}
+
+/// Answers for tables as a solver does, and finds nothing for cards and plays.
 #[derive(Drop)]
 pub struct OnlyTables<'a, S> {
     /// The solver.
@@ -67,6 +82,20 @@ impl<S> CardSolver for OnlyTables<'_, S> {
         budget: u64,
     ) -> Result<Option<CardBundle>, AllocError> {
         FindsNothing.solve_cards(alloc, layout, leaders, trump, played, budget)
+    }
+}
+
+impl<S> PlaySolver for OnlyTables<'_, S> {
+    fn solve_play(
+        &self,
+        alloc: Global,
+        layout: &Layout,
+        leader: Seat,
+        trump: Trump,
+        cards: &[Card],
+        budget: u64,
+    ) -> Result<PlayBundle, AllocError> {
+        FindsNothing.solve_play(alloc, layout, leader, trump, cards, budget)
     }
 }
 

@@ -19,7 +19,7 @@ use Rattle.board_subcommands.specs.FinishedRuns.{quiet}
 use Rattle.tournaments.specs.Putting.{page_fact}
 use Rattle.board_subcommands.specs.Reports.{page_status, unshown_notes}
 use Rattle.board_subcommands.specs.Faults.{audit_fault}
-use Rattle.std.specs.Prelude.{Some}
+use Rattle.std.specs.Prelude.{Option, Some}
 use Rattle.streams.specs.RunStreams.{RunDevices}
 use Rattle.run_ends.specs.declared.statuses.Status.{Status}
 use Rattle.board_subcommands.specs.Ends.{Runs}
@@ -58,7 +58,8 @@ AuditsFile opens name page old new (Err fault) =
     × AuditsOpened opens name page old new (Err audited))
 
 -- a whole run
-abbrev pub RunsAudit : Opens → AuditOptions → RunDevices → RunDevices → Status → Type 0
-RunsAudit opens options old new status =
+abbrev pub RunsAudit : Opens → AuditOptions → RunDevices → RunDevices → Option (List ℕ)
+    → Status → Type 0
+RunsAudit opens options old new handed_on status =
     Runs (DoesOn opens options.boards (AuditsFile opens options.file.now options.page))
-    (record { boards = options.boards; evidence = Some options.file }) old new status
+    (record { boards = options.boards; evidence = Some options.file }) old new handed_on status

@@ -13,7 +13,7 @@ use crate::reports::{page_status, unshown_notes};
 use audits::audit_tables;
 use cards::{Sink, Source};
 use evidence::{Damage, Sections};
-use run_ends::{FileFault, NamedFiles, Status};
+use run_ends::{FileFault, NamedFiles, Output, Status};
 use std::alloc::Global;
 use std::thread::Threads;
 use streams::Streams;
@@ -75,14 +75,15 @@ fn audit_boards<R: Threads + Sync + NamedFiles, I: Source, O: Sink>(
 
 /// Writes the tables that the evidence of a file shows for the boards that the words name, or tells why it can't, and
 /// answers how the run ends.
-pub fn run<R: Threads + Sync + NamedFiles, I: Source, O: Sink, E: Sink>(
+pub fn run<R: Threads + Sync + NamedFiles, I: Source, O: Output, E: Sink>(
     rt: &R,
     alloc: Global,
     options: AuditOptions<'_>,
     streams: &mut Streams<I, O, E>,
 ) -> Status
     ensures { RunsAudit (R.may_open rt.now) options.entry (devices_of I.state O.state E.state streams.old)
-        (devices_of I.state O.state E.state streams.new) result }
+        (devices_of I.state O.state E.state streams.new)
+        (O.handed_on streams.new.output) result }
 {
     let (input, output) = (&mut streams.input, &mut streams.output);
     let answer = audit_boards(rt, alloc, options, input, output);
@@ -90,5 +91,5 @@ pub fn run<R: Threads + Sync + NamedFiles, I: Source, O: Sink, E: Sink>(
         boards: options.boards,
         evidence: Some(options.file),
     };
-    end(answer, names, &mut streams.errors)
+    end(answer, names, output, &mut streams.errors)
 }

@@ -7,9 +7,10 @@ ghost use Rattle.command_words.specs.Says.{IsRead};
 ghost use Rattle.command_words.specs.declared.commands.Letters.{Letters};
 ghost use Rattle.board_subcommands.specs.Leads.Options.{Says, shape};
 
+use crate::table::PROGRESS;
 use clap::ArgMatches;
 use command_words::rows::{self, BOARDS};
-use command_words::{Argument, Definition, boards_of, number_of, threads_of};
+use command_words::{Argument, Definition, boards_of, flag_of, number_of, threads_of};
 
 /// What is asked of opening leads.
 #[derive(Clone, Copy)]
@@ -18,13 +19,16 @@ pub struct LeadsOptions<'a> {
     pub solvers: usize,
     /// How many steps a search may take for each lead.
     pub budget: u64,
+    /// Whether the gate is told of the work.
+    pub progress: bool,
     /// The name of the file with the boards, if it isn't the input.
     pub boards: Option<&'a str>,
 }
 
-static ARGUMENTS: [Argument; 3] = [
+static ARGUMENTS: [Argument; 4] = [
     Argument::Number(rows::SOLVERS),
     Argument::Number(rows::BUDGET),
+    Argument::Flag(PROGRESS),
     BOARDS,
 ];
 
@@ -51,10 +55,10 @@ What is refused of the boards is printed as by `ddfarm table`.
 
 Exit status:
   0  no line is missing
-  1  the boards or the output failed, a file can't be opened, memory ran out outside a
-     search, or a thread could not be started
+  1  the boards or the output failed, a file can't be opened, or memory ran out outside a
+     search
   2  the command line or the text is refused
-  3  a line is missing",
+  3  a line is missing: a note says whether steps or memory ran out",
         arguments: ARGUMENTS.as_slice(),
     }
 }
@@ -65,10 +69,12 @@ pub fn options_of<'a>(said: &ArgMatches<'a>, processors: usize) -> Option<LeadsO
 {
     let solvers = threads_of(said, &rows::SOLVERS, processors)?;
     let budget = number_of(said, &rows::BUDGET)?;
+    let progress = flag_of(said, PROGRESS.name)?;
     let boards = boards_of(said);
     Some(LeadsOptions {
         solvers: solvers as usize,
         budget,
+        progress,
         boards,
     })
 }

@@ -1,17 +1,14 @@
 //! The tables by many threads.
 
 ghost use Rattle.std.specs.Prelude.{◌≡◌, IsSome, Some};
-ghost use Rattle.farm.specs.Runs.{IsRun};
 ghost use Rattle.streams.specs.RunStreams.{devices};
 ghost use Rattle.board_subcommands.specs.Table.Halts.{halted_fault};
-ghost use Rattle.tournaments.specs.Making.{MakesPage};
-ghost use Rattle.tournaments.specs.Putting.{page_fact};
-ghost use Rattle.board_subcommands.specs.Table.Made.{MakesBook};
+ghost use Rattle.board_subcommands.specs.Table.Made.{MakesBook, MakesTables};
 
 use crate::table::options::TableOptions;
 use cards::{Sink, Source};
 use certificate_graph::Solver;
-use farm::{Clock, FarmFault, Means, Settings, run_farm};
+use farm::{Clock, FarmFault, Means, Settings, Unclaimed, run_farm};
 use lease_book::{Book, Gate};
 use std::alloc::Global;
 use std::sync::Wait;
@@ -33,7 +30,7 @@ pub(crate) fn halted(fault: FarmFault) -> MakeFault
 }
 
 /// Reads a PBN text to its end, and has a farm work through its boards, as the settings say. The text and the book of
-/// the run are handed out.
+/// the run are handed out, and how many leases got no claim.
 fn make_book<
     I: Source,
     S: Solver + Sync,
@@ -46,25 +43,27 @@ fn make_book<
     input: &mut I,
     settings: Settings,
     means: &Means<'_, S, G, C>,
-) -> Result<(Vec<u8>, Book), MakeFault>
-    ensures { MakesBook (C.may_tell means.now.clock.now) settings (I.state input.old) (I.state input.new) result }
+) -> Result<(Vec<u8>, Book, Unclaimed), MakeFault>
+    ensures { MakesBook (S.may_find means.now.solver.now) (C.may_tell means.now.clock.now) settings
+        (I.state input.old) (I.state input.new) result }
 {
     let text = read_all(alloc, input)?;
     let boards = take_boards(alloc, text.as_slice())?;
     match run_farm(rt, alloc, boards, settings, means) {
-        Ok(book) => Ok((text, book)),
+        Ok((book, unclaimed)) => Ok((text, book, unclaimed)),
         Err(fault) => Err(halted(fault)),
     }
 }
 
 /// Reads the boards of a PBN text to its end, has a farm work through them, and writes the page of what was shown, as
 /// the settings and the page of the options say. (The other options are not looked at.) The book of the run is handed
-/// out.
+/// out, and how many leases got no claim.
 ///
 /// Whatever the solver answers, the gate does and the clock tells, and in whatever order the threads work, a number
 /// that is written is the double-dummy value of its deal, and is written once: an answer whose certificates don't show
 /// it gives none. Each entry whose board has a deal has a number, or was leased as often as the settings allow, and no
-/// lease was settled twice (`IsRun`). With all refusals but a failed sink nothing was written.
+/// lease was settled twice (`IsRun`). The solver was asked for each lease, but for those that are counted as lost for want
+/// of memory (`AreSearched`). With all refusals but a failed sink nothing was written.
 pub fn make_tables<
     I: Source,
     O: Sink,
@@ -79,12 +78,12 @@ pub fn make_tables<
     means: &Means<'_, S, G, C>,
     input: &mut I,
     output: &mut O,
-) -> Result<(Report, Book), MakeFault>
-    ensures { MakesPage (IsRun (C.may_tell means.now.clock.now)) (page_fact options.entry.page)
-        options.entry.settings.term options.entry.settings.tries (devices (I.state input.old) (O.state output.old))
+) -> Result<(Report, Book, Unclaimed), MakeFault>
+    ensures { MakesTables (S.may_find means.now.solver.now) (C.may_tell means.now.clock.now) options.entry
+        (devices (I.state input.old) (O.state output.old))
         (devices (I.state input.new) (O.state output.new)) result }
 {
-    let (text, book) = make_book(rt, alloc, input, options.settings, means)?;
+    let (text, book, unclaimed) = make_book(rt, alloc, input, options.settings, means)?;
     let report = put_page(alloc, text.as_slice(), &book, options.page, output)?;
-    Ok((report, book))
+    Ok((report, book, unclaimed))
 }

@@ -77,7 +77,7 @@ const BATCH: NumberOption = NumberOption {
 };
 
 /// Whether the progress of the work is printed.
-const PROGRESS: FlagOption = FlagOption {
+pub(crate) const PROGRESS: FlagOption = FlagOption {
     name: "progress",
     help: "Tells on the error output how far the work has come, at most once a second and at the end",
 };
@@ -121,8 +121,9 @@ reads a PBN 2.1 text and writes one to the standard output: of each board its
 name, its deal and its table, twenty numbers of tricks, each backed by
 certificates that were checked. Where some weren't found, a line such
 as `; table incomplete: 19 of 20` stands in place of the table. With --whole the text
-is written as it is, with the tables in it. With --par two tag pairs stand before each
-complete table, OptimumScore and ParContract: par, and the contracts that reach it.
+is written as it is, with the tables in it. With --par tag pairs come before each
+complete table: OptimumScore and ParContract, par and the contracts that reach it, and
+without --whole Dealer and Vulnerable, from which par was taken.
   ddfarm table --sheet club.pbn >club.html
 writes a page of HTML that a browser shows and prints: of each board its four hands, its
 table and, without --par too, par.

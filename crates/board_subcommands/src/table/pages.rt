@@ -6,14 +6,14 @@ ghost use Rattle.board_subcommands.specs.Table.Pages.{IsOutcomeOf, WritesTables}
 
 use crate::faults::BoardFault;
 use crate::finished_runs::FinishedRun;
+use crate::notes::Searches;
 use crate::reports::{count_refusals, page_status, searched_notes};
 use crate::table::making::make_tables;
 use crate::table::options::TableOptions;
-use crate::table::searches::{Counted, Tally};
 use cards::{Sink, Source};
 use certificate_graph::Solver;
 use evidence::Damage;
-use farm::{Clock, Means};
+use farm::{Clock, Means, Unclaimed};
 use lease_book::{Book, Gate};
 use std::alloc::Global;
 use std::sync::Wait;
@@ -47,28 +47,27 @@ pub(crate) fn write_page<
     input: &mut I,
     output: &mut O,
 ) -> Result<FinishedRun, BoardFault>
-    ensures { WritesTables (C.may_tell means.now.clock.now) options.entry
+    ensures { WritesTables (P.may_find means.now.solver.now) (C.may_tell means.now.clock.now) options.entry
         (devices (I.state input.old) (O.state output.old)) (devices (I.state input.new) (O.state output.new)) result }
 {
-    let tally = Tally::new();
-    let solver = &Counted {
-        solver: means.solver,
-        tally: &tally,
-    };
-    let means = &Means {
-        solver,
-        gate: means.gate,
-        clock: means.clock,
-    };
-    let (report, book) = make_tables(rt, alloc, options, means, input, output)?;
-    Ok(outcome_of(options.page.form, report, &book, &tally))
+    let (report, book, unclaimed) = make_tables(rt, alloc, options, means, input, output)?;
+    Ok(outcome_of(options.page.form, report, &book, unclaimed))
 }
 
-/// What came of a page that was written for the book of a run.
-pub(crate) fn outcome_of(page: PageForm, report: Report, book: &Book, tally: &Tally) -> FinishedRun
-    ensures { IsOutcomeOf page report book.now result }
+/// What came of a page that was written for the book of a run, in which so many leases got no claim.
+pub(crate) fn outcome_of(
+    page: PageForm,
+    report: Report,
+    book: &Book,
+    unclaimed: Unclaimed,
+) -> FinishedRun
+    ensures { IsOutcomeOf page report book.now unclaimed result }
 {
-    let searches = tally.with_refused(count_refusals(book.history()));
+    let searches = Searches {
+        steps: unclaimed.steps,
+        memory: unclaimed.memory,
+        refused: count_refusals(book.history()),
+    };
     FinishedRun {
         status: page_status(page, report, book.boards()),
         damage: Damage { count: 0, first: 0 },

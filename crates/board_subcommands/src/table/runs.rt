@@ -1,5 +1,6 @@
 //! What `table` does, and how its run ends.
 
+ghost use Rattle.std.specs.Prelude.{option_map};
 ghost use Rattle.streams.specs.RunStreams.{devices, devices_of};
 ghost use Rattle.board_subcommands.specs.NamedBoards.{DoesOn};
 ghost use Rattle.board_subcommands.specs.Table.Kept.{FillsTables};
@@ -7,9 +8,8 @@ ghost use Rattle.board_subcommands.specs.Table.Runs.{RunsTable};
 
 use crate::ends::{FileNames, end};
 use crate::faults::BoardFault;
-use crate::finished_runs::FinishedRun;
 use crate::named_boards::of_boards;
-use crate::table::kept::fill_tables;
+use crate::table::kept::{Ended, fill_tables};
 use crate::table::kept_files::KeptFiles;
 use crate::table::options::TableOptions;
 use crate::table::pages::Unwatched;
@@ -17,11 +17,18 @@ use cards::{Sink, Source};
 use certificate_graph::Solver;
 use farm::{Clock, Means};
 use lease_book::Gate;
-use run_ends::{FileFault, NamedFiles, Status};
+use run_ends::{FileFault, NamedFiles, Output, Status};
 use std::alloc::Global;
 use std::sync::Wait;
 use std::thread::Threads;
 use streams::Streams;
+
+/// How a run ends, and the file that evidence was added to, if there is one.
+#[derive(Drop)]
+pub struct TableRun<F> {
+    pub status: Status,
+    pub file: Option<F>,
+}
 
 /// Writes the tables of the boards of the named file, or of the input. The input is not read if a file is named. If the
 /// file can't be opened, nothing else is.
@@ -39,29 +46,46 @@ fn table_boards<
     means: &Means<'_, P, G, C>,
     input: &mut I,
     output: &mut O,
-) -> Result<FinishedRun, BoardFault>
+) -> Ended<R::Kept>
     ensures { DoesOn (R.may_open rt.now) options.entry.boards
-        (FillsTables (R.may_keep rt.now) (C.may_tell means.now.clock.now) options.entry options.entry.evidence)
+        (FillsTables (P.may_find means.now.solver.now) (R.may_keep rt.now) (C.may_tell means.now.clock.now)
+        options.entry options.entry.evidence (option_map R.Kept.contents result.file))
         (devices (I.state input.old) (O.state output.old))
-        (devices (I.state input.new) (O.state output.new)) result }
+        (devices (I.state input.new) (O.state output.new)) result.answer }
 {
     let Some(name) = options.boards else {
         return fill_tables(rt, alloc, options, means, input, output);
     };
     match rt.open_named(name) {
-        Ok(mut file) => of_boards(fill_tables(rt, alloc, options, means, &mut file, output)),
-        Err(why) => Err(BoardFault::Boards(FileFault::Open(why))),
+        Ok(mut boards) => {
+            let Ended { answer, file } = fill_tables(
+                rt,
+                alloc,
+                options,
+                means,
+                &mut boards,
+                output,
+            );
+            Ended {
+                answer: of_boards(answer),
+                file,
+            }
+        }
+        Err(why) => Ended {
+            answer: Err(BoardFault::Boards(FileFault::Open(why))),
+            file: None,
+        },
     }
 }
 
 /// Writes the tables of the boards that the words name, or tells why it can't, and answers how the run ends. The gate
-/// is told of the work if progress is asked for.
+/// is told of the work if progress is asked for. The file that evidence was added to is handed out.
 pub fn run<
     P: Solver + Sync,
     G: Gate + Sync,
     C: Clock + Sync,
     I: Source,
-    O: Sink,
+    O: Output,
     E: Sink,
     R: Threads + Wait + Sync + NamedFiles + KeptFiles,
 >(
@@ -70,9 +94,11 @@ pub fn run<
     options: TableOptions<'_>,
     means: &Means<'_, P, G, C>,
     streams: &mut Streams<I, O, E>,
-) -> Status
-    ensures { RunsTable (C.may_tell means.now.clock.now) (R.may_open rt.now) (R.may_keep rt.now) options.entry
-        (devices_of I.state O.state E.state streams.old) (devices_of I.state O.state E.state streams.new) result }
+) -> TableRun<R::Kept>
+    ensures { RunsTable (P.may_find means.now.solver.now) (C.may_tell means.now.clock.now) (R.may_open rt.now)
+        (R.may_keep rt.now) options.entry (option_map R.Kept.contents result.file)
+        (devices_of I.state O.state E.state streams.old) (devices_of I.state O.state E.state streams.new)
+        (O.handed_on streams.new.output) result.status }
 {
     let names = FileNames {
         boards: options.boards,
@@ -80,14 +106,16 @@ pub fn run<
     };
     let (input, output) = (&mut streams.input, &mut streams.output);
     if options.progress {
-        let answer = table_boards(rt, alloc, options, means, input, output);
-        return end(answer, names, &mut streams.errors);
+        let Ended { answer, file } = table_boards(rt, alloc, options, means, input, output);
+        let status = end(answer, names, output, &mut streams.errors);
+        return TableRun { status, file };
     }
     let unwatched = &Means {
         solver: means.solver,
         gate: &Unwatched,
         clock: means.clock,
     };
-    let answer = table_boards(rt, alloc, options, unwatched, input, output);
-    end(answer, names, &mut streams.errors)
+    let Ended { answer, file } = table_boards(rt, alloc, options, unwatched, input, output);
+    let status = end(answer, names, output, &mut streams.errors);
+    TableRun { status, file }
 }

@@ -1,6 +1,6 @@
 -- What a run for the cards that may be played does.
 use Rattle.std.specs.Prelude.{◌≡◌, ℕ, List, Option, None, Some, Result, Ok, Err}
-use Rattle.cards.specs.Devices.{Device, Adds, AddsBeginning, Writes}
+use Rattle.cards.specs.Devices.{Device, Writes}
 use Rattle.cards.specs.declared.devices.DeviceFault.{DeviceFault}
 use Rattle.certificate_graph.specs.Solvers.{MayFindCards}
 use Rattle.card_values.specs.Texts.{values_text}
@@ -11,6 +11,7 @@ use Rattle.run_ends.specs.declared.statuses.Status.{Status}
 use Rattle.run_ends.specs.declared.statuses.Status.TheVariants.{Done}
 use Rattle.deal_subcommands.specs.Faults.{done_answer}
 use Rattle.deal_subcommands.specs.Runs.{Runs}
+use Rattle.deal_subcommands.specs.CardTricks.LastFlush.{HandsOnFirst}
 use Rattle.deal_subcommands.specs.CardTricks.Audit.{AuditsCards}
 use Rattle.deal_subcommands.specs.CardTricks.Kept.{FindsKept, KeepsFor}
 use Rattle.deal_subcommands.specs.CardTricks.Valuing.{ValuesCards}
@@ -28,25 +29,31 @@ evidence_answer (Err (AnswerFile why)) = Err (Evidence why)
 evidence_answer ended = ended
 
 -- ---- evidence that is kept
--- a file of this name was made, and this is what it got
-pub record IsKeptIn (makes : Opens) (name text : List ℕ) (written : Result Unit DeviceFault) : Type 0 where
+-- A file of this name was made, and this is what it is after the run: it got the text, or a beginning of it, and then a
+-- write has failed.
+pub record IsKeptIn (makes : Opens) (name text : List ℕ) (written : Result Unit DeviceFault) (left : Option Device)
+    : Type 0 where
   pub made : Device
   pub makes_it : makes name (Ok made)
-  pub made' : Device
-  pub writes : Writes made made' text written
+  pub file : Device
+  pub left_is : left ≡ Some file
+  pub writes : Writes made file text written
 
--- what was found and kept in a file of this name, and what the sink has got of it
+-- What was found and kept in a file of this name, and what the sink has got of it: the values, or a beginning of them,
+-- and then a write has failed.
 pub record HasKept (may_find : MayFindCards) (makes : Opens) (options : CardsOptions) (name : List ℕ)
-    (written : Result Unit DeviceFault) (Prints : List ℕ → Type 0) : Type 0 where
+    (sink sink' : Device) (left : Option Device) (written printed : Result Unit DeviceFault) : Type 0 where
   pub kept : KeptCards
   pub found : KeepsFor may_find options (Ok kept)
-  pub file : IsKeptIn makes name kept.text.items written
-  pub prints : Prints (values_text kept.values)
+  pub file : IsKeptIn makes name kept.text.items written left
+  pub prints : Writes sink sink' (values_text kept.values) printed
 
--- how a run ends whose values were written: all is done, or not all evidence is in its file
-abbrev pub kept_answer : Result Unit DeviceFault → Result Status DealFault
-kept_answer (Ok done) = Ok Done
-kept_answer (Err fault) = Err Unkept
+-- How a run ends whose evidence was written so, and then its values so: all is done, or not all evidence is in its file,
+-- or the output has failed.
+abbrev pub kept_answer : Result Unit DeviceFault → Result Unit DeviceFault → Result Status DealFault
+kept_answer (Ok done) (Ok printed) = Ok Done
+kept_answer (Err fault) (Ok printed) = Err Unkept
+kept_answer written (Err fault) = Err Write
 
 -- values were found, and no file of this name can be made
 abbrev pub LacksFile : MayFindCards → Opens → CardsOptions → List ℕ → DealFault → Type 0
@@ -54,30 +61,32 @@ LacksFile may_find makes options name (Evidence (file.Open why)) =
     (kept : KeptCards) × KeepsFor may_find options (Ok kept) × makes name (Err why)
 LacksFile may_find makes options name _ = ⊥
 
--- What was answered, and what the sink has got: with all faults but its own nothing.
+-- What was answered, what the sink has got, and what the file is after the run, if one was made. With all faults but
+-- these two nothing was made and nothing was printed.
 pub data KeepsCards (may_find : MayFindCards) (makes : Opens) (options : CardsOptions) (name : List ℕ)
-    (sink sink' : Device) (ended : Result Status DealFault) : Type 0 where
-  is_done : (written : Result Unit DeviceFault) → ended ≡ kept_answer written
-      → HasKept may_find makes options name written (λ text. Adds sink sink' text)
-      → KeepsCards may_find makes options name sink sink' ended
-  is_unwritten : (written : Result Unit DeviceFault) → ended ≡ Err Write
-      → HasKept may_find makes options name written (λ text. AddsBeginning sink sink' text)
-      → KeepsCards may_find makes options name sink sink' ended
+    (sink sink' : Device) (left : Option Device) (ended : Result Status DealFault) : Type 0 where
+  is_kept : (written printed : Result Unit DeviceFault) → ended ≡ kept_answer written printed
+      → HasKept may_find makes options name sink sink' left written printed
+      → KeepsCards may_find makes options name sink sink' left ended
   is_unmade : (fault : DealFault) → ended ≡ Err fault → LacksFile may_find makes options name fault → sink' ≡ sink
-      → KeepsCards may_find makes options name sink sink' ended
+      → left ≡ None
+      → KeepsCards may_find makes options name sink sink' left ended
   is_none : (fault : DealFault) → ended ≡ Err fault → FindsKept may_find options (Err fault) → sink' ≡ sink
-      → KeepsCards may_find makes options name sink sink' ended
+      → left ≡ None
+      → KeepsCards may_find makes options name sink sink' left ended
 
 -- ---- all three
-abbrev pub DoesCards : MayFindCards → Opens → Opens → CardsOptions → CardProof → Device → Device
+abbrev pub DoesCards : MayFindCards → Opens → Opens → CardsOptions → CardProof → Device → Device → Option Device
     → Result Status DealFault → Type 0
-DoesCards may_find opens makes options Dropped sink sink' ended =
+DoesCards may_find opens makes options Dropped sink sink' left ended =
     (found : Result Unit DealFault) × (ended ≡ done_answer found) × ValuesCards may_find options sink sink' found
-DoesCards may_find opens makes options (Kept name) sink sink' ended =
-    KeepsCards may_find makes options name.now sink sink' ended
-DoesCards may_find opens makes options (Audited name) sink sink' ended =
+    × (left ≡ None)
+DoesCards may_find opens makes options (Kept name) sink sink' left ended =
+    KeepsCards may_find makes options name.now sink sink' left ended
+DoesCards may_find opens makes options (Audited name) sink sink' left ended =
     (answered : Result Status DealFault) × (ended ≡ evidence_answer answered)
     × AuditsCards opens options name.now sink sink' answered
+    × (left ≡ None)
 
 -- the name of the file with the evidence, if there is one
 abbrev pub file_of : CardProof → Option (List ℕ)
@@ -85,9 +94,19 @@ file_of Dropped = None
 file_of (Kept name) = Some name.now
 file_of (Audited name) = Some name.now
 
--- a whole run: the input stays as it was
-abbrev pub RunsCards : MayFindCards → Opens → Opens → CardsOptions → RunDevices → RunDevices → Status → Type 0
-RunsCards may_find opens makes options old new status =
+-- that, and then the output hands on all before it is said that not all evidence is in its file
+pub record DoesCardsFirst (may_find : MayFindCards) (opens makes : Opens) (options : CardsOptions)
+    (left : Option Device) (handed_on : Option (List ℕ)) (sink sink' : Device) (ended : Result Status DealFault)
+    : Type 0 where
+  pub between : Device
+  pub answer : Result Status DealFault
+  pub does : DoesCards may_find opens makes options options.proof sink between left answer
+  pub first : HandsOnFirst answer between sink' handed_on ended
+
+-- a whole run: the input stays as it was, and this is the file after it, if one was made
+abbrev pub RunsCards : MayFindCards → Opens → Opens → CardsOptions → RunDevices → RunDevices → Option Device
+    → Option (List ℕ) → Status → Type 0
+RunsCards may_find opens makes options old new left handed_on status =
     Runs (λ before after answer. (after.source ≡ before.source)
-    × DoesCards may_find opens makes options options.proof before.sink after.sink answer)
+    × DoesCardsFirst may_find opens makes options left handed_on before.sink after.sink answer)
     (file_of options.proof) old new status

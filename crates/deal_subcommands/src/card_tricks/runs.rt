@@ -3,19 +3,35 @@
 ghost use Rattle.std.specs.Prelude.{◌≡◌, option_map};
 ghost use Rattle.streams.specs.RunStreams.{devices_of};
 ghost use Rattle.deal_subcommands.specs.CardTricks.Runs.{DoesCards, KeepsCards, RunsCards, evidence_answer, file_of};
+ghost use Rattle.deal_subcommands.specs.CardTricks.Runs.{kept_answer};
 
 use crate::card_tricks::audit::audit_cards;
 use crate::card_tricks::kept::find_kept;
+use crate::card_tricks::last_flush::with_last_flush;
 use crate::card_tricks::new_files::NewFiles;
 use crate::card_tricks::options::{CardProof, CardsOptions};
 use crate::card_tricks::valuing::value_cards;
 use crate::faults::{DealFault, done};
 use card_values::write_values;
-use cards::{Sink, Source, write_all};
+use cards::{DeviceFault, Sink, Source, write_all};
 use certificate_graph::CardSolver;
-use run_ends::{FileFault, NamedFiles, Status, end};
+use run_ends::{FileFault, NamedFiles, Output, Status, end};
 use std::alloc::Global;
 use streams::Streams;
+
+/// What came of the cards, and the file that was made for their evidence.
+#[derive(Drop)]
+struct Ended<F> {
+    answer: Result<Status, DealFault>,
+    made: Option<F>,
+}
+
+/// How a run ends, and the file that it made for evidence, if it made one.
+#[derive(Drop)]
+pub struct CardsRun<F> {
+    pub status: Status,
+    pub made: Option<F>,
+}
 
 /// What came of an audit of cards: if the file that was named is of no use, it is that of the evidence.
 fn evidence_answer(answer: Result<Status, DealFault>) -> Result<Status, DealFault>
@@ -27,8 +43,24 @@ fn evidence_answer(answer: Result<Status, DealFault>) -> Result<Status, DealFaul
     }
 }
 
+/// How a run ends whose evidence was written so, and then its values so.
+fn kept_answer(
+    written: Result<(), DeviceFault>,
+    printed: Result<(), DeviceFault>,
+) -> Result<Status, DealFault>
+    ensures { result ≡ kept_answer written printed }
+{
+    match printed {
+        Ok(()) => match written {
+            Ok(()) => Ok(Status::Done),
+            Err(_) => Err(DealFault::Unkept),
+        },
+        Err(_) => Err(DealFault::Write),
+    }
+}
+
 /// Finds the tricks of the cards that may be played, writes their evidence into a new file of this name, and then the
-/// tricks. The file is made after the search.
+/// tricks. The file is made after the search. It is handed out.
 fn keep_cards<P: CardSolver, O: Sink, R: NewFiles>(
     rt: &R,
     alloc: Global,
@@ -36,25 +68,33 @@ fn keep_cards<P: CardSolver, O: Sink, R: NewFiles>(
     name: &str,
     solver: &P,
     output: &mut O,
-) -> Result<Status, DealFault>
+) -> Ended<R::Made>
     ensures { KeepsCards (P.may_find_cards solver.now) (R.may_make rt.now) options.entry name.now
-        (O.state output.old) (O.state output.new) result }
+        (O.state output.old) (O.state output.new) (option_map R.Made.state result.made) result.answer }
 {
     let kept = match find_kept(alloc, options, solver) {
         Ok(kept) => kept,
-        Err(fault) => return Err(fault),
+        Err(fault) => {
+            return Ended {
+                answer: Err(fault),
+                made: None,
+            };
+        }
     };
     let mut file = match rt.make_named(name) {
         Ok(file) => file,
-        Err(why) => return Err(DealFault::Evidence(FileFault::Open(why))),
+        Err(why) => {
+            return Ended {
+                answer: Err(DealFault::Evidence(FileFault::Open(why))),
+                made: None,
+            };
+        }
     };
     let written = write_all(&mut file, kept.text.as_slice());
-    match write_values(output, &kept.values) {
-        Ok(()) => match written {
-            Ok(()) => Ok(Status::Done),
-            Err(_) => Err(DealFault::Unkept),
-        },
-        Err(_) => Err(DealFault::Write),
+    let printed = write_values(output, &kept.values);
+    Ended {
+        answer: kept_answer(written, printed),
+        made: Some(file),
     }
 }
 
@@ -65,16 +105,21 @@ fn do_cards<P: CardSolver, O: Sink, R: NamedFiles + NewFiles>(
     options: CardsOptions<'_>,
     solver: &P,
     output: &mut O,
-) -> Result<Status, DealFault>
+) -> Ended<R::Made>
     ensures { DoesCards (P.may_find_cards solver.now) (R.may_open rt.now) (R.may_make rt.now) options.entry
-        options.entry.proof (O.state output.old) (O.state output.new) result }
+        options.entry.proof (O.state output.old) (O.state output.new) (option_map R.Made.state result.made)
+        result.answer }
 {
     match options.proof {
-        CardProof::Dropped => done(value_cards(alloc, options, solver, output)),
+        CardProof::Dropped => Ended {
+            answer: done(value_cards(alloc, options, solver, output)),
+            made: None,
+        },
         CardProof::Kept(name) => keep_cards(rt, alloc, options, name, solver, output),
-        CardProof::Audited(name) => {
-            evidence_answer(audit_cards(rt, alloc, options, name, output))
-        }
+        CardProof::Audited(name) => Ended {
+            answer: evidence_answer(audit_cards(rt, alloc, options, name, output)),
+            made: None,
+        },
     }
 }
 
@@ -89,17 +134,22 @@ fn file_of(proof: CardProof<'_>) -> Option<&str>
 }
 
 /// Writes the tricks of each card that may be played, as the words ask for them, or tells why it can't, and answers how
-/// the run ends.
-pub fn run<P: CardSolver, I: Source, O: Sink, E: Sink, R: NamedFiles + NewFiles>(
+/// the run ends, with the file that it made.
+pub fn run<P: CardSolver, I: Source, O: Output, E: Sink, R: NamedFiles + NewFiles>(
     rt: &R,
     alloc: Global,
     options: CardsOptions<'_>,
     solver: &P,
     streams: &mut Streams<I, O, E>,
-) -> Status
+) -> CardsRun<R::Made>
     ensures { RunsCards (P.may_find_cards solver.now) (R.may_open rt.now) (R.may_make rt.now) options.entry
-        (devices_of I.state O.state E.state streams.old) (devices_of I.state O.state E.state streams.new) result }
+        (devices_of I.state O.state E.state streams.old) (devices_of I.state O.state E.state streams.new)
+        (option_map R.Made.state result.made) (O.handed_on streams.new.output) result.status }
 {
-    let answer = do_cards(rt, alloc, options, solver, &mut streams.output);
-    end(answer, file_of(options.proof), &mut streams.errors)
+    let Ended { answer, made } = do_cards(rt, alloc, options, solver, &mut streams.output);
+    let answer = with_last_flush(answer, &mut streams.output);
+    CardsRun {
+        status: end(answer, file_of(options.proof), &mut streams.errors),
+        made,
+    }
 }

@@ -8,7 +8,7 @@ use Rattle.command_line.proofs.run_commands.run_read.Goals as goal
 pub returns-in-Ok : goal.returns-in-Ok
 returns-in-Ok g c = λ words processors said.
     let read = rw c.in-Ok.is at said in
-    (c.run_subcommand.result, is_done read.0 read.1 c.in-Ok.asked read.2 c.run_subcommand.ensures, c.code.ensures)
+    (c.run_subcommand.result.0, is_done read.0 read.1 c.in-Ok.asked read.2 _ c.run_subcommand.ensures, c.code.ensures)
 
 pub returns-in-Err : goal.returns-in-Err
 returns-in-Err g c = λ words processors said.

@@ -1,5 +1,5 @@
 use Rattle.command_line.proofs.SaysLemmas.{says_matched, of_options}
-use Rattle.command_line.specs.declared.subcommands.Subcommand.TheVariants.{Table, Audit, Leads, Solve, Check, Line, Play, Cards, Plain}
+use Rattle.command_line.specs.declared.subcommands.Subcommand.TheVariants.{Table, Audit, Leads, Plays, Solve, Check, Line, Play, Cards, Plain}
 use Rattle.command_line.proofs.subcommands.matched_subcommand.Goals as goal
 
 pub returns-in-table : goal.returns-in-table
@@ -13,6 +13,10 @@ returns-in-audit c = says_matched _ _ _ _ _ _ _ _ c.in_ok-name.ensures.name c.in
 pub returns-in-leads : goal.returns-in-leads
 returns-in-leads c = says_matched _ _ _ _ _ _ _ _ c.in_ok-name.ensures.name c.in_ok-name.ensures.rows c.in-leads.is
     (of_options Leads _ _ _ c.map-in-leads.ensures.cases c.options_of-in-leads.ensures)
+
+pub returns-in-plays : goal.returns-in-plays
+returns-in-plays c = says_matched _ _ _ _ _ _ _ _ c.in_ok-name.ensures.name c.in_ok-name.ensures.rows c.in-plays.is
+    (of_options Plays _ _ _ c.map-in-plays.ensures.cases c.options_of-in-plays.ensures)
 
 pub returns-in-solve : goal.returns-in-solve
 returns-in-solve c = says_matched _ _ _ _ _ _ _ _ c.in_ok-name.ensures.name c.in_ok-name.ensures.rows c.in-solve.is

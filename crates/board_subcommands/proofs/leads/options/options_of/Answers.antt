@@ -1,3 +1,4 @@
+use Rattle.std.proofs.Common.{rules}
 use Rattle.command_words.proofs.SaysLemmas.{nothing_read}
 use Rattle.board_subcommands.proofs.leads.options.options_of.Goals as goal
 
@@ -7,5 +8,8 @@ returns-in_err-solvers c = nothing_read _ _ c.from_residual.ensures (λ read sai
 pub returns-in_err-budget : goal.returns-in_err-budget
 returns-in_err-budget c = nothing_read _ _ c.from_residual-in_err-budget.ensures (λ read said. c.in_err-budget.ensures read.budget said.1)
 
+pub returns-in_err-progress : goal.returns-in_err-progress
+returns-in_err-progress c = search rules
+
 pub returns : goal.returns
-returns c = (c.in_ok-solvers.ensures, c.in_ok-budget.ensures, c.boards_of-boards.ensures)
+returns c = (c.in_ok-solvers.ensures, c.in_ok-budget.ensures, search rules, c.boards_of-boards.ensures)
