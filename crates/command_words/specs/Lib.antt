@@ -1,3 +1,4 @@
 pub mod Options
 pub mod Rules
 pub mod Says
+pub mod Proofs

@@ -3,7 +3,6 @@
 mod audit;
 mod kept;
 mod last_flush;
-mod new_files;
 mod options;
 mod played;
 mod refusals;
@@ -12,8 +11,7 @@ mod valuing;
 
 pub use audit::{EvidenceRefusal, audit_cards};
 pub use kept::{KeptCards, find_kept};
-pub use new_files::NewFiles;
-pub use options::{CardProof, CardsOptions, PlayedWords, conflict, definition, options_of};
+pub use options::{CardsOptions, PlayedWords, definition, options_of};
 pub use played::WordPlace;
 pub use runs::{CardsRun, run};
 pub use valuing::{find_cards, value_cards};

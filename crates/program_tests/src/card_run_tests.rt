@@ -8,7 +8,8 @@ use board_subcommands::leads::LeadsOptions;
 use cards::{Bytes, Card, Layout, Seat, Trump};
 use certificate_graph::{Bundle, CardBundle, CardSolver, Solver};
 use command_line::{Subcommand, run_subcommand};
-use deal_subcommands::card_tricks::{CardProof, CardsOptions, PlayedWords};
+use command_words::Proof;
+use deal_subcommands::card_tricks::{CardsOptions, PlayedWords};
 use partition_solver::Partition;
 use play_claims::{PlayBundle, PlaySolver};
 use run_ends::Status;
@@ -111,7 +112,7 @@ impl PlaySolver for LeavesOut {
 }
 
 /// The cards that may be played in a finesse without trumps, after those that these words name.
-pub fn finesse<'a>(played: [Option<&'a str>; 3], proof: CardProof<'a>) -> CardsOptions<'a> {
+pub fn finesse<'a>(played: [Option<&'a str>; 3], proof: Proof<'a>) -> CardsOptions<'a> {
     CardsOptions {
         layout: "N:AQ... 65... 32... K4...",
         leader: Seat::South,
@@ -156,9 +157,9 @@ fn finesses(rt: HostRuntime) {
     for (played, printed) in FINESSES {
         let disk = disk_of(&rt, alloc, b"", ROOM, u64::MAX);
         for proof in [
-            CardProof::Dropped,
-            CardProof::Kept(EVIDENCE),
-            CardProof::Audited(EVIDENCE),
+            Proof::Dropped,
+            Proof::Kept(EVIDENCE),
+            Proof::Audited(EVIDENCE),
         ] {
             let asked = Subcommand::Cards(finesse(played, proof));
             expect_done(&rt, alloc, asked, &disk, (Status::Done, printed, ""));
@@ -176,7 +177,7 @@ const NO_ANSWER: &str = "ddfarm: no answer
 fn missing_claims(rt: HostRuntime) {
     let alloc = rt.alloc();
     let disk = disk_of(&rt, alloc, b"", ROOM, u64::MAX);
-    for proof in [CardProof::Dropped, CardProof::Kept(EVIDENCE)] {
+    for proof in [Proof::Dropped, Proof::Kept(EVIDENCE)] {
         let asked = Subcommand::Cards(finesse(TWO_PLAYED, proof));
         let wanted = (Status::Incomplete, "", NO_ANSWER);
         expect_done_by(&rt, alloc, asked, &disk, &LeavesOut, wanted);
@@ -187,7 +188,7 @@ fn missing_claims(rt: HostRuntime) {
 /// The evidence of North's cards, as it is kept.
 fn kept_text<R: Abort + Threads + Wait + Sync>(rt: &R, alloc: Global) -> Vec<u8> {
     let disk = disk_of(rt, alloc, b"", ROOM, u64::MAX);
-    let asked = Subcommand::Cards(finesse(TWO_PLAYED, CardProof::Kept(EVIDENCE)));
+    let asked = Subcommand::Cards(finesse(TWO_PLAYED, Proof::Kept(EVIDENCE)));
     expect_done(rt, alloc, asked, &disk, (Status::Done, NORTH, ""));
     got(rt, disk.bytes(alloc))
 }
@@ -212,7 +213,7 @@ fn changed(rt: &impl Abort, alloc: Global, text: &[u8], old: &str, new: &str) ->
 fn changed_evidence(rt: HostRuntime) {
     let alloc = rt.alloc();
     let kept = kept_text(&rt, alloc);
-    let asked = Subcommand::Cards(finesse(TWO_PLAYED, CardProof::Audited(EVIDENCE)));
+    let asked = Subcommand::Cards(finesse(TWO_PLAYED, Proof::Audited(EVIDENCE)));
     for (old, new, line) in CHANGES {
         let text = changed(&rt, alloc, kept.as_slice(), old, new);
         let disk = disk_of(&rt, alloc, text.as_bytes(), 0, u64::MAX);
@@ -221,7 +222,7 @@ fn changed_evidence(rt: HostRuntime) {
 }
 
 /// The refusal to make a file that is there.
-const THERE: &str = "ddfarm: evidence: cannot open
+pub const THERE: &str = "ddfarm: evidence: cannot open
   club.dde: the file is there already
 ";
 
@@ -236,8 +237,8 @@ fn files_that_are_of_no_use(rt: HostRuntime) {
     let alloc = rt.alloc();
     let disk = disk_of(&rt, alloc, b"x", ROOM, u64::MAX);
     for (proof, told) in [
-        (CardProof::Kept(EVIDENCE), THERE),
-        (CardProof::Audited("finesse.ddp"), MISSING),
+        (Proof::Kept(EVIDENCE), THERE),
+        (Proof::Audited("finesse.ddp"), MISSING),
     ] {
         let asked = Subcommand::Cards(finesse(TWO_PLAYED, proof));
         expect_done(&rt, alloc, asked, &disk, (Status::Failed, "", told));
@@ -255,7 +256,7 @@ pub const WRITING_FILE: &str = "ddfarm: evidence: writing failed
 fn full_files(rt: HostRuntime) {
     let alloc = rt.alloc();
     let kept = kept_text(&rt, alloc);
-    let asked = Subcommand::Cards(finesse(TWO_PLAYED, CardProof::Kept(EVIDENCE)));
+    let asked = Subcommand::Cards(finesse(TWO_PLAYED, Proof::Kept(EVIDENCE)));
     for room in 0..kept.len() {
         let disk = disk_of(&rt, alloc, b"", room, u64::MAX);
         let wanted = (Status::Failed, NORTH, WRITING_FILE);

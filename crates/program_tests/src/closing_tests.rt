@@ -6,7 +6,7 @@ use crate::expect::{ROOM, buffer, expect_bytes, expect_eq, got, means};
 use crate::file_runs::{disk_of, table};
 use cards::{Bytes, Sink};
 use command_line::{Subcommand, close_output, run_subcommand};
-use deal_subcommands::card_tricks::CardProof;
+use command_words::Proof;
 use partition_solver::Partition;
 use run_ends::Status;
 use std::alloc::Global;
@@ -117,15 +117,15 @@ type Kept<'a> = (Subcommand<'a>, &'a str);
 
 /// The tricks of the finesse's cards, and the table of hands with one suit each, where West takes all tricks in clubs.
 fn kept_runs(rt: &impl Abort) -> [Kept<'static>; 2] {
-    let cards = finesse(TWO_PLAYED, CardProof::Kept(EVIDENCE));
+    let cards = finesse(TWO_PLAYED, Proof::Kept(EVIDENCE));
     [
         (Subcommand::Cards(cards), NORTH),
         (table(rt, EVIDENCE, None), "W  C 13\n\n"),
     ]
 }
 
-/// If the disc is full, the output and the evidence may both find no room. The output is flushed first: if that fails, it
-/// is told, and nothing else. Otherwise the page has gone out when it is told that evidence is missing.
+/// If the disc is full, the output and the evidence may both find no room. The output is flushed first: if that fails,
+/// it is told, and nothing else. Otherwise the page has gone out when it is told that evidence is missing.
 #[test]
 fn full_disc(rt: HostRuntime) {
     let alloc = rt.alloc();

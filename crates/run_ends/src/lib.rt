@@ -6,6 +6,7 @@
 
 mod explanations;
 mod named_files;
+mod new_files;
 mod outputs;
 mod refusals;
 mod statuses;
@@ -13,6 +14,7 @@ mod telling;
 
 pub use explanations::{file_explanation, text_explanation};
 pub use named_files::{FileFault, NamedFiles};
+pub use new_files::NewFiles;
 pub use outputs::Output;
 pub use refusals::{write_refusal, write_text_refusal};
 pub use statuses::Status;

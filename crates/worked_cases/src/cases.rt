@@ -9,9 +9,8 @@ use crate::words::{
     answer_check, answer_lines, answer_plain, answer_table, answer_told, answer_words,
 };
 use board_subcommands::table::KeptFiles;
-use deal_subcommands::card_tricks::NewFiles;
 use partition_solver::Partition;
-use run_ends::NamedFiles;
+use run_ends::{NamedFiles, NewFiles};
 use std::alloc::Global;
 use std::sync::Wait;
 use std::thread::Threads;

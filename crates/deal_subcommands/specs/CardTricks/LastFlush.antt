@@ -11,8 +11,8 @@ abbrev pub lacks_evidence : Result Status DealFault → Bool
 lacks_evidence (Err Unkept) = true
 lacks_evidence _ = false
 
--- Then the output has handed on all first, to where this is; or it can't, and that is the fault. Otherwise it stays as it
--- was.
+-- Then the output has handed on all first, to where this is; or it can't, and that is the fault. Otherwise it stays as
+-- it was.
 abbrev pub HandsOnFirst : Result Status DealFault → Device → Device → Option (List ℕ) → Result Status DealFault → Type 0
 HandsOnFirst answer sink sink' handed_on ended =
     ((lacks_evidence answer ≡ true) × HandsOn sink sink' handed_on × (ended ≡ answer))

@@ -5,7 +5,7 @@ use Rattle.cards.specs.declared.devices.DeviceFault.{DeviceFault}
 use Rattle.certificate_graph.specs.Solvers.{MayFindCards}
 use Rattle.card_values.specs.Texts.{values_text}
 use Rattle.streams.specs.RunStreams.{RunDevices}
-use Rattle.run_ends.specs.NamedFiles.{Opens}
+use Rattle.run_ends.specs.NamedFiles.{IsKeptIn, Opens}
 use Rattle.run_ends.specs.declared.named_files.FileFault.TheVariants as file
 use Rattle.run_ends.specs.declared.statuses.Status.{Status}
 use Rattle.run_ends.specs.declared.statuses.Status.TheVariants.{Done}
@@ -17,8 +17,8 @@ use Rattle.deal_subcommands.specs.CardTricks.Kept.{FindsKept, KeepsFor}
 use Rattle.deal_subcommands.specs.CardTricks.Valuing.{ValuesCards}
 use Rattle.deal_subcommands.specs.declared.card_tricks.kept.KeptCards.{KeptCards}
 use Rattle.deal_subcommands.specs.declared.card_tricks.options.CardsOptions.{CardsOptions}
-use Rattle.deal_subcommands.specs.declared.card_tricks.options.CardProof.{CardProof}
-use Rattle.deal_subcommands.specs.declared.card_tricks.options.CardProof.TheVariants.{Dropped, Kept, Audited}
+use Rattle.command_words.specs.declared.proofs.Proof.{Proof}
+use Rattle.command_words.specs.declared.proofs.Proof.TheVariants.{Dropped, Kept, Audited}
 use Rattle.deal_subcommands.specs.declared.faults.DealFault.{DealFault}
 use Rattle.deal_subcommands.specs.declared.faults.DealFault.TheVariants.{AnswerFile, Evidence, Unkept, Write}
 
@@ -29,16 +29,6 @@ evidence_answer (Err (AnswerFile why)) = Err (Evidence why)
 evidence_answer ended = ended
 
 -- ---- evidence that is kept
--- A file of this name was made, and this is what it is after the run: it got the text, or a beginning of it, and then a
--- write has failed.
-pub record IsKeptIn (makes : Opens) (name text : List ℕ) (written : Result Unit DeviceFault) (left : Option Device)
-    : Type 0 where
-  pub made : Device
-  pub makes_it : makes name (Ok made)
-  pub file : Device
-  pub left_is : left ≡ Some file
-  pub writes : Writes made file text written
-
 -- What was found and kept in a file of this name, and what the sink has got of it: the values, or a beginning of them,
 -- and then a write has failed.
 pub record HasKept (may_find : MayFindCards) (makes : Opens) (options : CardsOptions) (name : List ℕ)
@@ -48,8 +38,8 @@ pub record HasKept (may_find : MayFindCards) (makes : Opens) (options : CardsOpt
   pub file : IsKeptIn makes name kept.text.items written left
   pub prints : Writes sink sink' (values_text kept.values) printed
 
--- How a run ends whose evidence was written so, and then its values so: all is done, or not all evidence is in its file,
--- or the output has failed.
+-- How a run ends whose evidence was written so, and then its values so: all is done, or not all evidence is in its
+-- file, or the output has failed.
 abbrev pub kept_answer : Result Unit DeviceFault → Result Unit DeviceFault → Result Status DealFault
 kept_answer (Ok done) (Ok printed) = Ok Done
 kept_answer (Err fault) (Ok printed) = Err Unkept
@@ -76,7 +66,7 @@ pub data KeepsCards (may_find : MayFindCards) (makes : Opens) (options : CardsOp
       → KeepsCards may_find makes options name sink sink' left ended
 
 -- ---- all three
-abbrev pub DoesCards : MayFindCards → Opens → Opens → CardsOptions → CardProof → Device → Device → Option Device
+abbrev pub DoesCards : MayFindCards → Opens → Opens → CardsOptions → Proof → Device → Device → Option Device
     → Result Status DealFault → Type 0
 DoesCards may_find opens makes options Dropped sink sink' left ended =
     (found : Result Unit DealFault) × (ended ≡ done_answer found) × ValuesCards may_find options sink sink' found
@@ -89,7 +79,7 @@ DoesCards may_find opens makes options (Audited name) sink sink' left ended =
     × (left ≡ None)
 
 -- the name of the file with the evidence, if there is one
-abbrev pub file_of : CardProof → Option (List ℕ)
+abbrev pub file_of : Proof → Option (List ℕ)
 file_of Dropped = None
 file_of (Kept name) = Some name.now
 file_of (Audited name) = Some name.now

@@ -1,16 +1,18 @@
 //! The words and options of `cards`.
 
-ghost use Rattle.std.specs.Prelude.{◌≡◌, is_some};
+ghost use Rattle.std.specs.Prelude.{◌≡◌};
 ghost use Rattle.clap.specs.Words.{found_of, rows_of};
 ghost use Rattle.command_words.specs.Rules.{shape_in};
 ghost use Rattle.command_words.specs.Says.{IsRead};
 ghost use Rattle.command_words.specs.declared.commands.Letters.{Letters};
-ghost use Rattle.deal_subcommands.specs.CardTricks.Options.{Says, SaysPlayed, SaysProof, names_both_files, shape};
+ghost use Rattle.deal_subcommands.specs.CardTricks.Options.{Says, SaysPlayed, shape};
 
 use cards::{Seat, Trump};
 use clap::ArgMatches;
 use command_words::rows::{self, LAYOUT, LEADER, TRUMP};
-use command_words::{Argument, Definition, TextOption, Word, deal_of, number_of, word_of};
+use command_words::{
+    AUDIT, Argument, Definition, EVIDENCE, Proof, Word, deal_of, number_of, proof_of, word_of,
+};
 
 /// What is asked of the cards that may be played.
 #[derive(Clone, Copy)]
@@ -26,7 +28,7 @@ pub struct CardsOptions<'a> {
     /// How many steps the search may take for each card.
     pub budget: u64,
     /// Where the numbers come from, and where their evidence goes.
-    pub proof: CardProof<'a>,
+    pub proof: Proof<'a>,
 }
 
 /// The words for up to three cards. If one is missing, so are those after it.
@@ -35,17 +37,6 @@ pub struct PlayedWords<'a> {
     pub first: Option<&'a str>,
     pub second: Option<&'a str>,
     pub third: Option<&'a str>,
-}
-
-/// Where the numbers of cards come from, and where their evidence goes.
-#[derive(Clone, Copy)]
-pub enum CardProof<'a> {
-    /// They are searched, and the evidence is dropped.
-    Dropped,
-    /// They are searched, and the evidence goes into a new file of this name.
-    Kept(&'a str),
-    /// The evidence in the file of this name shows them.
-    Audited(&'a str),
 }
 
 /// The first card.
@@ -65,20 +56,6 @@ const CARD3: Argument = Argument::OptionalWord(Word {
     name: "CARD3",
     help: "The third card played to the trick",
 });
-
-/// Where the evidence of cards is kept.
-const EVIDENCE: TextOption = TextOption {
-    name: "evidence",
-    value_name: "FILE",
-    help: "Keeps the evidence in FILE, a new file",
-};
-
-/// Which evidence shows the tricks of cards.
-const AUDIT: TextOption = TextOption {
-    name: "audit",
-    value_name: "FILE",
-    help: "Searches nothing: the evidence in FILE shows the numbers",
-};
 
 static ARGUMENTS: [Argument; 9] = [
     LAYOUT,
@@ -156,30 +133,5 @@ fn played_of<'a>(said: &ArgMatches<'a>) -> PlayedWords<'a>
         first: word_of(said, "CARD1"),
         second: word_of(said, "CARD2"),
         third: word_of(said, "CARD3"),
-    }
-}
-
-/// Returns where the numbers come from, unless the words name two files of evidence.
-fn proof_of<'a>(said: &ArgMatches<'a>) -> Option<CardProof<'a>>
-    ensures { IsRead (SaysProof (rows_of (found_of said.now))) result }
-{
-    let kept = word_of(said, EVIDENCE.name);
-    let audited = word_of(said, AUDIT.name);
-    match (kept, audited) {
-        (None, None) => Some(CardProof::Dropped),
-        (Some(name), None) => Some(CardProof::Kept(name)),
-        (None, Some(name)) => Some(CardProof::Audited(name)),
-        (Some(_), Some(_)) => None,
-    }
-}
-
-/// Returns what is said of words that name two files of evidence: one that is kept, and one that is audited.
-pub fn conflict(said: &ArgMatches<'_>) -> Option<&'static str>
-    ensures { is_some result ≡ names_both_files (rows_of (found_of said.now)) }
-{
-    if word_of(said, EVIDENCE.name).is_some() && word_of(said, AUDIT.name).is_some() {
-        Some("the argument '--evidence' cannot be used with '--audit'")
-    } else {
-        None
     }
 }

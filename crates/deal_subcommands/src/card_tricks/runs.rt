@@ -8,14 +8,14 @@ ghost use Rattle.deal_subcommands.specs.CardTricks.Runs.{kept_answer};
 use crate::card_tricks::audit::audit_cards;
 use crate::card_tricks::kept::find_kept;
 use crate::card_tricks::last_flush::with_last_flush;
-use crate::card_tricks::new_files::NewFiles;
-use crate::card_tricks::options::{CardProof, CardsOptions};
+use crate::card_tricks::options::CardsOptions;
 use crate::card_tricks::valuing::value_cards;
 use crate::faults::{DealFault, done};
 use card_values::write_values;
 use cards::{DeviceFault, Sink, Source, write_all};
 use certificate_graph::CardSolver;
-use run_ends::{FileFault, NamedFiles, Output, Status, end};
+use command_words::Proof;
+use run_ends::{FileFault, NamedFiles, NewFiles, Output, Status, end};
 use std::alloc::Global;
 use streams::Streams;
 
@@ -111,12 +111,12 @@ fn do_cards<P: CardSolver, O: Sink, R: NamedFiles + NewFiles>(
         result.answer }
 {
     match options.proof {
-        CardProof::Dropped => Ended {
+        Proof::Dropped => Ended {
             answer: done(value_cards(alloc, options, solver, output)),
             made: None,
         },
-        CardProof::Kept(name) => keep_cards(rt, alloc, options, name, solver, output),
-        CardProof::Audited(name) => Ended {
+        Proof::Kept(name) => keep_cards(rt, alloc, options, name, solver, output),
+        Proof::Audited(name) => Ended {
             answer: evidence_answer(audit_cards(rt, alloc, options, name, output)),
             made: None,
         },
@@ -124,12 +124,12 @@ fn do_cards<P: CardSolver, O: Sink, R: NamedFiles + NewFiles>(
 }
 
 /// Returns the name of the file with the evidence, if there is one.
-fn file_of(proof: CardProof<'_>) -> Option<&str>
+fn file_of(proof: Proof<'_>) -> Option<&str>
     ensures { option_map (λ name. name.now) result ≡ file_of proof.entry }
 {
     match proof {
-        CardProof::Dropped => None,
-        CardProof::Kept(name) | CardProof::Audited(name) => Some(name),
+        Proof::Dropped => None,
+        Proof::Kept(name) | Proof::Audited(name) => Some(name),
     }
 }
 
