@@ -135,9 +135,9 @@ fn are_nodes_of(trump: Trump, side: Side, nodes: &PlayNodes) -> bool
 }
 
 impl<'a> PlayContents<'a> {
-    /// Whether it is a section: it has at most 52 cards, 53 claims and 53 begun nodes of each side; no claim has more than
-    /// 13 tricks, or a node from 1,000,000 on; each begun node could be of the largest graph; and the graphs are of both
-    /// sides, with the trump. Takes no memory.
+    /// Whether it is a section: it has at most 52 cards, 53 claims and 53 begun nodes of each side; no claim has more
+    /// than 13 tricks, or a node from 1,000,000 on; each begun node could be of the largest graph; and the graphs are
+    /// of both sides, with the trump. Takes no memory.
     pub fn is_section(&self) -> bool
         ensures { IsTrue result ↔ IsPlaySection (parts_of self.now) }
     {

@@ -50,8 +50,8 @@ fn add_piece(
     Ok(())
 }
 
-/// Returns the sections of a text, and counts its other pieces. A piece goes from a line `DPP 1`, or from the beginning,
-/// to the next such line or to the end. Fails only if memory runs out.
+/// Returns the sections of a text, and counts its other pieces. A piece goes from a line `DPP 1`, or from the
+/// beginning, to the next such line or to the end. Fails only if memory runs out.
 pub fn read_sections(alloc: Global, text: &[u8]) -> Result<WholeEvidence, OutOfMemory>
     ensures { IfOk result (λ whole. IsWhole text.now whole.sections.items whole.damage) }
 {

@@ -8,7 +8,7 @@ use Rattle.cards.specs.Deal.{IsLayout}
 use Rattle.play_rules.specs.declared.faults.PlayFault.{PlayFault}
 use Rattle.play_rules.specs.declared.faults.PlayFault.TheVariants.{NotHeld, MustFollow, Over}
 use Rattle.play_rules.specs.History.{Opening}
-use Rattle.play_rules.specs.Legal.{CanPlay, IsLegalHistory, IsUnfinished}
+use Rattle.play_rules.specs.Legal.{IsLegalHistory}
 use Rattle.play_rules.specs.Position.{Position, with_card}
 use Rattle.play_rules.specs.Plays.{PlaysOrRefuses}
 use Rattle.play_values.specs.PlayValues.{Recorded}

@@ -2,5 +2,6 @@ pub mod Lines
 pub mod Answers
 pub mod Tasks
 pub mod Texts
+pub mod Evidence
 pub mod Counts
 pub mod Making

@@ -4,14 +4,17 @@ ghost use Rattle.std.specs.Prelude.{◌≡◌, ◌<◌, ◌++◌, ◌∷◌, [],
 ghost use Rattle.std.specs.Option.{option_copied};
 ghost use Rattle.play_rules.specs.Legal.{IsLegalHistory};
 ghost use Rattle.play_rules.specs.Position.{with_card};
+ghost use Rattle.play_evidence.specs.Sections.{MakesPlaySection};
 ghost use Rattle.play_pages.specs.Lines.{recorded_of, line_of, AreLinesOf, IsLegalPlay};
-ghost use Rattle.play_pages.specs.Answers.{AreFoundLines, numbers_in};
+ghost use Rattle.play_pages.specs.Answers.{AreFoundLines, AreKeptLines, numbers_in, section_of};
 
 use crate::lines::{CardLine, PlayLines, change};
+use crate::queries::PlayQuery;
 use arrayvec::ArrayVec;
 use cards::{Card, OutOfMemory};
-use certified_plays::{PlayValues, certified_play};
-use play_claims::PlaySolver;
+use certified_plays::{PlayFound, PlayValues, certified_play};
+use play_claims::{PlayBundle, PlaySolver};
+use play_evidence::PlaySection;
 use play_values::RecordedPlay;
 use std::alloc::Global;
 
@@ -67,9 +70,14 @@ fn line_at(play: &RecordedPlay, values: Option<&PlayValues>, place: usize) -> Ca
     }
 }
 
-/// The lines of a play with these values, if there are any.
-fn lines_of(play: &RecordedPlay, values: Option<&PlayValues>) -> PlayLines
-    ensures { AreLinesOf play.now (numbers_in (option_copied values.entry)) result }
+/// The lines of a play with these values and this evidence, if there are any.
+fn lines_of(
+    play: &RecordedPlay,
+    values: Option<&PlayValues>,
+    section: Option<PlaySection>,
+) -> PlayLines
+    ensures lines { AreLinesOf play.now (numbers_in (option_copied values.entry)) result }
+    ensures section { result.section ≡ section }
 {
     play.invariant();
     let count = play.cards().len();
@@ -81,25 +89,67 @@ fn lines_of(play: &RecordedPlay, values: Option<&PlayValues>) -> PlayLines
         start: number(values, 0),
         lines,
         end: number(values, count),
+        section,
     }
 }
 
-/// Asks the solver for the numbers of a play, and returns its lines with the numbers that the answer shows. None is
-/// known if memory ran out in the call.
+/// The cards of a play, once more.
+fn cards_of(play: &recorded_plays::RecordedPlay) -> ArrayVec<Card, 52>
+    ensures { result.items ≡ play.now.cards.items }
+{
+    let mut cards = ArrayVec::new();
+    match cards.try_extend_from_slice(play.cards.as_slice()) {
+        Ok(()) => cards,
+        Err(_) => unreachable!(),
+    }
+}
+
+/// The section of a play with these claims and nodes, if they are one.
+fn section_of(play: &recorded_plays::RecordedPlay, bundle: PlayBundle) -> Option<PlaySection>
+    ensures { MakesPlaySection (section_of play.now bundle) result }
+{
+    PlaySection::new(
+        play.deal,
+        play.declarer.next(),
+        play.trump,
+        cards_of(play),
+        bundle,
+    )
+}
+
+/// The lines of a play with the numbers that an answer shows, and the section of the answer. If it makes no section, no
+/// number is known.
+fn kept_lines(play: &recorded_plays::RecordedPlay, found: PlayFound) -> PlayLines
+    requires { IsLegalPlay play.now }
+    ensures { AreKeptLines play.now found result }
+{
+    let PlayFound { values, bundle } = found;
+    match section_of(play, bundle) {
+        Some(section) => lines_of(&recorded(play), Some(&values), Some(section)),
+        None => lines_of(&recorded(play), None, None),
+    }
+}
+
+/// Asks the solver for the numbers of a play, and returns its lines with the numbers that the answer shows, and its
+/// section if that is to be kept. None is known if memory ran out in the call.
 pub(crate) fn find_lines<S: PlaySolver>(
     alloc: Global,
     play: &recorded_plays::RecordedPlay,
-    budget: u64,
+    query: PlayQuery,
     solver: &S,
 ) -> PlayLines
     requires { IsLegalPlay play.now }
-    ensures { AreFoundLines (S.may_find_play solver.now) budget play.now result }
+    ensures { AreFoundLines (S.may_find_play solver.now) query play.now result }
 {
-    match certified_play(alloc, recorded(play), budget, solver) {
+    match certified_play(alloc, recorded(play), query.budget, solver) {
         Ok(found) => {
             found.values.invariant();
-            lines_of(&recorded(play), Some(&found.values))
+            if query.keeps {
+                kept_lines(play, found)
+            } else {
+                lines_of(&recorded(play), Some(&found.values), None)
+            }
         }
-        Err(OutOfMemory) => lines_of(&recorded(play), None),
+        Err(OutOfMemory) => lines_of(&recorded(play), None, None),
     }
 }

@@ -6,6 +6,7 @@ ghost use Rattle.play_pages.specs.Tasks.{no_lines};
 
 use arrayvec::ArrayVec;
 use cards::{Card, Seat};
+use play_evidence::PlaySection;
 
 /// The line of a card.
 #[derive(Clone, Copy)]
@@ -40,6 +41,8 @@ pub struct PlayLines {
     pub lines: ArrayVec<CardLine, 52>,
     /// The tricks of declarer's side in all after the last card, if they are known.
     pub end: Option<u8>,
+    /// The evidence of the numbers, if it is kept.
+    pub section: Option<PlaySection>,
 }
 
 impl PlayLines {
@@ -51,6 +54,7 @@ impl PlayLines {
             start: None,
             lines: ArrayVec::new(),
             end: None,
+            section: None,
         }
     }
 }

@@ -14,9 +14,13 @@ pub struct PageTable {
 
 impl Model for PageTable {
     ghost use Rattle.std.specs.Prelude.{List, Option};
+    ghost use Rattle.std.specs.Coded.{codes};
+    ghost use Rattle.certificate_graph.specs.TreeCodes.{tree_code};
     ghost use Rattle.play_pages.specs.declared.lines.PlayLines.{PlayLines};
 
     ghost Value = { List (Option PlayLines) };
+
+    ghost coded = { Prim.hlevel (codes, tree_code) };
 
     ghost view = { λ table. table.found.items };
 }

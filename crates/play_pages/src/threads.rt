@@ -7,6 +7,7 @@ ghost use Rattle.play_pages.specs.Tasks.{AreLegal, IsDone, IsShare, AreNoted, No
 use crate::finding::find_lines;
 use crate::lines::PlayLines;
 use crate::page_tables::PageTable;
+use crate::queries::PlayQuery;
 use play_claims::PlaySolver;
 use recorded_plays::RecordedGame;
 use std::alloc::{AllocError, Global};
@@ -22,15 +23,15 @@ fn do_task<S: PlaySolver>(
     alloc: Global,
     games: &[RecordedGame<'_>],
     task: usize,
-    budget: u64,
+    query: PlayQuery,
     solver: &S,
 ) -> PlayLines
     requires within { task < length games.now }
     requires legal { AreLegal games.now }
-    ensures { IsDone (S.may_find_play solver.now) budget games.now task result }
+    ensures { IsDone (S.may_find_play solver.now) query games.now task result }
 {
     match &games[task].play {
-        Ok(play) => find_lines(alloc, play, budget, solver),
+        Ok(play) => find_lines(alloc, play, query, solver),
         Err(_) => PlayLines::none(),
     }
 }
@@ -40,12 +41,12 @@ fn do_task<S: PlaySolver>(
 fn take_tasks<S: PlaySolver>(
     alloc: Global,
     games: &[RecordedGame<'_>],
-    budget: u64,
+    query: PlayQuery,
     solver: &S,
     next: &AtomicUsize,
 ) -> Result<Vec<Done>, AllocError>
     requires { AreLegal games.now }
-    ensures { IsShare (S.may_find_play solver.now) budget games.now result }
+    ensures { IsShare (S.may_find_play solver.now) query games.now result }
 {
     let mut done = Vec::new(alloc);
     for _turn in 0..games.len() {
@@ -53,7 +54,7 @@ fn take_tasks<S: PlaySolver>(
         if task >= games.len() {
             break;
         }
-        let found = do_task(alloc, games, task, budget, solver);
+        let found = do_task(alloc, games, task, query, solver);
         if done.push((task, found)).is_err() {
             next.store(games.len(), Ordering::SeqCst);
             return Err(AllocError);
@@ -90,19 +91,19 @@ fn note_all(noted: &mut Vec<Option<PlayLines>>, mut done: Vec<Done>)
 fn do_others<S: PlaySolver>(
     alloc: Global,
     games: &[RecordedGame<'_>],
-    budget: u64,
+    query: PlayQuery,
     solver: &S,
     mut noted: Vec<Option<PlayLines>>,
 ) -> PageTable
     requires legal { AreLegal games.now }
     requires len { vec_len noted ≡ length games.now }
-    requires noted { AreNoted (S.may_find_play solver.now) budget games.now noted.items }
+    requires noted { AreNoted (S.may_find_play solver.now) query games.now noted.items }
     ensures len { length result ≡ length games.now }
-    ensures found { AreFoundOn (S.may_find_play solver.now) budget games.now (lines_in result) }
+    ensures found { AreFoundOn (S.may_find_play solver.now) query games.now (lines_in result) }
 {
     for task in 0..noted.len() {
         if noted[task].is_none() {
-            noted[task] = Some(do_task(alloc, games, task, budget, solver));
+            noted[task] = Some(do_task(alloc, games, task, query, solver));
         }
     }
     PageTable::new(noted)
@@ -112,19 +113,19 @@ fn do_others<S: PlaySolver>(
 fn gather<S: PlaySolver>(
     alloc: Global,
     games: &[RecordedGame<'_>],
-    budget: u64,
+    query: PlayQuery,
     solver: &S,
     mut shares: Vec<Result<Vec<Done>, AllocError>>,
 ) -> Result<PageTable, AllocError>
     requires legal { AreLegal games.now }
-    requires shares { All (IsShare (S.may_find_play solver.now) budget games.now) shares.items }
-    ensures { IfOk result (λ table. AreFoundOn (S.may_find_play solver.now) budget games.now (lines_in table)) }
+    requires shares { All (IsShare (S.may_find_play solver.now) query games.now) shares.items }
+    ensures { IfOk result (λ table. AreFoundOn (S.may_find_play solver.now) query games.now (lines_in table)) }
 {
     let mut noted = make_places(alloc, games.len())?;
     while let Some(share) = shares.pop() {
         note_all(&mut noted, share?);
     }
-    Ok(do_others(alloc, games, budget, solver, noted))
+    Ok(do_others(alloc, games, query, solver, noted))
 }
 
 /// Finds the lines of all games that have a play, with as many threads as there are to be solvers. Whatever the
@@ -134,11 +135,11 @@ pub(crate) fn find_all<R: Threads + Sync, S: PlaySolver + Sync>(
     alloc: Global,
     games: &[RecordedGame<'_>],
     solvers: usize,
-    budget: u64,
+    query: PlayQuery,
     solver: &S,
 ) -> Result<PageTable, AllocError>
     requires { AreLegal games.now }
-    ensures { IfOk result (λ table. AreFoundOn (S.may_find_play solver.now) budget games.now (lines_in table)) }
+    ensures { IfOk result (λ table. AreFoundOn (S.may_find_play solver.now) query games.now (lines_in table)) }
 {
     let next = AtomicUsize::new(0);
     let shares = thread::map_indices(
@@ -147,8 +148,8 @@ pub(crate) fn find_all<R: Threads + Sync, S: PlaySolver + Sync>(
         solvers.min(games.len()),
         &|_thread: usize| -> Result<Vec<Done>, AllocError>
             requires { AreLegal games.now }
-            ensures { IsShare (S.may_find_play solver.entry.now) budget games.entry.now result }
-        { take_tasks(alloc, games, budget, solver, &next) },
+            ensures { IsShare (S.may_find_play solver.entry.now) query games.entry.now result }
+        { take_tasks(alloc, games, query, solver, &next) },
     )?;
-    gather(alloc, games, budget, solver, shares)
+    gather(alloc, games, query, solver, shares)
 }

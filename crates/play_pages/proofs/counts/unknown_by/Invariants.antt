@@ -1,5 +1,5 @@
 -- The cards so far are counted.
-use Rattle.std.proofs.Common.{◌≡◌, ◌≤◌, ◌*◌, take, sum_by}
+use Rattle.std.proofs.Common.{◌≡◌, ◌≤◌, take, sum_by}
 use Rattle.play_pages.specs.Counts.{unknown_in}
 use Rattle.play_pages.proofs.counts.unknown_by.Given as goal
 

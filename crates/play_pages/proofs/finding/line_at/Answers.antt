@@ -1,7 +1,5 @@
-use Rattle.std.proofs.Common.{◌≡◌, length, get_or, Some, ap, subst, arith, List}
-use Rattle.std.specs.Prelude.{slice_get}
+use Rattle.std.proofs.Common.{length, ap, arith}
 use Rattle.std.proofs.lemmas.Option.{slice_get-get_or}
-use Rattle.cards.specs.declared.pack.Card.{Card}
 use Rattle.play_pages.proofs.finding.line_at.Goals as goal
 
 pub overflow_add-place : goal.overflow_add-place

@@ -1,4 +1,4 @@
-use Rattle.std.proofs.Common.{◌≡◌, ◌+◌, ◌∙◌, ℕ, [], ◌∷◌, length, ap, arith, length-append}
+use Rattle.std.proofs.Common.{◌∙◌, ℕ, [], ◌∷◌, length, ap, arith, length-append}
 use Rattle.std.specs.Option.{option_copied}
 use Rattle.std.proofs.lemmas.List.{take_all}
 use Rattle.play_pages.specs.Answers.{numbers_in}
@@ -20,8 +20,8 @@ loop-place-preserved c =
       are = lines_more c.args.play.now (numbers_in (option_copied c.args.values)) c.loop-place.place line c.line_at.ensures.card c.line_at.ensures.line c.loop-place.lines.items c.push.new.self.items c.loop-place.invariant.are c.push.ensures.items;
     }
 
-pub returns : goal.returns
-returns c =
+pub returns-clause-lines : goal.returns-clause-lines
+returns-clause-lines c =
     let numbers = numbers_in (option_copied c.args.values) in
     let all = lines_of c.args.play.now numbers in
     record {

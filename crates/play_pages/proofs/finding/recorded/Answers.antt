@@ -1,4 +1,4 @@
-use Rattle.std.proofs.Common.{sym, ◌∙◌, ap, arith, length}
+use Rattle.std.proofs.Common.{◌∙◌, ap, arith, length}
 use Rattle.play_pages.proofs.RecordedLaws.{begun, next_legal, recorded_more, all_recorded}
 use Rattle.play_pages.proofs.finding.recorded.Goals as goal
 

@@ -1,5 +1,5 @@
 -- The sink has the first line and the games so far.
-use Rattle.std.proofs.Common.{◌≡◌, take, codes}
+use Rattle.std.proofs.Common.{take, codes}
 use Rattle.std.specs.List.{flat_map, enumerate_from}
 use Rattle.cards.specs.Devices.{Device, Adds}
 use Rattle.play_pages.specs.Tasks.{lines_in}

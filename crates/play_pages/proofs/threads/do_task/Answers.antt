@@ -11,9 +11,9 @@ find_lines-requires g c =
 pub returns-in-Ok : goal.returns-in-Ok
 returns-in-Ok g c =
     let ok = ap (λ (game : RecordedGame). game.play) c.index-games-task.is ∙ c.in-Ok.is in
-    done_with c.args.games.now c.args.task c.index-games-task.result c.requires.within c.index-games-task.is (g.S.PlaySolver.may_find_play c.args.solver.now) c.args.budget c.find_lines.result c.in-Ok.play ok c.find_lines.ensures
+    done_with c.args.games.now c.args.task c.index-games-task.result c.requires.within c.index-games-task.is (g.S.PlaySolver.may_find_play c.args.solver.now) c.args.query c.find_lines.result c.in-Ok.play ok c.find_lines.ensures
 
 pub returns-in-Err : goal.returns-in-Err
 returns-in-Err g c =
     let err = ap (λ (game : RecordedGame). game.play) c.index-games-task.is ∙ c.in-Err.is in
-    done_without c.args.games.now c.args.task c.index-games-task.result c.requires.within c.index-games-task.is (g.S.PlaySolver.may_find_play c.args.solver.now) c.args.budget c.none.result c.in-Err.field-0 err
+    done_without c.args.games.now c.args.task c.index-games-task.result c.requires.within c.index-games-task.is (g.S.PlaySolver.may_find_play c.args.solver.now) c.args.query c.none.result c.in-Err.field-0 err
