@@ -12,7 +12,7 @@ pub const HEAD: &[u8] = br#"<!DOCTYPE html>
 <meta charset="utf-8">
 <meta http-equiv="Content-Security-Policy" content="default-src 'none';
   style-src 'sha256-ohKmwkAUd72clqJphImkSWhmV57ePUukjBq2XQOMVLE='
-  'sha256-64Ih8Zlr7bFcuOobb39hEcITHdz5bk+S/vWCust2XSc='; base-uri 'none'; form-action 'none'">
+  'sha256-jRhtCotm2Ys0LOXOhisNWjQ1E6UnPtYm7t2xltk/+rM='; base-uri 'none'; form-action 'none'">
 <meta name="viewport" content="width=device-width, initial-scale=1">
 <title>Recorded plays</title>
 <style>"#;
@@ -31,7 +31,7 @@ tr { border-top: 1px solid #dde4ea } tr:first-child, .lost { border-top-color: #
 td, th { width: 18%; padding: 0 0 0 1.2em; text-align: left; white-space: nowrap; font-weight: normal }
 th { color: #456 } th[scope="row"], th:first-child, th:last-child, td:last-child { width: auto; padding: 0 1mm;
   text-align: right }
-td:last-child, .lost td { font-weight: bold }
+td:last-child, .lost td { font-weight: bold } .lost td { padding-left: 0 } td:last-child { font-size: 10px }
 td small { color: #900; border: 1px solid; font-size: 10px; font-weight: bold; padding: 0 2px; margin-left: 3px }
 td > b { background: #dfe7e2; padding: 0 2px; margin-left: -2px }
 i { float: left; width: 1.1em; margin-left: -1.1em; font-style: normal; color: #456 }
