@@ -25,7 +25,7 @@ pub(crate) struct FileNames<'a> {
 }
 
 /// The name of the file that a fault speaks of, if it speaks of one.
-fn file_named(names: FileNames<'_>, fault: BoardFault) -> Option<&str>
+pub(crate) fn file_named(names: FileNames<'_>, fault: BoardFault) -> Option<&str>
     ensures { option_map (λ name. name.now) result ≡ file_named names.entry fault }
 {
     match fault {

@@ -47,7 +47,7 @@ pub(crate) struct Notes {
 }
 
 /// The note that no board was found.
-const NO_BOARD: &str = "ddfarm: note: no board was found
+pub(crate) const NO_BOARD: &str = "ddfarm: note: no board was found
   the input has to be plain text in PBN, not UTF-16, and its lines have to end by LF or CR LF
 ";
 
@@ -80,7 +80,7 @@ pub(crate) fn tell_notes<E: Sink>(notes: Notes, errors: &mut E)
 }
 
 /// Writes a text if it holds.
-fn tell_if<E: Sink>(holds: bool, text: &str, errors: &mut E)
+pub(crate) fn tell_if<E: Sink>(holds: bool, text: &str, errors: &mut E)
     ensures { TellsIf holds text.now (E.state errors.old) (E.state errors.new) }
 {
     if holds {
@@ -184,9 +184,10 @@ fn write_if<E: Sink>(holds: bool, text: &[u8], errors: &mut E) -> Result<(), Dev
     ensures { Writes (E.state errors.old) (E.state errors.new) (text_if holds text.now) result }
 {
     if holds {
-        return write_all(errors, text);
+        write_all(errors, text)
+    } else {
+        Ok(())
     }
-    write_all(errors, b"")
 }
 
 /// Writes how many tables lack results that evidence doesn't show.

@@ -136,7 +136,7 @@ RunsSubcommand may_solve may_tell may_open (Audit options) left old new handed_o
 RunsSubcommand may_solve may_tell may_open (Leads options) left old new handed_on status =
     RunsLeads may_solve.cards may_open.to_read options old new handed_on status
 RunsSubcommand may_solve may_tell may_open (Plays options) left old new handed_on status =
-    RunsPlays may_solve.plays may_open.to_read options old new handed_on status
+    RunsPlays may_solve.plays may_open.to_read may_open.to_make options old new left.made handed_on status
 RunsSubcommand may_solve may_tell may_open (Solve options) left old new handed_on status =
     RunsSolve may_solve.answers options old new status
 RunsSubcommand may_solve may_tell may_open (Check options) left old new handed_on status =

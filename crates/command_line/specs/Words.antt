@@ -8,7 +8,7 @@ use Rattle.clap.specs.declared.error.kind.ErrorKind.TheVariants.{ArgumentConflic
 use Rattle.command_line.specs.declared.subcommands.Subcommand.{Subcommand}
 use Rattle.command_line.specs.Subcommands.{SaysMatched}
 use Rattle.board_subcommands.specs.PageOptions.{asks_for_both}
-use Rattle.deal_subcommands.specs.CardTricks.Options.{names_both_files}
+use Rattle.command_words.specs.Proofs.{names_both_files}
 use Rattle.command_words.specs.Rules.{AreLetters}
 use Rattle.command_line.specs.CommandLine.{command_line}
 use Rattle.command_words.specs.declared.commands.Letters.{Letters}

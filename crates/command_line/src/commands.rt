@@ -15,10 +15,11 @@ when all four hands are seen and both sides play best.";
 
 /// What follows the program's name where `--version` is given.
 const VERSION: &str = "\
-1.0.0
+1.1.0
 certificates: reads and writes versions 1 and 2
 evidence: reads and writes version 1
 evidence of cards: reads and writes version 1
+evidence of plays: reads and writes version 1
 boards: reads and writes PBN 2.1";
 
 const EXAMPLE: &str = "\
@@ -36,8 +37,9 @@ find how many tricks declarer's side takes of four hands, check that, show how, 
 a line, and let you try to take more.
   ddfarm leads club.pbn >leads.txt
   ddfarm cards \"N:AQ... 65... 32... K4...\" S NT
-print the tricks after each opening lead of a tournament, and after each card that may
-be played.
+  ddfarm plays club.pbn >plays.txt
+print the tricks after each opening lead of a tournament, after each card that may be
+played, and after each card of recorded plays.
 
 `ddfarm table --help` tells more of `table`, and so of each command.";
 

@@ -10,21 +10,21 @@ ghost use Rattle.command_line.specs.Subcommands.{RunsSubcommand, SaysMatched, sh
 
 use board_subcommands::audit::AuditOptions;
 use board_subcommands::leads::LeadsOptions;
-use board_subcommands::plays::PlaysOptions;
+use board_subcommands::plays::{PlaysOptions, PlaysRun};
 use board_subcommands::table::{KeptFiles, TableOptions, TableRun};
 use board_subcommands::{audit, leads, plays, table};
 use cards::{Sink, Source};
 use certificate_graph::{CardSolver, Solver};
 use clap::ArgMatches;
 use command_words::{Definition, LayoutWords};
-use deal_subcommands::card_tricks::{CardsOptions, CardsRun, NewFiles};
+use deal_subcommands::card_tricks::{CardsOptions, CardsRun};
 use deal_subcommands::play::PlayOptions;
 use deal_subcommands::solve::SolveOptions;
 use deal_subcommands::{card_tricks, check, line, plain, play, solve};
 use farm::{Clock, Means};
 use lease_book::Gate;
 use play_claims::PlaySolver;
-use run_ends::{NamedFiles, Output, Status};
+use run_ends::{NamedFiles, NewFiles, Output, Status};
 use std::alloc::Global;
 use std::sync::Wait;
 use std::thread::Threads;
@@ -97,8 +97,8 @@ pub(crate) fn matched_subcommand<'a>(
     }
 }
 
-/// Does what is asked, and answers how the run ends. The files that evidence was written to are handed out: the one that
-/// `table` has added to, and the one that `cards` has made.
+/// Does what is asked, and answers how the run ends. The files that evidence was written to are handed out: the one
+/// that `table` has added to, and the one that `plays` or `cards` has made.
 ///
 /// A fault is written on the error output, with a line that explains it. Then the output has nothing but what `play`
 /// has written, and the beginning that a failed output has taken. The output hands on all of a page before anything is
@@ -141,11 +141,8 @@ pub fn run_subcommand<
             (leads::run(rt, alloc, options, means, streams), None, None)
         }
         Subcommand::Plays(options) => {
-            (
-                plays::run(rt, alloc, options, means.solver, streams),
-                None,
-                None,
-            )
+            let PlaysRun { status, made } = plays::run(rt, alloc, options, means.solver, streams);
+            (status, None, made)
         }
         Subcommand::Solve(options) => {
             (

@@ -9,7 +9,6 @@ use crate::subcommands::{Subcommand, matched_subcommand};
 use clap::error::ErrorKind;
 use clap::{ArgMatches, Error};
 use command_words::{Letters, known_letters};
-use deal_subcommands::card_tricks;
 use std::alloc::{AllocError, Global};
 use std::convert::AsStr;
 
@@ -56,6 +55,6 @@ fn excluded(matches: &ArgMatches<'_>) -> Option<&'static str>
     let (_, said) = matches.subcommand()?;
     match board_subcommands::conflict(said) {
         Some(text) => Some(text),
-        None => card_tricks::conflict(said),
+        None => command_words::conflict(said),
     }
 }

@@ -1,14 +1,17 @@
 //! The numbers of recorded plays, by a search: endings worked out by hand.
 
-use crate::expect::{End, ROOM, expect_ended, means, memory};
+use crate::card_run_tests::{THERE, WRITING_FILE};
+use crate::disks::{Disk, EVIDENCE, System};
+use crate::expect::{End, ROOM, expect_ended, got, means, memory, some};
+use crate::file_runs::{disk_of, expect_held};
 use crate::solve_tests::STEPS;
 use board_subcommands::plays::{PlaysForm, PlaysOptions};
 use board_subcommands::table::KeptFiles;
 use cards::Bytes;
 use command_line::{Subcommand, run_subcommand};
-use deal_subcommands::card_tricks::NewFiles;
+use command_words::Proof;
 use partition_solver::Partition;
-use run_ends::{NamedFiles, Status};
+use run_ends::{NamedFiles, NewFiles, Status};
 use std::alloc::Global;
 use std::process::Abort;
 use std::sync::Wait;
@@ -140,6 +143,17 @@ lost N 2 E 0 S 0 W 0
 
 const ILLEGAL: &str = "ddfarm: note: 1 play ends at a card that is not legal\n";
 
+/// What is asked of plays.
+fn plays_of<'a>(form: PlaysForm, proof: Proof<'a>) -> Subcommand<'a> {
+    Subcommand::Plays(PlaysOptions {
+        solvers: 2,
+        budget: STEPS,
+        form,
+        proof,
+        games: None,
+    })
+}
+
 /// Does a run for plays over an input and an output with this much room.
 fn expect_plays<R: Abort + NamedFiles + KeptFiles + NewFiles + Threads + Wait + Sync>(
     rt: &R,
@@ -149,12 +163,7 @@ fn expect_plays<R: Abort + NamedFiles + KeptFiles + NewFiles + Threads + Wait + 
     room: usize,
     wanted: End<'_>,
 ) {
-    let asked = Subcommand::Plays(PlaysOptions {
-        solvers: 2,
-        budget: STEPS,
-        form,
-        games: None,
-    });
+    let asked = plays_of(form, Proof::Dropped);
     let input = Bytes::new(games.as_bytes(), 7);
     let mut streams = memory(rt, alloc, input, (room, 3), (ROOM, 7));
     let solver = Partition::new();
@@ -189,4 +198,78 @@ fn full(rt: HostRuntime) {
         let wanted = (Status::Failed, printed, "ddfarm: writing failed\n");
         expect_plays(&rt, rt.alloc(), PlaysForm::Text, REVOKE, room, wanted);
     }
+}
+
+/// Does a run for the games over a disk with a file of evidence.
+fn expect_on_disk<R: Abort + Threads + Wait + Sync>(
+    rt: &R,
+    alloc: Global,
+    proof: Proof<'_>,
+    disk: &Disk,
+    wanted: End<'_>,
+) {
+    let boards = disk_of(rt, alloc, b"", 0, u64::MAX);
+    let system = System {
+        rt,
+        evidence: disk,
+        boards: &boards,
+    };
+    let input = Bytes::new(GAMES.as_bytes(), 7);
+    let mut streams = memory(rt, alloc, input, (ROOM, 3), (ROOM, 7));
+    let solver = Partition::new();
+    let means = means(&solver, &LetsPass);
+    let asked = plays_of(PlaysForm::Text, proof);
+    let status = run_subcommand(&system, alloc, asked, &means, &mut streams).0;
+    expect_ended(rt, status, &streams, wanted);
+}
+
+/// The evidence of the games, as it is kept.
+fn kept_text<R: Abort + Threads + Wait + Sync>(rt: &R, alloc: Global) -> Vec<u8> {
+    let disk = disk_of(rt, alloc, b"", ROOM, u64::MAX);
+    expect_on_disk(
+        rt,
+        alloc,
+        Proof::Kept(EVIDENCE),
+        &disk,
+        (Status::Done, PAGE, ""),
+    );
+    got(rt, disk.bytes(alloc))
+}
+
+/// An audit of the evidence that was kept prints the same.
+#[test]
+fn evidence(rt: HostRuntime) {
+    let alloc = rt.alloc();
+    let kept = kept_text(&rt, alloc);
+    let disk = disk_of(&rt, alloc, kept.as_slice(), 0, u64::MAX);
+    expect_on_disk(
+        &rt,
+        alloc,
+        Proof::Audited(EVIDENCE),
+        &disk,
+        (Status::Done, PAGE, ""),
+    );
+}
+
+/// A file that takes fewer bytes has a beginning of the evidence, and one that is there stays as it is. The page is
+/// printed all the same.
+#[test]
+fn evidence_that_is_not_kept(rt: HostRuntime) {
+    let alloc = rt.alloc();
+    let kept = kept_text(&rt, alloc);
+    for room in [0, 1, kept.len().saturating_sub(1)] {
+        let disk = disk_of(&rt, alloc, b"", room, u64::MAX);
+        let wanted = (Status::Failed, PAGE, WRITING_FILE);
+        expect_on_disk(&rt, alloc, Proof::Kept(EVIDENCE), &disk, wanted);
+        expect_held(&rt, alloc, &disk, some(&rt, kept.as_slice().get(..room)));
+    }
+    let disk = disk_of(&rt, alloc, b"x", ROOM, u64::MAX);
+    expect_on_disk(
+        &rt,
+        alloc,
+        Proof::Kept(EVIDENCE),
+        &disk,
+        (Status::Failed, PAGE, THERE),
+    );
+    expect_held(&rt, alloc, &disk, b"x");
 }

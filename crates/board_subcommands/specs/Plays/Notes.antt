@@ -1,9 +1,10 @@
 -- What is said of a run that wrote plays: each note at most once.
-use Rattle.std.specs.Prelude.{◌≡◌, ℕ, ◌<◌, List, ◌++◌, ◌⊎◌, codes}
+use Rattle.std.specs.Prelude.{◌≡◌, ℕ, ◌<◌, nat_eq, Bool, true, false, List, ◌++◌, ◌⊎◌, codes}
 use Rattle.cards.specs.Devices.{Device}
 use Rattle.play_pages.specs.declared.making.PlaysReport.{PlaysReport}
 use Rattle.run_ends.specs.Telling.{IsTold}
 use Rattle.board_subcommands.specs.Counted.{counted}
+use Rattle.board_subcommands.specs.Notes.{TellsIf, no_board_text}
 
 -- a note of a number of things
 abbrev pub note_text : ℕ → List ℕ → List ℕ → List ℕ
@@ -36,20 +37,25 @@ TellsCut count =
     TellsCount count (codes "1 play ends at an irregularity, or at a word that is no card\n")
     (codes " plays end at an irregularity, or at a word that is no card\n")
 
--- a number was not found
-abbrev pub TellsMissing : ℕ → Device → Device → Type 0
-TellsMissing count =
+-- a number was not found, or evidence doesn't show it
+abbrev pub TellsMissing : Bool → ℕ → Device → Device → Type 0
+TellsMissing true count =
+    TellsCount count (codes "1 number is unknown: the evidence does not show it\n")
+    (codes " numbers are unknown: the evidence does not show them\n")
+TellsMissing false count =
     TellsCount count (codes "1 number is unknown\n  --budget gives a search more steps\n")
     (codes " numbers are unknown\n  --budget gives a search more steps\n")
 
--- all notes, one after the other
-pub record TellsReport (report : PlaysReport) (errors errors' : Device) : Type 0 where
+-- all notes, one after the other, of a search or of an audit
+pub record TellsReport (report : PlaysReport) (is_audit : Bool) (errors errors' : Device) : Type 0 where
+  pub with_boards : Device
   pub with_passed_over : Device
   pub with_lacking : Device
   pub with_illegal : Device
   pub with_cut : Device
-  pub passed_over : TellsPassedOver report.passed_over errors with_passed_over
+  pub boards : TellsIf (nat_eq report.games 0) no_board_text errors with_boards
+  pub passed_over : TellsPassedOver report.passed_over with_boards with_passed_over
   pub lacking : TellsLacking report.lacking with_passed_over with_lacking
   pub illegal : TellsIllegal report.illegal with_lacking with_illegal
   pub cut : TellsCut report.cut with_illegal with_cut
-  pub missing : TellsMissing report.missing with_cut errors'
+  pub missing : TellsMissing is_audit report.missing with_cut errors'

@@ -1,8 +1,9 @@
 -- The options of `plays`.
-use Rattle.std.specs.Prelude.{◌≡◌, ℕ, List, [], ◌∷◌, Option, codes, option_map}
+use Rattle.std.specs.Prelude.{◌≡◌, ℕ, List, [], ◌∷◌, ◌++◌, Option, codes, option_map}
 use Rattle.std.specs.Borrow.{Bor}
 use Rattle.clap.specs.Words.{Row, Shape, first_of}
 use Rattle.command_words.specs.Options.{budget_option, solvers_option}
+use Rattle.command_words.specs.Proofs.{SaysProof, proof_rules}
 use Rattle.command_words.specs.Rules.{flag, number_rule, optional_word, subcommand}
 use Rattle.command_words.specs.Says.{SaysNumber, SaysThreads, named_boards}
 use Rattle.board_subcommands.specs.declared.plays.options.PlaysOptions.{PlaysOptions}
@@ -12,7 +13,7 @@ use Rattle.board_subcommands.specs.Plays.Forms.{SaysForm}
 abbrev pub shape : Shape
 shape = subcommand (codes "plays")
     (number_rule solvers_option ∷ number_rule budget_option ∷ flag mistakes_option
-    ∷ flag sheet_option ∷ optional_word (codes "GAMES") ∷ [])
+    ∷ flag sheet_option ∷ (proof_rules ++ optional_word (codes "GAMES") ∷ []))
 
 -- the words name the file with the games, or the input
 abbrev pub SaysGames : List Row → Option (Bor (List ℕ)) → Type 0
@@ -23,4 +24,5 @@ abbrev pub Says : List Row → ℕ → PlaysOptions → Type 0
 Says said processors options = SaysThreads said processors solvers_option options.solvers
     × SaysNumber said budget_option options.budget
     × SaysForm said options.form
+    × SaysProof said options.proof
     × SaysGames said options.games

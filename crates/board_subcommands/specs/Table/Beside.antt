@@ -46,8 +46,8 @@ abbrev pub tries_beside : ℕ → ℕ
 tries_beside tries = min (1 + tries) 1000
 
 -- A run that begins with what sections show. Each number of an audit of theirs is published, and each entry of a board
--- that is the first with its deal was leased once for that, and no entry more than once. The run goes on from there, and
--- of what follows this is so.
+-- that is the first with its deal was leased once for that, and no entry more than once. The run goes on from there,
+-- and of what follows this is so.
 pub record IsRunBeside (sections : List SectionShape) (may_tell : MayTell) (is_searched : RunFact) (terms : Terms)
     (events : List Event)
     : Type 0 where
@@ -109,7 +109,8 @@ MakesBookBeside told may_find may_tell settings source source' (Ok (text, book, 
     IsBookBeside told may_tell (AreSearched may_find settings.budget unclaimed) settings source source' text.items book
     read shown
 MakesBookBeside told may_find may_tell settings source source' (Err OutOfMemory) = Loses source source' source.failed
-MakesBookBeside told may_find may_tell settings source source' (Err Read) = Loses source source' (one_more source.failed)
+MakesBookBeside told may_find may_tell settings source source' (Err Read) =
+    Loses source source' (one_more source.failed)
 MakesBookBeside told may_find may_tell settings source source' (Err (Pbn fault)) =
     (text : List ℕ) × IsReadToEnd source source' text × TextAnswers text (Err fault)
 MakesBookBeside told may_find may_tell settings source source' (Err NoThread) =

@@ -10,7 +10,10 @@ ghost use Rattle.board_subcommands.specs.Plays.Options.{Says, shape};
 use crate::page_options::MISTAKES;
 use crate::plays::forms::{PlaysForm, form_asked};
 use clap::ArgMatches;
-use command_words::{Argument, Definition, FlagOption, Word, number_of, rows, threads_of, word_of};
+use command_words::{
+    AUDIT, Argument, Definition, EVIDENCE, FlagOption, Proof, Word, number_of, proof_of, rows,
+    threads_of, word_of,
+};
 
 /// What is asked of recorded plays.
 #[derive(Clone, Copy)]
@@ -21,6 +24,8 @@ pub struct PlaysOptions<'a> {
     pub budget: u64,
     /// The form of the page.
     pub form: PlaysForm,
+    /// Where the numbers come from, and where their evidence goes.
+    pub proof: Proof<'a>,
     /// The name of the file with the games, if it isn't the input.
     pub games: Option<&'a str>,
 }
@@ -38,11 +43,13 @@ const GAMES: Word = Word {
 The file with the games; without it, or with `-`, they are read from the standard input",
 };
 
-static ARGUMENTS: [Argument; 5] = [
+static ARGUMENTS: [Argument; 7] = [
     Argument::Number(rows::SOLVERS),
     Argument::Number(rows::BUDGET),
     Argument::Flag(MISTAKES),
     Argument::Flag(SHEET),
+    Argument::Text(EVIDENCE),
+    Argument::Text(AUDIT),
     Argument::OptionalWord(GAMES),
 ];
 
@@ -69,14 +76,19 @@ certificates that were checked, or it is `unknown`.
 
 With --sheet the same is written as a page of HTML, which a browser shows and prints.
 
+  ddfarm plays --evidence club.dpp club.pbn >plays.txt
+writes the same, and then the certificates to club.dpp, which must not be there.
+  ddfarm plays --audit club.dpp club.pbn >plays.txt
+searches nothing: it checks club.dpp and writes the numbers that it shows.
+
 A play is followed as long as each card is legal and known. A line such as
 `illegal 5 E D3: holds spades` says why it is not followed any further.
 
 Exit status:
   0  each number is known, each card is legal, and no game lacks its deal, contract
      or declarer
-  1  the games or the output failed, a file can't be opened, or memory ran out outside a
-     search
+  1  the games or the output failed, a file can't be opened, read or written, or memory
+     ran out outside a search
   2  the command line is refused
   3  something of that is missing",
         arguments: ARGUMENTS.as_slice(),
@@ -101,11 +113,13 @@ pub fn options_of<'a>(said: &ArgMatches<'a>, processors: usize) -> Option<PlaysO
     let solvers = threads_of(said, &rows::SOLVERS, processors)?;
     let budget = number_of(said, &rows::BUDGET)?;
     let form = form_asked(said)?;
+    let proof = proof_of(said)?;
     let games = games_of(said);
     Some(PlaysOptions {
         solvers: solvers as usize,
         budget,
         form,
+        proof,
         games,
     })
 }

@@ -92,8 +92,8 @@ fn make_book_beside<
     }
 }
 
-/// Writes the tables of the boards of the input. What the file shows is published, and the rest is searched. The book is
-/// handed out.
+/// Writes the tables of the boards of the input. What the file shows is published, and the rest is searched. The book
+/// is handed out.
 pub(crate) fn write_tables_beside<
     F: Read + Drop,
     I: Source,

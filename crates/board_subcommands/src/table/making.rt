@@ -62,8 +62,8 @@ fn make_book<
 /// Whatever the solver answers, the gate does and the clock tells, and in whatever order the threads work, a number
 /// that is written is the double-dummy value of its deal, and is written once: an answer whose certificates don't show
 /// it gives none. Each entry whose board has a deal has a number, or was leased as often as the settings allow, and no
-/// lease was settled twice (`IsRun`). The solver was asked for each lease, but for those that are counted as lost for want
-/// of memory (`AreSearched`). With all refusals but a failed sink nothing was written.
+/// lease was settled twice (`IsRun`). The solver was asked for each lease, but for those that are counted as lost for
+/// want of memory (`AreSearched`). With all refusals but a failed sink nothing was written.
 pub fn make_tables<
     I: Source,
     O: Sink,

@@ -12,4 +12,4 @@ pub returns-in_err-form : goal.returns-in_err-form
 returns-in_err-form c = search rules
 
 pub returns : goal.returns
-returns c = (c.in_ok-solvers.ensures, c.in_ok-budget.ensures, search rules, c.games_of-games.ensures)
+returns c = (c.in_ok-solvers.ensures, c.in_ok-budget.ensures, search rules, search rules, c.games_of-games.ensures)
