@@ -4,7 +4,7 @@ import { Checking, EvidenceFault } from "./checking.js";
 import { Diagram } from "./diagram.js";
 import { clearMarks, markOther, markShown, readDeal, readNumbers } from "./sheet.js";
 
-const HINT = "Press a ✓ to see the play. Par is not checked here.";
+const HINT = " Press a ✓ to see the play.";
 const checking = new Checking();
 const diagram = new Diagram();
 /** The boards that wait for their check, the one under way first. */
@@ -59,7 +59,9 @@ class Offer {
                 markOther(this.article, number, other.why);
             }
         }
-        this.say(`${shown} of ${numbers.length} numbers proved here, on your device. ${HINT}`, false);
+        const hint = shown > 0 ? HINT : "";
+        this.say(`${shown} of ${numbers.length} numbers proved here, on your device.${hint} Par is not checked here.`,
+            false);
     }
 
     /** Marks a number that was shown. */

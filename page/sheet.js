@@ -133,7 +133,7 @@ function tricksOf(cell) {
     }
     const [before, after] = [level?.data ?? "", textOf(small)];
     const isTricks = before === "" && /^\([0-9]{1,2}\)$/.test(after);
-    const isLevel = after === "" && /^[0-9]$/.test(before);
+    const isLevel = after === "" && /^[1-7]$/.test(before);
     return isTricks ? Number(after.slice(1, -1)) : isLevel ? Number(before) + BOOK : null;
 }
 

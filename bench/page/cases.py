@@ -36,6 +36,9 @@ EDITS = [(rb"nodes \d+", b"nodes 1000001"), (rb"nodes \d+", b"nodes 999999999999
          (rb"/[NESW]*", b"/NESWNESWNESWNE"), (rb" (?=\S+\n)", b" Sx"), (rb"\(.*", b"()"), (rb"\(.*", b"{}"),
          (rb"}", b"})"), (rb"\d+(\.\d+){3}/", longer),
          (rb"(?s)nodes (\d+)(.*?{\w)\d+", rb"nodes \1\2\1"), (rb"(/[NESW]* )(?=[SHDC(])", rb"\1Sx")]
+# The second node's first, second, .. suit names an owner more, each of the four.
+EDITS += [(rb"(?s)(nodes \d+\n[^\n]*\n(?:\S+ ){%d}\S*/[NESW]*)" % (2 + suit), rb"\1" + bytes([seat]))
+          for suit in range(4) for seat in b"NESW"]
 LETTERS = b"NESWSHDCabcx()(){}{}0123456789 ./\n"
 
 

@@ -112,9 +112,19 @@ const DAMAGES = [
         /^the file is too large$/, 0],
 ];
 
+/** Where the hands, the table and par of each board lie in it, and how wide a list of reasons is, beside its board. */
+const BOXES = "[...document.querySelectorAll('article.offers')].map(board => [...board.querySelectorAll(" +
+    "'.deal ul, table, footer p')].map(part => [board, part].map(one => one.getBoundingClientRect()))" +
+    ".map(([{ left, top }, part]) => [part.left - left, part.right - left, part.top - top].map(Math.round)))";
+const WIDTHS = "[...document.querySelectorAll('.reasons')].map(part => part.offsetWidth / part.parentNode.offsetWidth)";
+
 async function lookAtDamage([name, change, status, shown]) {
     await withPage(change, async page => {
+        const boxes = await page.value(BOXES);
         await checkAll(page);
+        seeSame(`${name}: hands, tables and pars stay`, await page.value(BOXES), boxes);
+        const widths = await page.value(WIDTHS);
+        see(`${name}: reasons are as wide as their board`, widths.every(width => width > .9), widths);
         seeSame(name, await page.value(SHOWN), [shown, ...twenty.slice(1)]);
         const said = (await page.value(STATUSES))[0];
         see(`${name}: what is said`, status.test(said), said);

@@ -6,7 +6,9 @@ import { join } from "node:path";
 import { gunzipSync, gzipSync } from "node:zlib";
 import { Reader, threadOf, until } from "./reader.mjs";
 
-const HINT = " numbers proved here, on your device. Press a ✓ to see the play. Par is not checked here.";
+/** What is said of a board of which so many numbers are proved. */
+const proved = shown => `${shown} of 20 numbers proved here, on your device.` +
+    `${shown > 0 ? " Press a ✓ to see the play." : ""} Par is not checked here.`;
 const CELL = /<td>([0-9]*)<small>((?:\([0-9]+\))?)<\/small>/;
 const [folder, ...names] = process.argv.slice(2);
 let passed = 0, failed = 0;
@@ -38,7 +40,7 @@ async function readAll() {
         await reader.checkAll();
         seeSame("all numbers are proved", reader.boards.map(board => board.counts),
             reader.boards.map(() => [20, 0, 0]));
-        seeSame("what is said", reader.boards.map(board => board.status), reader.boards.map(() => `20 of 20${HINT}`));
+        seeSame("what is said", reader.boards.map(board => board.status), reader.boards.map(() => proved(20)));
         const [board] = reader.boards;
         await board.check();
         seeSame("a second check marks the same", board.counts, [20, 0, 0]);
@@ -59,6 +61,8 @@ const FORMS = [
     ["table", CELL, "<td><small>5</small>"],
     ["table", CELL, "<td><small>(5</small>"],
     ["table", CELL, "<td>(5)<small></small>"],
+    ["table", CELL, "<td>0<small></small>"],
+    ["table", CELL, "<td>8<small></small>"],
     ["table", CELL, "<td>$1<small>$2</small><span class=\"mark\">9</span>"],
     ["table", /<th scope="col">&clubs;/, "<th scope=\"col\" hidden>&clubs;"],
     ["table", /<th scope="row">N/, "<th scope=\"row\" class=\"read\">N"],
@@ -73,6 +77,7 @@ const FORMS = [
     ["deal", /(<span[^>]*>)N(<\/span>[^]*?)S(?=<\/span>)/, "$1S$2N"],
     ["deal", /(<span[^>]*)(>N<\/span>)/, "$1 hidden$2"],
     ["deal", /<ul>/, "<ul hidden>"],
+    ["deal", /<li class="seat">N/, "<li class=\"seat\">E"],
     ["deal", /<ul>/, "<ul>♠AKQ"],
     ["deal", /(<ul>[^]*?<\/ul>)/, "<div>$1</div>"],
     ["deal", /<li class="points">/, "<li class=\"points\">♠"],
@@ -91,7 +96,7 @@ async function readForms() {
             const isMark = form.includes("mark");
             seeSame(`${form}: marks`, board.counts, isMark ? [20, 0, 0] : [0, 0, 0]);
             seeSame(`${form}: what is said`, board.status,
-                isMark ? `20 of 20${HINT}` : `the ${part} on the page has another form`);
+                isMark ? proved(20) : `the ${part} on the page has another form`);
             if (part === "deal") {
                 await other.check();
                 seeSame(`${form}: the next board`, other.counts, [20, 0, 0]);
@@ -125,7 +130,7 @@ async function readMeanwhile() {
             change(board);
             reader.gate.open(...answers);
             await board.isChecked();
-            seeSame(`${what} changes meanwhile`, [board.counts, board.status], [counts, `${counts[0]} of 20${HINT}`]);
+            seeSame(`${what} changes meanwhile`, [board.counts, board.status], [counts, proved(counts[0])]);
         });
     }
 }
@@ -145,8 +150,8 @@ function changeDeal({ article }) {
 
 /** The tricks that a cell names. */
 function tricksIn(cell) {
-    const [level, tricks] = [cell.textContent, cell.querySelector("small").textContent];
-    return tricks === "" ? Number(level) + 6 : Number(tricks.slice(1, -1));
+    const [first] = cell.childNodes;
+    return first.nodeType === 3 ? Number(first.data) + 6 : Number(first.textContent.slice(1, -1));
 }
 
 /** The most bytes of a file, packed or not. */
@@ -158,10 +163,10 @@ async function readEvidence() {
     const text = gunzipSync(first);
     const node = text.indexOf("\nnodes ") + 7;
     const cases = [
-        ["the evidence of another board", second, [0, 20, 20], `0 of 20${HINT}`],
+        ["the evidence of another board", second, [0, 20, 20], proved(0)],
         ["a false node", gzipSync(Buffer.concat([text.subarray(0, node), Buffer.from("0"), text.subarray(node)])),
-            [16, 4, 4], `16 of 20${HINT}`],
-        ["evidence twice", gzipSync(Buffer.concat([text, text])), [20, 0, 0], `20 of 20${HINT}`],
+            [16, 4, 4], proved(16)],
+        ["evidence twice", gzipSync(Buffer.concat([text, text])), [20, 0, 0], proved(20)],
         ["no gzip", Buffer.from([0x1f, 0x8b, 8, 8]), [0, 0, 0], "the file is damaged: it cannot be unpacked"],
         ["too much evidence", gzipSync(Buffer.alloc(MOST + 1)), [0, 0, 0], "the file is too large"],
         ["too large a file", Buffer.alloc(MOST + 1), [0, 0, 0], "the file evidence/1.dde.gz is too large"],
@@ -169,8 +174,10 @@ async function readEvidence() {
     for (const [what, bytes, counts, status] of cases) {
         await withReader(async (reader, board) => {
             reader.files.set(board.file, bytes);
-            await board.check();
-            seeSame(what, [board.counts, board.status], [counts, status]);
+            for (const turn of ["first", "second"]) {
+                await board.check();
+                seeSame(`${what}, ${turn} check`, [board.counts, board.status], [counts, status]);
+            }
         });
     }
 }
@@ -202,7 +209,7 @@ async function readPieces() {
         reader.files.set(board.file, gzipSync(Buffer.concat([Buffer.from("DDE 1\n"), head])));
         await board.check();
         const reasons = board.article.querySelectorAll(".reasons li").map(line => line.textContent.split(": ").at(-1));
-        seeSame("the first reason", reasons, reasons.map(() => "line 2 is no deal"));
+        seeSame("the first reason", reasons, Array(20).fill("line 2 is no deal"));
     });
 }
 
@@ -284,32 +291,78 @@ async function readPlay() {
     const change = text => text.replace(/(<article>\n<h2>)[^<]*/, "$1\u202e1");
     await withReader(async (reader, board) => {
         await board.check();
-        for (const number of [0, 7, 13, 19]) {
+        for (const number of [0, 1, 7, 13, 19]) {
             board.marks[number].click();
             const title = reader.dialog.querySelector("h2");
             seeSame("the name is by itself", title.querySelector("bdi").textContent, "\u202e1");
             const tricks = Number(/: (\d+) tricks?$/.exec(title.textContent)[1]);
             seeSame("the tricks are the page's", tricks, tricksIn(board.cells[number]));
+            seeSame("the title", title.textContent.replace(/:.*/, ""),
+                `Board \u202e1. ${ROWS[Math.floor(number / 5)]}, ${COLUMNS[number % 5]}`);
             await until("the play is shown", () => reader.said.endsWith(" leads."));
-            for (let trick = 0; trick < 13; trick++) {
-                reader.press("Forward");
-            }
+            seeSame("the hands are the page's", handsIn(reader.dialog), handsOn(board));
+            readLine(reader, board);
             seeSame("the line's end", reader.said.split(". ").at(-1), `Declarer ${tricks}, defenders ${13 - tricks}.`);
-            await readTries(reader, tricks);
+            await readTries(reader, tricks, Math.floor(number / 10));
             reader.press("Close");
         }
     }, { change });
 }
 
-async function readTries(reader, tricks) {
+async function readUndo(reader, table) {
+    const isTurn = () => !table.inert && / are promised /.test(reader.said);
+    await until("the first turn is shown", isTurn);
+    const [said, hands] = [reader.said, handsIn(reader.dialog)];
+    table.querySelector("button.card").click();
+    await until("the next turn is shown", () => isTurn() && reader.said !== said);
+    reader.press("Undo");
+    await until("the turn is shown again", () => isTurn() && reader.said === said);
+    seeSame("a card is taken back", handsIn(reader.dialog), hands);
+}
+
+const PLACES = ["north", "east", "south", "west"];
+const ROWS = ["North", "South", "East", "West"];
+const COLUMNS = ["clubs", "diamonds", "hearts", "spades", "no-trump"];
+const SIDES = ["North and South", "East and West"];
+const cardsIn = line => line.match(/10|[2-9AKQJ]/g) ?? [];
+
+/** The cards of the four hands, as the sheet has them, and as the dialog has them: each a sign and a rank. */
+const handsOn = ({ article }) => article.querySelectorAll(".deal ul").map(hand => hand.children.slice(1, 5)
+    .flatMap(({ childNodes: [sign, cards] }) => cardsIn(cards.data).map(rank => sign.textContent + rank)));
+const handsIn = dialog => PLACES.map(place => dialog.querySelectorAll(`.hand.${place} p`)
+    .flatMap(line => cardsIn(line.textContent.slice(1)).map(rank => line.textContent[0] + rank)));
+
+/** Goes through the line of play: each trick's cards lie before the hands that held them, and its winner leads next. */
+function readLine(reader, board) {
+    let hands = handsOn(board), [, next] = /^(\w+) leads[.]$/.exec(reader.said);
+    for (let trick = 0; trick < 13; trick++) {
+        reader.press("Forward");
+        const cards = PLACES.map(place => reader.dialog.querySelector(`.trick .${place}`).textContent);
+        hands = hands.map((hand, seat) => hand.filter(card => card !== cards[seat]));
+        seeSame("the hands after a trick", handsIn(reader.dialog), hands);
+        seeSame("the cards that are left", hands.flat().length, 48 - 4 * trick);
+        const [, leader, winner] = /: (\w+) led .*?[.] (\w+) won/.exec(reader.said);
+        seeSame("who leads", leader, next);
+        next = winner;
+    }
+}
+
+/** Plays against the certificate of each side; declarer's is the given one. A card that is taken back can be played. */
+async function readTries(reader, tricks, side) {
     for (const [part, promise] of [["defenders", tricks], ["declarer", 13 - tricks]]) {
         reader.press(`Try as ${part}`);
         const table = reader.dialog.querySelector(".table");
+        await readUndo(reader, table);
+        seeSame("whose certificate it is", reader.said.includes(
+            `${SIDES[part === "defenders" ? side : 1 - side]}, who play by the certificate`), true);
         let cards = 0;
         for (let isOver = false; !isOver;) {
             await until("a turn is shown", () => !table.inert && / are promised /.test(reader.said));
             const legal = table.querySelectorAll("button.card");
             isOver = legal.length === 0;
+            const [, turn] = /(\w+) to play/.exec(reader.said) ?? [];
+            seeSame("the cards to press are of whose turn it is", isOver || legal.length ===
+                table.querySelectorAll(`.hand.${turn.toLowerCase()} button.card`).length, true);
             cards += isOver ? 0 : 1;
             legal[Math.floor(Math.random() * legal.length)]?.click();
         }
